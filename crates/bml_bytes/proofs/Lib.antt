@@ -1,0 +1,4 @@
+pub mod CodeLaws
+pub mod Elements
+pub mod NumberLaws
+pub mod NumeralLaws

@@ -1,0 +1,19 @@
+use Rattle.std.proofs.Common.{◌≡◌, ◌∙◌, take}
+use Rattle.bml_bytes.specs.Numbers.{number_in}
+use Rattle.bml_bytes.proofs.NumberLaws.{big_from-part, read_field, read_fits}
+use Rattle.bml_bytes.proofs.cursors.Cursor.u24.Goals as goal
+
+pub returns-clause-number : goal.returns-clause-number
+returns-clause-number c = c.read_u24.ensures ∙ big_from-part 3 c.in_ok-bytes.bytes.now c.args.self.now c.in_ok-bytes.ensures.enough c.in_ok-bytes.ensures.part
+
+pub returns-clause-read : goal.returns-clause-read
+returns-clause-read c =
+    let number : c.read_u24.result ≡ number_in 256 (take 3 c.args.self.now) = returns-clause-number c in
+    let field = c.in_ok-bytes.ensures in
+    read_field 3 c.read_u24.result c.in_ok-bytes.bytes.now c.args.self.now c.take.new.self field.bytes field.enough field.part number field.read
+
+pub returns-clause-fits : goal.returns-clause-fits
+returns-clause-fits c =
+    let number : c.read_u24.result ≡ number_in 256 (take 3 c.args.self.now) = returns-clause-number c in
+    let field = c.in_ok-bytes.ensures in
+    read_fits 3 c.read_u24.result c.in_ok-bytes.bytes.now c.args.self.now field.bytes field.enough field.part number

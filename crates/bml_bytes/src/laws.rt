@@ -1,0 +1,43 @@
+//! What the definitions of this crate say together. Each function is a law: its contract is what it is
+//! for, and it does nothing when it runs.
+
+ghost use Rattle.std.specs.Prelude.{◌≡◌, ◌≢◌, ◌<◌, ◌≤◌, ◌^◌, ◌+◌, ℕ, List, [], ◌∷◌, ◌++◌, length, take, drop, slice_get, All, Some};
+ghost use Rattle.std.specs.List.{AllPass};
+ghost use Rattle.bml_bytes.specs.Codes.{AreBytes, bytes_of, codes};
+ghost use Rattle.bml_bytes.specs.Numbers.{big_bytes, big_number};
+ghost use Rattle.bml_bytes.specs.Numerals.{decimal_digits, decimal_field, decimal_number, is_decimal_digit};
+
+/// A text that was read from bytes is written back as those bytes, and ASCII bytes are their own codes.
+/// What isn't so is that codes are read back from their bytes, since a script can put two codes below
+/// 256 side by side that are a pair.
+pub fn law_of_codes()
+    ensures written_back { (bytes : List ℕ) → AreBytes bytes → bytes_of (codes bytes) ≡ bytes }
+    ensures ascii { (bytes : List ℕ) → All (λ byte. byte < 128) bytes → codes bytes ≡ bytes }
+{}
+
+/// Writing a number in bytes and reading bytes as a number undo each other.
+pub fn law_of_big_numbers()
+    ensures read_back { (count number : ℕ) → number < 256 ^ count → big_number (big_bytes count number) ≡ number }
+    ensures written_back { (bytes : List ℕ) → AreBytes bytes → big_bytes (length bytes) (big_number bytes) ≡ bytes }
+    ensures fits { (bytes : List ℕ) → AreBytes bytes → big_number bytes < 256 ^ length bytes }
+    ensures bytes { (count number : ℕ) → AreBytes (big_bytes count number) }
+    ensures byte { (byte : ℕ) → byte < 256 → big_bytes 1 byte ≡ byte ∷ [] }
+    ensures count { (count number : ℕ) → length (big_bytes count number) ≡ count }
+{}
+
+/// A number in front of other bytes is read from there, and what is read is what stands there.
+pub fn law_of_fields()
+    ensures number { (count number : ℕ) (rest : List ℕ) → number < 256 ^ count → big_number (take count (big_bytes count number ++ rest)) ≡ number }
+    ensures rest { (count number : ℕ) (rest : List ℕ) → drop count (big_bytes count number ++ rest) ≡ rest }
+    ensures field { (count : ℕ) (bytes : List ℕ) → AreBytes bytes → count ≤ length bytes → big_bytes count (big_number (take count bytes)) ++ drop count bytes ≡ bytes }
+{}
+
+/// A number is printed in base ten as the one numeral that it has: digits, whose number it is, with no
+/// zero in front of another digit. A field of these digits is read back.
+pub fn law_of_decimals()
+    ensures digits { (number : ℕ) → AllPass is_decimal_digit (decimal_digits number) }
+    ensures number { (number : ℕ) → decimal_number (decimal_digits number) ≡ number }
+    ensures first { (number : ℕ) → 10 ≤ number → slice_get (decimal_digits number) 0 ≢ Some 48 }
+    ensures one { (number : ℕ) → number < 10 → decimal_digits number ≡ (48 + number) ∷ [] }
+    ensures field { (number : ℕ) → number < 2 ^ 32 → decimal_field (decimal_digits number) ≡ Some number }
+{}

@@ -1,0 +1,86 @@
+//! Values from outside: EUC-JP as its tables have it, numbers as printf writes them.
+
+use crate::*;
+use std::test::Fail;
+
+const HIRAGANA_A: u16 = 0xA4A2;
+
+const HALF_WIDTH_A: u16 = 0x8EB1;
+
+#[test]
+fn texts(rt: HostRuntime) -> Result<(), Fail> {
+    let cases: [(&[u8], &[u16]); 8] = [
+        (b"", &[]),
+        (b"bml", &[0x62, 0x6D, 0x6C]),
+        (b"\xA4\xA2!", &[HIRAGANA_A, 0x21]),
+        (b"\x8E\xB1\xA4", &[HALF_WIDTH_A, 0xA4]),
+        (b"\xA4\x8E\xB1", &[0xA4, HALF_WIDTH_A]),
+        (b"\x8EA\x8E", &[0x8E, 0x41, 0x8E]),
+        (b"\xA0\xA1\xFE\xFE\xFF", &[0xA0, 0xA1FE, 0xFE, 0xFF]),
+        (b"\xA1\xFF\xA1\xA0", &[0xA1, 0xFF, 0xA1, 0xA0]),
+    ];
+    for (bytes, codes) in cases {
+        let text = Text::of_bytes(rt.alloc(), bytes)?;
+        assert_eq!(rt; text.codes(), codes);
+        assert_eq!(rt; text.len(), codes.len());
+        assert_eq!(rt; text.code(0), codes.first().copied());
+        assert_eq!(rt; text.code(codes.len()), None);
+        let mut out = b"<".to_vec(rt.alloc())?;
+        text.push_bytes(&mut out)?;
+        assert_eq!(rt; &out[1..], bytes);
+        let same = Text::of_codes(rt.alloc(), codes)?;
+        assert!(rt; same == text.share()?);
+    }
+    let split = Text::of_codes(rt.alloc(), &[0xA4, 0xA2])?;
+    let joined = Text::of_codes(rt.alloc(), &[HIRAGANA_A])?;
+    assert!(rt; split != joined);
+    Ok(())
+}
+
+#[test]
+fn numerals(rt: HostRuntime) -> Result<(), Fail> {
+    let mut out = Vec::new(rt.alloc());
+    for value in [0, 7, 10, 1024, -1, -20, i64::MAX, i64::MIN] {
+        push_decimal(value, &mut out)?;
+        out.push(b' ')?;
+    }
+    let printed: &[u8] = b"0 7 10 1024 -1 -20 9223372036854775807 -9223372036854775808 ";
+    assert_eq!(rt; out.as_slice(), printed);
+    out.clear();
+    push_hex(0x2F, 2, &mut out)?;
+    push_hex(0, 4, &mut out)?;
+    push_hex(0xABC, 4, &mut out)?;
+    push_hex(0xDEAD_BEEF, 8, &mut out)?;
+    push_hex(7, 1, &mut out)?;
+    assert_eq!(rt; out.as_slice(), b"2f00000abcdeadbeef7".as_slice());
+    let fields: [(&[u8], Option<u32>); 9] = [
+        (b"", None),
+        (b"0", Some(0)),
+        (b"0000000012", Some(12)),
+        (b"00000000012", None),
+        (b"4294967295", Some(u32::MAX)),
+        (b"4294967296", None),
+        (b"12a", None),
+        (b"-1", None),
+        (b"1/:", None),
+    ];
+    for (field, number) in fields {
+        assert_eq!(rt; read_decimal(field), number);
+    }
+    Ok(())
+}
+
+#[test]
+fn cursors(rt: HostRuntime) {
+    let mut cursor = Cursor::new(b"\x47\x01\xFF\x00\x10\x20\x80\x00\x00\x01\xAB\xCD");
+    assert_eq!(rt; cursor.u8(), Some(0x47));
+    assert_eq!(rt; cursor.u16(), Some(0x01FF));
+    assert_eq!(rt; cursor.u24(), Some(0x1020));
+    assert_eq!(rt; cursor.u32(), Some(0x8000_0001));
+    assert_eq!(rt; cursor.u24(), None);
+    assert_eq!(rt; cursor.take(3), None);
+    assert_eq!(rt; cursor.left(), b"\xAB\xCD".as_slice());
+    assert_eq!(rt; cursor.take(2), Some(b"\xAB\xCD".as_slice()));
+    assert_eq!(rt; cursor.take(0), Some(b"".as_slice()));
+    assert_eq!(rt; cursor.u8(), None);
+}

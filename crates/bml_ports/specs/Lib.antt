@@ -1,0 +1,10 @@
+pub mod Counters
+pub mod Keepers
+pub mod MemoryCalls
+pub mod MemoryKeepers
+pub mod MemoryPlaces
+pub mod MemorySinks
+pub mod MemorySources
+pub mod MemoryWorlds
+pub mod Sinks
+pub mod Worlds
