@@ -1,0 +1,4 @@
+pub mod PacketList
+pub mod Following
+pub mod PacketFields
+pub mod Standing

@@ -1,0 +1,4 @@
+pub mod Packet
+pub mod Packets
+pub mod Cutter
+pub mod Cuts
