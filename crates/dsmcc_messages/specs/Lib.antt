@@ -1,0 +1,5 @@
+pub mod Message
+pub mod Dii
+pub mod Ddb
+pub mod Descriptor
+pub mod Reading

@@ -1,0 +1,11 @@
+pub mod Adding
+pub mod Digits
+pub mod Register
+pub mod TableEntries
+pub mod CrcLaws
+pub mod PieceLemmas
+pub mod TokenLemmas
+pub mod RunLemmas
+pub mod GrowthLemmas
+pub mod TakeLemmas
+pub mod RemainderLemmas

@@ -1,0 +1,6 @@
+pub mod Crc
+pub mod Intact
+pub mod Sections
+pub mod Assembly
+pub mod Piece
+pub mod Remainder
