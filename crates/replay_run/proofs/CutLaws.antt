@@ -1,0 +1,152 @@
+-- The first line of what is held, arm by arm.
+use Rattle.std.proofs.Common.{◌≡◌, ◌≢◌, ℕ, ◌+◌, ◌-◌, ◌<◌, ◌≤◌, Bool, true, false, List, [], ◌∷◌, ◌++◌, All, length, take, drop, get_or, slice_get, ◌==◌, Some, refl, sym, ap, ◌∙◌, subst, min, arith, append_assoc, append-nil, take_all, length-take-le, take-take, take-append-drop, drop_of_length-le, drop-drop, length-drop, le_refl, true≢false, ap₂, length-take, get_or-take, eqb-true, add-one, ◌⊎◌, inl, inr}
+use Rattle.std.proofs.lemmas.Bool.{cases_lt}
+use Rattle.std.proofs.Math.Seq.{drop-cons}
+use Rattle.std.proofs.lemmas.Bool.Decides.{nat_tests}
+use Rattle.std.proofs.lemmas.List.Elements.{All-weaker}
+use Rattle.std.specs.Str.Lines.{strip_carriage_return}
+use Rattle.replay_run.specs.declared.record.Item.{Item}
+use Rattle.replay_run.specs.declared.record.Line.{Line}
+use Rattle.replay_run.specs.declared.record.Line.TheVariants.{Item as Read, Bad}
+use Rattle.replay_run.specs.declared.record.Noted.{Noted}
+use Rattle.replay_run.specs.declared.record.Noted.TheVariants.{Line as Next, NeedMore, End}
+use Rattle.replay_run.specs.Record.{line_of, readings}
+use Rattle.replay_run.specs.RecordReader.{ReaderState, MayFollow, IsUnfinished}
+use Rattle.replay_run.specs.Reading.{state, IsFirstCut}
+use Rattle.replay_run.proofs.FirstPlaces.{IsFirstPlace}
+use Rattle.replay_run.proofs.LineLaws.{readings_ended, readings_last, readings-nil, readings_long}
+
+not_line_feed : (byte : ℕ) → (byte == 10) ≡ false → byte ≢ 10
+not_line_feed byte e = grind (arith, nat_tests)
+
+no_line_feed : (bytes : List ℕ) → All (λ byte. (byte == 10) ≡ false) (take 130 bytes) → length bytes < 130 → All (λ byte. byte ≢ 10) bytes
+no_line_feed bytes clear short =
+    let whole : take 130 bytes ≡ bytes = take_all 130 bytes (omega arith) in
+    let P : List ℕ → Type 0 = All (λ byte. (byte == 10) ≡ false) in
+    All-weaker (λ byte. (byte == 10) ≡ false) (λ byte. byte ≢ 10) not_line_feed bytes (subst P whole clear)
+
+long_begins_bad : (held more : List ℕ) → All (λ byte. (byte == 10) ≡ false) (take 130 held) → 130 ≤ length held → slice_get (readings (held ++ more)) 0 ≡ Some Bad
+long_begins_bad held more clear long =
+    let cut : held ++ more ≡ take 130 held ++ (drop 130 held ++ more) = ap (λ bytes. bytes ++ more) (sym (take-append-drop 130 held)) ∙ append_assoc (take 130 held) (drop 130 held) more in
+    ap (λ bytes. slice_get (readings bytes) 0) cut
+    ∙ readings_long (take 130 held) (drop 130 held ++ more) clear (omega (arith, length-take-le 130 held long))
+
+-- the bytes are too many for a line
+pub cut_long : (held : List ℕ) (ended : Bool) (noted : Noted) (taken : ℕ) → All (λ byte. (byte == 10) ≡ false) (take 130 held) → 130 ≤ length held → noted ≡ Next Bad → taken ≡ 0 → IsFirstCut held ended noted taken
+cut_long held ended noted taken clear long is_bad none = record {
+  item = λ item e. absurd (cc);
+  bad = λ e more follows. long_begins_bad held more clear long;
+  need_more = (λ e. absurd (cc), λ waits. absurd (omega (arith, waits.short)));
+  end = (λ e. absurd (cc), λ over. absurd (omega (arith, ap length (over.none))));
+  is_within = omega arith;
+  takes = λ item e. absurd (cc);
+  stays = λ good. none;
+}
+
+-- more bytes are needed
+pub cut_unfinished : (held : List ℕ) (ended : Bool) (noted : Noted) (taken : ℕ) → All (λ byte. (byte == 10) ≡ false) (take 130 held) → length held < 130 → ended ≡ false → noted ≡ NeedMore → taken ≡ 0 → IsFirstCut held ended noted taken
+cut_unfinished held ended noted taken clear short open_end is_more none = record {
+  item = λ item e. absurd (cc);
+  bad = λ e more follows. absurd (cc);
+  need_more = (λ e. record { open_end = open_end; no_line_feed = no_line_feed held clear short; short = short }, λ waits. is_more);
+  end = (λ e. absurd (cc), λ over. absurd (true≢false (sym (over.ended) ∙ open_end)));
+  is_within = omega arith;
+  takes = λ item e. absurd (cc);
+  stays = λ good. none;
+}
+
+-- no line is left
+pub cut_over : (held : List ℕ) (ended : Bool) (noted : Noted) (taken : ℕ) → ended ≡ true → held ≡ [] → noted ≡ End → taken ≡ 0 → IsFirstCut held ended noted taken
+cut_over held ended noted taken over empty is_end none = record {
+  item = λ item e. absurd (cc);
+  bad = λ e more follows. absurd (cc);
+  need_more = (λ e. absurd (cc), λ waits. absurd (true≢false (sym over ∙ waits.open_end)));
+  end = (λ e. record { ended = over; none = empty }, λ end. is_end);
+  is_within = omega arith;
+  takes = λ item e. absurd (cc);
+  stays = λ good. none;
+}
+
+-- a line is there
+next_line : (held : List ℕ) (ended : Bool) (noted : Noted) (taken n : ℕ) (line : Line) → ((more : List ℕ) → MayFollow (state held ended) more → readings (held ++ more) ≡ line ∷ readings (drop n held ++ more)) → 0 < n → n ≤ length held → (IsUnfinished (state held ended) → ⊥) → noted ≡ Next line → ((item : Item) → line ≡ Read item → taken ≡ n) → (line ≡ Bad → taken ≡ 0) → IsFirstCut held ended noted taken
+next_line held ended noted taken n (Read item) ahead some fits closed is_next good bad =
+    let all : taken ≡ n = good item refl in
+    record {
+      item = λ i e more follows.
+          let same : item ≡ i = cc in
+          ahead more follows ∙ ap₂ (λ line rest. Read line ∷ readings (drop rest held ++ more)) same (sym all);
+      bad = λ e more follows. absurd (cc);
+      need_more = (λ e. absurd (cc), λ waits. absurd (closed waits));
+      end = (λ e. absurd (cc), λ over. absurd (omega (arith, ap length (over.none))));
+      is_within = omega arith;
+      takes = λ i e. omega arith;
+      stays = λ none. absurd (none item is_next);
+    }
+next_line held ended noted taken n Bad ahead some fits closed is_next good bad = record {
+  item = λ i e more follows. absurd (cc);
+  bad = λ e more follows. ap (λ lines. slice_get lines 0) (ahead more follows);
+  need_more = (λ e. absurd (cc), λ waits. absurd (closed waits));
+  end = (λ e. absurd (cc), λ over. absurd (omega (arith, ap length (over.none))));
+  is_within = let none : taken ≡ 0 = bad refl in omega arith;
+  takes = λ i e. absurd (cc);
+  stays = λ none. bad refl;
+}
+
+-- the last line, which lacks its end
+pub cut_last : (held : List ℕ) (ended : Bool) (noted : Noted) (taken : ℕ) (line : Line) → All (λ byte. (byte == 10) ≡ false) (take 130 held) → length held < 130 → 0 < length held → ended ≡ true → line ≡ line_of held → noted ≡ Next line → ((item : Item) → line ≡ Read item → taken ≡ length held) → (line ≡ Bad → taken ≡ 0) → IsFirstCut held ended noted taken
+cut_last held ended noted taken line clear short some over is_line is_next good bad =
+    let whole : take 130 held ≡ held = take_all 130 held (omega arith) in
+    let P : List ℕ → Type 0 = All (λ byte. (byte == 10) ≡ false) in
+    let only : readings held ≡ line_of held ∷ [] = readings_last held (subst P whole clear) some in
+    next_line held ended noted taken (length held) line
+    (λ more follows.
+    let none : more ≡ [] = follows over in
+    let left : drop (length held) held ++ more ≡ [] = ap₂ (λ front rest. front ++ rest) (drop_of_length-le held (le_refl (length held))) none in
+    ap readings (ap (λ rest. held ++ rest) none ∙ append-nil held) ∙ only ∙ ap₂ (λ first rest. first ∷ rest) (sym is_line) (sym (ap readings left ∙ readings-nil)))
+    some (le_refl (length held)) (λ waits. true≢false (sym over ∙ waits.open_end)) is_next good bad
+
+-- bytes up to the first line feed, and those behind it
+ends_at : (held more : List ℕ) (place n : ℕ) → IsFirstPlace (λ byte. byte == 10) (take n held) place → readings (held ++ more) ≡ line_of (strip_carriage_return (take place held)) ∷ readings (drop (place + 1) held ++ more)
+ends_at held more place n first =
+    let near : place < n = omega (arith, first.is_within, length-take n held) in
+    let fits : place < length held = omega (arith, first.is_within, length-take n held) in
+    let front : take place (take n held) ≡ take place held = take-take place n held (omega arith) in
+    let feed : get_or held place 0 ≡ 10 = sym (get_or-take n held place 0 near) ∙ eqb-true _ _ (first.here 0) in
+    let P : List ℕ → Type 0 = All (λ byte. (byte == 10) ≡ false) in
+    let behind : drop place held ≡ 10 ∷ drop (place + 1) held = drop-cons held place 0 fits ∙ ap₂ (λ byte rest. byte ∷ drop rest held) feed (sym (add-one place)) in
+    let cut : held ++ more ≡ take place held ++ 10 ∷ (drop (place + 1) held ++ more) =
+    ap (λ bytes. bytes ++ more) (sym (take-append-drop place held)) ∙ append_assoc (take place held) (drop place held) more ∙ ap (λ bytes. take place held ++ (bytes ++ more)) behind in
+    ap readings cut ∙ readings_ended (take place held) (drop (place + 1) held ++ more) (subst P front (first.before))
+
+held_feed : (held : List ℕ) (place n : ℕ) → IsFirstPlace (λ byte. byte == 10) (take n held) place → All (λ byte. byte ≢ 10) held → ⊥
+held_feed held place n first none =
+    let near : place < n = omega (arith, first.is_within, length-take n held) in
+    let fits : place < length held = omega (arith, first.is_within, length-take n held) in
+    none place 0 fits (sym (get_or-take n held place 0 near) ∙ eqb-true _ _ (first.here 0))
+
+-- a line with its line feed
+pub cut_ended : (held : List ℕ) (ended : Bool) (noted : Noted) (taken place n : ℕ) (line : Line) → IsFirstPlace (λ byte. byte == 10) (take n held) place → line ≡ line_of (strip_carriage_return (take place held)) → noted ≡ Next line → ((item : Item) → line ≡ Read item → taken ≡ place + 1) → (line ≡ Bad → taken ≡ 0) → IsFirstCut held ended noted taken
+cut_ended held ended noted taken place n line first is_line is_next good bad =
+    next_line held ended noted taken (place + 1) line
+    (λ more follows. ends_at held more place n first ∙ ap (λ l. l ∷ readings (drop (place + 1) held ++ more)) (sym is_line))
+    (omega arith) (omega (arith, first.is_within, length-take n held))
+    (λ waits. held_feed held place n first (waits.no_line_feed)) is_next good bad
+
+-- the front in which a line feed is looked for
+pub same_front : (held : List ℕ) (n : ℕ) → n ≡ min (length held) 130 → take n held ≡ take 130 held
+same_front held n e = by_size held n e (cases_lt (length held) 130)
+  where
+    by_size : (held : List ℕ) (n : ℕ) → n ≡ min (length held) 130 → (length held < 130) ⊎ (130 ≤ length held) → take n held ≡ take 130 held
+    by_size held n e (inl short) = take_all n held (omega arith) ∙ sym (take_all 130 held (omega arith))
+    by_size held n e (inr long) = let all : n ≡ 130 = omega arith in ap (λ m. take m held) all
+
+-- the same of a reader, whose bytes held stand behind those that it has given
+pub gives_item : (items slice : List ℕ) (start taken : ℕ) (ended : Bool) (noted : Noted) (old : ReaderState) → slice ≡ items → state (drop start items) ended ≡ old → IsFirstCut (take (length slice - start) (drop start slice)) ended noted taken → (item : Item) → noted ≡ Next (Read item) → (more : List ℕ) → MayFollow old more → readings (old.held ++ more) ≡ Read item ∷ readings (drop (start + taken) items ++ more)
+gives_item items slice start taken ended noted old same seen cut item e more follows =
+    let whole : take (length slice - start) (drop start slice) ≡ drop start items = take_all (length slice - start) (drop start slice) (omega (arith, length-drop start slice)) ∙ ap (drop start) same in
+    let P : List ℕ → Type 0 = λ held. IsFirstCut held ended noted taken in
+    let here : IsFirstCut (drop start items) ended noted taken = subst P whole cut in
+    let Q : ReaderState → Type 0 = λ reader. MayFollow reader more in
+    ap (λ reader. readings (reader.held ++ more)) (sym seen)
+    ∙ here.item item e more (subst Q (sym seen) follows)
+    ∙ ap (λ rest. Read item ∷ readings (rest ++ more)) (drop-drop taken start items)

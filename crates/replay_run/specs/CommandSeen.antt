@@ -1,0 +1,7 @@
+-- A command as its caller holds it, with the names behind references.
+use Rattle.replay_run.specs.declared.words.Command.{Command}
+use Rattle.replay_run.specs.Words.{CommandWords}
+
+-- the command with the names themselves
+abbrev pub command_seen : Command → CommandWords
+command_seen command = record { data_pid = command.data_pid; stream = command.stream.now; notes = command.notes.now }

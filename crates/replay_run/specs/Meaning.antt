@@ -1,0 +1,58 @@
+-- What a run means: its words, the whole stream and the whole record fix the pieces of its output, the area after
+-- each, and how it ends. (Own definitions.)
+use Rattle.std.specs.Prelude.{ℕ, List, [], ◌∷◌, ◌++◌, map, length, replicate, Option, Some, None}
+use Rattle.ts_packets.specs.Packets.{packets_of}
+use Rattle.replay_run.specs.declared.status.Status.{Status}
+use Rattle.replay_run.specs.declared.status.Status.TheVariants.{Done, Usage, BadRecord}
+use Rattle.replay_run.specs.Lines.{end_line}
+use Rattle.replay_run.specs.Play.{Played, played}
+use Rattle.replay_run.specs.Record.{items_before_bad, first_bad}
+use Rattle.replay_run.specs.Words.{CommandWords, command}
+
+-- a piece of the output: its text, and the persistent area behind it
+pub record Piece : Type 0 where
+  pub text : List ℕ
+  pub area : List ℕ
+
+pub record Meaning : Type 0 where
+  pub pieces : List Piece
+  pub status : Status
+
+-- the area of a receiver that keeps nothing: 1,024 zeros
+abbrev pub empty_area : List ℕ
+empty_area = replicate 1024 0
+
+-- nothing at this stage changes the area
+abbrev pub piece_of : List ℕ → Piece
+piece_of text = record { text = text; area = empty_area }
+
+-- the last piece, where no line of the record is bad: how many packets were taken
+abbrev pub last_texts : Option ℕ → Played → List (List ℕ)
+last_texts None now = end_line (length now.taken) ∷ []
+last_texts (Some line) now = []
+
+abbrev pub status_behind : Option ℕ → Status
+status_behind None = Done
+status_behind (Some line) = BadRecord line
+
+-- the texts of the pieces: those of the items before the first bad line, and the last one
+unfoldable pub replay_texts : ℕ → List ℕ → List ℕ → List (List ℕ)
+replay_texts pid stream notes =
+    let now = played pid (packets_of stream) (items_before_bad notes) in now.pieces ++ last_texts (first_bad notes) now
+
+-- the meaning of a replay of the data on this PID
+abbrev pub replay_meaning : ℕ → List ℕ → List ℕ → Meaning
+replay_meaning pid stream notes =
+    record { pieces = map piece_of (replay_texts pid stream notes); status = status_behind (first_bad notes) }
+
+abbrev pub meaning_of : Option CommandWords → List ℕ → List ℕ → Meaning
+meaning_of None stream notes = record { pieces = []; status = Usage }
+meaning_of (Some request) stream notes = replay_meaning request.data_pid stream notes
+
+-- the meaning of words, a stream and a record
+abbrev pub meaning : List (List ℕ) → List ℕ → List ℕ → Meaning
+meaning words stream notes = meaning_of (command words) stream notes
+
+-- the texts of the pieces
+abbrev pub texts_of : Meaning → List (List ℕ)
+texts_of meaning = map (λ piece. piece.text) meaning.pieces

@@ -1,0 +1,79 @@
+-- Why a run stops before its end, and what it has written then. This project's own.
+use Rattle.std.specs.Prelude.{◌≡◌, ℕ, ◌+◌, ◌^◌, ◌<◌, ◌≤◌, ◌⊎◌, List, length, Option, Some}
+use Rattle.bml_ports.specs.declared.outside.Port.{Port}
+use Rattle.bml_ports.specs.Counters.{Counter, FaultedSince}
+use Rattle.bml_ports.specs.Worlds.{WorldState, port_of, other_port}
+use Rattle.replay_run.specs.declared.status.Status.{Status}
+use Rattle.replay_run.specs.declared.status.Status.TheVariants.{Done, Usage, BadRecord, OpenFault, ReadFault, WriteFault, KeepFault, BadArea, TooLong, NoMemory}
+use Rattle.replay_run.specs.Statuses.{WritesPieces, WritesBytes}
+
+-- between the two, the calls of the world were reads of this port
+pub record OnlyReads (port : Port) (old new : WorldState) : Type 0 where
+  pub files : new.files ≡ old.files
+  pub openings : new.openings ≡ old.openings
+  pub other : port_of new (other_port port) ≡ port_of old (other_port port)
+  pub asked : (port_of new port).asked ≡ (port_of old port).asked
+  pub later : (port_of old port).reads.faults ≤ (port_of new port).reads.faults
+
+-- the most bytes of a stream and of a record
+abbrev pub stream_limit : ℕ
+stream_limit = 2 ^ 36
+
+abbrev pub record_limit : ℕ
+record_limit = 2 ^ 30
+
+-- all but what is left of the bytes is more than the limit
+pub record GaveMore (limit : ℕ) (bytes : List ℕ) (left : Option (List ℕ)) : Type 0 where
+  pub rest : List ℕ
+  pub left_is : left ≡ Some rest
+  pub more : limit + length rest < length bytes
+
+-- all but what is left of the bytes is no more than the limit
+pub record GaveAtMost (limit : ℕ) (bytes : List ℕ) (left : Option (List ℕ)) : Type 0 where
+  pub rest : List ℕ
+  pub left_is : left ≡ Some rest
+  pub most : length bytes ≤ limit + length rest
+
+-- Making turns stops for these causes: `writes` counts those of the sink.
+abbrev pub StopsTurns : Status → Counter → Counter → Type 0
+StopsTurns WriteFault old new = FaultedSince old new
+StopsTurns NoMemory old new = Unit {0}
+StopsTurns Done old new = ⊥
+StopsTurns Usage old new = ⊥
+StopsTurns (BadRecord line) old new = ⊥
+StopsTurns OpenFault old new = ⊥
+StopsTurns ReadFault old new = ⊥
+StopsTurns KeepFault old new = ⊥
+StopsTurns (BadArea size) old new = ⊥
+StopsTurns TooLong old new = ⊥
+
+-- Reading the stream stops for these: `reads` counts the reads, and `bytes` are those that the stream gave.
+abbrev pub StopsReading : Status → Counter → Counter → ℕ → Type 0
+StopsReading ReadFault old new bytes = FaultedSince old new
+StopsReading TooLong old new bytes = stream_limit < bytes
+StopsReading Done old new bytes = ⊥
+StopsReading Usage old new bytes = ⊥
+StopsReading (BadRecord line) old new bytes = ⊥
+StopsReading OpenFault old new bytes = ⊥
+StopsReading WriteFault old new bytes = ⊥
+StopsReading KeepFault old new bytes = ⊥
+StopsReading (BadArea size) old new bytes = ⊥
+StopsReading NoMemory old new bytes = ⊥
+
+-- Handling packets stops for either.
+abbrev pub StopsPackets : Status → Counter → Counter → Counter → Counter → ℕ → Type 0
+StopsPackets status reads_old reads_new writes_old writes_new bytes =
+    StopsReading status reads_old reads_new bytes ⊎ StopsTurns status writes_old writes_new
+
+-- what is written of the pieces where handling packets stops
+abbrev pub LeavesPackets : Status → List ℕ → Option (List ℕ) → List ℕ → Option (List ℕ) → List (List ℕ) → Type 0
+LeavesPackets ReadFault stream left first written pieces = GaveAtMost stream_limit stream left × WritesPieces (Some first) written pieces
+LeavesPackets WriteFault stream left first written pieces = GaveAtMost stream_limit stream left × WritesBytes (Some first) written pieces
+LeavesPackets TooLong stream left first written pieces = GaveMore stream_limit stream left × WritesPieces (Some first) written pieces
+LeavesPackets NoMemory stream left first written pieces = GaveAtMost stream_limit stream left × WritesPieces (Some first) written pieces
+LeavesPackets Done stream left first written pieces = ⊥
+LeavesPackets Usage stream left first written pieces = ⊥
+LeavesPackets (BadRecord line) stream left first written pieces = ⊥
+LeavesPackets OpenFault stream left first written pieces = ⊥
+LeavesPackets KeepFault stream left first written pieces = ⊥
+LeavesPackets (BadArea size) stream left first written pieces = ⊥

@@ -1,0 +1,190 @@
+//! Handles the items of a record over the packets of a stream.
+
+ghost use Rattle.std.specs.Prelude.{◌≡◌, ℕ, ◌+◌, ◌*◌, ◌^◌, ◌<◌, ◌≤◌, ◌++◌, ◌∷◌, [], List, length, true, false, IsTrue, OnOk, OnErr, IfErr, Option, Some};
+ghost use Rattle.bml_ports.specs.Worlds.{WorldState};
+ghost use Rattle.ts_packets.specs.Cutter.{IsCertainAt};
+
+use crate::output::write_piece;
+use crate::receiver::Receiver;
+use crate::status::Status;
+use bml_ports::{Port, Sink, World};
+use std::alloc::Global;
+use ts_packets::{Ahead, Cutter};
+
+/// The most bytes that a stream may give.
+const STREAM_LIMIT: u64 = 1 << 36;
+
+/// The bytes that one read of the stream asks for: with the 188 that a cutter holds at most when it waits, they
+/// fit the cutter.
+const READ_LENGTH: usize = 3904;
+
+/// What a replay keeps from item to item.
+#[derive(Drop)]
+pub struct Player {
+    cutter: Cutter,
+    receiver: Receiver,
+    /// The text of the turn that is being made.
+    piece: Vec<u8>,
+    /// The bytes that the stream gave.
+    bytes: u64,
+    /// The packets that were taken.
+    packets: u64,
+    ghost cut: { 188 * packets + length cutter.held ≤ bytes },
+    ghost limited: { bytes ≤ 2 ^ 36 + 3904 },
+}
+
+impl Player {
+    ghost use Rattle.replay_run.specs.Midway.{state_of, Goes, Stops, IsReadable, work_left};
+    ghost use Rattle.replay_run.specs.Progress.{IsBetween};
+    ghost use Rattle.replay_run.specs.Receiving.{IsIdle};
+    ghost use Rattle.replay_run.specs.Stopping.{OnlyReads, StopsPackets, StopsTurns, StopsReading, stream_limit};
+    ghost use Rattle.replay_run.specs.declared.record.Item.{Item};
+
+    /// A replay at the start of its stream.
+    pub fn new(alloc: Global, pid: u16) -> Player
+        ensures start { (stream first : List ℕ)
+            → IsBetween pid stream first (Some stream) (Some first) (state_of result) [] }
+        ensures idle { IsIdle result.receiver }
+        ensures within { result.bytes ≤ stream_limit }
+        ensures readable { (world : WorldState)
+            → IsTrue world.stream.readable → IsReadable result.cutter world }
+    {
+        Player {
+            cutter: Cutter::new(),
+            receiver: Receiver::new(alloc, pid),
+            piece: Vec::new(alloc),
+            bytes: 0,
+            packets: 0,
+        }
+    }
+
+    /// The packets that were taken.
+    pub fn packets(&self) -> u64
+        ensures packets { result ≡ self.now.packets }
+        ensures few { result < 2 ^ 63 }
+    {
+        self.packets
+    }
+
+    /// Takes the packets that are left, and writes what each of their turns prints.
+    pub fn take_all<W: World, S: Sink>(&mut self, world: &mut W, out: &mut S) -> Result<(), Status>
+        requires idle { IsIdle self.old.receiver }
+        requires within { self.old.bytes ≤ stream_limit }
+        requires readable { IsReadable self.old.cutter (W.told world.old) }
+
+        ensures within { OnOk result (self.new.bytes ≤ stream_limit) }
+        ensures idle { OnOk result (IsIdle self.new.receiver) }
+        ensures readable { OnOk result (IsReadable self.new.cutter (W.told world.new)) }
+        ensures reads { OnlyReads Port.Stream (W.told world.old) (W.told world.new) }
+        ensures writes { (S.told out.old).writes.faults ≤ (S.told out.new).writes.faults }
+        ensures cause { IfErr result (λ status. StopsPackets status
+            (W.told world.old).stream.reads (W.told world.new).stream.reads
+            (S.told out.old).writes (S.told out.new).writes self.new.bytes) }
+
+        ensures played { OnOk result ((pid : ℕ) (stream first : List ℕ) (items : List Item)
+            → IsBetween pid stream first (W.told world.old).stream.left (S.told out.old).written
+            (state_of self.old) items
+            → IsBetween pid stream first (W.told world.new).stream.left (S.told out.new).written
+            (state_of self.new) (items ++ Item.All ∷ [])) }
+        ensures stopped { IfErr result (λ status. Stops status
+            (W.told world.old).stream.left (W.told world.new).stream.left
+            (S.told out.old).written (S.told out.new).written (state_of self.old)) }
+    {
+        'packets: loop {
+            match self.cutter.seek() {
+                Ahead::Packet => self.next_packet(out)?,
+                Ahead::NeedMore => self.read_stream(world)?,
+                Ahead::End => return Ok(()),
+            }
+        }
+    }
+
+    // Takes the packet at the front.
+    fn next_packet<S: Sink>(&mut self, out: &mut S) -> Result<(), Status>
+        requires idle { IsIdle self.old.receiver }
+        requires front { IsCertainAt self.old.cutter 0 }
+        requires within { self.old.bytes ≤ stream_limit }
+
+        ensures idle { OnOk result (IsIdle self.new.receiver) }
+        ensures bytes { self.new.bytes ≡ self.old.bytes }
+        ensures shorter { length self.new.cutter.held < length self.old.cutter.held }
+        ensures ended { self.new.cutter.ended ≡ self.old.cutter.ended }
+        ensures writes { (S.told out.old).writes.faults ≤ (S.told out.new).writes.faults }
+        ensures cause { IfErr result (λ status. StopsTurns status (S.told out.old).writes (S.told out.new).writes) }
+        ensures goes { OnOk result ((left : Option (List ℕ)) → Goes left left
+            (S.told out.old).written (S.told out.new).written (state_of self.old) (state_of self.new)) }
+        ensures stops { IfErr result (λ status. (left : Option (List ℕ)) → Stops status left left
+            (S.told out.old).written (S.told out.new).written (state_of self.old)) }
+    {
+        self.packets += 1;
+        if !self.receiver.wants(self.cutter.front_pid()) {
+            self.cutter.skip_packet();
+            return Ok(());
+        }
+        let packet = self.cutter.take_packet();
+        self.receiver.packet(&packet);
+        self.turns(out)
+    }
+
+    // Makes the turns that are due, and writes what each prints.
+    fn turns<S: Sink>(&mut self, out: &mut S) -> Result<(), Status>
+        requires { self.old.bytes ≤ stream_limit }
+        ensures idle { OnOk result (IsIdle self.new.receiver) }
+        ensures bytes { self.new.bytes ≡ self.old.bytes }
+        ensures cutter { self.new.cutter ≡ self.old.cutter }
+        ensures writes { (S.told out.old).writes.faults ≤ (S.told out.new).writes.faults }
+        ensures cause { IfErr result (λ status. StopsTurns status (S.told out.old).writes (S.told out.new).writes) }
+        ensures goes { OnOk result ((left : Option (List ℕ)) → Goes left left
+            (S.told out.old).written (S.told out.new).written (state_of self.old) (state_of self.new)) }
+        ensures stops { IfErr result (λ status. (left : Option (List ℕ)) → Stops status left left
+            (S.told out.old).written (S.told out.new).written (state_of self.old)) }
+    {
+        'turns: loop {
+            self.piece.clear();
+            match self.receiver.section_turn(&mut self.piece)? {
+                true => write_piece(out, &self.piece)?,
+                false => return Ok(()),
+            }
+        }
+    }
+
+    // Reads a piece of the stream, or comes to its end.
+    fn read_stream<W: World>(&mut self, world: &mut W) -> Result<(), Status>
+        requires open_end { self.old.cutter.ended ≡ false }
+        requires waiting { length self.old.cutter.held ≤ 188 }
+        requires within { self.old.bytes ≤ stream_limit }
+        requires readable { IsTrue (W.told world.old).stream.readable }
+
+        ensures receiver { self.new.receiver ≡ self.old.receiver }
+        ensures within { OnOk result (self.new.bytes ≤ stream_limit) }
+        ensures readable { OnOk result (IsReadable self.new.cutter (W.told world.new)) }
+        ensures reads { OnlyReads Port.Stream (W.told world.old) (W.told world.new) }
+        ensures cause { IfErr result (λ status. StopsReading status
+            (W.told world.old).stream.reads (W.told world.new).stream.reads self.new.bytes) }
+        ensures ahead { OnOk result
+            (work_left self.new.cutter self.new.bytes < work_left self.old.cutter self.old.bytes) }
+        ensures goes { OnOk result ((written : Option (List ℕ)) → Goes
+            (W.told world.old).stream.left (W.told world.new).stream.left written written
+            (state_of self.old) (state_of self.new)) }
+        ensures stops { IfErr result (λ status. (written : Option (List ℕ)) → Stops status
+            (W.told world.old).stream.left (W.told world.new).stream.left written written
+            (state_of self.old)) }
+    {
+        let mut buffer = [0; READ_LENGTH];
+        match world.read_port(Port::Stream, &mut buffer) {
+            Err(_) => Err(Status::ReadFault),
+            Ok(0) => {
+                self.cutter.finish();
+                Ok(())
+            }
+            Ok(count) => {
+                self.bytes += count as u64;
+                if self.bytes > STREAM_LIMIT {
+                    return Err(Status::TooLong);
+                }
+                self.cutter.feed(&buffer[..count]);
+                Ok(())
+            }
+        }
+    }
+}

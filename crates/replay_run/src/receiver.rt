@@ -1,0 +1,88 @@
+//! The receiver: from the packets of a stream to what the turns of its sections print.
+
+ghost use Rattle.std.specs.Prelude.{◌≡◌, ℕ, ◌<◌, ◌++◌, ◌∷◌, [], List, true, false, IsTrue, ◌↔◌, IfOk, Ok};
+ghost use Rattle.std.specs.List.{concat};
+ghost use Rattle.ts_packets.specs.Packet.{pid_of};
+
+use crate::acquisition::Acquisition;
+use bml_bytes::NoMemory;
+use std::alloc::Global;
+use std::marker::Model;
+use ts_packets::Packet;
+use ts_sections::{Assembler, is_intact};
+
+/// Receives the data carousel on one PID.
+///
+/// Hand in a packet by [`packet`](Receiver::packet), and then make the turns of the sections that it completes by
+/// [`section_turn`](Receiver::section_turn), until that answers `false`.
+#[derive(Drop)]
+pub struct Receiver {
+    pid: u16,
+    assembler: Assembler,
+    acquisition: Acquisition,
+}
+
+impl Model for Receiver {
+    ghost use Rattle.replay_run.specs.Receiving.{ReceiverState};
+
+    ghost Value = { ReceiverState };
+
+    ghost view = { λ r. record { pid = r.pid; assembler = r.assembler; kept = r.acquisition } };
+}
+
+impl Receiver {
+    ghost use Rattle.replay_run.specs.Receiving.{StandsFor, IsIdle, IsDrained, sections_left};
+
+    /// A receiver of that PID, to which no packet came. It keeps the allocator, and takes no memory yet.
+    pub fn new(alloc: Global, pid: u16) -> Receiver
+        ensures stands { StandsFor pid result [] [] }
+        ensures idle { IsIdle result }
+    {
+        Receiver {
+            pid,
+            assembler: Assembler::new(),
+            acquisition: Acquisition::new(alloc),
+        }
+    }
+
+    /// Whether packets of that PID are received. Others need not be handed in.
+    pub fn wants(&self, pid: u16) -> bool
+        ensures exact { IsTrue result ↔ (pid ≡ self.now.pid) }
+        ensures passes { result ≡ false → (data_pid : ℕ) (packets given : List (List ℕ)) (packet : List ℕ)
+            → pid_of packet ≡ pid → StandsFor data_pid self.now packets given
+            → StandsFor data_pid self.now (packets ++ packet ∷ []) given }
+    {
+        pid == self.pid
+    }
+
+    /// Hands in the next packet of the stream, of whatever PID. Takes no memory.
+    pub fn packet(&mut self, packet: &Packet)
+        requires drained { IsDrained self.old }
+        ensures pushed { (data_pid : ℕ) (packets given : List (List ℕ)) → StandsFor data_pid self.old packets given
+            → StandsFor data_pid self.new (packets ++ packet.now ∷ []) given }
+    {
+        if packet.pid() == self.pid {
+            self.assembler.push(packet);
+        }
+    }
+
+    /// Makes the turn of the next section that is whole, and appends what it prints. `false` where there is none;
+    /// a damaged section answers `true` and does nothing. After `NoMemory` nothing is said of the receiver.
+    pub fn section_turn(&mut self, out: &mut Vec<u8>) -> Result<bool, NoMemory>
+        ensures turned { IfOk result (λ more. (texts : List (List ℕ)) × (out.new.items ≡ out.old.items ++ concat texts)
+            × ((data_pid : ℕ) (packets given : List (List ℕ)) → StandsFor data_pid self.old packets given
+            → StandsFor data_pid self.new packets (given ++ texts))) }
+        ensures over { result ≡ Ok false → IsIdle self.new }
+        ensures stays { result ≡ Ok false → (data_pid : ℕ) (packets given : List (List ℕ))
+            → StandsFor data_pid self.old packets given → StandsFor data_pid self.new packets given }
+        ensures fewer { result ≡ Ok true → sections_left self.new < sections_left self.old }
+    {
+        let Some(section) = self.assembler.next() else {
+            return Ok(false);
+        };
+        if is_intact(section) {
+            self.acquisition.take(section, out)?;
+        }
+        Ok(true)
+    }
+}

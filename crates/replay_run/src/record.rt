@@ -1,0 +1,399 @@
+//! The lines of the record, read from pieces.
+
+ghost use Rattle.std.specs.Prelude.{◌≡◌, ◌≢◌, ℕ, ◌+◌, ◌-◌, ◌<◌, ◌≤◌, ◌↔◌, ◌⊎◌, true, false, [], ◌∷◌, ◌++◌, All, length, take, drop, min, not, position, slice_index, ◌==◌, MatchOption};
+ghost use Rattle.std.specs.Str.Lines.{strip_carriage_return};
+ghost use Rattle.replay_run.specs.Reading.{IsFirstCut};
+ghost use Rattle.replay_run.specs.RecordReader.{capacity, Gives, BeginsBad, IsUnfinished, IsOver, DropsFront};
+ghost use Rattle.replay_run.specs.Record.{is_blank as is_blank_of, fields, item_of, line_of as line_of_bytes};
+
+use arrayvec::ArrayVec;
+use std::marker::Model;
+
+/// The most bytes that a [`RecordReader`] holds.
+pub const CAPACITY: usize = 4096;
+
+// The most bytes of a line without its end.
+const LINE_LIMIT: usize = 128;
+
+// The bytes of the longest good line with its end.
+const LONGEST_LINE: usize = LINE_LIMIT + 2;
+
+/// What a good line of the record asks for.
+#[derive(Clone, Copy, Debug, PartialEq, Eq)]
+pub enum Item {
+    /// Take all packets that are left.
+    All,
+}
+
+/// A line of the record.
+#[derive(Clone, Copy, Debug, PartialEq, Eq)]
+pub enum Line {
+    /// It is an item.
+    Item(Item),
+    /// It is none, or too long.
+    Bad,
+}
+
+/// What [`RecordReader::next`] answers.
+#[derive(Clone, Copy, Debug, PartialEq, Eq)]
+pub enum Noted {
+    /// The record's next line.
+    Line(Line),
+    /// More bytes are needed to tell what the next line is.
+    NeedMore,
+    /// The record's end was told, and no line is left.
+    End,
+}
+
+/// Reads the lines of a record that comes in pieces. It holds up to 4,096 bytes in itself.
+///
+/// A line is ended by a line feed, and one carriage return before that belongs to its end. The last line may
+/// lack its end, and then keeps a carriage return. A line of more than 128 bytes without its end is bad, and is
+/// known to be so before its end comes.
+#[derive(Drop)]
+pub struct RecordReader {
+    bytes: ArrayVec<u8, CAPACITY>,
+    start: usize,
+    ended: bool,
+}
+
+impl Model for RecordReader {
+    ghost use Rattle.std.specs.Prelude.{◌≤◌, drop, length};
+    ghost use Rattle.replay_run.specs.RecordReader.{ReaderState};
+
+    ghost Value = { ReaderState };
+
+    ghost view = { λ r. record { held = drop r.start r.bytes.items; ended = r.ended } };
+
+    ghost invariant = { λ r. (r.start ≤ length r.bytes.items) × (length r.bytes.items ≤ 4096) };
+}
+
+impl RecordReader {
+    /// A reader that holds nothing, at the start of a record.
+    pub fn new() -> RecordReader
+        ensures held { result.held ≡ [] }
+        ensures ended { result.ended ≡ false }
+    {
+        RecordReader {
+            bytes: ArrayVec::new(),
+            start: 0,
+            ended: false,
+        }
+    }
+
+    /// Whether the record's end was told.
+    pub fn is_finished(&self) -> bool
+        ensures { result ≡ self.now.ended }
+    {
+        self.ended
+    }
+
+    /// The number of bytes held, at most 4,096.
+    pub fn held_len(&self) -> usize
+        ensures len { result ≡ length self.now.held }
+        ensures most { result ≤ capacity }
+    {
+        self.bytes.len() - self.start
+    }
+
+    /// Takes as many of the bytes as there is room for, from the front, and answers their number.
+    pub fn feed(&mut self, bytes: &[u8]) -> usize
+        requires open_end { self.old.ended ≡ false }
+        ensures count { result ≡ min (length bytes.now) (capacity - length self.old.held) }
+        ensures held { self.new.held ≡ self.old.held ++ take result bytes.now }
+        ensures ended { self.new.ended ≡ self.old.ended }
+        ensures nothing { (result ≡ 0) ↔ ((length self.old.held ≡ capacity) ⊎ (bytes.now ≡ [])) }
+    {
+        let count = bytes.len().min(CAPACITY - self.held_len());
+        if count > self.bytes.remaining_capacity() {
+            drop_front(&mut self.bytes, self.start);
+            self.start = 0;
+        }
+        append(&mut self.bytes, &bytes[..count]);
+        count
+    }
+
+    /// Tells that the record ends behind what was fed. A second call changes nothing.
+    pub fn finish(&mut self)
+        ensures held { self.new.held ≡ self.old.held }
+        ensures ended { self.new.ended ≡ true }
+    {
+        self.ended = true;
+    }
+
+    /// The next line of the record, if what is held tells it. A good line is taken away. A bad one is left, so each
+    /// later call answers it again.
+    pub fn next(&mut self) -> Noted
+        ensures item { (item : Item) → result ≡ Noted.Line (Line.Item item) → Gives self.old (Line.Item item) self.new }
+        ensures bad { result ≡ Noted.Line Line.Bad → BeginsBad self.old }
+        ensures need_more { (result ≡ Noted.NeedMore) ↔ IsUnfinished self.old }
+        ensures end { (result ≡ Noted.End) ↔ IsOver self.old }
+
+        ensures drops { DropsFront self.old self.new }
+        ensures takes { (item : Item) → result ≡ Noted.Line (Line.Item item) → length self.new.held < length self.old.held }
+        ensures stays { ((item : Item) → result ≢ Noted.Line (Line.Item item)) → self.new ≡ self.old }
+    {
+        let cut = cut_line(&self.bytes.as_slice()[self.start..], self.ended);
+        self.start += cut.length;
+        cut.noted
+    }
+}
+
+// What a reader's first line comes to: the answer, and the bytes that are taken with it.
+#[derive(Drop)]
+struct LineCut {
+    noted: Noted,
+    length: usize,
+}
+
+impl LineCut {
+    fn leaving(noted: Noted) -> LineCut
+        ensures noted { result.noted ≡ noted }
+        ensures length { result.length ≡ 0 }
+    {
+        LineCut { noted, length: 0 }
+    }
+
+    // A good line is taken with its end, and a bad one is left.
+    fn of_line(line: Line, length: usize) -> LineCut
+        ensures noted { result.noted ≡ Noted.Line line }
+        ensures good { (item : Item) → line ≡ Line.Item item → result.length ≡ length }
+        ensures bad { line ≡ Line.Bad → result.length ≡ 0 }
+    {
+        let length = match line {
+            Line::Item(_) => length,
+            Line::Bad => 0,
+        };
+        LineCut {
+            noted: Noted::Line(line),
+            length,
+        }
+    }
+}
+
+// The first line of what is held of a record.
+fn cut_line(held: &[u8], ended: bool) -> LineCut
+    ensures { IsFirstCut held.now ended result.noted result.length }
+{
+    match find_line_feed(&held[..held.len().min(LONGEST_LINE)]) {
+        Some(place) => LineCut::of_line(line_of(without_return(&held[..place])), place + 1),
+        None => cut_open(held, ended),
+    }
+}
+
+// The first line where no line feed is among the bytes that a good line can have.
+fn cut_open(held: &[u8], ended: bool) -> LineCut
+    requires { All (λ byte. (byte == 10) ≡ false) (take 130 held.now) }
+    ensures { IsFirstCut held.now ended result.noted result.length }
+{
+    if held.len() >= LONGEST_LINE {
+        return LineCut::leaving(Noted::Line(Line::Bad));
+    }
+    if !ended {
+        return LineCut::leaving(Noted::NeedMore);
+    }
+    if held.is_empty() {
+        return LineCut::leaving(Noted::End);
+    }
+    LineCut::of_line(line_of(held), held.len())
+}
+
+// The place of the first line feed.
+fn find_line_feed(bytes: &[u8]) -> Option<usize>
+    ensures { result ≡ position (λ byte. byte == 10) bytes.now }
+{
+    bytes.iter().position(|byte| *byte == b'\n')
+}
+
+// A line without the carriage return at its end, if it has one.
+fn without_return(line: &[u8]) -> &[u8]
+    ensures { result.now ≡ strip_carriage_return line.now }
+{
+    match line {
+        [front @ .., b'\r'] => front,
+        _ => line,
+    }
+}
+
+// What a line is, which is given without its end.
+#[tactic(auto, unfolding(crate::specs::Record::line_of))]
+fn line_of(bytes: &[u8]) -> Line
+    ensures { result ≡ line_of_bytes bytes.now }
+{
+    if bytes.len() > LINE_LIMIT {
+        return Line::Bad;
+    }
+    match read_item(bytes) {
+        Some(item) => Line::Item(item),
+        None => Line::Bad,
+    }
+}
+
+// The item that the fields of a line are.
+fn read_item(line: &[u8]) -> Option<Item>
+    ensures { result ≡ item_of (fields line.now) }
+{
+    let (name, rest) = next_field(line)?;
+    match next_field(rest) {
+        Some(_) => None,
+        None => item_of_name(name),
+    }
+}
+
+fn item_of_name(name: &[u8]) -> Option<Item>
+    ensures { result ≡ item_of (name.now ∷ []) }
+{
+    let all: &[u8] = b"all";
+    if name == all { Some(Item::All) } else { None }
+}
+
+// The first field of a line, and the bytes behind it.
+fn next_field(line: &[u8]) -> Option<(&[u8], &[u8])>
+    ensures { MatchOption result (fields line.now ≡ []) (λ found. fields line.now ≡ found.0.now ∷ fields found.1.now) }
+{
+    match find_field(line) {
+        None => None,
+        Some(start) => Some(cut_field(&line[start..])),
+    }
+}
+
+// The field at the front of some bytes, and the bytes behind it.
+fn cut_field(bytes: &[u8]) -> (&[u8], &[u8])
+    requires some { 0 < length bytes.now }
+    requires field { is_blank_of (slice_index bytes.now 0) ≡ false }
+    ensures { fields bytes.now ≡ result.0.now ∷ fields result.1.now }
+{
+    match find_blank(bytes) {
+        None => (bytes, &[]),
+        Some(end) => bytes.split_at(end),
+    }
+}
+
+// The place of the first byte that isn't blank.
+fn find_field(line: &[u8]) -> Option<usize>
+    ensures { result ≡ position (λ byte. not (is_blank_of byte)) line.now }
+{
+    line.iter().position(|byte| !is_blank(*byte))
+}
+
+// The place of the first blank.
+fn find_blank(bytes: &[u8]) -> Option<usize>
+    ensures { result ≡ position is_blank_of bytes.now }
+{
+    bytes.iter().position(|byte| is_blank(*byte))
+}
+
+fn is_blank(byte: u8) -> bool
+    ensures { result ≡ is_blank_of byte }
+{
+    byte == b' ' || byte == b'\t'
+}
+
+fn drop_front(bytes: &mut ArrayVec<u8, CAPACITY>, count: usize)
+    requires { count ≤ length bytes.old.items }
+    ensures { bytes.new.items ≡ drop count bytes.old.items }
+{
+    bytes.drain(..count);
+}
+
+fn append(bytes: &mut ArrayVec<u8, CAPACITY>, more: &[u8])
+    requires { length bytes.old.items + length more.now ≤ 4096 }
+    ensures { bytes.new.items ≡ bytes.old.items ++ more.now }
+{
+    let _ = bytes.try_extend_from_slice(more);
+}
+
+#[cfg(test)]
+mod tests {
+    use super::*;
+    use std::test::Fail;
+
+    // The number of items before the end or the first bad line, and whether a bad line was met, where the record
+    // comes in pieces of this length.
+    fn read(bytes: &[u8], piece: usize) -> Option<(u64, bool)> {
+        let mut reader = RecordReader::new();
+        let mut left = bytes;
+        let mut items: u64 = 0;
+        for _ in 0..u64::MAX {
+            match reader.next() {
+                Noted::Line(Line::Item(Item::All)) => items = items.saturating_add(1),
+                Noted::Line(Line::Bad) => return Some((items, true)),
+                Noted::End => return Some((items, false)),
+                Noted::NeedMore => {
+                    let count = reader.feed(&left[..piece.min(left.len())]);
+                    if count == 0 {
+                        reader.finish();
+                    }
+                    left = &left[count..];
+                }
+            }
+        }
+        None
+    }
+
+    #[test]
+    fn records(rt: HostRuntime) -> Result<(), Fail> {
+        let mut full = [b' '; 132];
+        full[..3].copy_from_slice(b"all");
+        let mut full_line = full;
+        full_line[128..131].copy_from_slice(b"\nal");
+        let mut full_crlf = full;
+        full_crlf[128..].copy_from_slice(b"\r\nal");
+        let mut over_line = full;
+        over_line[129] = b'\n';
+        let mut over_crlf = full;
+        over_crlf[129..131].copy_from_slice(b"\r\n");
+        let mut returns = full;
+        returns[128] = b'\r';
+        let table: [(&[u8], u64, bool); 29] = [
+            (b"", 0, false),
+            (b"all", 1, false),
+            (b"all\n", 1, false),
+            (b"all\r\n", 1, false),
+            (b"all\r", 0, true),
+            (b"all\r\r\n", 0, true),
+            (b"all\rall\n", 0, true),
+            (b" \tall\t \n", 1, false),
+            (b"\tall", 1, false),
+            (b"all\nall\r\nall", 3, false),
+            (b"all\nall\nshow\nall\n", 2, true),
+            (b"\n", 0, true),
+            (b"\r\n", 0, true),
+            (b"   \n", 0, true),
+            (b"all\n\nall\n", 1, true),
+            (b"all\n# all\n", 1, true),
+            (b"al", 0, true),
+            (b"alll", 0, true),
+            (b"ALL", 0, true),
+            (b"all all", 0, true),
+            (b"a ll", 0, true),
+            (&full[..128], 1, false),
+            (&full_line[..129], 1, false),
+            (&full_line[..], 1, true),
+            (&full_crlf[..130], 1, false),
+            (&full[..129], 0, true),
+            (&over_line[..130], 0, true),
+            (&over_crlf[..131], 0, true),
+            (&returns[..129], 0, true),
+        ];
+        for (bytes, items, bad) in table {
+            for piece in [1, 7, 200] {
+                assert_eq!(rt;
+                    read(bytes, piece),
+                    Some((items, bad)),
+                    "{bytes:?} in pieces of {piece}"
+                );
+            }
+        }
+        let mut many = Vec::new(rt.alloc());
+        for _ in 0..3000 {
+            many.extend_from_slice(b"all\n")?;
+        }
+        for piece in [1, 4095, 4096, 12000] {
+            assert_eq!(rt; read(&many, piece), Some((3000, false)));
+        }
+        many.extend_from_slice(b"alas")?;
+        assert_eq!(rt; read(&many, 4096), Some((3000, true)));
+        Ok(())
+    }
+}

@@ -1,0 +1,100 @@
+//! A replay of a record over a stream.
+
+ghost use Rattle.std.specs.Prelude.{◌≡◌, ◌≢◌, ℕ, ◌^◌, ◌<◌, ◌≤◌, List, OnOk, IfErr, IsTrue, Some, None};
+ghost use Rattle.bml_ports.specs.Worlds.{port_of};
+ghost use Rattle.replay_run.specs.Causes.{IsCaused};
+ghost use Rattle.replay_run.specs.Lines.{end_line};
+ghost use Rattle.replay_run.specs.Opening.{AsksAtMost, IsUnasked, OnlyOpens, StopsOpening, bytes_under};
+ghost use Rattle.replay_run.specs.Replaying.{outcome_of, OnlyReadsBoth, ReplayEnds, RunEnds, StopsLine, StopsReplay};
+ghost use Rattle.replay_run.specs.Stopping.{StopsTurns};
+ghost use Rattle.replay_run.specs.Writing.{WritesOn};
+
+use crate::lines::push_end_line;
+use crate::notes::Notes;
+use crate::output::write_piece;
+use crate::player::Player;
+use crate::record::Item;
+use crate::status::Status;
+use bml_ports::{Port, Sink, Text, World};
+use std::alloc::Global;
+
+/// Opens a file at a port.
+pub fn open<W: World>(world: &mut W, port: Port, name: &Text) -> Result<(), Status>
+    requires unasked { (port_of (W.told world.old) port).asked ≡ None }
+    ensures opens { OnlyOpens port name.now (W.told world.old) (W.told world.new) }
+    ensures cause { IfErr result (λ status. StopsOpening status (W.told world.old) (W.told world.new)) }
+    ensures readable { OnOk result (IsTrue (port_of (W.told world.new) port).readable) }
+    ensures bytes { OnOk result ((bytes : List ℕ) → bytes_under (W.told world.old) name.now ≡ Some bytes
+        → (port_of (W.told world.new) port).left ≡ Some bytes) }
+{
+    let name = name.share()?;
+    match world.open_port(port, name) {
+        Ok(()) => Ok(()),
+        Err(_) => Err(Status::OpenFault),
+    }
+}
+
+/// Handles the items of the record over the stream, both open and unread, and writes the last line.
+pub fn play_record<W: World, S: Sink>(
+    alloc: Global,
+    pid: u16,
+    world: &mut W,
+    out: &mut S,
+) -> Result<(), Status>
+    requires stream { IsTrue (W.told world.old).stream.readable }
+    requires notes { IsTrue (W.told world.old).notes.readable }
+    ensures reads { OnlyReadsBoth (W.told world.old) (W.told world.new) }
+    ensures cause { IfErr result (λ status. StopsReplay status
+        (W.told world.old) (W.told world.new) (S.told out.old) (S.told out.new)) }
+    ensures ends { ReplayEnds pid (W.told world.old) (W.told world.new)
+        (S.told out.old).written (S.told out.new).written (outcome_of result) }
+{
+    let mut player = Player::new(alloc, pid);
+    let mut notes = Notes::new();
+    'items: loop {
+        match notes.next_item(world)? {
+            Some(Item::All) => player.take_all(world, out)?,
+            None => return write_end(alloc, player.packets(), out),
+        }
+    }
+}
+
+// Writes the last line.
+fn write_end<S: Sink>(alloc: Global, packets: u64, out: &mut S) -> Result<(), Status>
+    requires few { packets < 2 ^ 63 }
+    ensures whole { OnOk result
+        (WritesOn (S.told out.old).written (S.told out.new).written (end_line packets)) }
+    ensures cause { IfErr result
+        (λ status. StopsTurns status (S.told out.old).writes (S.told out.new).writes) }
+    ensures stops { IfErr result (λ status. StopsLine status
+        (S.told out.old).written (S.told out.new).written (end_line packets)) }
+    ensures writes { (S.told out.old).writes.faults ≤ (S.told out.new).writes.faults }
+{
+    let mut line = Vec::new(alloc);
+    push_end_line(packets, &mut line)?;
+    write_piece(out, &line)
+}
+
+/// Opens both files and replays the record over the stream.
+pub fn replay<W: World, S: Sink>(
+    alloc: Global,
+    pid: u16,
+    stream: &Text,
+    notes: &Text,
+    world: &mut W,
+    out: &mut S,
+) -> Result<(), Status>
+    requires unasked { IsUnasked (W.told world.old) }
+    ensures files { (W.told world.new).files ≡ (W.told world.old).files }
+    ensures asked_stream { AsksAtMost (W.told world.new).stream stream.now }
+    ensures asked_notes { AsksAtMost (W.told world.new).notes notes.now }
+    ensures cause { IfErr result (λ status. IsCaused status
+        (W.told world.old) (W.told world.new) (S.told out.old) (S.told out.new)) }
+    ensures obeyed { IfErr result (λ status. status ≢ Status.Usage) }
+    ensures ends { RunEnds pid stream.now notes.now (W.told world.old) (W.told world.new)
+        (S.told out.old).written (S.told out.new).written (outcome_of result) }
+{
+    open(world, Port::Stream, stream)?;
+    open(world, Port::Notes, notes)?;
+    play_record(alloc, pid, world, out)
+}

@@ -1,0 +1,94 @@
+//! The run of the program.
+
+ghost use Rattle.std.specs.Prelude.{◌≡◌, ◌≢◌, ℕ, List, ◌↔◌, ◌⊎◌, Some, None};
+ghost use Rattle.replay_run.specs.Causes.{IsCaused};
+ghost use Rattle.replay_run.specs.CommandSeen.{command_seen};
+ghost use Rattle.replay_run.specs.Completeness.{IsUnhindered};
+ghost use Rattle.replay_run.specs.Opening.{AsksOnly, IsUnasked, HasFiles};
+ghost use Rattle.replay_run.specs.Replaying.{outcome_of, RunMeans};
+ghost use Rattle.replay_run.specs.Words.{command};
+
+use crate::replay::replay;
+use crate::status::Status;
+use crate::words::{Command, read_command};
+use bml_ports::{Keeper, Sink, Text, World};
+use std::alloc::Global;
+
+/// Runs the command that the words behind the program's name are, and answers how it ended.
+///
+/// `replay --data-pid N STREAM RECORD` replays a recorded transport stream (ISO/IEC 13818-1) as a receiver
+/// would see it that acquires the data carousel on PID N, 16 to 8,190: the record says line by line what to
+/// take, and what each turn of the receiver prints is written, piece by piece, and `end P` at the end for the P
+/// packets that were taken. It holds neither the stream nor the record in memory, and reads a port again only
+/// where the last read gave at least one byte.
+pub fn run<W: World, K: Keeper, S: Sink>(
+    alloc: Global,
+    words: &[Text],
+    world: &mut W,
+    keeper: &mut K,
+    out: &mut S,
+) -> Status
+    requires unasked { IsUnasked (W.told world.old) }
+
+    // Where the files and what was written are told, the run ends as its meaning says, however reads are cut.
+    ensures headline { RunMeans (command words.now) (W.told world.old) (W.told world.new)
+        (S.told out.old).written (S.told out.new).written result }
+
+    // A command that nothing hinders comes to its end, unless memory is wanting.
+    ensures complete { (stream notes first : List ℕ) → command words.now ≢ None
+        → HasFiles (command words.now) (W.told world.old) stream notes
+        → (S.told out.old).written ≡ Some first
+        → IsUnhindered stream notes (W.told world.old) (W.told world.new) (S.told out.old) (S.told out.new)
+        → (result ≡ Status.Done) ⊎ (result ≡ Status.NoMemory) }
+
+    // Words that are no command come to nothing, and only these.
+    ensures usage { (result ≡ Status.Usage) ↔ (command words.now ≡ None) }
+    ensures unused { result ≡ Status.Usage → (world.new ≡ world.old) × (out.new ≡ out.old) }
+
+    // Whether or not content is told: each fault was counted in this run, in the last call under its count, and no
+    // name was asked for but the command's two, each at its own port. Nothing is kept.
+    ensures cause { IsCaused result
+        (W.told world.old) (W.told world.new) (S.told out.old) (S.told out.new) }
+    ensures asked { AsksOnly (command words.now) (W.told world.new) }
+    ensures keeper { keeper.new ≡ keeper.old }
+{
+    match read_command(words) {
+        None => Status::Usage,
+        Some(command) => obey(alloc, command, world, out),
+    }
+}
+
+// Does what the command says.
+fn obey<W: World, S: Sink>(
+    alloc: Global,
+    command: Command<'_>,
+    world: &mut W,
+    out: &mut S,
+) -> Status
+    requires unasked { IsUnasked (W.told world.old) }
+    ensures headline { RunMeans (Some (command_seen command.entry)) (W.told world.old) (W.told world.new)
+        (S.told out.old).written (S.told out.new).written result }
+    ensures obeyed { result ≢ Status.Usage }
+    ensures cause { IsCaused result
+        (W.told world.old) (W.told world.new) (S.told out.old) (S.told out.new) }
+    ensures asked { AsksOnly (Some (command_seen command.entry)) (W.told world.new) }
+{
+    let answer = replay(
+        alloc,
+        command.data_pid,
+        command.stream,
+        command.notes,
+        world,
+        out,
+    );
+    status_of(answer)
+}
+
+fn status_of(answer: Result<(), Status>) -> Status
+    ensures { result ≡ outcome_of answer }
+{
+    match answer {
+        Ok(()) => Status::Done,
+        Err(status) => status,
+    }
+}

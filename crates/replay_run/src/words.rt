@@ -1,0 +1,175 @@
+//! The words of the command line.
+
+ghost use Rattle.std.specs.Prelude.{◌≡◌, None, option_map, MatchOption};
+ghost use Rattle.replay_run.specs.Words.{command, data_pid as data_pid_of, is_file_name as is_file_name_of, is_same};
+ghost use Rattle.bml_bytes.specs.Numerals.{decimal_field};
+ghost use Rattle.replay_run.specs.CommandSeen.{command_seen};
+
+use arrayvec::ArrayVec;
+use bml_bytes::{Text, read_decimal};
+
+// The most digits of a number.
+const MOST_DIGITS: usize = 10;
+
+/// What the words of the command line ask for: to replay a recorded stream.
+#[derive(Drop)]
+pub struct Command<'a> {
+    /// The PID of the packets that carry the data, 16 to 8,190.
+    pub data_pid: u16,
+    /// The name of the stream's file.
+    pub stream: &'a Text,
+    /// The name of the record's file.
+    pub notes: &'a Text,
+}
+
+/// The command that the words behind the program's name are, and None where they are none. It takes no
+/// memory.
+pub fn read_command(words: &[Text]) -> Option<Command<'_>>
+    ensures { option_map command_seen result ≡ command words.now }
+{
+    let [name, option, number, stream, notes] = words else {
+        return None;
+    };
+    if !is_word(name.codes(), b"replay") {
+        return None;
+    }
+    if !is_word(option.codes(), b"--data-pid") {
+        return None;
+    }
+    if !is_file_name(stream) {
+        return None;
+    }
+    if !is_file_name(notes) {
+        return None;
+    }
+    let data_pid = read_data_pid(number)?;
+    Some(Command {
+        data_pid,
+        stream,
+        notes,
+    })
+}
+
+fn is_word(codes: &[u16], expected: &[u8]) -> bool
+    ensures { result ≡ is_same codes.now expected.now }
+{
+    if codes.len() != expected.len() {
+        return false;
+    }
+    for (code, byte) in codes.iter().zip(expected) {
+        if *code != u16::from(*byte) {
+            return false;
+        }
+    }
+    true
+}
+
+fn is_file_name(word: &Text) -> bool
+    ensures { result ≡ is_file_name_of word.now }
+{
+    match word.codes() {
+        [] => false,
+        [first, ..] => *first != u16::from(b'-'),
+    }
+}
+
+fn read_data_pid(word: &Text) -> Option<u16>
+    ensures { result ≡ data_pid_of word.now }
+{
+    match read_number(word)? {
+        pid @ 16..=8190 => Some(pid as u16),
+        _ => None,
+    }
+}
+
+// The number of a word of decimal digits.
+fn read_number(word: &Text) -> Option<u32>
+    ensures { result ≡ decimal_field word.now }
+{
+    match digits_of(word.codes()) {
+        Some(digits) => read_decimal(digits.as_slice()),
+        None => None,
+    }
+}
+
+// The codes as bytes, where they can be the digits of a number.
+fn digits_of(codes: &[u16]) -> Option<ArrayVec<u8, MOST_DIGITS>>
+    ensures { MatchOption result (decimal_field codes.now ≡ None) (λ digits. digits.items ≡ codes.now) }
+{
+    if codes.len() > MOST_DIGITS {
+        return None;
+    }
+    let mut digits = ArrayVec::new();
+    for code in codes {
+        match u8::try_from(*code) {
+            Ok(digit) => digits.push(digit),
+            Err(_) => return None,
+        }
+    }
+    Some(digits)
+}
+
+#[cfg(test)]
+mod tests {
+    use super::*;
+    use bml_bytes::NoMemory;
+    use std::alloc::Global;
+    use std::test::Fail;
+
+    // The PID and the two names of the command that the words between the bars are.
+    fn read(alloc: Global, line: &str) -> Result<Option<(u16, Text, Text)>, NoMemory> {
+        let mut words = Vec::new(alloc);
+        for word in line.split('|') {
+            words.push(Text::of_bytes(alloc, word.as_bytes())?)?;
+        }
+        match read_command(&words) {
+            Some(request) => Ok(Some((
+                request.data_pid,
+                request.stream.share()?,
+                request.notes.share()?,
+            ))),
+            None => Ok(None),
+        }
+    }
+
+    #[test]
+    fn commands(rt: HostRuntime) -> Result<(), Fail> {
+        let alloc = rt.alloc();
+        for (line, expected) in [
+            ("replay|--data-pid|16|s|r", Some(16)),
+            ("replay|--data-pid|8190|s|r", Some(8190)),
+            ("replay|--data-pid|0000000300|s|r", Some(300)),
+            ("replay|--data-pid|15|s|r", None),
+            ("replay|--data-pid|8191|s|r", None),
+            ("replay|--data-pid|00000000300|s|r", None),
+            ("replay|--data-pid|0x100|s|r", None),
+            ("replay|--data-pid||s|r", None),
+            ("replay|--data-pid|4294967596|s|r", None),
+            ("replay|--data-pid|300||r", None),
+            ("replay|--data-pid|300|s|", None),
+            ("replay|--data-pid|300|-s|r", None),
+            ("replay|--data-pid|300|s|-", None),
+            ("replay|--data-pid|300|s", None),
+            ("replay|--data-pid|300|s|r|r", None),
+            ("--data-pid|300|replay|s|r", None),
+            ("replay|s|r|--data-pid|300", None),
+            ("replay|--service|300|s|r", None),
+            ("replay|s|r", None),
+            ("Replay|--data-pid|300|s|r", None),
+            ("gen|1|2", None),
+            ("--help", None),
+            ("", None),
+        ] {
+            let command = read(alloc, line)?;
+            assert_eq!(rt; command.as_ref().map(|c| c.0), expected, "{line}");
+        }
+        match read(alloc, "replay|--data-pid|300|the stream|r-")? {
+            Some((_, stream, notes)) => {
+                assert!(rt; stream == Text::of_bytes(alloc, b"the stream")?);
+                assert!(rt; notes == Text::of_bytes(alloc, b"r-")?);
+            }
+            None => assert!(rt; false),
+        }
+        Ok(())
+    }
+}
