@@ -18,8 +18,9 @@ use Rattle.replay_run.specs.Play.{played, at_start}
 use Rattle.replay_run.specs.Progress.{PlayerState, IsBetween}
 use Rattle.replay_run.specs.Record.{items_before_bad, first_bad}
 use Rattle.replay_run.specs.Replaying.{StopsLine, OnlyReadsBoth, outcome_of}
-use Rattle.replay_run.specs.Statuses.{WritesPieces, WritesBytes}
-use Rattle.replay_run.specs.Stopping.{GaveAtMost, LeavesPackets, OnlyReads, stream_limit, record_limit}
+use Rattle.replay_run.specs.Output.{WritesPieces, WritesBytes}
+use Rattle.replay_run.specs.Limits.{GaveAtMost, stream_limit, record_limit}
+use Rattle.replay_run.specs.Stopping.{LeavesPackets, OnlyReads}
 use Rattle.replay_run.specs.Writing.{WritesOn}
 use Rattle.replay_run.proofs.FrontLaws.{front_of_self, front_of_append, front_of_front, front_of_concat}
 use Rattle.replay_run.proofs.NotingLaws.{items_of_whole}

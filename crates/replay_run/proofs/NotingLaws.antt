@@ -8,7 +8,7 @@ use Rattle.replay_run.specs.Fronts.{IsFront}
 use Rattle.replay_run.specs.Noting.{NotesState, IsAt, IsWhole}
 use Rattle.replay_run.specs.Record.{readings, items_until_bad, items_before_bad, first_bad}
 use Rattle.replay_run.specs.RecordReader.{ReaderState, Gives, BeginsBad}
-use Rattle.replay_run.specs.Stopping.{GaveMore, GaveAtMost, record_limit}
+use Rattle.replay_run.specs.Limits.{GaveMore, GaveAtMost, record_limit}
 use Rattle.replay_run.proofs.RecordLaws.{whole_items, whole_bad, bad_items, bad_number}
 
 items_until_bad-good : (items : List Item) (lines : List Line) → items_until_bad (map Read items ++ lines) ≡ items ++ items_until_bad lines

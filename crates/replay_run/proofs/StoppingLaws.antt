@@ -12,8 +12,9 @@ use Rattle.replay_run.specs.Fronts.{IsFront}
 use Rattle.replay_run.specs.Play.{played}
 use Rattle.replay_run.specs.Progress.{PlayerState, IsMidway}
 use Rattle.replay_run.specs.Receiving.{ReceiverState, StandsFor}
-use Rattle.replay_run.specs.Statuses.{WritesPieces, WritesBytes}
-use Rattle.replay_run.specs.Stopping.{GaveMore, GaveAtMost, OnlyReads, stream_limit}
+use Rattle.replay_run.specs.Output.{WritesPieces, WritesBytes}
+use Rattle.replay_run.specs.Limits.{GaveMore, GaveAtMost, stream_limit}
+use Rattle.replay_run.specs.Stopping.{OnlyReads}
 use Rattle.replay_run.specs.Writing.{CutShort}
 use Rattle.replay_run.proofs.FrontLaws.{front_of_front, front_of_concat}
 use Rattle.replay_run.proofs.ProgressLaws.{midway_stop, midway_turn}

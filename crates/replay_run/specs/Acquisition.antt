@@ -42,7 +42,8 @@ block_count zero size = 0
 block_count (suc n) size = (size + n) / suc n
 
 -- a module is large, and isn't acquired, where it has more than 1,048,576 bytes or more than 65,536 blocks; with
--- blocks of no bytes only an empty one is acquired
+-- blocks of no bytes only an empty one is acquired. (The limit on the sum of a DII's modules, 33,554,432 bytes, can't be
+-- met by the one entry of this stage.)
 abbrev pub is_large : ℕ → ℕ → Bool
 is_large zero size = nat_lt 0 size
 is_large (suc n) size = nat_lt 1048576 size || nat_lt 65536 (block_count (suc n) size)

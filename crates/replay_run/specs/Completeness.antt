@@ -4,7 +4,7 @@ use Rattle.bml_ports.specs.Counters.{Rose}
 use Rattle.bml_ports.specs.Sinks.{SinkState}
 use Rattle.bml_ports.specs.Worlds.{WorldState}
 use Rattle.replay_run.specs.Record.{first_bad}
-use Rattle.replay_run.specs.Stopping.{stream_limit, record_limit}
+use Rattle.replay_run.specs.Limits.{stream_limit, record_limit}
 
 -- nothing stands in the way of a run: the files are no longer than they may be, the record has no bad line, and no
 -- count of faults rises

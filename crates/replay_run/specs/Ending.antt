@@ -4,8 +4,8 @@ use Rattle.std.specs.Prelude.{◌≡◌, ℕ, List, ◌⊎◌, Option}
 use Rattle.replay_run.specs.declared.status.Status.{Status}
 use Rattle.replay_run.specs.declared.status.Status.TheVariants.{Done, Usage, BadRecord, OpenFault, ReadFault, WriteFault, KeepFault, BadArea, TooLong, NoMemory}
 use Rattle.replay_run.specs.Meaning.{Meaning, texts_of}
-use Rattle.replay_run.specs.Statuses.{WritesAll, WritesPieces, WritesBytes}
-use Rattle.replay_run.specs.Stopping.{GaveMore, GaveAtMost, stream_limit, record_limit}
+use Rattle.replay_run.specs.Output.{WritesAll, WritesPieces, WritesBytes}
+use Rattle.replay_run.specs.Limits.{GaveMore, GaveAtMost, stream_limit, record_limit}
 
 -- what the world gave of the two files, and what it has left
 pub record Files : Type 0 where

@@ -5,12 +5,15 @@ pub mod CommandSeen
 pub mod Completeness
 pub mod Ending
 pub mod Fronts
+pub mod Headline
 pub mod Keeping
+pub mod Limits
 pub mod Lines
 pub mod Meaning
 pub mod Midway
 pub mod Noting
 pub mod Opening
+pub mod Output
 pub mod Play
 pub mod Progress
 pub mod Reading
@@ -19,7 +22,6 @@ pub mod Record
 pub mod RecordReader
 pub mod Replaying
 pub mod Status
-pub mod Statuses
 pub mod Stopping
 pub mod Turns
 pub mod Words

@@ -10,7 +10,7 @@ use Rattle.replay_run.specs.declared.status.Status.TheVariants.{Done, Usage, Bad
 use Rattle.replay_run.specs.Midway.{not_ended}
 use Rattle.replay_run.specs.Record.{readings, items_before_bad, first_bad}
 use Rattle.replay_run.specs.RecordReader.{ReaderState}
-use Rattle.replay_run.specs.Stopping.{GaveMore, GaveAtMost, record_limit}
+use Rattle.replay_run.specs.Limits.{GaveMore, GaveAtMost, record_limit}
 
 -- what is kept of the record: the bytes that belong to no line given so far, and how many bytes and lines came
 pub record NotesState : Type 0 where

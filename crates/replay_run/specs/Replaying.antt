@@ -6,9 +6,8 @@ use Rattle.bml_ports.specs.Worlds.{WorldState}
 use Rattle.replay_run.specs.declared.status.Status.{Status}
 use Rattle.replay_run.specs.declared.status.Status.TheVariants.{Done, Usage, BadRecord, OpenFault, ReadFault, WriteFault, KeepFault, BadArea, TooLong, NoMemory}
 use Rattle.replay_run.specs.Ending.{EndsAs}
-use Rattle.replay_run.specs.Meaning.{meaning_of, replay_meaning}
-use Rattle.replay_run.specs.Opening.{HasFiles, bytes_under}
-use Rattle.replay_run.specs.Words.{CommandWords}
+use Rattle.replay_run.specs.Meaning.{replay_meaning}
+use Rattle.replay_run.specs.Opening.{bytes_under}
 use Rattle.replay_run.specs.Writing.{WritesOn, WritesShort}
 
 -- the status that an answer stands for
@@ -65,14 +64,5 @@ abbrev pub RunEnds : ℕ → List ℕ → List ℕ → WorldState → WorldState
 RunEnds pid stream_name notes_name world_old world_new old new status =
     (stream notes first : List ℕ) → bytes_under world_old stream_name ≡ Some stream → bytes_under world_old notes_name ≡ Some notes → old ≡ Some first
     → EndsAs (replay_meaning pid stream notes)
-    (record { stream = stream; notes = notes; stream_left = world_new.stream.left; notes_left = world_new.notes.left })
-    (Some first) new status
-
--- THE MEANING OF A RUN: where the world tells the files of the command and the sink what was written, the run ends
--- as the meaning of its words, the stream and the record says.
-abbrev pub RunMeans : Option CommandWords → WorldState → WorldState → Option (List ℕ) → Option (List ℕ) → Status → Type 0
-RunMeans command world_old world_new old new status =
-    (stream notes first : List ℕ) → HasFiles command world_old stream notes → old ≡ Some first
-    → EndsAs (meaning_of command stream notes)
     (record { stream = stream; notes = notes; stream_left = world_new.stream.left; notes_left = world_new.notes.left })
     (Some first) new status

@@ -5,7 +5,8 @@ use Rattle.bml_ports.specs.Counters.{Counter, FaultedSince}
 use Rattle.bml_ports.specs.Worlds.{WorldState, port_of, other_port}
 use Rattle.replay_run.specs.declared.status.Status.{Status}
 use Rattle.replay_run.specs.declared.status.Status.TheVariants.{Done, Usage, BadRecord, OpenFault, ReadFault, WriteFault, KeepFault, BadArea, TooLong, NoMemory}
-use Rattle.replay_run.specs.Statuses.{WritesPieces, WritesBytes}
+use Rattle.replay_run.specs.Limits.{stream_limit, GaveMore, GaveAtMost}
+use Rattle.replay_run.specs.Output.{WritesPieces, WritesBytes}
 
 -- between the two, the calls of the world were reads of this port
 pub record OnlyReads (port : Port) (old new : WorldState) : Type 0 where
@@ -14,25 +15,6 @@ pub record OnlyReads (port : Port) (old new : WorldState) : Type 0 where
   pub other : port_of new (other_port port) ≡ port_of old (other_port port)
   pub asked : (port_of new port).asked ≡ (port_of old port).asked
   pub later : (port_of old port).reads.faults ≤ (port_of new port).reads.faults
-
--- the most bytes of a stream and of a record
-abbrev pub stream_limit : ℕ
-stream_limit = 2 ^ 36
-
-abbrev pub record_limit : ℕ
-record_limit = 2 ^ 30
-
--- all but what is left of the bytes is more than the limit
-pub record GaveMore (limit : ℕ) (bytes : List ℕ) (left : Option (List ℕ)) : Type 0 where
-  pub rest : List ℕ
-  pub left_is : left ≡ Some rest
-  pub more : limit + length rest < length bytes
-
--- all but what is left of the bytes is no more than the limit
-pub record GaveAtMost (limit : ℕ) (bytes : List ℕ) (left : Option (List ℕ)) : Type 0 where
-  pub rest : List ℕ
-  pub left_is : left ≡ Some rest
-  pub most : length bytes ≤ limit + length rest
 
 -- Making turns stops for these causes: `writes` counts those of the sink.
 abbrev pub StopsTurns : Status → Counter → Counter → Type 0

@@ -28,7 +28,8 @@ pub struct Notes {
 impl Notes {
     ghost use Rattle.replay_run.specs.Noting.{state_of, IsAt, IsReadable, IsWhole, StopsItems, LeavesItems, work_left};
     ghost use Rattle.replay_run.specs.RecordReader.{longest_line};
-    ghost use Rattle.replay_run.specs.Stopping.{OnlyReads, record_limit};
+    ghost use Rattle.replay_run.specs.Limits.{record_limit};
+    ghost use Rattle.replay_run.specs.Stopping.{OnlyReads};
     ghost use Rattle.replay_run.specs.declared.record.Item.{Item};
 
     /// A record of which nothing was read.

@@ -37,7 +37,8 @@ impl Player {
     ghost use Rattle.replay_run.specs.Midway.{state_of, Goes, Stops, IsReadable, work_left};
     ghost use Rattle.replay_run.specs.Progress.{IsBetween};
     ghost use Rattle.replay_run.specs.Receiving.{IsIdle};
-    ghost use Rattle.replay_run.specs.Stopping.{OnlyReads, StopsPackets, StopsTurns, StopsReading, stream_limit};
+    ghost use Rattle.replay_run.specs.Limits.{stream_limit};
+    ghost use Rattle.replay_run.specs.Stopping.{OnlyReads, StopsPackets, StopsTurns, StopsReading};
     ghost use Rattle.replay_run.specs.declared.record.Item.{Item};
 
     /// A replay at the start of its stream.

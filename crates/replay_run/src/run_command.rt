@@ -4,8 +4,9 @@ ghost use Rattle.std.specs.Prelude.{◌≡◌, ◌≢◌, ℕ, List, ◌↔◌, 
 ghost use Rattle.replay_run.specs.Causes.{IsCaused};
 ghost use Rattle.replay_run.specs.CommandSeen.{command_seen};
 ghost use Rattle.replay_run.specs.Completeness.{IsUnhindered};
+ghost use Rattle.replay_run.specs.Headline.{RunMeans};
 ghost use Rattle.replay_run.specs.Opening.{AsksOnly, IsUnasked, HasFiles};
-ghost use Rattle.replay_run.specs.Replaying.{outcome_of, RunMeans};
+ghost use Rattle.replay_run.specs.Replaying.{outcome_of};
 ghost use Rattle.replay_run.specs.Words.{command};
 
 use crate::replay::replay;

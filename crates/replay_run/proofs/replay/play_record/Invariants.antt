@@ -5,7 +5,7 @@ use Rattle.replay_run.specs.Noting as noting
 use Rattle.replay_run.specs.Progress.{IsBetween}
 use Rattle.replay_run.specs.Receiving.{IsIdle}
 use Rattle.replay_run.specs.Replaying.{OnlyReadsBoth}
-use Rattle.replay_run.specs.Stopping.{stream_limit, record_limit}
+use Rattle.replay_run.specs.Limits.{stream_limit, record_limit}
 use Rattle.replay_run.proofs.replay.play_record.Given as goal
 
 -- the items so far were handled

@@ -1,6 +1,6 @@
 use Rattle.std.proofs.Common.{sym, subst}
 use Rattle.replay_run.specs.Opening.{HasFiles}
-use Rattle.replay_run.specs.Replaying.{RunMeans}
+use Rattle.replay_run.specs.Headline.{RunMeans}
 use Rattle.replay_run.proofs.CompletenessLaws.{comes_to_end}
 use Rattle.replay_run.proofs.run_command.run.Goals as goal
 

@@ -2,7 +2,8 @@ use Rattle.std.proofs.Common.{◌≡◌, ◌≤◌, ℕ, List}
 use Rattle.bml_ports.specs.declared.outside.Port.TheVariants as ports
 use Rattle.replay_run.specs.declared.record.Item.{Item}
 use Rattle.replay_run.specs.Noting.{state_of, IsAt, IsReadable, work_left}
-use Rattle.replay_run.specs.Stopping.{OnlyReads, record_limit}
+use Rattle.replay_run.specs.Limits.{record_limit}
+use Rattle.replay_run.specs.Stopping.{OnlyReads}
 use Rattle.replay_run.proofs.notes.Notes.next_item.Given as goal
 
 -- bytes were read, and no line yet

@@ -2,7 +2,8 @@ use Rattle.std.proofs.Common.{◌≤◌}
 use Rattle.bml_ports.specs.declared.outside.Port.TheVariants.{Stream}
 use Rattle.replay_run.specs.Midway.{state_of, Goes, IsReadable, work_left}
 use Rattle.replay_run.specs.Receiving.{IsIdle}
-use Rattle.replay_run.specs.Stopping.{OnlyReads, stream_limit}
+use Rattle.replay_run.specs.Limits.{stream_limit}
+use Rattle.replay_run.specs.Stopping.{OnlyReads}
 use Rattle.replay_run.proofs.player.Player.take_all.Given as goal
 
 -- the packets so far were taken, and their turns written
