@@ -2,6 +2,7 @@
 use Rattle.std.proofs.Common.{◌≡◌, ℕ, ◌≤◌, List, [], ◌∷◌, ◌++◌, map, refl, sym, ap, ◌∙◌, subst, append_assoc, append-nil, length, Option, Some, None, Result, Ok, Err, OnOk, IfErr, arith, inl, inr}
 use Rattle.std.specs.List.{concat}
 use Rattle.std.proofs.lemmas.List.Folds.{concat-append}
+use Rattle.std.specs.Io.KnownBytes.{Appends}
 use Rattle.bml_ports.specs.declared.outside.Port.TheVariants.{Stream, Notes}
 use Rattle.bml_ports.specs.Worlds.{WorldState, PortState}
 use Rattle.ts_packets.specs.Packets.{packets_of}
@@ -21,11 +22,11 @@ use Rattle.replay_run.specs.Replaying.{StopsLine, OnlyReadsBoth, outcome_of}
 use Rattle.replay_run.specs.Output.{WritesPieces, WritesBytes}
 use Rattle.replay_run.specs.Limits.{GaveAtMost, stream_limit, record_limit}
 use Rattle.replay_run.specs.Stopping.{LeavesPackets, OnlyReads}
-use Rattle.replay_run.specs.Writing.{WritesOn}
+use Rattle.replay_run.specs.Writing.{WritesOn, WritesShort}
 use Rattle.replay_run.proofs.FrontLaws.{front_of_self, front_of_append, front_of_front, front_of_concat}
 use Rattle.replay_run.proofs.NotingLaws.{items_of_whole}
 use Rattle.replay_run.proofs.PlayLaws.{play-append_pieces}
-use Rattle.replay_run.proofs.StoppingLaws.{appends_from}
+use Rattle.replay_run.proofs.WritingLaws.{appends_from, appends_more}
 
 -- the texts of a meaning are those that it was made of
 pub texts_of_pieces : (texts : List (List ℕ)) → map (λ (piece : Piece). piece.text) (map piece_of texts) ≡ texts
@@ -53,34 +54,34 @@ bytes_in_front old new pieces all front w =
     record { written = w.written; front = front_of_front w.written (concat pieces) (concat all) w.front (front_of_concat pieces all front); appended = w.appended }
 
 -- the stream gave no more than it may
-pub between_within : (pid : ℕ) (stream first : List ℕ) (left written : Option (List ℕ)) (player : PlayerState) (items : List Item) (limit : ℕ)
+pub between_within : (pid : ℕ) (stream : List ℕ) (first left written : Option (List ℕ)) (player : PlayerState) (items : List Item) (limit : ℕ)
     → player.bytes ≤ limit → IsBetween pid stream first left written player items → GaveAtMost limit stream left
 between_within pid stream first left written player items limit within b =
     let whole = b.counted in
     record { rest = b.rest; left_is = b.left_is; most = omega arith }
 
 -- whole pieces between two items
-pub between_pieces : (pid : ℕ) (stream notes first : List ℕ) (left written : Option (List ℕ)) (player : PlayerState) (items : List Item)
+pub between_pieces : (pid : ℕ) (stream notes : List ℕ) (first left written : Option (List ℕ)) (player : PlayerState) (items : List Item)
     → IsFront items (items_before_bad notes) → IsBetween pid stream first left written player items
-    → WritesPieces (Some first) written (texts_of (replay_meaning pid stream notes))
+    → WritesPieces first written (texts_of (replay_meaning pid stream notes))
 between_pieces pid stream notes first left written player items front b =
     let pieces = (played pid (packets_of stream) items).pieces in
-    record { written = pieces; front = front_of_texts pid stream notes items front; appended = appends_from first (concat pieces) written b.wrote }
+    record { written = pieces; front = front_of_texts pid stream notes items front; appended = b.wrote }
 
 -- ---- an item's packets stop the replay
 
-pub ends_in_packets : (status : Status) (pid : ℕ) (stream notes first : List ℕ) (stream_left notes_left written : Option (List ℕ)) (items : List Item)
+pub ends_in_packets : (status : Status) (pid : ℕ) (stream notes : List ℕ) (first stream_left notes_left written : Option (List ℕ)) (items : List Item)
     → IsFront (items ++ All ∷ []) (items_before_bad notes) → GaveAtMost record_limit notes notes_left
     → LeavesPackets status stream stream_left first written (played pid (packets_of stream) (items ++ All ∷ [])).pieces
-    → EndsAs (replay_meaning pid stream notes) (record { stream = stream; notes = notes; stream_left = stream_left; notes_left = notes_left }) (Some first) written status
+    → EndsAs (replay_meaning pid stream notes) (record { stream = stream; notes = notes; stream_left = stream_left; notes_left = notes_left }) first written status
 ends_in_packets ReadFault pid stream notes first stream_left notes_left written items front within l =
-    (record { stream = l.0; notes = within }, writes_in_front (Some first) written _ _ (front_of_texts pid stream notes (items ++ All ∷ []) front) l.1)
+    (record { stream = l.0; notes = within }, writes_in_front first written _ _ (front_of_texts pid stream notes (items ++ All ∷ []) front) l.1)
 ends_in_packets WriteFault pid stream notes first stream_left notes_left written items front within l =
-    (record { stream = l.0; notes = within }, bytes_in_front (Some first) written _ _ (front_of_texts pid stream notes (items ++ All ∷ []) front) l.1)
+    (record { stream = l.0; notes = within }, bytes_in_front first written _ _ (front_of_texts pid stream notes (items ++ All ∷ []) front) l.1)
 ends_in_packets TooLong pid stream notes first stream_left notes_left written items front within l =
-    (inl l.0, writes_in_front (Some first) written _ _ (front_of_texts pid stream notes (items ++ All ∷ []) front) l.1)
+    (inl l.0, writes_in_front first written _ _ (front_of_texts pid stream notes (items ++ All ∷ []) front) l.1)
 ends_in_packets NoMemory pid stream notes first stream_left notes_left written items front within l =
-    writes_in_front (Some first) written _ _ (front_of_texts pid stream notes (items ++ All ∷ []) front) l.1
+    writes_in_front first written _ _ (front_of_texts pid stream notes (items ++ All ∷ []) front) l.1
 ends_in_packets Done pid stream notes first stream_left notes_left written items front within l = absurd l
 ends_in_packets Usage pid stream notes first stream_left notes_left written items front within l = absurd l
 ends_in_packets (BadRecord line) pid stream notes first stream_left notes_left written items front within l = absurd l
@@ -91,10 +92,10 @@ ends_in_packets (BadArea size) pid stream notes first stream_left notes_left wri
 -- ---- the record stops the replay
 
 -- a bad line behind these items
-pub ends_bad : (line : ℕ) (pid : ℕ) (stream notes first : List ℕ) (stream_left notes_left written : Option (List ℕ)) (player : PlayerState) (items : List Item)
+pub ends_bad : (line : ℕ) (pid : ℕ) (stream notes : List ℕ) (first stream_left notes_left written : Option (List ℕ)) (player : PlayerState) (items : List Item)
     → first_bad notes ≡ Some line → items_before_bad notes ≡ items → GaveAtMost stream_limit stream stream_left → GaveAtMost record_limit notes notes_left
     → IsBetween pid stream first stream_left written player items
-    → EndsAs (replay_meaning pid stream notes) (record { stream = stream; notes = notes; stream_left = stream_left; notes_left = notes_left }) (Some first) written (BadRecord line)
+    → EndsAs (replay_meaning pid stream notes) (record { stream = stream; notes = notes; stream_left = stream_left; notes_left = notes_left }) first written (BadRecord line)
 unfolding replay_texts
 ends_bad line pid stream notes first stream_left notes_left written player items number are stream_within notes_within b =
     let now = played pid (packets_of stream) items in
@@ -105,15 +106,14 @@ ends_bad line pid stream notes first stream_left notes_left written player items
     record {
       same = ap status_behind number;
       within = record { stream = stream_within; notes = notes_within };
-      written = appends_from first (concat (texts_of (replay_meaning pid stream notes))) written
-          (b.wrote ∙ ap (λ l. Some (first ++ concat l)) (sym (texts_of_pieces (replay_texts pid stream notes) ∙ texts)));
+      written = subst (λ l. Appends first written (concat l)) (sym (texts_of_pieces (replay_texts pid stream notes) ∙ texts)) b.wrote;
     }
 
-pub ends_in_items : (status : Status) (pid : ℕ) (stream notes first : List ℕ) (stream_left notes_left written : Option (List ℕ)) (player : PlayerState) (items : List Item)
+pub ends_in_items : (status : Status) (pid : ℕ) (stream notes : List ℕ) (first stream_left notes_left written : Option (List ℕ)) (player : PlayerState) (items : List Item)
     → IsFront items (items_before_bad notes) → GaveAtMost stream_limit stream stream_left
     → IsBetween pid stream first stream_left written player items
     → LeavesItems status notes notes_left items
-    → EndsAs (replay_meaning pid stream notes) (record { stream = stream; notes = notes; stream_left = stream_left; notes_left = notes_left }) (Some first) written status
+    → EndsAs (replay_meaning pid stream notes) (record { stream = stream; notes = notes; stream_left = stream_left; notes_left = notes_left }) first written status
 ends_in_items ReadFault pid stream notes first stream_left notes_left written player items front within b l =
     (record { stream = within; notes = l }, between_pieces pid stream notes first stream_left written player items front b)
 ends_in_items TooLong pid stream notes first stream_left notes_left written player items front within b l =
@@ -144,11 +144,11 @@ pub whole_bytes : (pieces : List (List ℕ)) (line : List ℕ) → concat (piece
 whole_bytes pieces line = concat-append pieces (line ∷ []) ∙ ap (λ l. concat pieces ++ l) (append-nil line)
 
 -- it was written
-pub ends_done : (pid : ℕ) (stream notes first : List ℕ) (stream_left notes_left old new : Option (List ℕ)) (player : PlayerState) (items : List Item)
+pub ends_done : (pid : ℕ) (stream notes : List ℕ) (first stream_left notes_left old new : Option (List ℕ)) (player : PlayerState) (items : List Item)
     → IsWhole notes notes_left items → GaveAtMost stream_limit stream stream_left → GaveAtMost record_limit notes notes_left
     → WritesOn old new (end_line player.packets)
     → IsBetween pid stream first stream_left old player items
-    → EndsAs (replay_meaning pid stream notes) (record { stream = stream; notes = notes; stream_left = stream_left; notes_left = notes_left }) (Some first) new Done
+    → EndsAs (replay_meaning pid stream notes) (record { stream = stream; notes = notes; stream_left = stream_left; notes_left = notes_left }) first new Done
 ends_done pid stream notes first stream_left notes_left old new player items whole stream_within notes_within wrote b =
     let now = played pid (packets_of stream) items in
     let all = items_of_whole notes notes_left items whole in
@@ -158,36 +158,41 @@ ends_done pid stream notes first stream_left notes_left old new player items who
     record {
       same = ap status_behind all.0;
       within = record { stream = stream_within; notes = notes_within };
-      written = appends_from first (concat (texts_of (replay_meaning pid stream notes))) new
-          (wrote (first ++ concat now.pieces) b.wrote ∙ ap Some (append_assoc first (concat now.pieces) (end_line player.packets) ∙ ap (λ l. first ++ l) (sym bytes)));
+      written = subst (λ l. Appends first new l) (sym bytes) (appends_more first old new (concat now.pieces) (end_line player.packets) b.wrote wrote);
+    }
+
+-- the last bytes were cut short
+line_short : (first old new : Option (List ℕ)) (pieces : List (List ℕ)) (shown line : List ℕ) → concat pieces ≡ shown ++ line
+    → WritesShort old new line → Appends first old shown → WritesBytes first new pieces
+line_short None old new pieces shown line bytes short a = record { written = []; front = record { rest = concat pieces; joined = refl }; appended = tt }
+line_short (Some start) None new pieces shown line bytes short a = absurd a
+line_short (Some start) (Some told) new pieces shown line bytes short a =
+    let cut = short told refl in
+    record {
+      written = shown ++ cut.front;
+      front = record { rest = cut.rest; joined = bytes ∙ ap (λ l. shown ++ l) cut.whole ∙ sym (append_assoc shown cut.front cut.rest) };
+      appended = appends_from start (shown ++ cut.front) new (cut.written ∙ ap Some (ap (λ l. l ++ cut.front) a ∙ append_assoc start shown cut.front));
     }
 
 -- it wasn't
-pub ends_in_line : (status : Status) (pid : ℕ) (stream notes first : List ℕ) (stream_left notes_left old new : Option (List ℕ)) (player : PlayerState) (items : List Item)
+pub ends_in_line : (status : Status) (pid : ℕ) (stream notes : List ℕ) (first stream_left notes_left old new : Option (List ℕ)) (player : PlayerState) (items : List Item)
     → IsWhole notes notes_left items → GaveAtMost stream_limit stream stream_left → GaveAtMost record_limit notes notes_left
     → StopsLine status old new (end_line player.packets)
     → IsBetween pid stream first stream_left old player items
-    → EndsAs (replay_meaning pid stream notes) (record { stream = stream; notes = notes; stream_left = stream_left; notes_left = notes_left }) (Some first) new status
+    → EndsAs (replay_meaning pid stream notes) (record { stream = stream; notes = notes; stream_left = stream_left; notes_left = notes_left }) first new status
 ends_in_line WriteFault pid stream notes first stream_left notes_left old new player items whole stream_within notes_within short b =
     let now = played pid (packets_of stream) items in
     let all = items_of_whole notes notes_left items whole in
-    let cut = short (first ++ concat now.pieces) b.wrote in
     let bytes : concat (texts_of (replay_meaning pid stream notes)) ≡ concat now.pieces ++ end_line player.packets =
-    ap concat (whole_texts pid stream notes items all.0 all.1) ∙ whole_bytes now.pieces (end_line (length now.taken)) ∙ ap (λ n. concat now.pieces ++ end_line n) (sym b.packets) in (
-      record { stream = stream_within; notes = notes_within },
-      record {
-        written = concat now.pieces ++ cut.front;
-        front = record { rest = cut.rest; joined = bytes ∙ ap (λ l. concat now.pieces ++ l) cut.whole ∙ sym (append_assoc (concat now.pieces) cut.front cut.rest) };
-        appended = appends_from first (concat now.pieces ++ cut.front) new (cut.written ∙ ap Some (append_assoc first (concat now.pieces) cut.front));
-      },
-    )
+    ap concat (whole_texts pid stream notes items all.0 all.1) ∙ whole_bytes now.pieces (end_line (length now.taken)) ∙ ap (λ n. concat now.pieces ++ end_line n) (sym b.packets) in
+    (record { stream = stream_within; notes = notes_within }, line_short first old new (texts_of (replay_meaning pid stream notes)) (concat now.pieces) (end_line player.packets) bytes short b.wrote)
 ends_in_line NoMemory pid stream notes first stream_left notes_left old new player items whole stream_within notes_within kept b =
     let now = played pid (packets_of stream) items in
     let all = items_of_whole notes notes_left items whole in
     record {
       written = now.pieces;
       front = front_of_texts pid stream notes items (subst (λ l. IsFront items l) (sym all.1) (front_of_self items));
-      appended = appends_from first (concat now.pieces) new (kept (first ++ concat now.pieces) b.wrote ∙ ap Some (append-nil (first ++ concat now.pieces)));
+      appended = subst (λ l. Appends first new l) (append-nil (concat now.pieces)) (appends_more first old new (concat now.pieces) [] b.wrote kept);
     }
 ends_in_line Done pid stream notes first stream_left notes_left old new player items whole stream_within notes_within s b = absurd s
 ends_in_line Usage pid stream notes first stream_left notes_left old new player items whole stream_within notes_within s b = absurd s
@@ -201,15 +206,15 @@ ends_in_line TooLong pid stream notes first stream_left notes_left old new playe
 -- ---- steps between items
 
 -- where the stream and the sink are told
-pub between_told : (pid : ℕ) (stream first : List ℕ) (left written : Option (List ℕ)) (player : PlayerState) (items : List Item)
-    → left ≡ Some stream → written ≡ Some first → IsBetween pid stream first (Some stream) (Some first) player items → IsBetween pid stream first left written player items
+pub between_told : (pid : ℕ) (stream : List ℕ) (first left written : Option (List ℕ)) (player : PlayerState) (items : List Item)
+    → left ≡ Some stream → written ≡ first → IsBetween pid stream first (Some stream) first player items → IsBetween pid stream first left written player items
 between_told pid stream first left written player items l w b =
     subst (λ o. IsBetween pid stream first o written player items) (sym l) (subst (λ o. IsBetween pid stream first (Some stream) o player items) (sym w) b)
 
 pub at_told : (notes : List ℕ) (left : Option (List ℕ)) (state : NotesState) (items : List Item) → left ≡ Some notes → IsAt notes (Some notes) state items → IsAt notes left state items
 at_told notes left state items l a = subst (λ o. IsAt notes o state items) (sym l) a
 
-pub between_same : (pid : ℕ) (stream first : List ℕ) (old new : PortState) (written : Option (List ℕ)) (player : PlayerState) (items : List Item)
+pub between_same : (pid : ℕ) (stream : List ℕ) (first : Option (List ℕ)) (old new : PortState) (written : Option (List ℕ)) (player : PlayerState) (items : List Item)
     → new ≡ old → IsBetween pid stream first old.left written player items → IsBetween pid stream first new.left written player items
 between_same pid stream first old new written player items e b = subst (λ (port : PortState). IsBetween pid stream first port.left written player items) (sym e) b
 
@@ -240,12 +245,12 @@ reads_notes a b c x y = record {
 }
 
 -- the answer of writing the last line
-pub ends_with_line : (result : Result (Unit {0}) Status) (packets pid : ℕ) (stream notes first : List ℕ) (stream_left notes_left old new : Option (List ℕ)) (player : PlayerState) (items : List Item)
+pub ends_with_line : (result : Result (Unit {0}) Status) (packets pid : ℕ) (stream notes : List ℕ) (first stream_left notes_left old new : Option (List ℕ)) (player : PlayerState) (items : List Item)
     → packets ≡ player.packets
     → OnOk result (WritesOn old new (end_line packets)) → IfErr result (λ status. StopsLine status old new (end_line packets))
     → IsWhole notes notes_left items → GaveAtMost stream_limit stream stream_left → GaveAtMost record_limit notes notes_left
     → IsBetween pid stream first stream_left old player items
-    → EndsAs (replay_meaning pid stream notes) (record { stream = stream; notes = notes; stream_left = stream_left; notes_left = notes_left }) (Some first) new (outcome_of result)
+    → EndsAs (replay_meaning pid stream notes) (record { stream = stream; notes = notes; stream_left = stream_left; notes_left = notes_left }) first new (outcome_of result)
 ends_with_line (Ok u) packets pid stream notes first stream_left notes_left old new player items same wrote stops whole stream_within notes_within b =
     ends_done pid stream notes first stream_left notes_left old new player items whole stream_within notes_within (subst (λ n. WritesOn old new (end_line n)) same wrote) b
 ends_with_line (Err status) packets pid stream notes first stream_left notes_left old new player items same wrote stops whole stream_within notes_within b =

@@ -7,6 +7,7 @@ pub mod EndingLaws
 pub mod FieldLaws
 pub mod FirstPlaces
 pub mod FrontLaws
+pub mod ItemLaws
 pub mod KeepingLaws
 pub mod LineLaws
 pub mod NotingLaws

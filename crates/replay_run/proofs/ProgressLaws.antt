@@ -1,7 +1,9 @@
 -- The steps of a replay, over plain values.
 use Rattle.std.proofs.Common.{◌≡◌, ℕ, ◌+◌, true, false, List, [], ◌∷◌, ◌++◌, refl, sym, ap, ◌∙◌, subst, append_assoc, append-nil, length, Option, Some, arith, length-append}
 use Rattle.std.specs.List.{concat}
+use Rattle.std.proofs.KnownBytes.{Appends-nil}
 use Rattle.std.proofs.lemmas.List.Folds.{concat-append}
+use Rattle.std.specs.Io.KnownBytes.{Appends}
 use Rattle.ts_packets.specs.Cutter.{CutterState, Gives}
 use Rattle.ts_packets.specs.Packets.{packets_of}
 use Rattle.replay_run.specs.declared.record.Item.{Item}
@@ -14,10 +16,11 @@ use Rattle.replay_run.specs.Turns.{turns, turns_behind}
 use Rattle.replay_run.proofs.FrontLaws.{front_under}
 use Rattle.replay_run.proofs.ReceivingLaws.{front_of_standing}
 use Rattle.replay_run.proofs.PlayLaws.{play-append, item_all_taken, item_all_pieces, item_all_left}
+use Rattle.replay_run.proofs.WritingLaws.{appends_more}
 use Rattle.replay_run.proofs.TurnLaws.{front_of_turns, turns_behind_by}
 
 -- the cutter left bytes out in front of the next packet
-pub midway_seek : (pid : ℕ) (stream first : List ℕ) (left written : Option (List ℕ)) (player : PlayerState) (items : List Item) (cutter : CutterState)
+pub midway_seek : (pid : ℕ) (stream : List ℕ) (first left written : Option (List ℕ)) (player : PlayerState) (items : List Item) (cutter : CutterState)
     → Gives player.cutter [] cutter → cutter.ended ≡ player.cutter.ended
     → IsMidway pid stream first left written player items
     → IsMidway pid stream first left written (record player { cutter = cutter }) items
@@ -36,7 +39,7 @@ midway_seek pid stream first left written player items cutter gives ended m =
     }
 
 -- a packet was cut, and the receiver stands for one more
-pub midway_packet : (pid : ℕ) (stream first : List ℕ) (left written : Option (List ℕ)) (player : PlayerState) (items : List Item) (cutter : CutterState) (receiver : ReceiverState) (packet : List ℕ)
+pub midway_packet : (pid : ℕ) (stream : List ℕ) (first left written : Option (List ℕ)) (player : PlayerState) (items : List Item) (cutter : CutterState) (receiver : ReceiverState) (packet : List ℕ)
     → Gives player.cutter (packet ∷ []) cutter → cutter.ended ≡ player.cutter.ended
     → ((packets given : List (List ℕ)) → StandsFor pid player.receiver packets given → StandsFor pid receiver (packets ++ packet ∷ []) given)
     → IsMidway pid stream first left written player items
@@ -58,7 +61,7 @@ midway_packet pid stream first left written player items cutter receiver packet 
     }
 
 -- turns were made and their texts written
-pub midway_turn : (pid : ℕ) (stream first : List ℕ) (left old new : Option (List ℕ)) (player : PlayerState) (items : List Item) (receiver : ReceiverState) (texts : List (List ℕ))
+pub midway_turn : (pid : ℕ) (stream : List ℕ) (first left old new : Option (List ℕ)) (player : PlayerState) (items : List Item) (receiver : ReceiverState) (texts : List (List ℕ))
     → ((packets given : List (List ℕ)) → StandsFor pid player.receiver packets given → StandsFor pid receiver packets (given ++ texts))
     → ((start : List ℕ) → old ≡ Some start → new ≡ Some (start ++ concat texts))
     → IsMidway pid stream first left old player items
@@ -77,12 +80,12 @@ midway_turn pid stream first left old new player items receiver texts turned app
       ahead = m.ahead;
       packets = m.packets;
       stands = subst (λ l. StandsFor pid receiver (before.taken ++ m.since) l) (append_assoc given m.fresh texts) (turned (before.taken ++ m.since) (given ++ m.fresh) m.stands);
-      wrote = appended (first ++ (shown ++ concat m.fresh)) m.wrote
-          ∙ ap Some (append_assoc first (shown ++ concat m.fresh) (concat texts) ∙ ap (λ l. first ++ l) (append_assoc shown (concat m.fresh) (concat texts) ∙ ap (λ l. shown ++ l) (sym (concat-append m.fresh texts))));
+      wrote = subst (λ l. Appends first new l) (append_assoc shown (concat m.fresh) (concat texts) ∙ ap (λ l. shown ++ l) (sym (concat-append m.fresh texts)))
+          (appends_more first old new (shown ++ concat m.fresh) (concat texts) m.wrote appended);
     }
 
 -- the stream gave bytes, and the cutter took them
-pub midway_read : (pid : ℕ) (stream first : List ℕ) (old new written : Option (List ℕ)) (player : PlayerState) (items : List Item) (cutter : CutterState) (bytes : List ℕ)
+pub midway_read : (pid : ℕ) (stream : List ℕ) (first old new written : Option (List ℕ)) (player : PlayerState) (items : List Item) (cutter : CutterState) (bytes : List ℕ)
     → ((rest : List ℕ) → old ≡ Some rest → (more : List ℕ) × (new ≡ Some more) × (rest ≡ bytes ++ more))
     → player.cutter.ended ≡ false → cutter.held ≡ player.cutter.held ++ bytes → cutter.ended ≡ player.cutter.ended
     → IsMidway pid stream first old written player items
@@ -106,7 +109,7 @@ midway_read pid stream first old new written player items cutter bytes gave open
     }
 
 -- the stream came to its end
-pub midway_end : (pid : ℕ) (stream first : List ℕ) (old new written : Option (List ℕ)) (player : PlayerState) (items : List Item) (cutter : CutterState)
+pub midway_end : (pid : ℕ) (stream : List ℕ) (first old new written : Option (List ℕ)) (player : PlayerState) (items : List Item) (cutter : CutterState)
     → ((rest : List ℕ) → old ≡ Some rest → (rest ≡ []) × (new ≡ Some []))
     → cutter.held ≡ player.cutter.held
     → IsMidway pid stream first old written player items
@@ -127,8 +130,8 @@ midway_end pid stream first old new written player items cutter gave held m =
     }
 
 -- a replay begins
-pub between_start : (pid : ℕ) (stream first : List ℕ) (left written : Option (List ℕ)) (player : PlayerState)
-    → left ≡ Some stream → written ≡ Some first
+pub between_start : (pid : ℕ) (stream : List ℕ) (first left written : Option (List ℕ)) (player : PlayerState)
+    → left ≡ Some stream → written ≡ first
     → player.cutter.held ≡ [] → player.cutter.ended ≡ false → player.bytes ≡ 0 → player.packets ≡ 0
     → StandsFor pid player.receiver [] (turns pid [])
     → IsBetween pid stream first left written player []
@@ -142,11 +145,11 @@ between_start pid stream first left written player l w held open_end bytes packe
       ahead = ap (λ l. packets_of (l ++ stream)) (sym held);
       packets = packets;
       stands = stands;
-      wrote = w ∙ ap Some (sym (append-nil first));
+      wrote = subst (λ o. Appends first o []) (sym w) (Appends-nil first);
     }
 
 -- an item begins
-pub between_midway : (pid : ℕ) (stream first : List ℕ) (left written : Option (List ℕ)) (player : PlayerState) (items : List Item)
+pub between_midway : (pid : ℕ) (stream : List ℕ) (first left written : Option (List ℕ)) (player : PlayerState) (items : List Item)
     → IsBetween pid stream first left written player items
     → IsMidway pid stream first left written player items
 between_midway pid stream first left written player items b =
@@ -162,7 +165,7 @@ between_midway pid stream first left written player items b =
       packets = b.packets ∙ ap length (sym (append-nil before.taken));
       stands = subst (λ l. StandsFor pid player.receiver l (turns pid before.taken ++ [])) (sym (append-nil before.taken))
           (subst (λ l. StandsFor pid player.receiver before.taken l) (sym (append-nil (turns pid before.taken))) b.stands);
-      wrote = b.wrote ∙ ap (λ l. Some (first ++ l)) (sym (append-nil (concat before.pieces)));
+      wrote = subst (λ l. Appends first written l) (sym (append-nil (concat before.pieces))) b.wrote;
     }
 
 -- the text of the turns that an item had so far stands in front of what it comes to
@@ -185,7 +188,7 @@ fresh_in_front pid before since fresh behind receiver left front =
     front_under before.pieces fresh (turns_behind pid before.taken before.left) (record { rest = front.rest ++ later.rest; joined = behind_is })
 
 -- all packets were taken, and all their turns written
-pub midway_done : (pid : ℕ) (stream first : List ℕ) (left written : Option (List ℕ)) (player : PlayerState) (items : List Item)
+pub midway_done : (pid : ℕ) (stream : List ℕ) (first left written : Option (List ℕ)) (player : PlayerState) (items : List Item)
     → player.cutter.ended ≡ true → packets_of player.cutter.held ≡ []
     → ((packets given : List (List ℕ)) → StandsFor pid player.receiver packets given → given ≡ turns pid packets)
     → IsMidway pid stream first left written player items
@@ -210,13 +213,13 @@ midway_done pid stream first left written player items ended none idle m =
       packets = m.packets ∙ ap length (sym taken_is);
       stands = subst (λ l. StandsFor pid player.receiver l (turns pid l)) (sym taken_is)
           (subst (λ l. StandsFor pid player.receiver (before.taken ++ m.since) l) all m.stands);
-      wrote = m.wrote ∙ ap (λ l. Some (first ++ l)) (sym (concat-append before.pieces m.fresh) ∙ ap concat (sym pieces_are));
+      wrote = subst (λ l. Appends first written l) (sym (concat-append before.pieces m.fresh) ∙ ap concat (sym pieces_are)) m.wrote;
     }
 
 -- whole pieces were written, and more would have come
-pub midway_stop : (pid : ℕ) (stream first : List ℕ) (left written : Option (List ℕ)) (player : PlayerState) (items : List Item)
+pub midway_stop : (pid : ℕ) (stream : List ℕ) (first left written : Option (List ℕ)) (player : PlayerState) (items : List Item)
     → IsMidway pid stream first left written player items
-    → (pieces : List (List ℕ)) × IsFront pieces (played pid (packets_of stream) (items ++ All ∷ [])).pieces × (written ≡ Some (first ++ concat pieces))
+    → (pieces : List (List ℕ)) × IsFront pieces (played pid (packets_of stream) (items ++ All ∷ [])).pieces × Appends first written (concat pieces)
 midway_stop pid stream first left written player items m =
     let before = played pid (packets_of stream) items in
     let after = played pid (packets_of stream) (items ++ All ∷ []) in
@@ -224,5 +227,5 @@ midway_stop pid stream first left written player items m =
       before.pieces ++ m.fresh,
       subst (λ p. IsFront (before.pieces ++ m.fresh) p.pieces) (sym step)
           (fresh_in_front pid before m.since m.fresh (packets_of (player.cutter.held ++ m.rest)) player.receiver m.ahead (front_of_standing pid player.receiver _ _ m.stands)),
-      m.wrote ∙ ap (λ l. Some (first ++ l)) (sym (concat-append before.pieces m.fresh)),
+      subst (λ l. Appends first written l) (sym (concat-append before.pieces m.fresh)) m.wrote,
     )

@@ -1,7 +1,8 @@
 -- Laws of what writes leave.
-use Rattle.std.proofs.Common.{◌≡◌, ℕ, ◌-◌, List, ◌++◌, sym, ap, ◌∙◌, append_assoc, length, take, drop, Option, Some, None, take-append-drop}
+use Rattle.std.proofs.Common.{◌≡◌, ℕ, ◌-◌, List, ◌++◌, refl, sym, ap, ◌∙◌, append_assoc, length, take, drop, Option, Some, None, take-append-drop}
 use Rattle.std.specs.Io.KnownBytes.{Appends}
 use Rattle.std.proofs.lemmas.List.{take_rest}
+use Rattle.replay_run.specs.Writing.{WritesOn}
 
 -- where the bytes told are known, appending gives the others
 pub appended_some : (start bytes : List ℕ) (mid new : Option (List ℕ)) → mid ≡ Some start → Appends mid new bytes → new ≡ Some (start ++ bytes)
@@ -23,3 +24,14 @@ rest_written old mid new piece rest count before appends start told =
       b.1 ∙ ap (λ l. b.0 ++ l) split ∙ sym (append_assoc b.0 (take count rest) (take (length rest - count) (drop count rest))),
       appended_some (start ++ b.0) (take count rest) mid new b.2 appends ∙ ap Some (append_assoc start b.0 (take count rest)),
     )
+
+pub appends_from : (start bytes : List ℕ) (new : Option (List ℕ)) → new ≡ Some (start ++ bytes) → Appends (Some start) new bytes
+appends_from start bytes None e = let clash : None ≡ Some (start ++ bytes) = e in cc
+appends_from start bytes (Some x) e = cc
+
+-- more was written
+pub appends_more : (first old new : Option (List ℕ)) (bytes more : List ℕ) → Appends first old bytes → WritesOn old new more → Appends first new (bytes ++ more)
+appends_more None old new bytes more a w = tt
+appends_more (Some start) None new bytes more a w = absurd a
+appends_more (Some start) (Some x) new bytes more a w =
+    appends_from start (bytes ++ more) new (w x refl ∙ ap Some (ap (λ l. l ++ more) a ∙ append_assoc start bytes more))

@@ -30,13 +30,13 @@ work_left cutter bytes = 2 * (2 ^ 37 - bytes) + length cutter.held + not_ended c
 -- whatever stream and record it is, the replay stands where it stood, some packets and turns further
 abbrev pub Goes : Option (List ℕ) → Option (List ℕ) → Option (List ℕ) → Option (List ℕ) → PlayerState → PlayerState → Type 0
 Goes left_old left_new written_old written_new old new =
-    (pid : ℕ) (stream first : List ℕ) (items : List Item)
+    (pid : ℕ) (stream : List ℕ) (first : Option (List ℕ)) (items : List Item)
     → IsMidway pid stream first left_old written_old old items
     → IsMidway pid stream first left_new written_new new items
 
 -- whatever stream and record it is, the replay stops with a front of the pieces written
 abbrev pub Stops : Status → Option (List ℕ) → Option (List ℕ) → Option (List ℕ) → Option (List ℕ) → PlayerState → Type 0
 Stops status left_old left_new written_old written_new old =
-    (pid : ℕ) (stream first : List ℕ) (items : List Item)
+    (pid : ℕ) (stream : List ℕ) (first : Option (List ℕ)) (items : List Item)
     → IsMidway pid stream first left_old written_old old items
     → LeavesPackets status stream left_new first written_new (played pid (packets_of stream) (items ++ All ∷ [])).pieces

@@ -2,6 +2,7 @@
 -- (Definitions of the proof of `run`; what a run means is in `Meaning`.)
 use Rattle.std.specs.Prelude.{◌≡◌, ℕ, ◌+◌, true, List, [], ◌++◌, length, Option, Some}
 use Rattle.std.specs.List.{concat}
+use Rattle.std.specs.Io.KnownBytes.{Appends}
 use Rattle.ts_packets.specs.Cutter.{CutterState}
 use Rattle.ts_packets.specs.Packets.{packets_of}
 use Rattle.replay_run.specs.declared.record.Item.{Item}
@@ -19,8 +20,8 @@ pub record PlayerState : Type 0 where
   pub packets : ℕ
 
 -- In the middle of an item that takes packets: `since` were taken in it, and their turns so far printed `fresh`.
--- The stream has `left` to give, and the sink held `first` when the run began.
-pub record IsMidway (pid : ℕ) (stream first : List ℕ) (left written : Option (List ℕ)) (player : PlayerState) (items : List Item) : Type 0 where
+-- The stream has `left` to give, and the sink told `first` when the run began, if it tells anything.
+pub record IsMidway (pid : ℕ) (stream : List ℕ) (first left written : Option (List ℕ)) (player : PlayerState) (items : List Item) : Type 0 where
   pub rest : List ℕ
   pub left_is : left ≡ Some rest
   pub counted : player.bytes + length rest ≡ length stream
@@ -30,10 +31,10 @@ pub record IsMidway (pid : ℕ) (stream first : List ℕ) (left written : Option
   pub ahead : (played pid (packets_of stream) items).left ≡ since ++ packets_of (player.cutter.held ++ rest)
   pub packets : player.packets ≡ length ((played pid (packets_of stream) items).taken ++ since)
   pub stands : StandsFor pid player.receiver ((played pid (packets_of stream) items).taken ++ since) (turns pid (played pid (packets_of stream) items).taken ++ fresh)
-  pub wrote : written ≡ Some (first ++ (concat (played pid (packets_of stream) items).pieces ++ concat fresh))
+  pub wrote : Appends first written (concat (played pid (packets_of stream) items).pieces ++ concat fresh)
 
 -- Between two items: what was taken and written is what these items come to.
-pub record IsBetween (pid : ℕ) (stream first : List ℕ) (left written : Option (List ℕ)) (player : PlayerState) (items : List Item) : Type 0 where
+pub record IsBetween (pid : ℕ) (stream : List ℕ) (first left written : Option (List ℕ)) (player : PlayerState) (items : List Item) : Type 0 where
   pub rest : List ℕ
   pub left_is : left ≡ Some rest
   pub counted : player.bytes + length rest ≡ length stream
@@ -41,4 +42,4 @@ pub record IsBetween (pid : ℕ) (stream first : List ℕ) (left written : Optio
   pub ahead : (played pid (packets_of stream) items).left ≡ packets_of (player.cutter.held ++ rest)
   pub packets : player.packets ≡ length (played pid (packets_of stream) items).taken
   pub stands : StandsFor pid player.receiver (played pid (packets_of stream) items).taken (turns pid (played pid (packets_of stream) items).taken)
-  pub wrote : written ≡ Some (first ++ concat (played pid (packets_of stream) items).pieces)
+  pub wrote : Appends first written (concat (played pid (packets_of stream) items).pieces)

@@ -51,18 +51,18 @@ StopsLine KeepFault old new line = ⊥
 StopsLine (BadArea length) old new line = ⊥
 StopsLine TooLong old new line = ⊥
 
--- Where the files and what was written are told, the replay ends as its meaning says.
+-- Where the files are told, the replay ends as its meaning says.
 abbrev pub ReplayEnds : ℕ → WorldState → WorldState → Option (List ℕ) → Option (List ℕ) → Status → Type 0
 ReplayEnds pid world_old world_new old new status =
-    (stream notes first : List ℕ) → world_old.stream.left ≡ Some stream → world_old.notes.left ≡ Some notes → old ≡ Some first
+    (stream notes : List ℕ) → world_old.stream.left ≡ Some stream → world_old.notes.left ≡ Some notes
     → EndsAs (replay_meaning pid stream notes)
     (record { stream = stream; notes = notes; stream_left = world_new.stream.left; notes_left = world_new.notes.left })
-    (Some first) new status
+    old new status
 
 -- The same of a replay of two files under their names.
 abbrev pub RunEnds : ℕ → List ℕ → List ℕ → WorldState → WorldState → Option (List ℕ) → Option (List ℕ) → Status → Type 0
 RunEnds pid stream_name notes_name world_old world_new old new status =
-    (stream notes first : List ℕ) → bytes_under world_old stream_name ≡ Some stream → bytes_under world_old notes_name ≡ Some notes → old ≡ Some first
+    (stream notes : List ℕ) → bytes_under world_old stream_name ≡ Some stream → bytes_under world_old notes_name ≡ Some notes
     → EndsAs (replay_meaning pid stream notes)
     (record { stream = stream; notes = notes; stream_left = world_new.stream.left; notes_left = world_new.notes.left })
-    (Some first) new status
+    old new status

@@ -1,5 +1,5 @@
 -- Why a run stops before its end, and what it has written then. This project's own.
-use Rattle.std.specs.Prelude.{◌≡◌, ℕ, ◌+◌, ◌^◌, ◌<◌, ◌≤◌, ◌⊎◌, List, length, Option, Some}
+use Rattle.std.specs.Prelude.{◌≡◌, ℕ, ◌<◌, ◌≤◌, ◌⊎◌, List, Option}
 use Rattle.bml_ports.specs.declared.outside.Port.{Port}
 use Rattle.bml_ports.specs.Counters.{Counter, FaultedSince}
 use Rattle.bml_ports.specs.Worlds.{WorldState, port_of, other_port}
@@ -48,11 +48,11 @@ StopsPackets status reads_old reads_new writes_old writes_new bytes =
     StopsReading status reads_old reads_new bytes ⊎ StopsTurns status writes_old writes_new
 
 -- what is written of the pieces where handling packets stops
-abbrev pub LeavesPackets : Status → List ℕ → Option (List ℕ) → List ℕ → Option (List ℕ) → List (List ℕ) → Type 0
-LeavesPackets ReadFault stream left first written pieces = GaveAtMost stream_limit stream left × WritesPieces (Some first) written pieces
-LeavesPackets WriteFault stream left first written pieces = GaveAtMost stream_limit stream left × WritesBytes (Some first) written pieces
-LeavesPackets TooLong stream left first written pieces = GaveMore stream_limit stream left × WritesPieces (Some first) written pieces
-LeavesPackets NoMemory stream left first written pieces = GaveAtMost stream_limit stream left × WritesPieces (Some first) written pieces
+abbrev pub LeavesPackets : Status → List ℕ → Option (List ℕ) → Option (List ℕ) → Option (List ℕ) → List (List ℕ) → Type 0
+LeavesPackets ReadFault stream left first written pieces = GaveAtMost stream_limit stream left × WritesPieces first written pieces
+LeavesPackets WriteFault stream left first written pieces = GaveAtMost stream_limit stream left × WritesBytes first written pieces
+LeavesPackets TooLong stream left first written pieces = GaveMore stream_limit stream left × WritesPieces first written pieces
+LeavesPackets NoMemory stream left first written pieces = GaveAtMost stream_limit stream left × WritesPieces first written pieces
 LeavesPackets Done stream left first written pieces = ⊥
 LeavesPackets Usage stream left first written pieces = ⊥
 LeavesPackets (BadRecord line) stream left first written pieces = ⊥

@@ -27,7 +27,7 @@ mod words;
 pub use crate::lines::{push_end_line, push_module_line, push_unbuilt_line};
 pub use crate::receiver::Receiver;
 pub use crate::record::{Item, Line, Noted, RecordReader};
-pub use crate::record_laws::{law_of_line_fields, law_of_lines, law_of_records};
+pub use crate::record_laws::{law_of_items, law_of_line_fields, law_of_lines, law_of_records};
 pub use crate::run_command::run;
 pub use crate::status::Status;
 pub use crate::word_laws::law_of_commands;

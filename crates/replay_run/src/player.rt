@@ -43,8 +43,8 @@ impl Player {
 
     /// A replay at the start of its stream.
     pub fn new(alloc: Global, pid: u16) -> Player
-        ensures start { (stream first : List ℕ)
-            → IsBetween pid stream first (Some stream) (Some first) (state_of result) [] }
+        ensures start { (stream : List ℕ) (first : Option (List ℕ))
+            → IsBetween pid stream first (Some stream) first (state_of result) [] }
         ensures idle { IsIdle result.receiver }
         ensures within { result.bytes ≤ stream_limit }
         ensures readable { (world : WorldState)
@@ -82,7 +82,7 @@ impl Player {
             (W.told world.old).stream.reads (W.told world.new).stream.reads
             (S.told out.old).writes (S.told out.new).writes self.new.bytes) }
 
-        ensures played { OnOk result ((pid : ℕ) (stream first : List ℕ) (items : List Item)
+        ensures played { OnOk result ((pid : ℕ) (stream : List ℕ) (first : Option (List ℕ)) (items : List Item)
             → IsBetween pid stream first (W.told world.old).stream.left (S.told out.old).written
             (state_of self.old) items
             → IsBetween pid stream first (W.told world.new).stream.left (S.told out.new).written

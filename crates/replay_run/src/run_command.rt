@@ -31,14 +31,13 @@ pub fn run<W: World, K: Keeper, S: Sink>(
 ) -> Status
     requires unasked { IsUnasked (W.told world.old) }
 
-    // Where the files and what was written are told, the run ends as its meaning says, however reads are cut.
+    // Where the files are told, the run ends as its meaning says, however reads are cut.
     ensures headline { RunMeans (command words.now) (W.told world.old) (W.told world.new)
         (S.told out.old).written (S.told out.new).written result }
 
     // A command that nothing hinders comes to its end, unless memory is wanting.
-    ensures complete { (stream notes first : List ℕ) → command words.now ≢ None
+    ensures complete { (stream notes : List ℕ) → command words.now ≢ None
         → HasFiles (command words.now) (W.told world.old) stream notes
-        → (S.told out.old).written ≡ Some first
         → IsUnhindered stream notes (W.told world.old) (W.told world.new) (S.told out.old) (S.told out.new)
         → (result ≡ Status.Done) ⊎ (result ≡ Status.NoMemory) }
 

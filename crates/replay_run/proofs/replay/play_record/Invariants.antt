@@ -18,12 +18,11 @@ invariant-items g l = record {
   notes_readable : noting.IsReadable l.notes.reader (g.W.World.told l.world);
   reads : OnlyReadsBoth (g.W.World.told l.initial.world) (g.W.World.told l.world);
   later : (g.S.Sink.told l.initial.out).writes.faults ≤ (g.S.Sink.told l.out).writes.faults;
-  goes : (stream notes first : List ℕ)
+  goes : (stream notes : List ℕ)
       → (g.W.World.told l.initial.world).stream.left ≡ Some stream
       → (g.W.World.told l.initial.world).notes.left ≡ Some notes
-      → (g.S.Sink.told l.initial.out).written ≡ Some first
       → (items : List Item)
-      × IsBetween l.pid stream first (g.W.World.told l.world).stream.left (g.S.Sink.told l.out).written (midway.state_of l.player) items
+      × IsBetween l.pid stream (g.S.Sink.told l.initial.out).written (g.W.World.told l.world).stream.left (g.S.Sink.told l.out).written (midway.state_of l.player) items
       × noting.IsAt notes (g.W.World.told l.world).notes.left (noting.state_of l.notes) items;
 }
 
