@@ -1,0 +1,62 @@
+//! Replays a recorded transport stream of Japanese data broadcasting, as a receiver would see it.
+//!
+//! The program gives its words, the real files, the real standard output and the file of the kept area to
+//! `replay_run::run`, which carries the promise, says on standard error how the run ended, and ends with
+//! the status' number.
+#![tactic(auto)]
+
+mod command_line;
+mod ports;
+#[cfg(test)]
+mod rows;
+
+use crate::command_line::{Asked, HELP, SYNOPSIS, VERSION, read_words, request_of};
+use crate::ports::{AreaFile, FileWorld, StandardOutput};
+use bml_ports::Text;
+use replay_run::{Status, run};
+use std::process::ExitCode;
+
+fn main(rt: HostRuntime) -> ExitCode {
+    let status = match read_words(&rt) {
+        Ok(words) => obey(&rt, words.as_slice()),
+        Err(status) => status,
+    };
+    report(&rt, status);
+    ExitCode::from(status.number())
+}
+
+// Does what the words ask for.
+fn obey(rt: &HostRuntime, words: &[Text]) -> Status {
+    match request_of(words) {
+        Asked::Help => print_text(rt, HELP),
+        Asked::Version => print_text(rt, VERSION),
+        Asked::Command => run_words(rt, words),
+    }
+}
+
+// Runs the command that the words are, over the files and standard output.
+fn run_words(rt: &HostRuntime, words: &[Text]) -> Status {
+    let mut world = FileWorld::new(*rt);
+    let mut keeper = AreaFile::new(*rt);
+    let mut out = StandardOutput::new(rt.stdout());
+    run(rt.alloc(), words, &mut world, &mut keeper, &mut out)
+}
+
+fn print_text(rt: &HostRuntime, text: &str) -> Status {
+    match print!(rt; "{text}") {
+        Ok(()) => Status::Done,
+        Err(_) => Status::WriteFault,
+    }
+}
+
+// Says on standard error how the run ended, unless all is done. Where standard error can't be written, the
+// number of the status still tells it.
+fn report(rt: &HostRuntime, status: Status) {
+    if status == Status::Done {
+        return;
+    }
+    let _ = eprintln!(rt; "{}", status.line().as_str());
+    if status == Status::Usage {
+        let _ = eprint!(rt; "{SYNOPSIS}");
+    }
+}

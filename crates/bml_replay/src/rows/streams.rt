@@ -1,0 +1,191 @@
+//! Streams of packets on PID 256, written out from ISO/IEC 13818-1 and ISO/IEC 13818-6.
+
+use bml_ports::NoMemory;
+use std::alloc::Global;
+use std::test::Fail;
+use ts_sections::crc_of;
+
+/// A module's number, version and size, as an entry of a DownloadInfoIndication has them.
+#[derive(Clone, Copy)]
+pub struct Entry(pub u16, pub u8, pub u32);
+
+/// A section of download 1.
+#[derive(Clone, Copy)]
+pub enum Sent {
+    /// A DownloadInfoIndication: its transaction, the size of a block, and the modules.
+    Indication(u32, u16, &'static [Entry]),
+    /// A DownloadDataBlock: its module, the module's version, the block's number, and its bytes.
+    Block(u16, u8, u16, &'static [u8]),
+    /// The same with the lowest bit of the block's last byte flipped.
+    Flipped(u16, u8, u16, &'static [u8]),
+}
+
+/// Packets, and the continuity counter of the next one.
+#[derive(Drop)]
+pub struct Stream {
+    bytes: Vec<u8>,
+    counter: u8,
+}
+
+impl Stream {
+    fn new(alloc: Global) -> Stream {
+        Stream {
+            bytes: Vec::new(alloc),
+            counter: 0,
+        }
+    }
+
+    /// All bytes of the packets.
+    pub fn bytes(&self) -> &[u8] {
+        self.bytes.as_slice()
+    }
+
+    /// Each section in packets of its own.
+    pub fn of_sections(alloc: Global, sections: &[Sent]) -> Result<Stream, Fail> {
+        let mut stream = Stream::new(alloc);
+        for sent in sections {
+            stream.push_section(section_of(alloc, sent)?.as_slice())?;
+        }
+        Ok(stream)
+    }
+
+    /// A module of one block of 200 bytes, whose section takes two packets. The packet between these two
+    /// is lost; all three packets come once more, where asked for.
+    pub fn with_lost_packet(alloc: Global, comes_again: bool) -> Result<Stream, Fail> {
+        let indication = section_of(alloc, &Sent::Indication(1, 200, &[Entry(1, 1, 200)]))?;
+        let block = section_of(alloc, &Sent::Block(1, 1, 0, &[0x55; 200]))?;
+        let (front, back) = block.as_slice().split_at_checked(183).ok_or("short")?;
+        let mut stream = Stream::new(alloc);
+        stream.push_section(indication.as_slice())?;
+        stream.push_packet(true, &[0], front)?;
+        stream.counter = 3;
+        stream.push_packet(false, &[], back)?;
+        if comes_again {
+            stream.push_section(indication.as_slice())?;
+            stream.push_packet(true, &[0], front)?;
+            stream.push_packet(false, &[], back)?;
+        }
+        Ok(stream)
+    }
+
+    /// A module of 529 bytes in blocks of 519: the second block's section begins with the last byte of the
+    /// packet in which the first one's ends.
+    pub fn with_pointer(alloc: Global) -> Result<Stream, Fail> {
+        let indication = section_of(alloc, &Sent::Indication(1, 519, &[Entry(1, 1, 529)]))?;
+        let first = section_of(alloc, &Sent::Block(1, 1, 0, &[0x47; 519]))?;
+        let second = section_of(alloc, &Sent::Block(1, 1, 1, &[0x47; 10]))?;
+        let (one, rest) = first.as_slice().split_at_checked(183).ok_or("short")?;
+        let (two, three) = rest.split_at_checked(184).ok_or("short")?;
+        let (start, four) = second.as_slice().split_at_checked(1).ok_or("short")?;
+        let mut last = Vec::from_slice(alloc, three)?;
+        last.extend_from_slice(start)?;
+        let mut stream = Stream::new(alloc);
+        stream.push_section(indication.as_slice())?;
+        stream.push_packet(true, &[0], one)?;
+        stream.push_packet(false, &[], two)?;
+        stream.push_packet(true, &[182], last.as_slice())?;
+        stream.push_packet(false, &[], four)?;
+        Ok(stream)
+    }
+
+    // Appends a section of at most 183 bytes in a packet of its own.
+    fn push_section(&mut self, section: &[u8]) -> Result<(), NoMemory> {
+        self.push_packet(true, &[0], section)
+    }
+
+    // Appends a packet with this payload, and 0xFF behind it.
+    fn push_packet(
+        &mut self,
+        starts_unit: bool,
+        pointer: &[u8],
+        rest: &[u8],
+    ) -> Result<(), NoMemory> {
+        let start = if starts_unit { 0x41 } else { 0x01 };
+        let before = self.bytes.len();
+        self.bytes
+            .extend_from_slice(&[0x47, start, 0x00, 0x10 | self.counter])?;
+        self.bytes.extend_from_slice(pointer)?;
+        self.bytes.extend_from_slice(rest)?;
+        self.bytes.resize(before.wrapping_add(188), 0xFF)?;
+        self.counter = self.counter.wrapping_add(1) & 0x0F;
+        Ok(())
+    }
+}
+
+// The bytes of a section.
+fn section_of(alloc: Global, sent: &Sent) -> Result<Vec<u8>, Fail> {
+    match *sent {
+        Sent::Indication(transaction, block_size, entries) => {
+            indication_of(alloc, transaction, block_size, entries)
+        }
+        Sent::Block(module, version, number, block) => {
+            block_of(alloc, module, version, number, block)
+        }
+        Sent::Flipped(module, version, number, block) => {
+            let mut section = block_of(alloc, module, version, number, block)?;
+            let place = section.len().checked_sub(5).ok_or("short")?;
+            if let Some(byte) = section.as_mut_slice().get_mut(place) {
+                *byte ^= 0x01;
+            }
+            Ok(section)
+        }
+    }
+}
+
+fn indication_of(
+    alloc: Global,
+    transaction: u32,
+    block_size: u16,
+    entries: &[Entry],
+) -> Result<Vec<u8>, Fail> {
+    let mut payload = Vec::new(alloc);
+    payload.extend_from_slice(&[0, 0, 0, 1])?;
+    payload.extend_from_slice(&block_size.to_be_bytes())?;
+    payload.extend_from_slice(&[0; 12])?;
+    payload.extend_from_slice(&u16::try_from(entries.len())?.to_be_bytes())?;
+    for entry in entries {
+        payload.extend_from_slice(&entry.0.to_be_bytes())?;
+        payload.extend_from_slice(&entry.2.to_be_bytes())?;
+        payload.extend_from_slice(&[entry.1, 0])?;
+    }
+    payload.extend_from_slice(&[0, 0])?;
+    around(alloc, 0x3B, 0x1002, transaction, payload.as_slice())
+}
+
+fn block_of(
+    alloc: Global,
+    module: u16,
+    version: u8,
+    number: u16,
+    block: &[u8],
+) -> Result<Vec<u8>, Fail> {
+    let mut payload = Vec::new(alloc);
+    payload.extend_from_slice(&module.to_be_bytes())?;
+    payload.extend_from_slice(&[version, 0])?;
+    payload.extend_from_slice(&number.to_be_bytes())?;
+    payload.extend_from_slice(block)?;
+    around(alloc, 0x3C, 0x1003, 1, payload.as_slice())
+}
+
+// The section around a message's payload: its header, the message's header and the CRC_32.
+fn around(
+    alloc: Global,
+    table_id: u8,
+    message_id: u16,
+    identifier: u32,
+    payload: &[u8],
+) -> Result<Vec<u8>, Fail> {
+    let section_length = u16::try_from(payload.len().wrapping_add(21))?.to_be_bytes();
+    let mut section = Vec::new(alloc);
+    section.extend_from_slice(&[table_id, 0x80 | section_length[0], section_length[1]])?;
+    section.extend_from_slice(&[0; 5])?;
+    section.extend_from_slice(&[0x11, 0x03])?;
+    section.extend_from_slice(&message_id.to_be_bytes())?;
+    section.extend_from_slice(&identifier.to_be_bytes())?;
+    section.extend_from_slice(&[0, 0])?;
+    section.extend_from_slice(&u16::try_from(payload.len())?.to_be_bytes())?;
+    section.extend_from_slice(payload)?;
+    let crc = crc_of(section.as_slice()).to_be_bytes();
+    section.extend_from_slice(&crc)?;
+    Ok(section)
+}
