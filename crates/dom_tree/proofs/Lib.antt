@@ -1,0 +1,10 @@
+pub mod PlaceLemmas
+pub mod LinkLemmas
+pub mod ShapeLemmas
+pub mod PathLemmas
+pub mod GrowLemmas
+pub mod EntryLemmas
+pub mod NeighbourLemmas
+pub mod IdLemmas
+pub mod KeptLemmas
+pub mod NestedLemmas
