@@ -1,5 +1,5 @@
 -- Laws on calls that are made again.
-use Rattle.std.proofs.Common.{◌≡◌, ℕ, ◌<◌, List, [], ◌++◌, take, length, Option, None, Some, Result, Ok, Err, sym, ap, ◌∙◌, append-nil}
+use Rattle.std.proofs.Common.{ℕ, List, [], ◌++◌, take, Option, None, Some, Result, Ok, Err, sym, ap, ◌∙◌, append-nil}
 use Rattle.std.specs.Io.KnownBytes.{ReadConsumes, WriteAppends, Keeps, Appends, Consumes}
 use Rattle.std.proofs.KnownBytes.{Keeps-trans}
 

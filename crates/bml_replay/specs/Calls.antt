@@ -1,5 +1,5 @@
 -- How calls of the operating system are counted, of this project's own.
-use Rattle.std.specs.Prelude.{ℕ, Bool, true, false, if◌then◌else◌}
+use Rattle.std.specs.Prelude.{Bool, false, if◌then◌else◌}
 use Rattle.bml_ports.specs.Counters.{Counter, counted}
 
 -- no call was made

@@ -8,6 +8,8 @@ mod area_file;
 mod faults;
 mod file_world;
 mod read_port;
+#[cfg(test)]
+mod tests;
 mod writer_sink;
 
 pub use area_file::AreaFile;
