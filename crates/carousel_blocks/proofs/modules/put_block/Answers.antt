@@ -1,0 +1,81 @@
+use Rattle.std.proofs.Common.{sym, ap, ◌∙◌, subst, refl}
+use Rattle.std.specs.Prelude.{IsSome, Option}
+use Rattle.dsmcc_messages.specs.Ddb.{fields_of}
+use Rattle.slab.specs.Slab.{get, with_value}
+use Rattle.slab.proofs.SlabLemmas.{Updates-with_value}
+use Rattle.carousel_blocks.specs.Buffers.{BufferState}
+use Rattle.carousel_blocks.proofs.PutLaws.{none_asks, kept_without, answer_without, meets, fits_there, shape_stays, are_with, kept_with_block, answer_with}
+use Rattle.carousel_blocks.proofs.modules.put_block.Goals as goal
+
+pub returns-in_default-clause-kept : goal.returns-in_default-clause-kept
+returns-in_default-clause-kept c =
+    let modules = c.args.modules.now in
+    let buffers = c.args.buffers.now in
+    let block = fields_of c.args.ddb.now in
+    kept_without modules buffers block (none_asks modules buffers block c.requires c.in_default.ensures)
+
+pub returns-in_default-clause-answer : goal.returns-in_default-clause-answer
+returns-in_default-clause-answer c =
+    let modules = c.args.modules.now in
+    let buffers = c.args.buffers.now in
+    let block = fields_of c.args.ddb.now in
+    answer_without modules buffers block (none_asks modules buffers block c.requires c.in_default.ensures)
+
+pub put_in-requires : goal.put_in-requires
+put_in-requires c =
+    let modules = c.args.modules.now in
+    let buffers = c.args.buffers.now in
+    let block = fields_of c.args.ddb.now in
+    let k = meets modules buffers block c.in-Some.key c.requires c.in-Some.ensures in
+    fits_there modules buffers block c.in-Some.key c.in-Some-get_mut.buffer.now k c.in-Some-get_mut.ensures.value
+
+pub returns-in-None-clause-kept : goal.returns-in-None-clause-kept
+returns-in-None-clause-kept c =
+    let modules = c.args.modules.now in
+    let buffers = c.args.buffers.now in
+    let block = fields_of c.args.ddb.now in
+    let k = meets modules buffers block c.in-Some.key c.requires c.in-Some.ensures in
+    absurd (let p = c.in-None.ensures.value ∙ k.held in cc)
+
+pub returns-in-None-clause-answer : goal.returns-in-None-clause-answer
+returns-in-None-clause-answer c =
+    let modules = c.args.modules.now in
+    let buffers = c.args.buffers.now in
+    let block = fields_of c.args.ddb.now in
+    let k = meets modules buffers block c.in-Some.key c.requires c.in-Some.ensures in
+    absurd (let p = c.in-None.ensures.value ∙ k.held in cc)
+
+pub returns-in-Some-get_mut-clause-are : goal.returns-in-Some-get_mut-clause-are
+returns-in-Some-get_mut-clause-are c =
+    let modules = c.args.modules.now in
+    let buffers = c.args.buffers.now in
+    let block = fields_of c.args.ddb.now in
+    let was = c.in-Some-get_mut.buffer.now in
+    let now = c.put_in.new.buffer in
+    let there = c.in-Some-get_mut.ensures.value in
+    let has : IsSome (get buffers c.in-Some.key) = subst (λ (o : Option BufferState). IsSome o) there refl in
+    let updates = Updates-with_value buffers c.in-Some.key now has in
+    let new = with_value buffers c.in-Some.key now in
+    are_with modules buffers new c.in-Some.key was now c.requires there (ap (λ b. b.shape) c.put_in.ensures.block ∙ shape_stays block.number block.block was) updates
+
+pub returns-in-Some-get_mut-clause-kept : goal.returns-in-Some-get_mut-clause-kept
+returns-in-Some-get_mut-clause-kept c =
+    let modules = c.args.modules.now in
+    let buffers = c.args.buffers.now in
+    let block = fields_of c.args.ddb.now in
+    let k = meets modules buffers block c.in-Some.key c.requires c.in-Some.ensures in
+    let was = c.in-Some-get_mut.buffer.now in
+    let now = c.put_in.new.buffer in
+    let there = c.in-Some-get_mut.ensures.value in
+    let has : IsSome (get buffers c.in-Some.key) = subst (λ (o : Option BufferState). IsSome o) there refl in
+    let updates = Updates-with_value buffers c.in-Some.key now has in
+    let new = with_value buffers c.in-Some.key now in
+    kept_with_block modules buffers new block c.in-Some.key was now c.requires k there c.put_in.ensures.block updates
+
+pub returns-in-Some-get_mut-clause-answer : goal.returns-in-Some-get_mut-clause-answer
+returns-in-Some-get_mut-clause-answer c =
+    let modules = c.args.modules.now in
+    let buffers = c.args.buffers.now in
+    let block = fields_of c.args.ddb.now in
+    let k = meets modules buffers block c.in-Some.key c.requires c.in-Some.ensures in
+    c.put_in.ensures.answer ∙ answer_with modules buffers block c.in-Some.key c.in-Some-get_mut.buffer.now k c.in-Some-get_mut.ensures.value

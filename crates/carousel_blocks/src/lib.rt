@@ -1,0 +1,23 @@
+//! One data carousel: the modules of the DII in force, with the blocks that came for them.
+//!
+//! A carousel stands for the messages that came, DIIs and DDBs in their order. Which DII is in force, which blocks
+//! count, and which modules are held with which bytes, is said of that list of messages in `specs/`; each call that
+//! changes a carousel says that it then stands for the list with the new message behind it, and each answer is that
+//! of the list. Memory is taken for a module when its entry comes, and given back when its entry changes or goes; a
+//! block costs its copy and a look-up.
+#![tactic(auto)]
+
+mod buffer;
+mod carousel;
+mod laws;
+mod modules;
+mod put;
+mod standing;
+
+pub use crate::carousel::Carousel;
+pub use crate::laws::law_of_counting;
+pub use crate::put::Put;
+pub use crate::standing::{SkipCause, Standing};
+
+#[cfg(test)]
+mod tests;

@@ -1,0 +1,12 @@
+pub mod Fields
+pub mod Items
+pub mod ItemLoop
+pub mod Entries
+pub mod StreamFields
+pub mod TableLaws
+pub mod Readers
+pub mod TagLoop
+pub mod ComponentLemmas
+pub mod HistoryLemmas
+pub mod PlaceLemmas
+pub mod DistinctLemmas

@@ -1,0 +1,11 @@
+pub mod Table
+pub mod Laid
+pub mod Descriptor
+pub mod Pat
+pub mod Pmt
+pub mod Reading
+pub mod Components
+pub mod History
+pub mod Service
+pub mod Step
+pub mod Places

@@ -1,0 +1,57 @@
+//! What the definitions of this crate say together. Each function is a law: its contract is what it is for, and
+//! it does nothing when it runs.
+
+ghost use Rattle.std.specs.Prelude.{◌≡◌, ◌≢◌, ◌≤◌, ◌↔◌, ℕ, List, [], ◌∷◌, length, AllPairs, None, Some, Ok, Err};
+ghost use Rattle.bml_bytes.specs.Codes.{AreBytes};
+ghost use Rattle.psi_tables.specs.declared.pat.PatEntry.{PatEntry};
+ghost use Rattle.psi_tables.specs.declared.pmt.Pmt.{Pmt};
+ghost use Rattle.psi_tables.specs.declared.pmt.PmtStream.{PmtStream};
+ghost use Rattle.psi_tables.specs.declared.services.Selection.{Selection};
+ghost use Rattle.psi_tables.specs.Components.{components_of, AreApart};
+ghost use Rattle.psi_tables.specs.History.{Handled, map_at_first, map_of, service_of};
+ghost use Rattle.psi_tables.specs.Places.{CountsAt, IsLast, NamesAt};
+ghost use Rattle.psi_tables.specs.Table.{association_table, map_table, IsOfTable};
+ghost use Rattle.psi_tables.specs.Pat.{IsPat};
+ghost use Rattle.psi_tables.specs.Pmt.{IsPmt};
+ghost use Rattle.psi_tables.specs.Reading.{pat_in, pmt_in};
+
+use crate::services::Selection;
+use bml_bytes::{TableFault, law_of_big_numbers, law_of_fields};
+
+/// A section has at most one list of entries of a PAT, and reading gives it.
+pub fn law_of_pat()
+    ensures one { (section : List ℕ) (entries others : List PatEntry) → IsPat section entries → IsPat section others → entries ≡ others }
+    ensures ok { (section : List ℕ) (entries : List PatEntry) → AreBytes section → IsPat section entries ↔ (pat_in section ≡ Ok entries) }
+    ensures kind { (section : List ℕ) → IsOfTable association_table section ↔ (pat_in section ≢ Err TableFault.Kind) }
+    ensures short { (section : List ℕ) → pat_in section ≡ Err TableFault.Short → IsOfTable association_table section × ((entries : List PatEntry) → ¬ IsPat section entries) }
+{
+    law_of_fields();
+    law_of_big_numbers();
+}
+
+/// A section has at most one list of fields of a PMT, and reading gives it.
+pub fn law_of_pmt()
+    ensures one { (section : List ℕ) (pmt other : Pmt) → IsPmt section pmt → IsPmt section other → pmt ≡ other }
+    ensures ok { (section : List ℕ) (pmt : Pmt) → AreBytes section → IsPmt section pmt ↔ (pmt_in section ≡ Ok pmt) }
+    ensures kind { (section : List ℕ) → IsOfTable map_table section ↔ (pmt_in section ≢ Err TableFault.Kind) }
+    ensures short { (section : List ℕ) → pmt_in section ≡ Err TableFault.Short → IsOfTable map_table section × ((pmt : Pmt) → ¬ IsPmt section pmt) }
+{
+    law_of_fields();
+    law_of_big_numbers();
+}
+
+/// The service is the one that the PAT names at the last place of the history where one counts, and the component
+/// map is the components of the PMT at the last place where one counts. With a data PID no PMT counts.
+pub fn law_of_component_map()
+    ensures service { (selection : Selection) (history : List Handled) (place : ℕ) (service : PatEntry) → IsLast (NamesAt selection history) place service → service_of selection history ≡ Some service }
+    ensures no_service { (selection : Selection) (history : List Handled) → ((place : ℕ) (service : PatEntry) → ¬ NamesAt selection history place service) → service_of selection history ≡ None }
+    ensures map { (selection : Selection) (history : List Handled) (place : ℕ) (pmt : Pmt) → IsLast (CountsAt selection history) place pmt → map_of selection history ≡ components_of pmt.streams }
+    ensures no_map { (selection : Selection) (history : List Handled) → ((place : ℕ) (pmt : Pmt) → ¬ CountsAt selection history place pmt) → map_of selection history ≡ map_at_first selection }
+    ensures data_pid { (pid : ℕ) (history : List Handled) → map_of (Selection.Pid pid) history ≡ record { tag = 0x40; pid = pid } ∷ [] }
+{}
+
+/// The components of some streams have distinct tags and distinct PIDs, and there are at most 16.
+pub fn law_of_components()
+    ensures distinct { (streams : List PmtStream) → AllPairs AreApart (components_of streams) }
+    ensures few { (streams : List PmtStream) → length (components_of streams) ≤ 16 }
+{}
