@@ -1,0 +1,12 @@
+pub mod ByteLemmas
+pub mod TagLemmas
+pub mod ReferenceLemmas
+pub mod PartLemmas
+pub mod MachineLemmas
+pub mod DocumentLemmas
+pub mod EntryLemmas
+pub mod ReachLemmas
+pub mod SeenLemmas
+pub mod FaultLemmas
+pub mod EndLemmas
+pub mod BuilderLemmas

@@ -1,0 +1,7 @@
+use Rattle.bml_reader.proofs.ReachLemmas.{one-tree}
+use Rattle.bml_reader.proofs.BuilderLemmas.{reverse-more}
+use Rattle.bml_reader.proofs.EndLemmas.{AtEnd-fault}
+use Rattle.bml_reader.proofs.documents.law_of_documents.Goals as goal
+
+pub returns : goal.returns
+returns c = one-tree

@@ -1,0 +1,16 @@
+pub mod Bytes
+pub mod References
+pub mod Parts
+pub mod Grammar
+pub mod Faults
+pub mod Lexing
+pub mod Machine
+pub mod Views
+pub mod ReferenceViews
+pub mod PartKinds
+pub mod PartViews
+pub mod AttributeViews
+pub mod TagViews
+pub mod Nodes
+pub mod BuilderViews
+pub mod ReaderViews

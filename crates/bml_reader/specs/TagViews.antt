@@ -1,0 +1,12 @@
+-- What the inside of a start tag in the code stands for.
+use Rattle.std.specs.Prelude.{ℕ, List}
+use Rattle.std.specs.Borrow.{Bor}
+use Rattle.bml_reader.specs.Lexing.{Found, found, Inner}
+use Rattle.bml_reader.specs.AttributeViews.{attributes_in_map}
+use Rattle.bml_reader.specs.declared.tags.Inside.{Inside}
+
+abbrev pub inner_of : Inside → Inner
+inner_of i = record { attributes = attributes_in_map i.attributes; is_empty = i.is_empty }
+
+abbrev pub found_inner : Inside × Bor (List ℕ) → Found Inner
+found_inner p = found (inner_of p.0) p.1.now

@@ -1,0 +1,43 @@
+//! Documents.
+
+ghost use Rattle.std.specs.Prelude.{◌≡◌, ℕ, List, IfOk, IfErr};
+ghost use Rattle.dom_tree.specs.Nested.{Nested};
+ghost use Rattle.bml_reader.specs.Faults.{ReadsWell, HasFault};
+ghost use Rattle.bml_reader.specs.Grammar.{Reads};
+
+use crate::faults::DocFault;
+use crate::parts::next_part;
+use crate::readers::Reader;
+use dom_tree::Tree;
+use std::alloc::Global;
+
+/// Reads a document, and gives its nodes in document order. Where the bytes aren't a document that is shown,
+/// tells the first fault that they have, in the order in which `DocFault` lists them; each byte is read a
+/// bounded number of times, and what is kept is bounded by the tree, the open elements and the longest text.
+pub fn read_document(alloc: Global, bytes: &[u8]) -> Result<Tree, DocFault>
+    ensures ok { IfOk result (λ tree. ReadsWell bytes.now tree) }
+    ensures err { IfErr result (λ fault. HasFault bytes.now fault) }
+{
+    let mut reader = Reader::new(alloc);
+    let mut rest = bytes;
+    'parts: while !rest.is_empty() {
+        match next_part(alloc, rest)? {
+            None => return Err(DocFault::Malformed),
+            Some((part, behind)) => {
+                if !reader.take(part)? {
+                    return Err(DocFault::Malformed);
+                }
+                rest = behind;
+            }
+        }
+    }
+    if !reader.is_whole() {
+        return Err(DocFault::Malformed);
+    }
+    reader.finish()
+}
+
+/// Bytes stand for at most one tree.
+pub fn law_of_documents()
+    ensures { (bytes : List ℕ) (one other : Nested) → Reads bytes one → Reads bytes other → one ≡ other }
+{}

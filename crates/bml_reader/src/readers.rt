@@ -1,0 +1,295 @@
+//! Reading a document part by part.
+
+ghost use Rattle.std.specs.Prelude.{◌≡◌, not, codes as ascii};
+ghost use Rattle.dom_tree.specs.Items.{is_same};
+ghost use Rattle.std.specs.List.{list_all};
+ghost use Rattle.bml_reader.specs.Bytes.{is_white as spec_is_white};
+ghost use Rattle.bml_reader.specs.Grammar.{is_left_out as spec_is_left_out, drops_white as spec_drops_white};
+ghost use Rattle.bml_reader.specs.PartViews.{part_of};
+ghost use Rattle.bml_reader.specs.PartKinds.{is_misc as spec_is_misc};
+
+use crate::builders::TreeBuilder;
+use crate::bytes::{ByteClass, behind_run};
+use crate::faults::DocFault;
+use crate::parts::{Part, StartTag};
+use crate::phases::Phase;
+use crate::references::push_read;
+use bml_bytes::{NoMemory, Text};
+use dom_tree::Tree;
+use std::alloc::Global;
+
+/// The most levels of elements.
+const MOST_LEVELS: usize = 64;
+
+// The tag of the root, and those of the other elements in which white text is no node.
+const BML: [u16; 3] = [0x62, 0x6D, 0x6C];
+
+const HEAD: [u16; 4] = [0x68, 0x65, 0x61, 0x64];
+
+const BODY: [u16; 4] = [0x62, 0x6F, 0x64, 0x79];
+
+const DIV: [u16; 3] = [0x64, 0x69, 0x76];
+
+const BEVENT: [u16; 6] = [0x62, 0x65, 0x76, 0x65, 0x6E, 0x74];
+
+/// What is known of a document once some of its parts are read.
+#[derive(Drop)]
+pub struct Reader {
+    pub alloc: Global,
+    pub phase: Phase,
+    // the tags of the open elements, the innermost last
+    pub tags: Vec<Text>,
+    // the text since the last tag
+    pub text: Vec<u8>,
+    pub builder: TreeBuilder,
+    // whether the root is another element than `bml`, and whether an element stood past the last level
+    pub has_other_root: bool,
+    pub is_deep: bool,
+}
+
+impl Reader {
+    ghost use Rattle.std.specs.Prelude.{◌≢◌, ◌↔◌, [], Some, None, true, false, IfOk, IfErr, OnOk, IfSome, IsTrue, option_map, reverse};
+    ghost use Rattle.bml_reader.specs.Machine.{start_state};
+    ghost use Rattle.bml_reader.specs.AttributeViews.{attributes_in_map};
+    ghost use Rattle.bml_reader.specs.Parts.{NamesDiffer};
+    ghost use Rattle.bml_reader.specs.Nodes.{IsRootNext};
+    ghost use Rattle.bml_reader.specs.declared.phases.Phase.TheVariants.{BeforeDoctype, BeforeRoot, Inside, Behind};
+    ghost use Rattle.bml_reader.specs.ReaderViews.{seen_of, seen_by, seen_step, seen_before_doctype, seen_before_root, seen_inside, seen_misc, seen_started, seen_flushed, seen_ended, with_root, seen_in_phase, phase_of_tags, IsTaken, IsReady, IsReadyIn, HasDifferentNames, Refuses};
+
+    /// Nothing is read yet.
+    pub fn new(alloc: Global) -> Reader
+        ensures { seen_by result ≡ seen_of start_state }
+    {
+        Reader {
+            alloc,
+            phase: Phase::BeforeDoctype,
+            tags: Vec::new(alloc),
+            text: Vec::new(alloc),
+            builder: TreeBuilder::new(alloc),
+            has_other_root: false,
+            is_deep: false,
+        }
+    }
+
+    /// Takes one part more, and answers whether it can stand there.
+    #[tactic(auto, unfolding(crate::specs::ReaderViews::seen_step))]
+    pub fn take(&mut self, part: Part) -> Result<bool, NoMemory>
+        requires ready { IsReady (seen_by self.old) }
+        requires names { HasDifferentNames (part_of part) }
+        ensures { IfOk result (λ taken. IsTaken (seen_step (part_of part.entry) (seen_by self.old)) taken (seen_by self.new)) }
+    {
+        match self.phase {
+            Phase::BeforeDoctype => self.take_before_doctype(part),
+            Phase::BeforeRoot => self.take_before_root(part),
+            Phase::Inside => self.take_inside(part),
+            Phase::Behind => Ok(is_misc(&part)),
+        }
+    }
+
+    /// Whether the root has ended.
+    pub fn is_whole(&self) -> bool
+        ensures { IsTrue result ↔ (self.now.phase ≡ Behind) }
+    {
+        matches!(self.phase, Phase::Behind)
+    }
+
+    /// The tree, or the first fault of a document in the grammar that is read whole.
+    pub fn finish(self) -> Result<Tree, DocFault>
+        requires { IfSome self.builder (λ k. k.items ≢ []) }
+        ensures root { IfOk result (λ tree. self.has_other_root ≡ false) }
+        ensures depth { IfOk result (λ tree. self.is_deep ≡ false) }
+        ensures tree { IfOk result (λ tree. option_map (λ k. k.items) self.builder ≡ Some tree) }
+        ensures err { IfErr result (λ fault. Refuses fault self.has_other_root self.is_deep self.builder) }
+    {
+        if self.has_other_root {
+            return Err(DocFault::WrongRoot);
+        }
+        if self.is_deep {
+            return Err(DocFault::TooDeep);
+        }
+        match self.builder.into_tree() {
+            Some(tree) => Ok(tree),
+            None => Err(DocFault::TooManyNodes),
+        }
+    }
+
+    fn take_before_doctype(&mut self, part: Part) -> Result<bool, NoMemory>
+        requires ready { IsReadyIn BeforeRoot (seen_by self.old) }
+        requires names { HasDifferentNames (part_of part) }
+        ensures { IfOk result (λ taken. IsTaken (seen_before_doctype (part_of part.entry) (seen_by self.old)) taken (seen_by self.new)) }
+    {
+        match part {
+            Part::Doctype => {
+                self.phase = Phase::BeforeRoot;
+                Ok(true)
+            }
+            Part::StartTag(start) => self.start_root(start),
+            part => Ok(is_misc(&part)),
+        }
+    }
+
+    fn take_before_root(&mut self, part: Part) -> Result<bool, NoMemory>
+        requires ready { IsReadyIn BeforeRoot (seen_by self.old) }
+        requires names { HasDifferentNames (part_of part) }
+        ensures { IfOk result (λ taken. IsTaken (seen_before_root (part_of part.entry) (seen_by self.old)) taken (seen_by self.new)) }
+    {
+        match part {
+            Part::StartTag(start) => self.start_root(start),
+            part => Ok(is_misc(&part)),
+        }
+    }
+
+    fn take_inside(&mut self, part: Part) -> Result<bool, NoMemory>
+        requires ready { IsReadyIn Inside (seen_by self.old) }
+        requires names { HasDifferentNames (part_of part) }
+        ensures { IfOk result (λ taken. IsTaken (seen_inside (part_of part.entry) (seen_by self.old)) taken (seen_by self.new)) }
+    {
+        match part {
+            Part::StartTag(start) => self.start_inside(start),
+            Part::EndTag(name) => {
+                let tag = Text::of_bytes(self.alloc, name)?;
+                self.end(tag)
+            }
+            Part::Run(bytes) => {
+                push_read(bytes, &mut self.text)?;
+                Ok(true)
+            }
+            Part::Cdata(bytes) => {
+                self.text.extend_from_slice(bytes)?;
+                Ok(true)
+            }
+            Part::Remark => Ok(true),
+            Part::Doctype => Ok(false),
+        }
+    }
+
+    // Takes the start tag of the root.
+    fn start_root(&mut self, start: StartTag) -> Result<bool, NoMemory>
+        requires ready { IsReadyIn BeforeRoot (seen_by self.old) }
+        requires names { NamesDiffer [] (attributes_in_map start.inside.attributes) }
+        ensures { IfOk result (λ taken. IsTaken (Some (seen_started start.tag (attributes_in_map start.inside.attributes) start.inside.is_empty (with_root start.tag (seen_by self.old)))) taken (seen_by self.new)) }
+    {
+        self.has_other_root = is_other_root(&start.tag);
+        self.start(start)?;
+        Ok(true)
+    }
+
+    // Takes a start tag inside the root.
+    fn start_inside(&mut self, start: StartTag) -> Result<bool, NoMemory>
+        requires ready { IsReadyIn Inside (seen_by self.old) }
+        requires names { NamesDiffer [] (attributes_in_map start.inside.attributes) }
+        ensures { IfOk result (λ taken. IsTaken (Some (seen_started start.tag (attributes_in_map start.inside.attributes) start.inside.is_empty (seen_flushed (seen_by self.old)))) taken (seen_by self.new)) }
+    {
+        self.flush()?;
+        self.start(start)?;
+        Ok(true)
+    }
+
+    // Adds the element of a start tag, which stays open unless it is empty.
+    fn start(&mut self, start: StartTag) -> Result<(), NoMemory>
+        requires root { IfSome self.old.builder IsRootNext }
+        requires names { NamesDiffer [] (attributes_in_map start.inside.attributes) }
+        ensures { OnOk result (seen_by self.new ≡ seen_started start.tag (attributes_in_map start.inside.attributes) start.inside.is_empty (seen_by self.old)) }
+    {
+        let StartTag { tag, inside } = start;
+        self.is_deep = self.is_deep || self.tags.len() >= MOST_LEVELS;
+        self.builder.add_element(
+            self.alloc,
+            tag.share()?,
+            &inside.attributes,
+            inside.is_empty,
+        )?;
+        if !inside.is_empty {
+            self.tags.push(tag)?;
+        }
+        self.settle();
+        Ok(())
+    }
+
+    // Ends the innermost element, where this is its tag.
+    fn end(&mut self, tag: Text) -> Result<bool, NoMemory>
+        requires ready { IsReadyIn Inside (seen_by self.old) }
+        ensures { IfOk result (λ taken. IsTaken (seen_ended tag (seen_by self.old).tags (seen_by self.old)) taken (seen_by self.new)) }
+    {
+        match self.tags.last() {
+            Some(innermost) if tag == *innermost => {}
+            _ => return Ok(false),
+        }
+        self.flush()?;
+        self.tags.pop();
+        self.builder.close();
+        self.settle();
+        Ok(true)
+    }
+
+    // Makes a node of the text in front of a tag, unless it is left out.
+    fn flush(&mut self) -> Result<(), NoMemory>
+        requires { IfSome self.old.builder (λ k. k.path ≢ []) }
+        ensures flushed { OnOk result (seen_by self.new ≡ seen_flushed (seen_by self.old)) }
+        ensures next { OnOk result (IfSome self.new.builder IsRootNext) }
+    {
+        match self.tags.last() {
+            Some(tag) if !is_left_out(tag, self.text.as_slice()) => {
+                let text = Text::of_bytes(self.alloc, self.text.as_slice())?;
+                self.builder.add_text(text)?;
+            }
+            _ => {}
+        }
+        self.text.clear();
+        Ok(())
+    }
+
+    // Notes whether the root has ended.
+    fn settle(&mut self)
+        ensures { seen_by self.new ≡ seen_in_phase (phase_of_tags (reverse self.old.tags.items)) (seen_by self.old) }
+    {
+        self.phase = if self.tags.is_empty() {
+            Phase::Behind
+        } else {
+            Phase::Inside
+        };
+    }
+}
+
+// Whether the part is white space or a remark.
+fn is_misc(part: &Part) -> bool
+    ensures { result ≡ spec_is_misc (part_of part.now) }
+{
+    match part {
+        Part::Run(bytes) => is_white(bytes),
+        Part::Remark => true,
+        _ => false,
+    }
+}
+
+// Whether the tag isn't that of a document's root.
+fn is_other_root(tag: &Text) -> bool
+    ensures { result ≡ not (is_same tag.now (ascii "bml")) }
+{
+    tag.codes() != BML.as_slice()
+}
+
+fn is_white(bytes: &[u8]) -> bool
+    ensures { result ≡ list_all spec_is_white bytes.now }
+{
+    bytes.iter().all(|byte| ByteClass::White.has(*byte))
+}
+
+// Whether the text is no node of an element with this tag.
+fn is_left_out(tag: &Text, text: &[u8]) -> bool
+    ensures { result ≡ spec_is_left_out tag.now text.now }
+{
+    text.is_empty() || (drops_white(tag) && is_white(text))
+}
+
+// Whether a text that is all white is no node of an element with this tag.
+fn drops_white(tag: &Text) -> bool
+    ensures { result ≡ spec_drops_white tag.now }
+{
+    let tag = tag.codes();
+    tag == BML.as_slice()
+        || tag == HEAD.as_slice()
+        || tag == BODY.as_slice()
+        || tag == DIV.as_slice()
+        || tag == BEVENT.as_slice()
+}
