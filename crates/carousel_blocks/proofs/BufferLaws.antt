@@ -6,7 +6,7 @@ use Rattle.std.proofs.Math.Nat.{le-div_iff_mul-le, mul_comm}
 use Rattle.carousel_blocks.specs.declared.buffer.Shape.{Shape}
 use Rattle.carousel_blocks.specs.InForce.{block_count}
 use Rattle.carousel_blocks.specs.Held.{joined}
-use Rattle.carousel_blocks.specs.Buffers.{blocks_in, missing_in, is_unmarked, is_missing, all_came, overwritten, IsSound, BufferState, shape_length, shape_count, with_block_at}
+use Rattle.carousel_blocks.specs.Buffers.{blocks_in, missing_in, is_unmarked, is_missing, all_came, overwritten, IsSound, BufferState, shape_length, with_block_at}
 
 pub complete_by_missing : (size : ℕ) (marks : List Bool) (bytes : List ℕ) → (missing_in marks == 0) ≡ all_came (blocks_in size marks bytes)
 complete_by_missing size [] bytes = refl

@@ -1,12 +1,12 @@
 -- Laws of the modules that are made of a DII's entries.
-use Rattle.std.proofs.Common.{◌≡◌, ◌≢◌, ℕ, zero, suc, ◌+◌, ◌*◌, ◌<◌, ◌≤◌, ◌==◌, nat_eq, nat_lt, Bool, true, false, ◌&&◌, ◌||◌, List, [], ◌∷◌, ◌++◌, replicate, refl, sym, ap, ap₂, ◌∙◌, subst, arith, eqb-true, if◌then◌else◌, cond, find, fold}
-use Rattle.std.specs.Prelude.{Option, Some, None, is_some, option_map, slice_get, bytes_eq}
+use Rattle.std.proofs.Common.{◌≡◌, ℕ, zero, suc, ◌+◌, ◌*◌, ◌≤◌, nat_eq, nat_lt, Bool, true, false, ◌||◌, List, [], ◌∷◌, ◌++◌, replicate, refl, sym, ap, ap₂, ◌∙◌, subst, arith, eqb-true, if◌then◌else◌, cond, find, fold}
+use Rattle.std.specs.Prelude.{Option, Some, None, is_some, option_map}
 use Rattle.std.specs.List.{list_any}
 use Rattle.std.specs.Option.{option_or}
 use Rattle.std.specs.HashMap.{HashMap, get as value_at, Updates}
 use Rattle.std.specs.Map.{lookup}
 use Rattle.std.proofs.lemmas.List.Folds.{find-append}
-use Rattle.slab.specs.Slab.{Slab, get}
+use Rattle.slab.specs.Slab.{get}
 use Rattle.dsmcc_messages.specs.declared.entry.Entry.{Entry}
 use Rattle.dsmcc_messages.specs.declared.dii.Dii.{Dii}
 use Rattle.carousel_blocks.specs.declared.standing.SkipCause.{SkipCause}
@@ -16,12 +16,12 @@ use Rattle.carousel_blocks.specs.declared.buffer.Shape.{Shape}
 use Rattle.carousel_blocks.specs.declared.modules.Module.{Module}
 use Rattle.carousel_blocks.specs.declared.modules.Draft.{Draft}
 use Rattle.carousel_blocks.specs.InForce.{block_count, is_large, is_compressed, skip_standing, counted_size, unskipped_size, is_of_module, with_entry}
-use Rattle.carousel_blocks.specs.Held.{Kept, count_of, asked_count, same_skip, same_standing, unchanged}
+use Rattle.carousel_blocks.specs.Held.{Kept, count_of, asked_count, same_standing}
 use Rattle.carousel_blocks.specs.Buffers.{BufferState, shape_count, without_blocks}
-use Rattle.carousel_blocks.specs.Modules.{Buffers, blocks_of, blocks_at, module_kept, shape_by, shape_of, IsBacked, IsModule, AreModules, kept_at, KeepModules, Grows, Covers, blocks_for, blocks_kept, standing_kept, kept_for}
+use Rattle.carousel_blocks.specs.Modules.{Buffers, blocks_of, blocks_at, module_kept, shape_by, shape_of, IsBacked, IsModule, kept_at, KeepModules, Grows, Covers, blocks_for, kept_for}
 use Rattle.carousel_blocks.specs.Drafts.{HaveStandings, IsDraft, carried_of}
 use Rattle.carousel_blocks.proofs.BufferLaws.{covered}
-use Rattle.carousel_blocks.proofs.ModuleLaws.{shape_is, keep_grown, option_map_same}
+use Rattle.carousel_blocks.proofs.ModuleLaws.{shape_is, keep_grown}
 use Rattle.carousel_blocks.proofs.StandingLaws.{same_is_equal}
 
 -- ---- the key of a module

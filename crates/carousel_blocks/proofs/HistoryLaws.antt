@@ -1,21 +1,20 @@
 -- Laws of the blocks that count, behind one message more.
-use Rattle.std.proofs.Common.{◌≡◌, ◌≢◌, ℕ, zero, suc, ◌+◌, ◌<◌, ◌≤◌, ◌==◌, nat_lt, Bool, true, false, not, ◌&&◌, ◌||◌, List, [], ◌∷◌, ◌++◌, replicate, refl, sym, ap, ap₂, ◌∙◌, subst, arith, eqb-true, if◌then◌else◌, cond, append-nil, append_assoc, find, fold}
+use Rattle.std.proofs.Common.{◌≡◌, ◌≢◌, ℕ, zero, suc, ◌+◌, ◌<◌, ◌≤◌, ◌==◌, Bool, true, false, not, ◌&&◌, ◌||◌, List, [], ◌∷◌, ◌++◌, replicate, refl, sym, ap, ap₂, ◌∙◌, subst, arith, eqb-true, if◌then◌else◌, cond, append-nil, append_assoc, find, fold}
 use Rattle.std.specs.Prelude.{slice_get, slice_set, Option, Some, None, is_some, option_map, option_and_then, option_to_list}
 use Rattle.std.specs.Option.{option_or}
 use Rattle.std.proofs.lemmas.List.Folds.{find-append}
 use Rattle.dsmcc_messages.specs.declared.dii.Dii.{Dii}
 use Rattle.dsmcc_messages.specs.Ddb.{DataBlock}
-use Rattle.carousel_blocks.specs.declared.put.Put.{Put}
 use Rattle.carousel_blocks.specs.declared.put.Put.TheVariants as puts
 use Rattle.carousel_blocks.specs.declared.standing.SkipCause.{SkipCause}
 use Rattle.carousel_blocks.specs.declared.standing.Standing.{Standing}
 use Rattle.carousel_blocks.specs.Message.{Message, Indication, Data}
 use Rattle.carousel_blocks.specs.InForce.{later, in_force, standings, standing_of, is_of_module}
-use Rattle.carousel_blocks.specs.Held.{asked_count, count_of, is_asked, is_asked_by, asked_block, same_standing, unchanged, stays, counting, first_of, blocks_from, joined, Kept, kept_with, kept, bytes_by, bytes_kept, held}
+use Rattle.carousel_blocks.specs.Held.{asked_count, count_of, is_asked, is_asked_by, asked_block, unchanged, stays, counting, first_of, blocks_from, Kept, kept_with, kept, bytes_by, bytes_kept, held}
 use Rattle.carousel_blocks.specs.Buffers.{is_missing, all_came}
 use Rattle.carousel_blocks.specs.Modules.{kept_for, blocks_for, blocks_kept, standing_kept}
-use Rattle.carousel_blocks.specs.Changes.{with_block, answer_kept, answer_to, is_transaction}
-use Rattle.carousel_blocks.specs.Carousel.{has_block, put_after}
+use Rattle.carousel_blocks.specs.Changes.{with_block, answer_kept, answer_to}
+use Rattle.carousel_blocks.specs.Carousel.{put_after}
 use Rattle.carousel_blocks.proofs.BufferLaws.{is_some-joined}
 use Rattle.carousel_blocks.proofs.StandingLaws.{same_standing_yes, unchanged_equal}
 use Rattle.carousel_blocks.proofs.DraftLaws.{fold-append}
@@ -71,7 +70,7 @@ blocks_from-none : (start count : ℕ) → blocks_from (first_of []) start count
 blocks_from-none start zero = refl
 blocks_from-none start (suc count) = ap (λ (l : List (Option (List ℕ))). None ∷ l) (blocks_from-none (start + 1) count)
 
-option_map-option_or : {A B : Type 0} (f : A → B) (x y : Option A) → option_map f (option_or x y) ≡ option_or (option_map f x) (option_map f y)
+pub option_map-option_or : {A B : Type 0} (f : A → B) (x y : Option A) → option_map f (option_or x y) ≡ option_or (option_map f x) (option_map f y)
 option_map-option_or f None y = refl
 option_map-option_or f (Some x) y = refl
 
@@ -89,7 +88,7 @@ first_of-append blocks block n =
       one false = refl
 
 -- a kept module with one block more
-kept_with-asked : (s : Standing) (blocks : List DataBlock) (block : DataBlock) → is_asked s block ≡ true → kept_with (blocks ++ block ∷ []) s ≡ with_block block (kept_with blocks s)
+pub kept_with-asked : (s : Standing) (blocks : List DataBlock) (block : DataBlock) → is_asked s block ≡ true → kept_with (blocks ++ block ∷ []) s ≡ with_block block (kept_with blocks s)
 kept_with-asked s blocks block asked =
     ap (λ (l : List (Option (List ℕ))). let k : Kept = record { standing = s; blocks = l } in k) (changed ∙ ap (λ k. slice_set old n (after k)) at_zero ∙ ap (slice_set old n) (first_of-append blocks block n ∙ ap (λ (t : Bool). option_or (before n) (if t then Some block.block else None)) (same_number n)))
     ∙ chosen (is_missing (slice_get old n)) refl

@@ -6,3 +6,4 @@ pub mod PutLaws
 pub mod HistoryLaws
 pub mod StandingFor
 pub mod PlaceLaws
+pub mod OrderLaws

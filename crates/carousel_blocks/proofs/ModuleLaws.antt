@@ -1,15 +1,15 @@
 -- Laws of modules and their buffers.
-use Rattle.std.proofs.Common.{◌≡◌, ◌≢◌, ℕ, zero, suc, ◌+◌, ◌*◌, ◌≤◌, ◌==◌, nat_eq, Bool, true, false, ◌&&◌, List, [], ◌∷◌, replicate, refl, sym, ap, ap₂, ◌∙◌, subst, arith, if◌then◌else◌}
-use Rattle.std.specs.Prelude.{Option, Some, None, is_some, option_map, slice_get}
+use Rattle.std.proofs.Common.{◌≡◌, ◌≢◌, ℕ, ◌==◌, nat_eq, true, false, List, refl, sym, ap, ◌∙◌, subst, arith}
+use Rattle.std.specs.Prelude.{Option, Some, None, option_map}
 use Rattle.std.specs.HashMap.{HashMap, get as value_at}
-use Rattle.slab.specs.Slab.{Slab, get, Updates}
+use Rattle.slab.specs.Slab.{get, Updates}
 use Rattle.carousel_blocks.specs.declared.standing.SkipCause.{SkipCause}
 use Rattle.carousel_blocks.specs.declared.standing.Standing.{Standing}
 use Rattle.carousel_blocks.specs.declared.buffer.Shape.{Shape}
 use Rattle.carousel_blocks.specs.declared.modules.Module.{Module}
 use Rattle.carousel_blocks.specs.Held.{Kept}
 use Rattle.carousel_blocks.specs.Buffers.{BufferState}
-use Rattle.carousel_blocks.specs.Modules.{Buffers, blocks_of, blocks_at, module_kept, shape_by, shape_of, IsBacked, IsModule, AreModules, kept_at, KeepModules, Grows}
+use Rattle.carousel_blocks.specs.Modules.{Buffers, blocks_of, blocks_at, module_kept, shape_by, shape_of, IsBacked, AreModules, KeepModules, Grows}
 use Rattle.carousel_blocks.specs.Drafts.{key_of, is_key}
 
 pub option_map_same : {A B : Type 0} (f g : A → B) (x : Option A) → ((a : A) → x ≡ Some a → f a ≡ g a) → option_map f x ≡ option_map g x

@@ -1,13 +1,13 @@
 -- The blocks that count stand at places of the list of messages.
-use Rattle.std.proofs.Common.{◌≡◌, ℕ, zero, suc, ◌+◌, ◌<◌, ◌≤◌, Bool, true, false, ◌&&◌, List, [], ◌∷◌, ◌++◌, length, take, refl, sym, ap, ap₂, ◌∙◌, subst, arith, if◌then◌else◌, fold, ◌⊎◌, inl, inr}
+use Rattle.std.proofs.Common.{◌≡◌, ℕ, zero, suc, ◌+◌, ◌<◌, Bool, true, false, ◌&&◌, List, [], ◌∷◌, length, take, refl, sym, ap, ap₂, ◌∙◌, subst, arith, if◌then◌else◌, fold, ◌⊎◌, inl, inr}
 use Rattle.std.specs.Prelude.{slice_get, slice_index_or, Contains, Option, Some, None, option_to_list}
 use Rattle.std.proofs.lemmas.List.Elements.{Contains-append_left, Contains-append_right, Contains-append_cases}
 use Rattle.dsmcc_messages.specs.declared.dii.Dii.{Dii}
 use Rattle.dsmcc_messages.specs.Ddb.{DataBlock}
 use Rattle.carousel_blocks.specs.declared.standing.Standing.{Standing}
 use Rattle.carousel_blocks.specs.Message.{Message, Indication, Data}
-use Rattle.carousel_blocks.specs.InForce.{later, in_force, standing_of}
-use Rattle.carousel_blocks.specs.Held.{is_asked_by, asked_block, unchanged, stays, counting, CountsAt}
+use Rattle.carousel_blocks.specs.InForce.{later, standing_of}
+use Rattle.carousel_blocks.specs.Held.{is_asked_by, asked_block, unchanged, stays, counting}
 
 -- the same from a DII in force on
 pub record CountsFrom (f : Option Dii) (h : List Message) (m : ℕ) (b : DataBlock) (place : ℕ) : Type 0 where

@@ -1,21 +1,19 @@
 -- Laws of a block that comes for the modules.
-use Rattle.std.proofs.Common.{◌≡◌, ◌≢◌, ℕ, zero, suc, ◌+◌, ◌-◌, ◌*◌, ◌<◌, ◌≤◌, ◌==◌, nat_eq, nat_lt, min, Bool, true, false, ◌&&◌, List, [], ◌∷◌, length, refl, sym, ap, ap₂, ◌∙◌, subst, arith, eqb-true, if◌then◌else◌}
-use Rattle.std.specs.Prelude.{Option, Some, None, is_some, option_map, option_and_then, slice_get, slice_set}
+use Rattle.std.proofs.Common.{◌≡◌, ◌≢◌, ℕ, ◌-◌, ◌*◌, ◌<◌, ◌==◌, nat_eq, nat_lt, min, Bool, true, false, ◌&&◌, List, length, refl, sym, ap, ap₂, ◌∙◌, subst, arith, eqb-true, if◌then◌else◌}
+use Rattle.std.specs.Prelude.{Option, Some, None, option_map, option_and_then, slice_get, slice_set}
 use Rattle.std.specs.HashMap.{HashMap, get as value_at}
-use Rattle.slab.specs.Slab.{Slab, get, Updates}
+use Rattle.slab.specs.Slab.{get, Updates}
 use Rattle.dsmcc_messages.specs.Ddb.{DataBlock}
-use Rattle.carousel_blocks.specs.declared.put.Put.{Put}
 use Rattle.carousel_blocks.specs.declared.put.Put.TheVariants as puts
 use Rattle.carousel_blocks.specs.declared.standing.SkipCause.{SkipCause}
 use Rattle.carousel_blocks.specs.declared.standing.Standing.{Standing}
-use Rattle.carousel_blocks.specs.declared.buffer.Shape.{Shape}
 use Rattle.carousel_blocks.specs.declared.modules.Module.{Module}
 use Rattle.carousel_blocks.specs.Held.{Kept, count_of, block_length, is_asked, joined, bytes_by, bytes_kept}
 use Rattle.carousel_blocks.specs.Buffers.{BufferState, is_missing, all_came, shape_length, with_block_at}
-use Rattle.carousel_blocks.specs.Modules.{Buffers, blocks_of, blocks_at, module_kept, shape_by, shape_of, IsBacked, IsModule, AreModules, kept_at}
+use Rattle.carousel_blocks.specs.Modules.{Buffers, blocks_of, blocks_at, module_kept, shape_by, IsBacked, AreModules, kept_at}
 use Rattle.carousel_blocks.specs.Drafts.{asked_key_of, is_key}
-use Rattle.carousel_blocks.specs.Changes.{is_wanted, with_block, answer_kept, answer_to, with_block_in, answer_in}
-use Rattle.carousel_blocks.proofs.ModuleLaws.{HasBuffer, has_buffer, no_key, ShapeIs, shape_is, option_map_same}
+use Rattle.carousel_blocks.specs.Changes.{with_block, answer_kept, answer_to, with_block_in, answer_in}
+use Rattle.carousel_blocks.proofs.ModuleLaws.{has_buffer, no_key, ShapeIs, shape_is}
 use Rattle.carousel_blocks.proofs.DraftLaws.{skipped_count}
 
 first : (a b : Bool) → (a && b) ≡ true → a ≡ true

@@ -1,13 +1,11 @@
 -- For which messages a carousel stands, behind one message more.
-use Rattle.std.proofs.Common.{◌≡◌, ℕ, ◌==◌, nat_eq, Bool, true, false, List, [], ◌∷◌, ◌++◌, refl, sym, ap, ap₂, subst, ◌∙◌, arith, if◌then◌else◌, map, cond, fold, find}
-use Rattle.std.specs.Prelude.{Option, Some, None, is_some, option_map, option_and_then}
+use Rattle.std.proofs.Common.{◌≡◌, ℕ, ◌==◌, nat_eq, Bool, true, false, List, [], ◌∷◌, ◌++◌, refl, sym, ap, subst, ◌∙◌, if◌then◌else◌, map, cond, find}
+use Rattle.std.specs.Prelude.{Option, Some, None, option_map, option_and_then}
 use Rattle.std.specs.Map.{lookup}
 use Rattle.std.specs.HashMap.{HashMap, get as value_at}
-use Rattle.dsmcc_messages.specs.declared.entry.Entry.{Entry}
 use Rattle.dsmcc_messages.specs.declared.dii.Dii.{Dii}
 use Rattle.dsmcc_messages.specs.Ddb.{DataBlock}
 use Rattle.carousel_blocks.specs.declared.put.Put.{Put}
-use Rattle.carousel_blocks.specs.declared.standing.SkipCause.{SkipCause}
 use Rattle.carousel_blocks.specs.declared.standing.Standing.{Standing}
 use Rattle.carousel_blocks.specs.declared.modules.Module.{Module}
 use Rattle.carousel_blocks.specs.Message.{Message, Indication, Data}
@@ -16,7 +14,7 @@ use Rattle.carousel_blocks.specs.Held.{Kept, kept, held, bytes_kept, counting, k
 use Rattle.carousel_blocks.specs.Modules.{Buffers, module_kept, kept_at, kept_for, entries_kept, standing_kept, KeepModules}
 use Rattle.carousel_blocks.specs.Drafts.{HaveStandings}
 use Rattle.carousel_blocks.specs.Changes.{TakesDii, TakesBlock, is_transaction, is_in_force, with_block, answer_to}
-use Rattle.carousel_blocks.specs.Carousel.{CarouselState, kept_in, StandsFor, KeepsSame, entry_in_force, skip_in_force, put_after}
+use Rattle.carousel_blocks.specs.Carousel.{CarouselState, kept_in, StandsFor, KeepsSame, put_after}
 use Rattle.carousel_blocks.proofs.HistoryLaws.{later_data, in_force-append, kept-data, kept-same, kept-other, answer-put}
 
 -- ---- looking a module up

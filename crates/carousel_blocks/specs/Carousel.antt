@@ -1,13 +1,12 @@
 -- For which messages a carousel stands, and what it answers.
-use Rattle.std.specs.Prelude.{◌≡◌, ℕ, ◌==◌, nat_eq, Bool, not, ◌||◌, if◌then◌else◌, List, [], ◌∷◌, ◌++◌, Option, Some, None, is_some, option_map, option_and_then}
+use Rattle.std.specs.Prelude.{◌≡◌, ℕ, nat_eq, Bool, not, ◌||◌, if◌then◌else◌, List, [], ◌∷◌, ◌++◌, Option, None, is_some, option_map, option_and_then}
 use Rattle.std.specs.Map.{lookup}
 use Rattle.dsmcc_messages.specs.Ddb.{DataBlock}
 use Rattle.dsmcc_messages.specs.declared.entry.Entry.{Entry}
 use Rattle.carousel_blocks.specs.declared.standing.SkipCause.{SkipCause}
-use Rattle.carousel_blocks.specs.declared.standing.Standing.{Standing}
 use Rattle.carousel_blocks.specs.declared.put.Put.{Put}
 use Rattle.carousel_blocks.specs.declared.put.Put.TheVariants as puts
-use Rattle.carousel_blocks.specs.Message.{Message, Indication, Data}
+use Rattle.carousel_blocks.specs.Message.{Message, Data}
 use Rattle.carousel_blocks.specs.InForce.{in_force, standing_of}
 use Rattle.carousel_blocks.specs.Held.{Kept, kept, held, counting, first_of, is_asked_by}
 

@@ -1,6 +1,6 @@
 -- How the modules of a DII are made of its entries.
-use Rattle.std.specs.Prelude.{◌≡◌, ◌≤◌, ℕ, ◌==◌, nat_eq, Bool, false, if◌then◌else◌, List, [], ◌∷◌, find, Option, Some, None, option_map, option_and_then}
-use Rattle.std.specs.HashMap.{HashMap, get as value_at}
+use Rattle.std.specs.Prelude.{◌≡◌, ℕ, ◌==◌, Bool, false, if◌then◌else◌, List, find, Option, Some, None, option_map}
+use Rattle.std.specs.HashMap.{HashMap}
 use Rattle.dsmcc_messages.specs.declared.dii.Dii.{Dii}
 use Rattle.dsmcc_messages.specs.Ddb.{DataBlock}
 use Rattle.carousel_blocks.specs.declared.standing.Standing.{Standing}

@@ -1,6 +1,6 @@
 -- Which blocks of a component's messages count, and which modules they make up (this project's own, after ARIB
 -- STD-B24, volume 3).
-use Rattle.std.specs.Prelude.{◌≡◌, ◌<◌, ℕ, zero, suc, ◌+◌, ◌-◌, ◌*◌, ◌==◌, nat_lt, min, Bool, true, false, ◌&&◌, if◌then◌else◌, List, [], ◌∷◌, ◌++◌, length, take, drop, find, slice_get, bytes_eq, Option, Some, None, option_map, option_and_then, option_to_list}
+use Rattle.std.specs.Prelude.{◌≡◌, ◌<◌, ℕ, zero, suc, ◌+◌, ◌-◌, ◌*◌, ◌==◌, nat_lt, min, Bool, true, false, ◌&&◌, if◌then◌else◌, List, [], ◌∷◌, ◌++◌, length, take, find, slice_get, bytes_eq, Option, Some, None, option_map, option_and_then, option_to_list}
 use Rattle.dsmcc_messages.specs.Ddb.{DataBlock}
 use Rattle.dsmcc_messages.specs.declared.dii.Dii.{Dii}
 use Rattle.carousel_blocks.specs.declared.standing.SkipCause.{SkipCause}

@@ -1,6 +1,6 @@
 -- Which DII of a component is in force, and what it says of each module (after ARIB STD-B24, volume 3; which DII
 -- is in force, and the limits, are this project's own).
-use Rattle.std.specs.Prelude.{ℕ, zero, suc, ◌+◌, ◌-◌, ◌*◌, ◌/◌, ◌==◌, nat_lt, min, Bool, ◌||◌, if◌then◌else◌, List, [], ◌∷◌, ◌++◌, fold, find, Option, Some, None, is_some}
+use Rattle.std.specs.Prelude.{ℕ, zero, suc, ◌+◌, ◌/◌, ◌==◌, nat_lt, Bool, ◌||◌, if◌then◌else◌, List, [], ◌∷◌, ◌++◌, fold, find, Option, Some, None, is_some}
 use Rattle.std.specs.List.{list_any}
 use Rattle.dsmcc_messages.specs.declared.entry.Entry.{Entry}
 use Rattle.dsmcc_messages.specs.declared.dii.Dii.{Dii}

@@ -6,3 +6,4 @@ pub mod Carousel
 pub mod Modules
 pub mod Drafts
 pub mod Changes
+pub mod Order

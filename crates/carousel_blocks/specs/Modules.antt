@@ -1,5 +1,5 @@
 -- How a carousel keeps its modules: each has a key in the slab of buffers, where it isn't skipped.
-use Rattle.std.specs.Prelude.{◌≡◌, ◌≤◌, ◌*◌, ℕ, ◌==◌, nat_eq, Bool, ◌||◌, not, if◌then◌else◌, List, [], ◌∷◌, map, replicate, slice_get, find, Option, Some, None, option_map, ◌&&◌}
+use Rattle.std.specs.Prelude.{◌≡◌, ◌≤◌, ◌*◌, ℕ, nat_eq, if◌then◌else◌, List, [], map, replicate, Option, Some, None, option_map}
 use Rattle.std.specs.HashMap.{HashMap, get as value_at}
 use Rattle.slab.specs.Slab.{Slab, get}
 use Rattle.carousel_blocks.specs.declared.standing.SkipCause.{SkipCause}

@@ -1,12 +1,23 @@
 //! What the definitions say, as laws.
 
-ghost use Rattle.std.specs.Prelude.{◌↔◌, ℕ, List, None, Contains};
+ghost use Rattle.std.specs.Prelude.{◌≡◌, ◌↔◌, ◌++◌, ℕ, List, None, Some, Contains};
+ghost use Rattle.dsmcc_messages.specs.declared.dii.Dii.{Dii};
 ghost use Rattle.dsmcc_messages.specs.Ddb.{DataBlock};
 ghost use Rattle.carousel_blocks.specs.Message.{Message};
-ghost use Rattle.carousel_blocks.specs.Held.{CountsAt, counting};
+ghost use Rattle.carousel_blocks.specs.InForce.{in_force, standing_of};
+ghost use Rattle.carousel_blocks.specs.Held.{CountsAt, counting, held};
+ghost use Rattle.carousel_blocks.specs.Order.{AreConsistent, OnlyRepeats, SameBlocks};
 
 /// The blocks that count are those that stand at a place of the messages where they are asked for by an entry that
 /// stays unchanged from there on.
 pub fn law_of_counting()
     ensures { (messages : List Message) (number : ℕ) (block : DataBlock) → Contains (counting None number messages) block ↔ ((place : ℕ) × CountsAt messages number block place) }
+{}
+
+/// Neither the order of blocks nor their repeats change what is held. Behind messages with a DII in force, let two
+/// lists of messages have DDBs, and no DII but those with the transactionId in force, with the same blocks in both;
+/// and let no two blocks that the module's entry asks for have one number and different bytes. Then the module is
+/// held behind both with the same bytes, or behind neither.
+pub fn law_of_block_order()
+    ensures { (messages first second : List Message) (dii : Dii) (number : ℕ) → in_force messages ≡ Some dii → OnlyRepeats dii.transaction first → OnlyRepeats dii.transaction second → SameBlocks first second → AreConsistent (standing_of (Some dii) number) first → held (messages ++ first) number ≡ held (messages ++ second) number }
 {}

@@ -15,7 +15,7 @@ mod put;
 mod standing;
 
 pub use crate::carousel::Carousel;
-pub use crate::laws::law_of_counting;
+pub use crate::laws::{law_of_block_order, law_of_counting};
 pub use crate::put::Put;
 pub use crate::standing::{SkipCause, Standing};
 

@@ -1,4 +1,4 @@
-use Rattle.std.proofs.Common.{sym, ap, ◌∙◌, subst, refl}
+use Rattle.std.proofs.Common.{ap, ◌∙◌, subst, refl}
 use Rattle.std.specs.Prelude.{IsSome, Option}
 use Rattle.dsmcc_messages.specs.Ddb.{fields_of}
 use Rattle.slab.specs.Slab.{get, with_value}

@@ -1,5 +1,5 @@
-use Rattle.std.proofs.Common.{◌∙◌, ◌≡◌, ℕ, List, Bool, ap, ap₂, sym, true, arith, length, ◌<◌, ◌≤◌, ◌+◌, ◌*◌}
-use Rattle.std.specs.Prelude.{Option, slice_get, slice_set}
+use Rattle.std.proofs.Common.{◌∙◌, ◌≡◌, ℕ, List, Bool, ap, ap₂, sym, true, arith, length}
+use Rattle.std.specs.Prelude.{slice_get, slice_set}
 use Rattle.carousel_blocks.specs.declared.buffer.Shape.{Shape}
 use Rattle.carousel_blocks.specs.Buffers.{BufferState, IsSound, is_missing, is_unmarked, overwritten, blocks_in, shape_length, with_block_at}
 use Rattle.carousel_blocks.proofs.BufferLaws.{HasRoom, has_room, ends_within, missing_in-marked, sound_with, view_with, is_missing-blocks_in, within_marks}

@@ -1,7 +1,7 @@
-use Rattle.std.proofs.Common.{◌≡◌, ◌≤◌, ◌*◌, ℕ, ap, sym, ◌∙◌, arith, length, false, Bool, nat_eq}
-use Rattle.std.specs.Prelude.{Option, Some}
+use Rattle.std.proofs.Common.{◌≡◌, ◌≤◌, ◌*◌, ap, sym, ◌∙◌, arith, length, false, nat_eq}
+use Rattle.std.specs.Prelude.{Some}
 use Rattle.carousel_blocks.specs.Held.{joined}
-use Rattle.carousel_blocks.specs.Buffers.{all_came, missing_in, blocks_in}
+use Rattle.carousel_blocks.specs.Buffers.{all_came, missing_in}
 use Rattle.carousel_blocks.proofs.BufferLaws.{complete_by_missing, joined_none, joined_all}
 use Rattle.carousel_blocks.proofs.buffer.Buffer.whole.Goals as goal
 

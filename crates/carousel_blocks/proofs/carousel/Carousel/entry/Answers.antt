@@ -1,5 +1,5 @@
 use Rattle.std.proofs.Common.{ap, sym, ◌∙◌}
-use Rattle.std.specs.Prelude.{Option, option_map, option_copied}
+use Rattle.std.specs.Prelude.{option_map, option_copied}
 use Rattle.carousel_blocks.specs.declared.standing.Standing.{Standing}
 use Rattle.carousel_blocks.specs.declared.modules.Module.{Module}
 use Rattle.carousel_blocks.proofs.StandingFor.{standing-by}

@@ -2,7 +2,7 @@ use Rattle.std.proofs.Common.{sym, ap, refl, ◌∙◌, ◌+◌}
 use Rattle.carousel_blocks.specs.declared.modules.Draft.{Draft}
 use Rattle.carousel_blocks.specs.Modules.{blocks_for}
 use Rattle.carousel_blocks.proofs.ModuleLaws.{keep_grown}
-use Rattle.carousel_blocks.proofs.DraftLaws.{draft_again, draft_more, covers_made, within_sum}
+use Rattle.carousel_blocks.proofs.DraftLaws.{draft_again, draft_more, covers_made}
 use Rattle.carousel_blocks.proofs.modules.Draft.add.Goals as goal
 
 pub key_for-requires-clause-covers : goal.key_for-requires-clause-covers
