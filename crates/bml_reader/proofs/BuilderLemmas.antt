@@ -1,12 +1,12 @@
 -- The path of open elements while a tree grows, and attributes given one by one.
-use Rattle.std.proofs.Common.{◌≡◌, ◌≢◌, ℕ, zero, suc, ◌+◌, ◌-◌, ◌<◌, ◌≤◌, Bool, true, false, cond, List, [], ◌∷◌, ◌++◌, length, take, reverse, Option, Some, None, refl, sym, ◌∙◌, ap, subst, arith, append_assoc, append-nil, add-one}
+use Rattle.std.proofs.Common.{◌≡◌, ℕ, zero, suc, ◌+◌, ◌-◌, ◌<◌, List, [], ◌∷◌, ◌++◌, length, take, reverse, Option, Some, None, refl, sym, ◌∙◌, ap, subst, arith, append_assoc, append-nil, add-one}
 use Rattle.std.specs.Prelude.{slice_get, Contains, IsSome, IsNone, map, option_map, option_and_then, is_some, IfSome}
 use Rattle.std.specs.Option.{option_map_or}
 use Rattle.std.proofs.lemmas.Option.{slice_get_within}
 use Rattle.std.proofs.lemmas.List.{reverse-append}
-use Rattle.dom_tree.specs.Items.{Attribute, Item, Content, tag_in, tag_of, attributes_in, attributes_of, value_in, value_of, parent_of, IsElement, changed_at, with_last_attribute, put_last, element_in}
+use Rattle.dom_tree.specs.Items.{Attribute, Item, Content, tag_in, tag_of, attributes_in, attributes_of, value_in, value_of, IsElement, changed_at, with_last_attribute, element_in}
 use Rattle.dom_tree.specs.Items.Content.{Element, Text}
-use Rattle.dom_tree.specs.Walks.{path_of, path_within, IsOpen, Extends, KeepsPlaces}
+use Rattle.dom_tree.specs.Walks.{path_of, IsOpen, Extends, KeepsPlaces}
 use Rattle.bml_reader.specs.Parts.{NamesDiffer}
 use Rattle.bml_reader.specs.Nodes.{AreOpen, top_of, numbers_in}
 use Rattle.dom_tree.specs.declared.node_ids.NodeId.{NodeId}

@@ -1,23 +1,22 @@
 -- What the parts of a document leave, and that parts which can be read are those of a document.
-use Rattle.std.proofs.Common.{◌≡◌, ◌≢◌, ℕ, zero, suc, ◌+◌, ◌<◌, ◌≤◌, Bool, true, false, cond, List, [], ◌∷◌, ◌++◌, length, Option, Some, None, refl, sym, ◌∙◌, ap, subst, arith, append_assoc, append-nil}
-use Rattle.std.specs.Prelude.{◌&&◌, ◌||◌, nat_le, max, option_and_then}
+use Rattle.std.proofs.Common.{◌≡◌, ℕ, Bool, true, false, cond, List, [], ◌∷◌, ◌++◌, length, Option, Some, None, refl, sym, ◌∙◌, ap, subst, append_assoc, append-nil}
+use Rattle.std.specs.Prelude.{◌||◌, nat_le}
 use Rattle.std.specs.List.{list_all}
 use Rattle.dom_tree.specs.Items.{Attribute, Item, is_same}
-use Rattle.dom_tree.specs.Items.Content.{Element as ElementContent, Text as TextContent}
 use Rattle.dom_tree.specs.Nested.{Nested, items_from, items_of}
-use Rattle.dom_tree.specs.Nested.Nested.{NoNodes, ElementNode, TextNode}
+use Rattle.dom_tree.specs.Nested.Nested.{NoNodes, ElementNode}
 use Rattle.bml_reader.specs.Bytes.{is_white}
 use Rattle.bml_reader.specs.References.{read_references}
 use Rattle.bml_reader.specs.Parts.{Part, IsWhite}
 use Rattle.bml_reader.specs.Parts.Part.{StartTag, EndTag, Run, Cdata, Remark, Doctype}
 use Rattle.bml_reader.specs.Grammar.{Contents, parts_of, IsContent, IsMisc, IsRooted, IsDocument, nodes_of, tree_of}
 use Rattle.bml_reader.specs.Grammar.Contents.{Nothing, Text, Section, Aside, DocumentType, Element, EmptyElement}
-use Rattle.bml_reader.specs.Faults.{most_levels, levels}
-use Rattle.bml_reader.specs.Machine.{State, Opened, start_state, items_with_text, phase_of, opened, started, ended, step, steps}
+use Rattle.bml_reader.specs.Faults.{most_levels}
+use Rattle.bml_reader.specs.Machine.{State, Opened, start_state, items_with_text, step, steps}
 use Rattle.bml_reader.specs.declared.phases.Phase.{Phase}
 use Rattle.bml_reader.specs.declared.phases.Phase.TheVariants.{BeforeDoctype, BeforeRoot, Inside, Behind}
 use Rattle.bml_reader.proofs.ByteLemmas.{some-same}
-use Rattle.bml_reader.proofs.MachineLemmas.{steps-one, steps-refused, steps-none, at_elements, element_item, goes_deep, opened_at, inside, is_same-itself, is_same-is}
+use Rattle.bml_reader.proofs.MachineLemmas.{steps-one, steps-refused, steps-none, at_elements, element_item, goes_deep, opened_at, inside, is_same-is}
 
 -- Before and behind the root
 

@@ -1,5 +1,5 @@
 -- The loop over parts, and what is answered at its end.
-use Rattle.std.proofs.Common.{◌≡◌, ◌≢◌, ℕ, zero, suc, ◌+◌, ◌<◌, ◌≤◌, Bool, true, false, cond, inl, inr, List, [], ◌∷◌, ◌++◌, length, Option, Some, None, refl, sym, ◌∙◌, ap, subst, arith}
+use Rattle.std.proofs.Common.{◌≡◌, ◌≢◌, ℕ, ◌<◌, ◌≤◌, Bool, true, false, cond, inl, inr, List, [], ◌∷◌, length, Option, Some, None, refl, sym, ◌∙◌, ap, subst, arith}
 use Rattle.std.specs.Prelude.{◌==◌, nat_le, option_map, IfSome, Result, Ok, Err, IfOk, IfErr}
 use Rattle.std.proofs.lemmas.Bool.{eqb-true}
 use Rattle.std.proofs.lemmas.List.{length-append}
@@ -7,10 +7,10 @@ use Rattle.std.proofs.lemmas.Bool.Decides.{nat_tests}
 use Rattle.dom_tree.specs.Items.{Item}
 use Rattle.dom_tree.specs.Walks.{most_nodes}
 use Rattle.dom_tree.specs.Nested.{Nested, node_count, items_of}
-use Rattle.bml_reader.specs.Parts.{Part, IsPart, IsStartTag}
+use Rattle.bml_reader.specs.Parts.{Part, IsPart}
 use Rattle.bml_reader.specs.Parts.Part.{StartTag, EndTag, Run, Cdata, Remark, Doctype}
 use Rattle.bml_reader.specs.Grammar.{Reads}
-use Rattle.bml_reader.specs.Faults.{HasWrongRoot, IsTooDeep, HasTooManyNodes, ReadsWell, ReadsWrongRoot, ReadsTooDeep, ReadsTooManyNodes, HasFault}
+use Rattle.bml_reader.specs.Faults.{ReadsWell, HasFault}
 use Rattle.bml_reader.specs.Lexing.{Found, found, part_at}
 use Rattle.bml_reader.specs.Machine.{State, Kept, kept_of, start_state, step, IsSound, IsSoundIn}
 use Rattle.bml_reader.specs.ReaderViews.{Seen, seen_of, seen_step, IsTaken, HasDifferentNames, Refuses}
@@ -18,8 +18,8 @@ use Rattle.bml_reader.specs.declared.faults.DocFault.{DocFault}
 use Rattle.bml_reader.specs.declared.faults.DocFault.TheVariants.{Malformed, WrongRoot, TooDeep, TooManyNodes, NoMemory}
 use Rattle.bml_reader.specs.declared.phases.Phase.{Phase}
 use Rattle.bml_reader.specs.declared.phases.Phase.TheVariants.{BeforeDoctype, BeforeRoot, Inside, Behind}
-use Rattle.bml_reader.proofs.PartLemmas.{PartAt, part_at-is}
-use Rattle.bml_reader.proofs.MachineLemmas.{goes_deep, items_from-length}
+use Rattle.bml_reader.proofs.PartLemmas.{part_at-is}
+use Rattle.bml_reader.proofs.MachineLemmas.{items_from-length}
 use Rattle.bml_reader.proofs.DocumentLemmas.{behind_tree}
 use Rattle.bml_reader.proofs.ReachLemmas.{Reaches, Reaches-start, Reaches-step, stopped-part, stopped-step, reached-end, reached-tree}
 use Rattle.bml_reader.proofs.SeenLemmas.{kept, seen-follows, sound-step}

@@ -1,11 +1,11 @@
 -- What the reader keeps at the end says which faults a tree has.
-use Rattle.std.proofs.Common.{◌≡◌, ◌≢◌, ℕ, zero, suc, ◌+◌, ◌<◌, ◌≤◌, Bool, true, false, cond, List, [], ◌∷◌, ◌++◌, length, Option, Some, None, refl, sym, ◌∙◌, ap, subst, arith}
+use Rattle.std.proofs.Common.{◌≡◌, ℕ, suc, ◌+◌, ◌<◌, ◌≤◌, Bool, true, false, List, refl, sym, ◌∙◌, ap, arith}
 use Rattle.std.specs.Prelude.{◌||◌, not, nat_le, nat_lt, max, codes as ascii}
 use Rattle.std.proofs.lemmas.Bool.Decides.{nat_tests}
 use Rattle.dom_tree.specs.Items.{is_same}
 use Rattle.dom_tree.specs.Nested.{Nested, items_of}
 use Rattle.dom_tree.specs.Nested.Nested.{NoNodes, ElementNode, TextNode}
-use Rattle.bml_reader.specs.Faults.{most_levels, levels, HasWrongRoot, IsTooDeep, HasTooManyNodes}
+use Rattle.bml_reader.specs.Faults.{most_levels, levels, HasWrongRoot, IsTooDeep}
 use Rattle.bml_reader.specs.ReaderViews.{has_other_root}
 use Rattle.bml_reader.proofs.MachineLemmas.{goes_deep, is_same-itself, is_same-is}
 

@@ -1,26 +1,21 @@
 -- What is known once the parts of a document are read is its tree, and parts that can be read are a document.
-use Rattle.std.proofs.Common.{◌≡◌, ◌≢◌, ℕ, zero, suc, ◌+◌, ◌<◌, ◌≤◌, Bool, true, false, cond, List, [], ◌∷◌, ◌++◌, length, Option, Some, None, refl, sym, ◌∙◌, ap, subst, arith, append_assoc, append-nil}
-use Rattle.std.specs.Prelude.{◌&&◌, ◌||◌, nat_le, nat_eq, max, option_and_then}
-use Rattle.std.specs.List.{list_all}
+use Rattle.std.proofs.Common.{◌≡◌, ℕ, suc, ◌+◌, Bool, true, false, cond, List, [], ◌∷◌, ◌++◌, length, Option, Some, None, refl, sym, ◌∙◌, ap, arith, append_assoc, append-nil}
+use Rattle.std.specs.Prelude.{◌&&◌, ◌||◌, nat_le, nat_eq, option_and_then}
 use Rattle.std.specs.Cmp.Lexicographic.{pointwise}
 use Rattle.std.proofs.lemmas.Bool.{eq-eqb, eqb-true}
-use Rattle.std.proofs.lemmas.Bool.Decides.{nat_tests}
 use Rattle.std.proofs.lemmas.List.{length-append}
 use Rattle.bml_bytes.specs.Codes.{codes}
 use Rattle.dom_tree.specs.Items.{Attribute, Item, is_same}
 use Rattle.dom_tree.specs.Items.Content.{Element as ElementContent, Text as TextContent}
-use Rattle.dom_tree.specs.Nested.{Nested, node_count, items_from, items_of}
+use Rattle.dom_tree.specs.Nested.{Nested, node_count, items_from}
 use Rattle.dom_tree.specs.Nested.Nested.{NoNodes, ElementNode, TextNode}
-use Rattle.bml_reader.specs.Bytes.{is_white}
 use Rattle.bml_reader.specs.References.{read_references}
-use Rattle.bml_reader.specs.Parts.{Part, IsWhite}
-use Rattle.bml_reader.specs.Parts.Part.{StartTag, EndTag, Run, Cdata, Remark, Doctype}
-use Rattle.bml_reader.specs.Grammar.{Contents, parts_of, IsContent, IsMisc, IsRooted, IsDocument, is_left_out, text_before, nodes_of, tree_of}
+use Rattle.bml_reader.specs.Parts.{Part}
+use Rattle.bml_reader.specs.Parts.Part.{StartTag, EndTag, Run, Cdata, Remark}
+use Rattle.bml_reader.specs.Grammar.{Contents, parts_of, IsContent, is_left_out, text_before, nodes_of}
 use Rattle.bml_reader.specs.Grammar.Contents.{Nothing, Text, Section, Aside, DocumentType, Element, EmptyElement}
-use Rattle.bml_reader.specs.Faults.{most_levels, levels}
-use Rattle.bml_reader.specs.Machine.{State, Opened, start_state, items_with_text, phase_of, opened, started, ended, step, steps}
-use Rattle.bml_reader.specs.declared.phases.Phase.{Phase}
-use Rattle.bml_reader.specs.declared.phases.Phase.TheVariants.{BeforeDoctype, BeforeRoot, Inside, Behind}
+use Rattle.bml_reader.specs.Faults.{most_levels}
+use Rattle.bml_reader.specs.Machine.{State, Opened, items_with_text, phase_of, step, steps}
 
 -- One part, and several
 

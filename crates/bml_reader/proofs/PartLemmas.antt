@@ -1,8 +1,8 @@
 -- Parts are found where they are spelled, and what is found is spelled there.
-use Rattle.std.proofs.Common.{◌≡◌, ◌≢◌, ℕ, zero, suc, ◌+◌, ◌<◌, ◌≤◌, Bool, true, false, cond, ◌⊎◌, inl, inr, List, [], ◌∷◌, ◌++◌, length, Option, Some, None, refl, sym, ◌∙◌, ap, subst, arith, append_assoc}
-use Rattle.std.specs.Prelude.{◌==◌, ◌&&◌, option_map, option_and_then, codes as ascii}
+use Rattle.std.proofs.Common.{◌≡◌, ℕ, suc, ◌<◌, Bool, true, false, cond, inl, inr, List, [], ◌∷◌, ◌++◌, length, Option, Some, None, refl, sym, ◌∙◌, ap, subst, arith, append_assoc}
+use Rattle.std.specs.Prelude.{◌==◌, option_map, option_and_then, codes as ascii}
 use Rattle.std.specs.List.{list_all}
-use Rattle.std.proofs.lemmas.Bool.{eq-eqb, eqb-true}
+use Rattle.std.proofs.lemmas.Bool.{eqb-true}
 use Rattle.std.proofs.lemmas.Bool.Decides.{nat_tests}
 use Rattle.std.proofs.lemmas.List.{length-append}
 use Rattle.bml_bytes.specs.Codes.{codes}
@@ -11,8 +11,8 @@ use Rattle.bml_reader.specs.Bytes.{front, behind, stripped, is_white, is_letter,
 use Rattle.bml_reader.specs.Parts.{Part, IsWhite, SpellsAttributes, NamesDiffer, tag_end, IsStartTag, IsEndTag, IsRun, EndsText, EndsAtFirst, IsMarked, IsRemark, IsDoctype, IsPart}
 use Rattle.bml_reader.specs.Parts.Part.{StartTag, EndTag, Run, Cdata, Remark, Doctype}
 use Rattle.bml_reader.specs.Lexing.{Found, found, Inner, name_at, inner_at, up_to, start_tag_of_name, start_tag_at, end_tag_of_name, end_tag_at, comment_at, instruction_at, cdata_at, doctype_at, declaration_at, markup_at, part_at}
-use Rattle.bml_reader.proofs.ByteLemmas.{both, some-same, Ends, front-cons, front-run, behind-run, front-behind, front-all, behind-ends, stripped-append, stripped-is, UpTo, up_to-first, up_to-is, mapped, chained, passed}
-use Rattle.bml_reader.proofs.TagLemmas.{white-no-name, ends-white, ends-tag_end, name_at-name, NameAt, name_at-is, spells-length, inner_at-spelled, InnerAt, inner_at-is}
+use Rattle.bml_reader.proofs.ByteLemmas.{both, some-same, Ends, front-cons, front-run, behind-run, front-behind, front-all, behind-ends, stripped-is, UpTo, up_to-first, up_to-is, mapped, chained}
+use Rattle.bml_reader.proofs.TagLemmas.{white-no-name, ends-white, ends-tag_end, name_at-name, name_at-is, spells-length, inner_at-spelled, InnerAt, inner_at-is}
 
 -- Bytes
 

@@ -1,18 +1,16 @@
 -- How far a document is read, what stops the reading, and that bytes stand for one tree.
-use Rattle.std.proofs.Common.{◌≡◌, ◌≢◌, ℕ, zero, suc, ◌+◌, ◌<◌, ◌≤◌, Bool, true, false, cond, List, [], ◌∷◌, ◌++◌, length, Option, Some, None, refl, sym, ◌∙◌, ap, subst, arith, append_assoc, append-nil}
+use Rattle.std.proofs.Common.{◌≡◌, ◌≢◌, ℕ, true, false, List, [], ◌∷◌, ◌++◌, Some, None, refl, sym, ◌∙◌, ap, subst, append_assoc, append-nil}
 use Rattle.std.specs.Prelude.{option_and_then}
-use Rattle.dom_tree.specs.Items.{Attribute}
 use Rattle.dom_tree.specs.Nested.{Nested}
 use Rattle.bml_reader.specs.Parts.{Part, IsPart, Spells}
 use Rattle.bml_reader.specs.Parts.Part.{StartTag, EndTag, Run, Cdata, Remark, Doctype}
-use Rattle.bml_reader.specs.Grammar.{Contents, parts_of, IsDocument, tree_of, Reads}
+use Rattle.bml_reader.specs.Grammar.{Contents, parts_of, tree_of, Reads}
 use Rattle.bml_reader.specs.Grammar.Contents.{Nothing, Text, Section, Aside, DocumentType, Element, EmptyElement}
 use Rattle.bml_reader.specs.Lexing.{Found, found, part_at}
 use Rattle.bml_reader.specs.Machine.{State, start_state, step, steps}
-use Rattle.bml_reader.specs.declared.phases.Phase.{Phase}
 use Rattle.bml_reader.specs.declared.phases.Phase.TheVariants.{Behind}
 use Rattle.bml_reader.proofs.ByteLemmas.{some-same}
-use Rattle.bml_reader.proofs.PartLemmas.{PartAt, part_at-part, part_at-is, part_at-empty}
+use Rattle.bml_reader.proofs.PartLemmas.{part_at-part, part_at-is, part_at-empty}
 use Rattle.bml_reader.proofs.MachineLemmas.{steps-none, steps-one, steps-refused, steps-append}
 use Rattle.bml_reader.proofs.DocumentLemmas.{behind_tree, document, read-document}
 

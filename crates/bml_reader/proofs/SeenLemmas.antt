@@ -1,6 +1,6 @@
 -- What the reader keeps follows what is known, and what is known at the end of a document.
-use Rattle.std.proofs.Common.{◌≡◌, ◌≢◌, ℕ, zero, suc, ◌+◌, ◌<◌, ◌≤◌, Bool, true, false, cond, List, [], ◌∷◌, ◌++◌, length, Option, Some, None, refl, sym, ◌∙◌, ap, subst, arith, append_assoc, append-nil}
-use Rattle.std.specs.Prelude.{◌&&◌, ◌||◌, not, nat_le, map, max, IfSome, option_map, option_and_then, codes as ascii}
+use Rattle.std.proofs.Common.{◌≡◌, ◌≢◌, ℕ, ◌+◌, Bool, true, false, cond, List, [], ◌∷◌, ◌++◌, length, Option, Some, None, refl, sym, ◌∙◌, ap, subst, arith}
+use Rattle.std.specs.Prelude.{◌||◌, not, nat_le, map, IfSome, option_map, option_and_then, codes as ascii}
 use Rattle.std.specs.List.{list_all}
 use Rattle.std.proofs.lemmas.Bool.Decides.{nat_tests}
 use Rattle.std.proofs.lemmas.List.{length-append}
@@ -14,9 +14,9 @@ use Rattle.bml_reader.specs.Parts.{Part}
 use Rattle.bml_reader.specs.Parts.Part.{StartTag, EndTag, Run, Cdata, Remark, Doctype}
 use Rattle.bml_reader.specs.Grammar.{is_left_out}
 use Rattle.bml_reader.specs.Faults.{most_levels}
-use Rattle.bml_reader.specs.Machine.{State, Opened, Kept, kept_of, kept_in, start_state, innermost, items_with_text, phase_of, opened, started, ended, step, IsSound, IsSoundIn}
-use Rattle.bml_reader.specs.Nodes.{kept_with_element, kept_with_text, kept_outside, top_of, path_with, without_first}
-use Rattle.bml_reader.specs.ReaderViews.{Seen, seen_of, has_other_root, is_other_root, kept_with_text_of, seen_flushed, seen_started, seen_ended, phase_of_tags, tags_with, seen_step, IsReady, IsReadyIn}
+use Rattle.bml_reader.specs.Machine.{State, Opened, Kept, kept_of, innermost, items_with_text, phase_of, opened, started, step, IsSound, IsSoundIn}
+use Rattle.bml_reader.specs.Nodes.{kept_with_element, kept_with_text, kept_outside}
+use Rattle.bml_reader.specs.ReaderViews.{Seen, seen_of, has_other_root, kept_with_text_of, seen_flushed, seen_started, phase_of_tags, tags_with, seen_step, IsReady}
 use Rattle.bml_reader.specs.declared.phases.Phase.{Phase}
 use Rattle.bml_reader.specs.declared.phases.Phase.TheVariants.{BeforeDoctype, BeforeRoot, Inside, Behind}
 use Rattle.bml_reader.proofs.ByteLemmas.{some-same}

@@ -1,15 +1,15 @@
 -- Names, attributes and tags are found where they are spelled, and what is found is spelled there.
-use Rattle.std.proofs.Common.{◌≡◌, ℕ, zero, suc, ◌+◌, ◌<◌, ◌≤◌, Bool, true, false, cond, List, [], ◌∷◌, ◌++◌, length, Option, Some, None, refl, sym, ◌∙◌, ap, subst, arith, append_assoc, append-nil}
-use Rattle.std.specs.Prelude.{◌==◌, ◌&&◌, ◌||◌, option_map, option_and_then, is_some, IsNone, codes as ascii}
+use Rattle.std.proofs.Common.{◌≡◌, ℕ, zero, suc, ◌<◌, ◌≤◌, Bool, true, false, cond, List, [], ◌∷◌, ◌++◌, length, Option, Some, None, refl, sym, ◌∙◌, ap, subst, arith, append_assoc, append-nil}
+use Rattle.std.specs.Prelude.{◌==◌, option_map, option_and_then, is_some, IsNone, codes as ascii}
 use Rattle.std.specs.List.{list_all}
-use Rattle.std.proofs.lemmas.Bool.{eq-eqb, eqb-true}
+use Rattle.std.proofs.lemmas.Bool.{eq-eqb}
 use Rattle.std.proofs.lemmas.Bool.Decides.{nat_tests}
 use Rattle.std.proofs.lemmas.List.{length-append}
 use Rattle.bml_bytes.specs.Codes.{codes}
 use Rattle.dom_tree.specs.Items.{Attribute, value_in}
-use Rattle.bml_reader.specs.Bytes.{front, behind, stripped, is_white, is_letter, is_digit, is_name_start, is_name_byte, is_name, is_text_byte, is_value_byte, is_quote}
+use Rattle.bml_reader.specs.Bytes.{front, behind, stripped, is_white, is_letter, is_digit, is_name_start, is_name_byte, is_name, is_value_byte, is_quote}
 use Rattle.bml_reader.specs.References.{read_references}
-use Rattle.bml_reader.specs.Parts.{IsWhite, IsAttribute, SpellsAttributes, NamesDiffer, tag_end, IsStartTag, IsEndTag}
+use Rattle.bml_reader.specs.Parts.{IsWhite, IsAttribute, SpellsAttributes, NamesDiffer, tag_end}
 use Rattle.bml_reader.specs.Lexing.{Found, found, Written, Inner, name_at, equals_at, closed_value, value_at, value_of_name, attribute_at, attribute_of, tag_end_at, inner_at}
 use Rattle.bml_reader.proofs.ByteLemmas.{both, both-back, some-same, Ends, front-cons, front-run, behind-run, front-behind, front-all, behind-ends, stripped-append, stripped-is, mapped, chained, passed}
 

@@ -1,9 +1,7 @@
 -- What the attributes in the code stand for.
-use Rattle.std.specs.Prelude.{ℕ, Bool, List, map}
-use Rattle.std.specs.Borrow.{Bor}
+use Rattle.std.specs.Prelude.{ℕ, List, map}
 use Rattle.std.specs.HashMap.{HashMap}
 use Rattle.dom_tree.specs.Items.{Attribute}
-use Rattle.bml_reader.specs.Lexing.{Found, found, Inner}
 
 -- an attribute, from the entry of the map that holds it
 abbrev pub attribute_of_entry : List ℕ × List ℕ → Attribute

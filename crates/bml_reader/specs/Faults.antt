@@ -1,5 +1,5 @@
 -- What is wrong with a document that is in the grammar. The limits are this project's own.
-use Rattle.std.specs.Prelude.{◌≡◌, ◌≢◌, ℕ, ◌+◌, ◌<◌, max, List, [], ◌∷◌, codes as ascii}
+use Rattle.std.specs.Prelude.{◌≡◌, ◌≢◌, ℕ, ◌+◌, ◌<◌, max, List, codes as ascii}
 use Rattle.dom_tree.specs.Items.{Item}
 use Rattle.dom_tree.specs.Walks.{most_nodes}
 use Rattle.dom_tree.specs.Nested.{Nested, node_count, items_of}

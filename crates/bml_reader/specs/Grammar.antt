@@ -8,7 +8,7 @@
 -- and the tree of nested elements, attributes and texts that it stands for. That a text has its references
 -- read, that all text and CDATA between two tags is one text, and which texts are left out is this project's
 -- own.
-use Rattle.std.specs.Prelude.{◌≡◌, ℕ, Bool, true, false, ◌&&◌, ◌||◌, not, if◌then◌else◌, List, [], ◌∷◌, ◌++◌, codes as ascii}
+use Rattle.std.specs.Prelude.{◌≡◌, ℕ, Bool, true, false, ◌&&◌, ◌||◌, if◌then◌else◌, List, [], ◌∷◌, ◌++◌, codes as ascii}
 use Rattle.std.specs.List.{list_all}
 use Rattle.bml_bytes.specs.Codes.{codes}
 use Rattle.dom_tree.specs.Items.{Attribute, is_same}

@@ -1,6 +1,6 @@
 -- The part at the front of some bytes. It isn't what a part is (`Parts`), but how it is found: that both
 -- agree is proved.
-use Rattle.std.specs.Prelude.{ℕ, zero, suc, ◌+◌, ◌==◌, Bool, true, false, is_some, ◌&&◌, if◌then◌else◌, List, [], ◌∷◌, ◌++◌, length, Option, Some, None, option_map, option_and_then, codes as ascii}
+use Rattle.std.specs.Prelude.{ℕ, zero, suc, ◌==◌, Bool, true, false, is_some, if◌then◌else◌, List, [], ◌∷◌, ◌++◌, length, Option, Some, None, option_map, option_and_then, codes as ascii}
 use Rattle.bml_bytes.specs.Codes.{codes}
 use Rattle.dom_tree.specs.Items.{Attribute, value_in}
 use Rattle.bml_reader.specs.Bytes.{is_white, is_name_start, is_name_byte, is_text_byte, is_value_byte, is_quote, is_doctype_byte, front, behind, stripped}

@@ -1,10 +1,10 @@
 -- How the nodes and the path of open elements grow, as far as the limit on nodes lets them be kept.
-use Rattle.std.specs.Prelude.{◌≡◌, ◌≢◌, ℕ, ◌+◌, ◌<◌, Bool, true, false, List, [], ◌∷◌, ◌++◌, length, map, reverse, Option, Some, None}
+use Rattle.std.specs.Prelude.{◌≡◌, ℕ, Bool, true, false, List, [], ◌∷◌, ◌++◌, length, map, reverse, Option, Some, None}
 use Rattle.dom_tree.specs.Items.{Attribute, Item, IsElement}
 use Rattle.dom_tree.specs.Items.Content.{Element, Text}
 use Rattle.dom_tree.specs.Walks.{path_of, IsOpen}
 use Rattle.dom_tree.specs.declared.node_ids.NodeId.{NodeId}
-use Rattle.bml_reader.specs.Machine.{Kept, kept_of, State, Opened, kept_in}
+use Rattle.bml_reader.specs.Machine.{Kept, kept_of}
 
 abbrev pub top_of : List ℕ → Option ℕ
 top_of [] = None

@@ -2,12 +2,10 @@
 use Rattle.std.specs.Prelude.{ℕ, List}
 use Rattle.std.specs.Borrow.{Bor}
 use Rattle.bml_bytes.specs.Codes.{codes}
-use Rattle.dom_tree.specs.Items.{Attribute}
 use Rattle.bml_reader.specs.Parts.{Part}
 use Rattle.bml_reader.specs.Parts.Part.{StartTag, EndTag, Run, Cdata, Remark, Doctype}
-use Rattle.bml_reader.specs.Lexing.{Found, found, Inner}
+use Rattle.bml_reader.specs.Lexing.{Found, found}
 use Rattle.bml_reader.specs.AttributeViews.{attributes_in_map}
-use Rattle.bml_reader.specs.declared.parts.StartTag.{StartTag as StartTagCode}
 use Rattle.bml_reader.specs.declared.parts.Part.{Part as PartCode}
 use Rattle.bml_reader.specs.declared.parts.Part.TheVariants.{StartTag as StartTagPart, EndTag as EndTagPart, Run as RunPart, Cdata as CdataPart, Remark as RemarkPart, Doctype as DoctypePart}
 

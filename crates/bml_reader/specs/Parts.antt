@@ -1,11 +1,11 @@
 -- The parts that a document is spelled by, end to end: tags, runs of text, CDATA sections, remarks and the
 -- document type (XML 1.0, 2.4 to 2.8 and 3.1; attributes are `Attribute`, 3.1). What differs from XML is this
 -- project's own.
-use Rattle.std.specs.Prelude.{◌≡◌, ◌≢◌, ℕ, Bool, true, false, ◌⊎◌, List, [], ◌∷◌, ◌++◌, Option, Some, None, IsNone, length, codes as ascii}
+use Rattle.std.specs.Prelude.{◌≡◌, ◌≢◌, ℕ, Bool, true, false, ◌⊎◌, List, [], ◌∷◌, ◌++◌, None, IsNone, codes as ascii}
 use Rattle.std.specs.List.{list_all}
 use Rattle.bml_bytes.specs.Codes.{codes}
 use Rattle.dom_tree.specs.Items.{Attribute, value_in}
-use Rattle.bml_reader.specs.Bytes.{is_white, is_name, is_text_byte, is_value_byte, is_quote, is_doctype_byte, front, stripped}
+use Rattle.bml_reader.specs.Bytes.{is_white, is_name, is_text_byte, is_value_byte, is_quote, is_doctype_byte, stripped}
 use Rattle.bml_reader.specs.References.{read_references}
 
 -- `<tag name="value">` or `<tag name="value"/>`; `</tag>`; bytes of text; `<![CDATA[bytes]]>`; a comment or a

@@ -1,7 +1,7 @@
 -- References to characters in texts and values (XML 1.0, 4.1 and 4.6). Those to the five predefined entities
 -- and those to the characters 1 to 127 are read; that every other `&` stands for itself is this project's own
 -- rule.
-use Rattle.std.specs.Prelude.{ℕ, zero, suc, ◌+◌, ◌-◌, ◌*◌, nat_le, nat_lt, ◌==◌, Bool, ◌&&◌, ◌||◌, if◌then◌else◌, List, [], ◌∷◌, length, Option, Some, None, codes as ascii}
+use Rattle.std.specs.Prelude.{ℕ, zero, suc, ◌+◌, ◌-◌, ◌*◌, nat_le, nat_lt, ◌==◌, Bool, ◌&&◌, if◌then◌else◌, List, [], ◌∷◌, length, Option, Some, None, codes as ascii}
 use Rattle.bml_reader.specs.Bytes.{is_digit, is_hex_digit, front, behind, stripped}
 
 -- the character of a reference, and what stands behind it

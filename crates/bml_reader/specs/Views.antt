@@ -1,19 +1,10 @@
 -- What the values that the reader's code keeps stand for.
-use Rattle.std.specs.Prelude.{◌≡◌, ◌≢◌, ℕ, ◌+◌, ◌<◌, Bool, true, false, List, [], ◌∷◌, ◌++◌, length, map, reverse, Option, Some, None, option_map}
+use Rattle.std.specs.Prelude.{ℕ, Bool, List}
 use Rattle.std.specs.Borrow.{Bor}
-use Rattle.bml_bytes.specs.Codes.{codes}
-use Rattle.dom_tree.specs.Items.{Attribute, Item, IsElement}
-use Rattle.dom_tree.specs.Items.Content.{Element, Text}
-use Rattle.dom_tree.specs.Walks.{path_of, IsOpen}
-use Rattle.dom_tree.specs.declared.node_ids.NodeId.{NodeId}
 use Rattle.bml_reader.specs.Bytes.{is_white, is_name_byte, is_text_byte, is_value_byte, is_doctype_byte, is_digit, is_hex_digit}
-use Rattle.bml_reader.specs.Parts.{Part}
-use Rattle.bml_reader.specs.Parts.Part.{StartTag, EndTag, Run, Cdata, Remark, Doctype}
-use Rattle.bml_reader.specs.Lexing.{Found, found, Written, Inner}
-use Rattle.bml_reader.specs.Machine.{State, Kept, kept_in, kept_of}
+use Rattle.bml_reader.specs.Lexing.{Found, found, Written}
 use Rattle.bml_reader.specs.declared.bytes.ByteClass.{ByteClass}
 use Rattle.bml_reader.specs.declared.bytes.ByteClass.TheVariants.{White, NameByte, TextByte, ValueByte, DoctypeByte, Digit, HexDigit}
-use Rattle.bml_reader.specs.declared.phases.Phase.{Phase}
 
 -- the test of a class of bytes
 abbrev pub in_class : ByteClass → ℕ → Bool

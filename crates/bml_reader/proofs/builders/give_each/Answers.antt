@@ -1,4 +1,4 @@
-use Rattle.std.proofs.Common.{◌≡◌, ◌≤◌, ◌+◌, ℕ, List, ◌++◌, ◌∷◌, [], Some, None, length, take, ◌∙◌, sym, ap, subst, arith}
+use Rattle.std.proofs.Common.{◌≡◌, List, None, take, ◌∙◌, sym, ap, subst, arith}
 use Rattle.std.proofs.lemmas.Option.{slice_get_within}
 use Rattle.dom_tree.specs.Items.{Attribute, Item, changed_at, with_last_attribute, value_of}
 use Rattle.bml_reader.specs.AttributeViews.{attribute_of_entry, attributes_in_map}

@@ -1,5 +1,5 @@
-use Rattle.std.proofs.Common.{◌≡◌, ℕ, List, Option, Some, [], ◌∷◌, ◌++◌, length, sym, subst, ap, ◌∙◌}
-use Rattle.bml_reader.specs.Nodes.{AreOpen, top_of, numbers_in}
+use Rattle.std.proofs.Common.{◌≡◌, ℕ, List, Option, Some, [], ◌∷◌, ◌++◌, sym, subst, ap, ◌∙◌}
+use Rattle.bml_reader.specs.Nodes.{top_of, numbers_in}
 use Rattle.bml_reader.specs.AttributeViews.{attributes_in_map}
 use Rattle.bml_reader.specs.BuilderViews.{IsGrown, items_or_none}
 use Rattle.dom_tree.specs.Items.{Item, element_in}

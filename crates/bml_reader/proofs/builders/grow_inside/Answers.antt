@@ -1,4 +1,4 @@
-use Rattle.std.proofs.Common.{◌≡◌, ℕ, List, Option, Some, [], ◌∷◌, ◌++◌, length, sym, subst}
+use Rattle.std.proofs.Common.{ℕ, List, Option, Some, [], ◌∷◌, ◌++◌, length, sym, subst}
 use Rattle.bml_reader.specs.Nodes.{AreOpen, numbers_in}
 use Rattle.bml_reader.specs.BuilderViews.{IsGrown}
 use Rattle.dom_tree.specs.Items.{Item, element_in}

@@ -1,6 +1,4 @@
 use Rattle.bml_reader.proofs.ReachLemmas.{one-tree}
-use Rattle.bml_reader.proofs.BuilderLemmas.{reverse-more}
-use Rattle.bml_reader.proofs.EndLemmas.{AtEnd-fault}
 use Rattle.bml_reader.proofs.documents.law_of_documents.Goals as goal
 
 pub returns : goal.returns

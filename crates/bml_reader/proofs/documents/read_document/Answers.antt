@@ -1,14 +1,11 @@
-use Rattle.std.proofs.Common.{◌≡◌, ◌≢◌, ℕ, List, [], Bool, true, false, Some, None, ◌∙◌, sym, ap, subst}
-use Rattle.std.specs.Prelude.{option_map, IsTrue}
-use Rattle.dom_tree.specs.Items.{Item}
+use Rattle.std.proofs.Common.{◌≡◌, ℕ, List, Bool, true, false, Some, None, ◌∙◌, sym, ap, subst}
+use Rattle.std.specs.Prelude.{option_map}
 use Rattle.bml_reader.specs.Parts.{Part}
 use Rattle.bml_reader.specs.Lexing.{Found, found, part_at}
 use Rattle.bml_reader.specs.Machine.{Kept}
 use Rattle.bml_reader.specs.Faults.{ReadsWell, HasFault}
 use Rattle.bml_reader.specs.PartViews.{part_of, found_part}
 use Rattle.bml_reader.specs.ReaderViews.{Seen, seen_by, seen_step, IsTaken, IsReady, Refuses}
-use Rattle.bml_reader.specs.declared.faults.DocFault.{DocFault}
-use Rattle.bml_reader.specs.declared.phases.Phase.{Phase}
 use Rattle.bml_reader.specs.declared.phases.Phase.TheVariants.{Behind}
 use Rattle.bml_reader.proofs.SeenLemmas.{ready}
 use Rattle.bml_reader.proofs.EndLemmas.{Keeps-start, Keeps-step, Keeps-refused, Keeps-stopped, Keeps-unfinished, Keeps-end, AtEnd, AtEnd-well, AtEnd-fault, different-names, part-shorter, some-rest, no-rest, ok-all, err-all}

@@ -1,4 +1,4 @@
-use Rattle.std.proofs.Common.{◌≡◌, ◌≤◌, ℕ, ◌*◌, ◌+◌, List, ◌∷◌, ◌∙◌, ap, sym, arith}
+use Rattle.std.proofs.Common.{◌≤◌, ℕ, ◌*◌, ◌+◌, List, ◌∙◌, ap, sym, arith}
 use Rattle.std.specs.Prelude.{min}
 use Rattle.bml_reader.specs.References.{number_behind, hex_value}
 use Rattle.bml_reader.proofs.references.number_of.Goals as goal

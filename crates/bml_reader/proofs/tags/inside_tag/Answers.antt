@@ -1,9 +1,8 @@
-use Rattle.std.proofs.Common.{◌≡◌, ◌<◌, List, ℕ, suc, Bool, true, false, Option, Some, None, [], ◌∷◌, ◌++◌, length, ◌∙◌, sym, ap, subst, refl}
+use Rattle.std.proofs.Common.{◌≡◌, List, ℕ, suc, Bool, true, false, Some, None, [], ◌∷◌, ◌++◌, length, ◌∙◌, sym, ap, subst}
 use Rattle.std.specs.Prelude.{option_map, is_some, not}
 use Rattle.bml_bytes.specs.Codes.{codes}
 use Rattle.dom_tree.specs.Items.{Attribute, value_in}
-use Rattle.bml_reader.specs.References.{read_references}
-use Rattle.bml_reader.specs.Lexing.{Found, found, Written, attribute_at, attribute_of, tag_end_at, inner_at}
+use Rattle.bml_reader.specs.Lexing.{Found, Written, attribute_at, attribute_of, tag_end_at, inner_at}
 use Rattle.bml_reader.specs.Views.{found_written, found_flag}
 use Rattle.bml_reader.specs.AttributeViews.{attributes_in_map}
 use Rattle.bml_reader.proofs.TagLemmas.{inner_at-end, inner_at-none, inner_at-twice, inner_at-step, attribute-shorter}

@@ -1,4 +1,4 @@
-use Rattle.std.proofs.Common.{◌≡◌, ◌≤◌, suc, [], length}
+use Rattle.std.proofs.Common.{◌≡◌, suc, [], length}
 use Rattle.bml_reader.specs.Lexing.{inner_at}
 use Rattle.bml_reader.specs.AttributeViews.{attributes_in_map}
 use Rattle.bml_reader.proofs.tags.inside_tag.Given as goal
