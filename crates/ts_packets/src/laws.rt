@@ -15,7 +15,7 @@ pub fn packets_are_unique()
     ensures { (bytes : List ℕ) (packets : List (List ℕ)) → ArePackets bytes packets → packets ≡ packets_of bytes }
 {}
 
-/// Each of them is a packet, and they share no byte.
+/// Each of them is a packet, and together they are no longer than the bytes.
 pub fn packets_fit()
     ensures packets { (bytes : List ℕ) → All IsPacket (packets_of bytes) }
     ensures apart { (bytes : List ℕ) → length (packets_of bytes) * 188 ≤ length bytes }

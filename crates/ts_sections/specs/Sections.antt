@@ -18,7 +18,8 @@ abbrev pub unrepeated : List ℕ → List (List ℕ) → List (List ℕ)
 unrepeated before [] = []
 unrepeated before (packet ∷ rest) = if bytes_eq before packet then unrepeated before rest else packet ∷ unrepeated packet rest
 
--- a packet may be sent twice in a row and counts once (2.4.3.3, continuity_counter)
+-- a packet may be sent twice in a row and counts once (2.4.3.3, continuity_counter); that it counts once however
+-- often it is sent is this project's own rule
 abbrev pub without_repeats : List (List ℕ) → List (List ℕ)
 without_repeats [] = []
 without_repeats (packet ∷ rest) = packet ∷ unrepeated packet rest
