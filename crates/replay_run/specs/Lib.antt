@@ -1,12 +1,8 @@
-pub mod Acquisition
-pub mod Buffers
 pub mod Causes
 pub mod CommandSeen
 pub mod Completeness
 pub mod Ending
-pub mod Fronts
 pub mod Headline
-pub mod Keeping
 pub mod Limits
 pub mod Lines
 pub mod Meaning
@@ -17,12 +13,10 @@ pub mod Output
 pub mod Play
 pub mod Progress
 pub mod Reading
-pub mod Receiving
 pub mod Record
 pub mod RecordReader
 pub mod Replaying
 pub mod Status
 pub mod Stopping
-pub mod Turns
 pub mod Words
 pub mod Writing

@@ -1,0 +1,10 @@
+pub mod Acquisition
+pub mod Buffers
+pub mod Fronts
+pub mod Keeping
+pub mod Lines
+pub mod Outputs
+pub mod Receiving
+pub mod Startup
+pub mod State
+pub mod Turns
