@@ -4,10 +4,23 @@
 examples/README.md explains the format of descriptions.
 """
 
+import os
 import re
 import sys
 
-from transport import Module, ddb_section, dii_section, packets_taken, place_in_packets, section_packets
+from transport import (
+    TYPE_DESCRIPTOR,
+    ElementaryStream,
+    Module,
+    ddb_section,
+    descriptor,
+    dii_section,
+    packets_taken,
+    pat_section,
+    place_in_packets,
+    pmt_section,
+    section_packets,
+)
 
 TOKEN = re.compile(r'"[^"]*"(?:\*[0-9]+)?|#.*|[^\s"#]+')
 BYTES = re.compile(r'(?:"([ -~]*)"|([0-9A-Fa-f]{2}))(?:\*([0-9]+))?')
@@ -40,11 +53,24 @@ def bytes_of(words):
     return data
 
 
-def module_of(text):
-    fields = text.split("/")
-    if len(fields) != 3:
-        raise Fault(f"module={text} is not of the form module=NUMBER/VERSION/SIZE")
-    return Module(number(fields[0], 16), number(fields[1], 8), number(fields[2], 32))
+def parted(name, text, mark, form):
+    """The fields of a value, which has a given form."""
+    fields = text.split(mark)
+    if len(fields) != len(form.split(mark)):
+        raise Fault(f"{name}={text} is not of the form {name}={form}")
+    return fields
+
+
+def module_infos(fields):
+    """The infos of modules by their numbers: descriptors and other bytes, in the order written."""
+    infos = {}
+    for name, text in fields.taken_of("type", "info"):
+        module, _, value = text.partition(":")
+        if not value:
+            raise Fault(f"{name}={text} is not of the form {name}=MODULE:VALUE")
+        data = descriptor(TYPE_DESCRIPTOR, value.encode("ascii")) if name == "type" else bytes.fromhex(value)
+        infos[number(module, 16)] = infos.get(number(module, 16), b"") + data
+    return infos
 
 
 class Fields:
@@ -53,10 +79,14 @@ class Fields:
     def __init__(self, words):
         self.left = [word.partition("=")[::2] for word in words]
 
-    def all_of(self, name):
-        found = [value for key, value in self.left if key == name]
-        self.left = [field for field in self.left if field[0] != name]
+    def taken_of(self, *names):
+        """Takes the fields of these names, in the order written."""
+        found = [field for field in self.left if field[0] in names]
+        self.left = [field for field in self.left if field[0] not in names]
         return found
+
+    def all_of(self, name):
+        return [value for _, value in self.taken_of(name)]
 
     def optional(self, name):
         found = self.all_of(name)
@@ -76,9 +106,10 @@ class Fields:
 
 
 class Stream:
-    """A stream that grows by statements."""
+    """A stream that grows by statements, which name files in a folder."""
 
-    def __init__(self):
+    def __init__(self, folder):
+        self.folder = folder
         self.data = bytearray()
         self.pid = None
         self.next_counters = {}
@@ -98,10 +129,42 @@ class Stream:
         self.last_section = len(self.data), len(section)
         self.data += b"".join(section_packets(self.pid, counters, section))
 
+    def file(self, name):
+        try:
+            with open(os.path.join(self.folder, name), "rb") as file:
+                return file.read()
+        except OSError as fault:
+            raise Fault(str(fault)) from None
+
+    def module(self, text, infos):
+        module, version, size = parted("module", text, "/", "NUMBER/VERSION/SIZE")
+        length = len(self.file(size[1:])) if size.startswith("@") else number(size, 32)
+        return Module(number(module, 16), number(version, 8), length, infos.get(number(module, 16), b""))
+
+    def pat(self, words):
+        fields = Fields(words)
+        counters = counters_of(fields)
+        programs = [parted("program", text, ":", "NUMBER:PID") for text in fields.all_of("program")]
+        fields.end()
+        self.send(pat_section([(number(program, 16), number(pid, 13)) for program, pid in programs]), counters)
+
+    def pmt(self, words):
+        fields = Fields(words)
+        counters = counters_of(fields)
+        program = fields.number("program", 16)
+        streams = [parted("stream", text, ":", "TYPE:PID:COMPONENT") for text in fields.all_of("stream")]
+        fields.end()
+        streams = [
+            ElementaryStream(number(kind, 8), number(pid, 13), None if tag == "-" else number(tag, 8))
+            for kind, pid, tag in streams
+        ]
+        self.send(pmt_section(program, streams), counters)
+
     def dii(self, words):
         fields = Fields(words)
         counters = counters_of(fields)
-        modules = [module_of(text) for text in fields.all_of("module")]
+        infos = module_infos(fields)
+        modules = [self.module(text, infos) for text in fields.all_of("module")]
         identity = [fields.number("transaction", 32), fields.number("download", 32), fields.number("blocksize", 16)]
         fields.end()
         self.send(dii_section(*identity, modules), counters)
@@ -115,6 +178,17 @@ class Stream:
         identity += [fields.number("version", 8), fields.number("number", 16)]
         fields.end()
         self.send(ddb_section(*identity, block), counters)
+
+    def blocks(self, words):
+        fields = Fields(words)
+        identity = [fields.number("download", 32), fields.number("module", 16), fields.number("version", 8)]
+        size, name = fields.number("blocksize", 16), fields.optional("file")
+        fields.end()
+        if name is None or size == 0:
+            raise Fault("blocks takes a file= and a blocksize= above 0")
+        data = self.file(name)
+        for at in range(0, len(data), size):
+            self.send(ddb_section(*identity, at // size, data[at : at + size]), None)
 
     def flip(self, words):
         fields = Fields(words)
@@ -142,7 +216,16 @@ class Stream:
         words = [word for word in TOKEN.findall(line) if not word.startswith("#")]
         if not words:
             return
-        statements = {"pid": self.select_pid, "dii": self.dii, "ddb": self.ddb, "flip": self.flip, "bytes": self.bytes}
+        statements = {
+            "pid": self.select_pid,
+            "pat": self.pat,
+            "pmt": self.pmt,
+            "dii": self.dii,
+            "ddb": self.ddb,
+            "blocks": self.blocks,
+            "flip": self.flip,
+            "bytes": self.bytes,
+        }
         if words[0] not in statements:
             raise Fault(f"{words[0]} is no statement")
         statements[words[0]](words[1:])
@@ -153,9 +236,9 @@ def counters_of(fields):
     return None if text is None else [number(word, 4) for word in text.split(",")]
 
 
-def stream_of(text):
-    """Returns the bytes of the stream that a description's text describes."""
-    stream = Stream()
+def stream_of(text, folder):
+    """Returns the bytes of the stream that a description's text describes, whose files lie in the folder."""
+    stream = Stream(folder)
     for at, line in enumerate(text.splitlines(), 1):
         try:
             stream.state(line)
@@ -171,7 +254,7 @@ def main(words):
     description, output = words
     try:
         with open(description, encoding="ascii") as file:
-            data = stream_of(file.read())
+            data = stream_of(file.read(), os.path.dirname(description))
         with open(output, "wb") as file:
             file.write(data)
     except (Fault, OSError, UnicodeDecodeError) as fault:

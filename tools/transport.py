@@ -11,8 +11,13 @@ PAYLOAD_SIZE = PACKET_SIZE - 4
 # The first packet of a section has one byte less of it: the pointer field stands there.
 FIRST_PAYLOAD_SIZE = PAYLOAD_SIZE - 1
 
+TABLE_PAT = 0x00
+TABLE_PMT = 0x02
 MESSAGE_DII = (0x3B, 0x1002)  # table_id and messageId
 MESSAGE_DDB = (0x3C, 0x1003)
+
+TYPE_DESCRIPTOR = 0x01
+STREAM_IDENTIFIER = 0x52
 
 
 class Module(NamedTuple):
@@ -21,6 +26,15 @@ class Module(NamedTuple):
     number: int
     version: int
     size: int
+    info: bytes = b""
+
+
+class ElementaryStream(NamedTuple):
+    """A stream of a service as a PMT announces it; the component_tag is None where it has no stream identifier."""
+
+    kind: int
+    pid: int
+    component: int | None
 
 
 def crc_table():
@@ -44,13 +58,32 @@ def crc_32(data):
     return remainder
 
 
-def section(table_id, body):
+def section(table_id, body, extension=0, current_next=0):
     """Returns a section with syntax indicator 1 and its CRC_32."""
     length = 5 + len(body) + 4
     if length > 0xFFF:
         raise ValueError(f"a section of {length + 3} bytes is longer than section_length can say")
-    before_crc = struct.pack(">BHHBBB", table_id, 0x8000 | length, 0, 0, 0, 0) + body
+    before_crc = struct.pack(">BHHBBB", table_id, 0x8000 | length, extension, current_next, 0, 0) + body
     return before_crc + struct.pack(">I", crc_32(before_crc))
+
+
+def descriptor(tag, data):
+    """Returns a descriptor: its tag, its length and its bytes."""
+    return struct.pack(">BB", tag, len(data)) + data
+
+
+def pat_section(programs):
+    """Returns the section of a PAT in force: for each program its number and the PID of its PMT."""
+    return section(TABLE_PAT, b"".join(struct.pack(">HH", number, pid) for number, pid in programs), current_next=1)
+
+
+def pmt_section(program, streams):
+    """Returns the section of a PMT in force, without descriptors of the program."""
+    body = struct.pack(">HH", 0, 0)
+    for stream in streams:
+        info = b"" if stream.component is None else descriptor(STREAM_IDENTIFIER, bytes([stream.component]))
+        body += struct.pack(">BHH", stream.kind, stream.pid, len(info)) + info
+    return section(TABLE_PMT, body, extension=program, current_next=1)
 
 
 def message_section(kind, identity, rest):
@@ -61,10 +94,10 @@ def message_section(kind, identity, rest):
 
 
 def dii_section(transaction, download, block_size, modules):
-    """Returns the section of a DII whose modules have no module info."""
+    """Returns the section of a DII."""
     rest = struct.pack(">IHBBIIHH", download, block_size, 0, 0, 0, 0, 0, len(modules))
     for module in modules:
-        rest += struct.pack(">HIBB", module.number, module.size, module.version, 0)
+        rest += struct.pack(">HIBB", module.number, module.size, module.version, len(module.info)) + module.info
     return message_section(MESSAGE_DII, transaction, rest + struct.pack(">H", 0))
 
 

@@ -8,6 +8,7 @@ ghost use Rattle.replay_run.specs.Opening.{IsUnasked};
 mod streams;
 
 use crate::rows::streams::{Entry, Sent, Stream};
+use bml_bytes::push_decimal;
 use bml_ports::{MemoryKeeper, MemorySink, MemorySource, MemoryWorld, NoMemory, Port, Text};
 use replay_run::{Status, run};
 use std::alloc::Global;
@@ -90,11 +91,11 @@ fn replayed(
     })
 }
 
-const TEN: &[Entry] = &[Entry(1, 1, 10)];
+const TEN: &[Entry] = &[Entry(1, 1, 10, &[])];
 
 const INDICATION: Sent = Sent::Indication(1, 4, TEN);
 
-const EMPTY: Sent = Sent::Indication(1, 4, &[Entry(1, 1, 0)]);
+const EMPTY: Sent = Sent::Indication(1, 4, &[Entry(1, 1, 0, &[])]);
 
 const FIRST: Sent = Sent::Block(1, 1, 0, b"abcd");
 
@@ -108,11 +109,11 @@ const FLIPPED: Sent = Sent::Flipped(1, 1, 0, b"abcd");
 const MODULE: &[Sent] = &[INDICATION, FIRST, SECOND, THIRD];
 
 const LATER: &[Sent] = &[
-    Sent::Indication(1, 4, &[Entry(1, 1, 4), Entry(2, 1, 4), Entry(3, 1, 4)]),
+    Sent::Indication(1, 4, &[Entry(1, 1, 4, &[]), Entry(2, 1, 4, &[]), Entry(3, 1, 4, &[])]),
     Sent::Block(1, 1, 0, b"abcd"),
     Sent::Block(2, 1, 0, b"abcd"),
     Sent::Block(3, 1, 0, b"abcd"),
-    Sent::Indication(2, 4, &[Entry(1, 1, 4), Entry(2, 2, 4), Entry(4, 1, 4)]),
+    Sent::Indication(2, 4, &[Entry(1, 1, 4, &[]), Entry(2, 2, 4, &[]), Entry(4, 1, 4, &[])]),
     Sent::Block(2, 2, 0, b"abcd"),
     Sent::Block(4, 1, 0, b"abcd"),
 ];
@@ -254,6 +255,115 @@ fn faults_in_the_middle(rt: HostRuntime) -> Result<(), Fail> {
         let run = replayed(alloc, REPLAY, stream.bytes(), record.as_bytes(), ports)?;
         assert_eq!(rt; run.status, status, "for {record}");
         assert_eq!(rt; run.sink.written(), lines.as_bytes(), "for {status:?}");
+    }
+    Ok(())
+}
+
+// What the stream of a document, taken whole and then shown, has to print: its module's line, these lines, and
+// the last one.
+fn printed(alloc: Global, document: &[u8], lines: &[u8]) -> Result<Vec<u8>, Fail> {
+    let size = i64::try_from(document.len())?;
+    let packets = i64::try_from(document.chunks(100).count())?.wrapping_add(1);
+    let mut text = Vec::from_slice(alloc, b"module 40 0000 01 ")?;
+    push_decimal(size, &mut text)?;
+    text.extend_from_slice(b"\n")?;
+    text.extend_from_slice(lines)?;
+    text.extend_from_slice(b"end ")?;
+    push_decimal(packets, &mut text)?;
+    text.extend_from_slice(b"\n")?;
+    Ok(text)
+}
+
+// A document of a body with so many elements in each other.
+fn nested(alloc: Global, count: usize) -> Result<Vec<u8>, NoMemory> {
+    let mut document = Vec::from_slice(alloc, b"<bml><body>")?;
+    for _ in 0..count {
+        document.extend_from_slice(b"<div>")?;
+    }
+    for _ in 0..count {
+        document.extend_from_slice(b"</div>")?;
+    }
+    document.extend_from_slice(b"</body></bml>")?;
+    Ok(document)
+}
+
+// Start documents that are loaded, or refused, and shown.
+#[test]
+fn documents(rt: HostRuntime) -> Result<(), Fail> {
+    let alloc = rt.alloc();
+    for (document, lines) in [
+        (
+            b"<bml><body style=\"left:1px;width:9px\"><p style=\"top:2px\">a&amp;b</p></body></bml>".as_slice(),
+            b"load /40/0000\nshow 0\nbox 1 0 9 0 8 0 7\nbox 1 2 0 0 8 0 7\ntext 1 2 0 0 7 24 a&b\n".as_slice(),
+        ),
+        (
+            b"<bml><body><p>&lt;&#65;&amp;&nbsp;%</p></body></bml>",
+            b"load /40/0000\nshow 0\nbox 0 0 0 0 8 0 7\nbox 0 0 0 0 8 0 7\ntext 0 0 0 0 7 24 <A&&nbsp;%25\n",
+        ),
+        (
+            b"<bml><body><p></body></bml>",
+            b"refuse /40/0000 Malformed\nshow 0\n",
+        ),
+        (b"<html></html>", b"refuse /40/0000 WrongRoot\nshow 0\n"),
+        (
+            b"<bml><body><blink>x</blink></body></bml>",
+            b"load /40/0000\nshow 0\nbox 0 0 0 0 8 0 7\n",
+        ),
+        (
+            nested(alloc, 63)?.as_slice(),
+            b"refuse /40/0000 TooDeep\nshow 0\n",
+        ),
+    ] {
+        let stream = Stream::of_document(alloc, document)?;
+        let run = replayed(alloc, REPLAY, stream.bytes(), b"all\nshow\n", SOUND)?;
+        let expected = printed(alloc, document, lines)?;
+        assert_eq!(rt; run.status, DONE);
+        assert_eq!(rt; run.sink.written(), expected.as_slice());
+    }
+    let deep = nested(alloc, 62)?;
+    let stream = Stream::of_document(alloc, deep.as_slice())?;
+    let run = replayed(alloc, REPLAY, stream.bytes(), b"all\n", SOUND)?;
+    let expected = printed(alloc, deep.as_slice(), b"load /40/0000\n")?;
+    assert_eq!(rt; run.sink.written(), expected.as_slice());
+    Ok(())
+}
+
+// The items of a record, and lines that are none.
+#[test]
+fn records(rt: HostRuntime) -> Result<(), Fail> {
+    let alloc = rt.alloc();
+    let module = Stream::of_sections(alloc, MODULE)?;
+    let empty: &[u8] = b"";
+    for (stream, record, status, lines) in [
+        (
+            empty,
+            b"all\nshow\nkey x\n".as_slice(),
+            Status::BadRecord { line: 3 },
+            b"show 0\n".as_slice(),
+        ),
+        (empty, b"show\n", DONE, b"show 0\nend 0\n"),
+        (
+            module.bytes(),
+            b"packets 1\r\n\n \t\n# the rest\nshow\nall\nall",
+            DONE,
+            b"show 0\nmodule 40 0001 01 10\nend 4\n",
+        ),
+        (
+            module.bytes(),
+            b"packets 3\nshow\n",
+            DONE,
+            b"show 0\nend 3\n",
+        ),
+        (
+            module.bytes(),
+            b"#\n\npackets 0\n",
+            Status::BadRecord { line: 3 },
+            b"",
+        ),
+    ] {
+        let run = replayed(alloc, REPLAY, stream, record, SOUND)?;
+        assert_eq!(rt; run.status, status);
+        assert_eq!(rt; run.sink.written(), lines);
     }
     Ok(())
 }

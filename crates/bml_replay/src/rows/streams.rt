@@ -5,9 +5,12 @@ use std::alloc::Global;
 use std::test::Fail;
 use ts_sections::crc_of;
 
-/// A module's number, version and size, as an entry of a DownloadInfoIndication has them.
+/// A module's number, version, size and info, as an entry of a DownloadInfoIndication has them.
 #[derive(Clone, Copy)]
-pub struct Entry(pub u16, pub u8, pub u32);
+pub struct Entry(pub u16, pub u8, pub u32, pub &'static [u8]);
+
+/// The info of a module that holds a document: a Type descriptor.
+pub const DOCUMENT: &[u8] = b"\x01\x0Ftext/X-arib-bml";
 
 /// A section of download 1.
 #[derive(Clone, Copy)]
@@ -52,7 +55,7 @@ impl Stream {
     /// A module of one block of 200 bytes, whose section takes two packets. The packet between these two
     /// is lost; all three packets come once more, where asked for.
     pub fn with_lost_packet(alloc: Global, comes_again: bool) -> Result<Stream, Fail> {
-        let indication = section_of(alloc, &Sent::Indication(1, 200, &[Entry(1, 1, 200)]))?;
+        let indication = section_of(alloc, &Sent::Indication(1, 200, &[Entry(1, 1, 200, &[])]))?;
         let block = section_of(alloc, &Sent::Block(1, 1, 0, &[0x55; 200]))?;
         let (front, back) = block.as_slice().split_at_checked(183).ok_or("short")?;
         let mut stream = Stream::new(alloc);
@@ -71,7 +74,7 @@ impl Stream {
     /// A module of 529 bytes in blocks of 519: the second block's section begins with the last byte of the
     /// packet in which the first one's ends.
     pub fn with_pointer(alloc: Global) -> Result<Stream, Fail> {
-        let indication = section_of(alloc, &Sent::Indication(1, 519, &[Entry(1, 1, 529)]))?;
+        let indication = section_of(alloc, &Sent::Indication(1, 519, &[Entry(1, 1, 529, &[])]))?;
         let first = section_of(alloc, &Sent::Block(1, 1, 0, &[0x47; 519]))?;
         let second = section_of(alloc, &Sent::Block(1, 1, 1, &[0x47; 10]))?;
         let (one, rest) = first.as_slice().split_at_checked(183).ok_or("short")?;
@@ -85,6 +88,19 @@ impl Stream {
         stream.push_packet(false, &[], two)?;
         stream.push_packet(true, &[182], last.as_slice())?;
         stream.push_packet(false, &[], four)?;
+        Ok(stream)
+    }
+
+    /// Module 0000 with these bytes, in blocks of 100, as a document's.
+    pub fn of_document(alloc: Global, document: &[u8]) -> Result<Stream, Fail> {
+        let mut stream = Stream::new(alloc);
+        let size = u32::try_from(document.len())?;
+        let entry = Entry(0, 1, size, DOCUMENT);
+        stream.push_section(indication_of(alloc, 1, 100, &[entry])?.as_slice())?;
+        for (number, block) in document.chunks(100).enumerate() {
+            let section = block_of(alloc, 0, 1, u16::try_from(number)?, block)?;
+            stream.push_section(section.as_slice())?;
+        }
         Ok(stream)
     }
 
@@ -146,7 +162,8 @@ fn indication_of(
     for entry in entries {
         payload.extend_from_slice(&entry.0.to_be_bytes())?;
         payload.extend_from_slice(&entry.2.to_be_bytes())?;
-        payload.extend_from_slice(&[entry.1, 0])?;
+        payload.extend_from_slice(&[entry.1, u8::try_from(entry.3.len())?])?;
+        payload.extend_from_slice(entry.3)?;
     }
     payload.extend_from_slice(&[0, 0])?;
     around(alloc, 0x3B, 0x1002, transaction, payload.as_slice())
