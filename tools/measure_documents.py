@@ -1,0 +1,134 @@
+#!/usr/bin/env python3
+"""Measures how long a release build takes over start documents that are as hard as the limits let them be.
+
+usage: measure_documents.py PROGRAM [--rounds N]
+
+Each document fills module 0000 of a carousel on PID 256; the record is `all`, `show`. What the program writes is compared
+with what is due. Each is run N times (3), of which the best counts. Status: 0 where all was as due, 1 where a run went
+wrong.
+"""
+
+import argparse
+import os
+import subprocess
+import sys
+import tempfile
+import time
+from typing import NamedTuple
+
+from transport import TYPE_DESCRIPTOR, Module, ddb_section, descriptor, dii_section, packets_taken, section_packets
+
+DATA_PID = 256
+BLOCK_SIZE = 4000
+MOST_BYTES = 1 << 20  # of a module, and so of a document
+MOST_NODES = 16_384
+PLAIN_BOX = "box 0 0 0 0 8 0 7\n"
+
+
+class Document(NamedTuple):
+    """A document, and the lines that are due behind its module's line."""
+
+    name: str
+    text: str
+    lines: str
+
+
+def body(inside):
+    return f"<bml><body>{inside}</body></bml>"
+
+
+def filled(front, item, back):
+    """Returns front, as many items as a document has room for, and back, with the number of items."""
+    count = (MOST_BYTES - len(front) - len(back)) // len(item)
+    return front + item * count + back, count
+
+
+def loaded(boxes):
+    return f"load /40/0000\nshow 0\n{boxes}"
+
+
+def refused(fault):
+    return f"refuse /40/0000 {fault}\nshow 0\n"
+
+
+def documents():
+    text, count = filled("<bml><body><p>", "a", "</p></body></bml>")
+    yield Document("text of 1 MB", text, loaded(PLAIN_BOX * 2 + f"text 0 0 0 0 7 24 {'a' * count}\n"))
+    text, count = filled("<bml><body><p>", "&amp;", "</p></body></bml>")
+    yield Document("references of 1 MB", text, loaded(PLAIN_BOX * 2 + f"text 0 0 0 0 7 24 {'&' * count}\n"))
+    text, count = filled("<bml><body><p>&#", "0", "65;</p></body></bml>")
+    yield Document("a reference of 1 MB", text, loaded(PLAIN_BOX * 2 + "text 0 0 0 0 7 24 A\n"))
+    text, count = filled("<bml><body><p>", "&#1", "</p></body></bml>")
+    yield Document("unended references of 1 MB", text, loaded(PLAIN_BOX * 2 + f"text 0 0 0 0 7 24 {'&#1' * count}\n"))
+    text, count = filled('<bml><body><p title="', "a", '"/></body></bml>')
+    yield Document("attribute of 1 MB", text, loaded(PLAIN_BOX * 2))
+    text, count = filled('<bml><body style="', "left:1px;", f'">{"<p/>" * 10_000}</body></bml>')
+    yield Document("style of 1 MB above 10,000 p", text, loaded("box 1 0 0 0 8 0 7\n" * 10_001))
+    text, count = filled('<bml><body><p style="', "/*", '"/></body></bml>')
+    yield Document("comments of 1 MB", text, loaded(PLAIN_BOX * 2))
+    attributes = "".join(f' a{number}=""' for number in range(80_000))
+    yield Document("80,000 attributes", body(f"<p{attributes}/>"), loaded(PLAIN_BOX * 2))
+    yield Document("an attribute twice among 80,000", body(f'<p{attributes} a0=""/>'), refused("Malformed"))
+    yield Document("16,384 nodes", body("<p/>" * (MOST_NODES - 2)), loaded(PLAIN_BOX * (MOST_NODES - 1)))
+    ids = "".join(f'<p id="n{number % 100}"/>' for number in range(MOST_NODES - 2))
+    yield Document("16,384 nodes, 100 ids", body(ids), loaded(PLAIN_BOX * (MOST_NODES - 1)))
+    yield Document("16,385 nodes", body("<p/>" * (MOST_NODES - 1)), refused("TooManyNodes"))
+    yield Document("200,000 nodes", body("<p/>" * 200_000), refused("TooManyNodes"))
+    yield Document("20,000 div, none closed", "<bml><body>" + "<div>" * 20_000, refused("Malformed"))
+    yield Document("20,000 div, all closed", body("<div>" * 20_000 + "</div>" * 20_000), refused("TooDeep"))
+    text, count = filled("<bml><body>", "<div>", "")
+    yield Document("div of 1 MB, none closed", text, refused("Malformed"))
+    text, count = filled("<bml><body><!--", "-", "</body></bml>")
+    yield Document("comment of 1 MB, not closed", text, refused("Malformed"))
+    text, count = filled("<bml><body>", "<!-- -->", "</body></bml>")
+    yield Document("comments of 1 MB, closed", text, loaded(PLAIN_BOX))
+    text, count = filled("", "<", "")
+    yield Document("1 MB of <", text, refused("Malformed"))
+
+
+def stream_of(text):
+    """Returns the stream of a document and how many packets it has."""
+    data = text.encode("ascii")
+    module = Module(0, 1, len(data), descriptor(TYPE_DESCRIPTOR, b"text/X-arib-bml"))
+    sections = [dii_section(1, 1, BLOCK_SIZE, [module])]
+    blocks = range(0, len(data), BLOCK_SIZE)
+    sections += [ddb_section(1, 0, 1, at // BLOCK_SIZE, data[at : at + BLOCK_SIZE]) for at in blocks]
+    packets, counter = [], 0
+    for section in sections:
+        counters = [(counter + at) % 16 for at in range(packets_taken(section))]
+        packets += section_packets(DATA_PID, counters, section)
+        counter = (counters[-1] + 1) % 16
+    return b"".join(packets), len(packets)
+
+
+def main():
+    parser = argparse.ArgumentParser(usage="measure_documents.py PROGRAM [--rounds N]")
+    parser.add_argument("program")
+    parser.add_argument("--rounds", type=int, default=3)
+    asked = parser.parse_args()
+    program, wrong = os.path.abspath(asked.program), 0
+    print(f"{'document':32} {'bytes':>9} {'seconds':>8}")
+    with tempfile.TemporaryDirectory(prefix="measure-") as room:
+        stream, record = f"{room}/stream.ts", f"{room}/record.txt"
+        with open(record, "wb") as file:
+            file.write(b"all\nshow\n")
+        for document in documents():
+            data, packets = stream_of(document.text)
+            with open(stream, "wb") as file:
+                file.write(data)
+            due = f"module 40 0000 01 {len(document.text)}\n{document.lines}end {packets}\n".encode("ascii")
+            best = None
+            for _ in range(asked.rounds):
+                begin = time.perf_counter()
+                command = [program, "replay", "--data-pid", str(DATA_PID), stream, record]
+                ran = subprocess.run(command, stdin=subprocess.DEVNULL, stdout=subprocess.PIPE, check=False)
+                taken = time.perf_counter() - begin
+                best = taken if best is None else min(best, taken)
+            as_due = ran.returncode == 0 and ran.stdout == due
+            wrong += not as_due
+            print(f"{document.name:32} {len(document.text):9,} {best:8.3f}{'' if as_due else '  not what is due'}")
+    return 1 if wrong else 0
+
+
+if __name__ == "__main__":
+    sys.exit(main())
