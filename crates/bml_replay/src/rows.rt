@@ -7,7 +7,7 @@ ghost use Rattle.replay_run.specs.Opening.{IsUnasked};
 
 mod streams;
 
-use crate::rows::streams::{Entry, Sent, Stream};
+use crate::rows::streams::{Announced, DATA_PID, Entry, Sent, Stream};
 use bml_bytes::push_decimal;
 use bml_ports::{MemoryKeeper, MemorySink, MemorySource, MemoryWorld, NoMemory, Port, Text};
 use replay_run::{Status, run};
@@ -108,6 +108,10 @@ const FLIPPED: Sent = Sent::Flipped(1, 1, 0, b"abcd");
 // A module of ten bytes in three blocks.
 const MODULE: &[Sent] = &[INDICATION, FIRST, SECOND, THIRD];
 
+const COMPRESSED: Sent = Sent::Indication(1, 4, &[Entry(1, 1, 10, &[0xC2, 5, 0, 0, 0, 0, 0x0A])]);
+
+const LARGE: Sent = Sent::Indication(1, 4, &[Entry(1, 1, 1_048_577, &[])]);
+
 const LATER: &[Sent] = &[
     Sent::Indication(1, 4, &[Entry(1, 1, 4, &[]), Entry(2, 1, 4, &[]), Entry(3, 1, 4, &[])]),
     Sent::Block(1, 1, 0, b"abcd"),
@@ -136,7 +140,12 @@ fn sections_in_packets_of_their_own(rt: HostRuntime) -> Result<(), Fail> {
             &[INDICATION, FLIPPED, SECOND, THIRD, FIRST],
             "module 40 0001 01 10\nend 5\n",
         ),
-        (LATER, "skip 40 unbuilt\nskip 40 unbuilt\nend 7\n"),
+        (
+            LATER,
+            "module 40 0001 01 4\nmodule 40 0002 01 4\nmodule 40 0003 01 4\ngone 40 0003\nmodule 40 0002 02 4\nmodule 40 0004 01 4\nend 7\n",
+        ),
+        (&[COMPRESSED], "skip 40 0001 compressed\nend 1\n"),
+        (&[LARGE], "skip 40 0001 large\nend 1\n"),
     ] {
         let stream = Stream::of_sections(alloc, sections)?;
         let run = replayed(alloc, REPLAY, stream.bytes(), b"all\n", SOUND)?;
@@ -259,6 +268,76 @@ fn faults_in_the_middle(rt: HostRuntime) -> Result<(), Fail> {
     Ok(())
 }
 
+const PROGRAMS: Sent = Sent::Programs(1);
+
+const MAP: Sent = Sent::Map(1, &[Announced(0x0D, DATA_PID, 0x40)]);
+
+// The service that has the data: the first one, one that is asked for, and one that isn't there; sections that
+// come before it is known; a map that loses its component.
+#[test]
+fn services(rt: HostRuntime) -> Result<(), Fail> {
+    let alloc = rt.alloc();
+    let first: &[&str] = &["replay", "s", "r"];
+    let second: &[&str] = &["replay", "--service", "2", "s", "r"];
+    let served = &[PROGRAMS, MAP, INDICATION, FIRST, SECOND, THIRD];
+    for (words, sections, lines) in [
+        (first, served.as_slice(), "module 40 0001 01 10\nend 6\n"),
+        (
+            first,
+            &[INDICATION, PROGRAMS, MAP, INDICATION, FIRST, SECOND, THIRD],
+            "module 40 0001 01 10\nend 7\n",
+        ),
+        (second, served, "end 6\n"),
+        (
+            &["replay", "--service", "1", "s", "r"],
+            served,
+            "module 40 0001 01 10\nend 6\n",
+        ),
+        (
+            first,
+            &[
+                PROGRAMS,
+                MAP,
+                INDICATION,
+                FIRST,
+                SECOND,
+                THIRD,
+                Sent::Map(1, &[]),
+            ],
+            "module 40 0001 01 10\ngone 40 0001\nend 7\n",
+        ),
+        (
+            first,
+            &[
+                PROGRAMS,
+                Sent::Map(
+                    1,
+                    &[
+                        Announced(0x0D, DATA_PID, 0x40),
+                        Announced(0x02, 300, 0x30),
+                        Announced(0x0D, 257, 0x41),
+                    ],
+                ),
+                Sent::IndicationOn(257, 1, 4, &[Entry(2, 3, 4, &[])]),
+                INDICATION,
+                FIRST,
+                Sent::BlockOn(257, 2, 3, 0, b"abcd"),
+                SECOND,
+                THIRD,
+                Sent::Map(1, &[Announced(0x0D, 257, 0x40), Announced(0x0D, DATA_PID, 0x41)]),
+                INDICATION,
+            ],
+            "module 41 0002 03 4\nmodule 40 0001 01 10\ngone 40 0001\ngone 41 0002\nend 10\n",
+        ),
+    ] {
+        let stream = Stream::of_sections(alloc, sections)?;
+        let run = replayed(alloc, words, stream.bytes(), b"all\n", SOUND)?;
+        assert_eq!(rt; run.status, DONE, "for {lines}");
+        assert_eq!(rt; run.sink.written(), lines.as_bytes(), "for {lines}");
+    }
+    Ok(())
+}
+
 // What the stream of a document, taken whole and then shown, has to print: its module's line, these lines, and
 // the last one.
 fn printed(alloc: Global, document: &[u8], lines: &[u8]) -> Result<Vec<u8>, Fail> {
@@ -372,12 +451,20 @@ fn records(rt: HostRuntime) -> Result<(), Fail> {
 #[test]
 fn words_that_are_no_command(rt: HostRuntime) -> Result<(), Fail> {
     let alloc = rt.alloc();
-    let run = replayed(alloc, &["replay", "s"], b"", b"all\n", SOUND)?;
-    assert_eq!(rt; run.status, Status::Usage);
-    assert_eq!(rt; run.status.number(), 1);
-    assert!(rt; run.sink.written().is_empty());
-    assert!(rt; run.keeper.kept().is_empty());
-    assert!(rt; run.world.asked(Port::Stream).is_none());
-    assert!(rt; run.world.asked(Port::Notes).is_none());
+    for words in [
+        ["replay", "s"].as_slice(),
+        &["replay", "--service", "0", "s", "r"],
+        &["replay", "--service", "65536", "s", "r"],
+        &["replay", "--data-pid", "15", "s", "r"],
+        &["replay", "--service", "1", "--data-pid", "256", "s", "r"],
+    ] {
+        let run = replayed(alloc, words, b"", b"all\n", SOUND)?;
+        assert_eq!(rt; run.status, Status::Usage);
+        assert_eq!(rt; run.status.number(), 1);
+        assert!(rt; run.sink.written().is_empty());
+        assert!(rt; run.keeper.kept().is_empty());
+        assert!(rt; run.world.asked(Port::Stream).is_none());
+        assert!(rt; run.world.asked(Port::Notes).is_none());
+    }
     Ok(())
 }
