@@ -11,7 +11,7 @@ use Rattle.dsmcc_messages.specs.Reading.{dii_in, ddb_in}
 use Rattle.bml_bytes.specs.declared.refusals.TableFault.{TableFault}
 use Rattle.receiver_core.specs.declared.module_buffer.Wanted.{Wanted}
 use Rattle.receiver_core.specs.Lines.{unbuilt_line}
-use Rattle.receiver_core.specs.Acquisition.{Message, Indication, Data, Acquired, message_of, messages_of, block_in, wanted_of, acquired, acquired_from, is_block, first_block, joined_from, bytes_of_blocks, held, passed_line, delivered_line, turn_text}
+use Rattle.receiver_core.specs.Acquisition.{Message, Indication, Data, Acquired, message_of, messages_of, block_in, wanted_of, acquired, acquired_from, is_block, first_block, joined_from, bytes_of_blocks, held, passed_line, delivered_line, modules_text}
 use Rattle.receiver_core.specs.Keeping.{Kept, StandsFor, TakesTurn, blocks_from, count_of, kept_of, without_blocks, is_missing, with_block, kept_after, is_complete, line_of, completed_text, acquired_text, text_of}
 
 -- ---- the blocks, place by place
@@ -227,7 +227,7 @@ stands_first = record { kept_is = refl }
 
 -- the turn of a section with a message
 pub takes_message : (old new : Option Kept) (section : List ℕ) (message : Message) → message_of section ≡ Some message → new ≡ kept_after message old → TakesTurn old new section (text_of message old)
-unfolding turn_text held held_of
+unfolding modules_text held held_of
 takes_message old new section message h e = record {
   text_is = λ earlier s.
       let before = messages_of earlier in
@@ -243,7 +243,7 @@ takes_message old new section message h e = record {
 
 -- the turn of a section without one
 pub takes_nothing : (old : Option Kept) (section : List ℕ) → message_of section ≡ None → TakesTurn old old section []
-unfolding turn_text held
+unfolding modules_text held
 takes_nothing old section h = record {
   text_is = λ earlier s. sym (nothing earlier);
   stands = λ earlier s. record { kept_is = s.kept_is ∙ ap (λ m. option_map kept_of (acquired m)) (sym (no_message-append earlier section h)) };
@@ -252,7 +252,7 @@ takes_nothing old section h = record {
   silent None x = refl
   silent (Some a) x = delivered_once a x
 
-  nothing : (earlier : List (List ℕ)) → turn_text earlier section ≡ []
+  nothing : (earlier : List (List ℕ)) → modules_text earlier section ≡ []
   nothing earlier =
       ap₂ (λ m (after : List Message). passed_line (acquired (messages_of earlier)) m ++ delivered_line (acquired after) (held (messages_of earlier)) (held after)) h (no_message-append earlier section h)
       ∙ silent (acquired (messages_of earlier)) (held (messages_of earlier))

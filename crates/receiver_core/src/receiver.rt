@@ -96,6 +96,7 @@ impl Receiver {
             × ((data_pid : ℕ) (inputs : List Input) (given : List (List ℕ)) → StandsFor data_pid self.old inputs given
             → StandsFor data_pid self.new (inputs ++ Show ∷ []) (given ++ text ∷ []))) }
     {
-        todo
+        out.extend_from_slice(b"show 0\n")?;
+        Ok(())
     }
 }
