@@ -61,6 +61,17 @@ kept_after (Data block) kept = option_map (with_block block) kept
 abbrev pub is_complete : Kept → Bool
 is_complete kept = list_all is_some kept.blocks
 
+-- the blocks joined; none where one is missing
+abbrev pub joined : List (Option (List ℕ)) → Option (List ℕ)
+joined [] = Some []
+joined (None ∷ blocks) = None
+joined (Some block ∷ blocks) = option_map (λ behind. block ++ behind) (joined blocks)
+
+-- the bytes of the start document, where that is the module, once each block came
+abbrev pub kept_startup : Option Kept → Option (List ℕ)
+kept_startup None = None
+kept_startup (Some kept) = if kept.wanted.is_startup then joined kept.blocks else None
+
 abbrev pub line_of : Wanted → List ℕ
 line_of wanted = module_line 0x40 wanted.number wanted.version wanted.size
 

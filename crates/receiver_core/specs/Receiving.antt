@@ -1,11 +1,13 @@
 -- What a receiver stands for: what came to it so far, and the texts that it gave for that. (This project's own.)
-use Rattle.std.specs.Prelude.{◌≡◌, ℕ, List, [], ◌∷◌, ◌++◌, length, filter, Option}
+use Rattle.std.specs.Prelude.{◌≡◌, ℕ, List, [], ◌∷◌, ◌++◌, length, filter, Option, option_map}
+use Rattle.dom_tree.specs.Items.{Item}
 use Rattle.ts_sections.specs.Intact.{is_intact}
 use Rattle.ts_sections.specs.Assembly.{AssemblerState, waiting}
 use Rattle.ts_sections.specs.Assembly as assembly
 use Rattle.receiver_core.specs.Keeping.{Kept}
 use Rattle.receiver_core.specs.Keeping as keeping
 use Rattle.receiver_core.specs.Outputs.{outputs}
+use Rattle.receiver_core.specs.Startup.{startup, nodes_of}
 use Rattle.receiver_core.specs.State.{Input, State, opening, after}
 use Rattle.receiver_core.specs.Turns.{turn_texts}
 
@@ -15,6 +17,8 @@ pub record ReceiverState : Type 0 where
   pub assembler : AssemblerState
   -- what is kept of the intact sections handled so far
   pub kept : Option Kept
+  -- the start document's nodes, or none of one that was refused, once its module was held
+  pub startup : Option (Option (List Item))
 
 -- what these inputs come to
 abbrev pub behind : State → List Input → State
@@ -28,6 +32,7 @@ pub record StandsFor (pid : ℕ) (state : ReceiverState) (inputs : List Input) (
   pub same_pid : state.pid ≡ pid
   pub assembled : assembly.StandsFor state.assembler (behind (opening pid) inputs).packets handled
   pub acquired : keeping.StandsFor state.kept (filter is_intact handled)
+  pub document : state.startup ≡ option_map nodes_of (startup (filter is_intact handled))
   pub texts : outputs pid inputs ≡ given ++ turn_texts (filter is_intact handled) (filter is_intact (waiting state.assembler))
 
 -- the next packet may come

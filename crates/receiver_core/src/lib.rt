@@ -12,6 +12,7 @@ mod laws;
 mod lines;
 mod module_buffer;
 mod receiver;
+mod startup;
 
 pub use crate::laws::{law_of_outputs, law_of_receivers};
 pub use crate::receiver::Receiver;

@@ -2,9 +2,10 @@
 
 ghost use Rattle.std.specs.Prelude.{◌≡◌, ◌≤◌, ◌<◌, ◌^◌, ◌++◌, codes, length, take, OnOk, OnErr};
 ghost use Rattle.bml_bytes.specs.Numerals.{decimal_digits, hex_digits};
-ghost use Rattle.receiver_core.specs.Lines.{module_line, unbuilt_line};
+ghost use Rattle.receiver_core.specs.Lines.{fault_name, loaded_line, module_line, refused_line, unbuilt_line};
 
 use bml_bytes::{NoMemory, push_decimal, push_hex};
+use bml_reader::DocFault;
 
 /// Appends the line of an acquired module: its component, its number, its version and its size in bytes.
 pub fn push_module_line(
@@ -42,7 +43,30 @@ pub fn push_unbuilt_line(component: u8, out: &mut Vec<u8>) -> Result<(), NoMemor
     }
 }
 
-// Each of the next two stops in the middle of its line where it finds no memory.
+/// Appends the line of the start document that was loaded.
+pub fn push_load_line(out: &mut Vec<u8>) -> Result<(), NoMemory>
+    ensures ok { OnOk result (out.new.items ≡ out.old.items ++ loaded_line) }
+    ensures err { OnErr result (out.new.items ≡ out.old.items) }
+{
+    push_text(b"load /40/0000\n", out)
+}
+
+/// Appends the line of the start document that was refused.
+pub fn push_refuse_line(fault: DocFault, out: &mut Vec<u8>) -> Result<(), NoMemory>
+    ensures ok { OnOk result (out.new.items ≡ out.old.items ++ refused_line fault) }
+    ensures err { OnErr result (out.new.items ≡ out.old.items) }
+{
+    let before = out.len();
+    match push_refuse_fields(fault, out) {
+        Ok(()) => Ok(()),
+        Err(error) => {
+            out.truncate(before);
+            Err(error)
+        }
+    }
+}
+
+// Each of the next three stops in the middle of its line where it finds no memory.
 
 fn push_module_fields(
     component: u8,
@@ -72,6 +96,27 @@ fn push_unbuilt_fields(component: u8, out: &mut Vec<u8>) -> Result<(), NoMemory>
     push_text(b"skip ", out)?;
     push_hex(u32::from(component), 2, out)?;
     push_text(b" unbuilt\n", out)
+}
+
+fn push_refuse_fields(fault: DocFault, out: &mut Vec<u8>) -> Result<(), NoMemory>
+    ensures ok { OnOk result (out.new.items ≡ out.old.items ++ refused_line fault) }
+    ensures grows { take (length out.old.items) out.new.items ≡ out.old.items }
+{
+    push_text(b"refuse /40/0000 ", out)?;
+    push_text(name_of(fault), out)?;
+    push_text(b"\n", out)
+}
+
+fn name_of(fault: DocFault) -> &'static [u8]
+    ensures { result.now ≡ fault_name fault }
+{
+    match fault {
+        DocFault::Malformed => b"Malformed",
+        DocFault::WrongRoot => b"WrongRoot",
+        DocFault::TooDeep => b"TooDeep",
+        DocFault::TooManyNodes => b"TooManyNodes",
+        DocFault::NoMemory => b"NoMemory",
+    }
 }
 
 fn push_text(text: &[u8], out: &mut Vec<u8>) -> Result<(), NoMemory>

@@ -144,10 +144,12 @@ impl Wanted {
 }
 
 impl ModuleBuffer {
-    ghost use Rattle.receiver_core.specs.Keeping.{is_complete, with_block, without_blocks};
+    ghost use Rattle.receiver_core.specs.Buffers.{IsCovered};
+    ghost use Rattle.receiver_core.specs.Keeping.{is_complete, joined, with_block, without_blocks};
 
     /// A buffer for the module, to which no block came. All of its memory is taken here.
     pub fn new(alloc: Global, wanted: Wanted) -> Result<ModuleBuffer, NoMemory>
+        requires { IsCovered wanted }
         ensures { IfOk result (λ buffer. buffer ≡ without_blocks wanted) }
     {
         let count = wanted.block_count();
@@ -171,6 +173,16 @@ impl ModuleBuffer {
         ensures { result ≡ is_complete self.now }
     {
         self.missing == 0
+    }
+
+    /// The module's bytes, once each block came.
+    pub fn bytes(&self) -> Option<&[u8]>
+        ensures { option_copied result ≡ joined self.now.blocks }
+    {
+        if self.missing > 0 {
+            return None;
+        }
+        Some(self.bytes.as_slice())
     }
 
     /// Keeps a block, where it is one of the module and the first for its place.

@@ -1,4 +1,5 @@
 use Rattle.std.proofs.Common.{◌∙◌, sym, ap, subst}
+use Rattle.receiver_core.specs.Loading.{kept_in}
 use Rattle.receiver_core.specs.Receiving.{ReceiverState, StandsFor}
 use Rattle.receiver_core.proofs.ReceivingLaws.{takes_packet, passes_packet}
 use Rattle.receiver_core.proofs.receiver.Receiver.packet.Goals as goal
@@ -8,7 +9,7 @@ returns-then-pid-self c =
     let inside = c.self.inside in
     record {
       pushed = λ data_pid inputs given s.
-          takes_packet inside.pid inside.assembler c.push.new.self inside.acquisition c.args.packet.now (sym c.pid.ensures.pid ∙ c.if-pid-self.true) c.push.ensures.stands data_pid inputs given
+          takes_packet inside.pid inside.assembler c.push.new.self inside.acquisition (kept_in inside.startup) c.args.packet.now (sym c.pid.ensures.pid ∙ c.if-pid-self.true) c.push.ensures.stands data_pid inputs given
           (subst (λ state. StandsFor data_pid state inputs given) (sym c.self.view_is) s);
     }
 
