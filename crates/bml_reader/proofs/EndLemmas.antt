@@ -98,7 +98,7 @@ Keeps-end bytes r rest k e h =
     let t = reached-tree bytes k.now rest k.reaches e (ap (λ (z : Seen). z.phase) k.seen ∙ h) in
     record { tree = t.0; reads = t.1; seen = sym (ap seen_of t.2) ∙ k.seen }
 
-count-is : (tree : Nested) → length (items_of tree) ≡ node_count tree
+pub count-is : (tree : Nested) → length (items_of tree) ≡ node_count tree
 count-is tree = items_from-length None 0 tree
 
 few-by : (items found_items : List Item) (path : List ℕ) (b : Bool) → nat_le (length items) most_nodes ≡ b → option_map (λ (k : Kept). k.items) (cond b (Some (kept items path)) None) ≡ Some found_items → (length items ≤ most_nodes) × (found_items ≡ items)
@@ -141,7 +141,7 @@ pub no-rest : (l : List ℕ) → true ≡ (length l == 0) → l ≡ []
 no-rest [] h = refl
 no-rest (b ∷ l) h = let zero_long : length (b ∷ l) ≡ 0 = eqb-true (length (b ∷ l)) 0 (sym h) in absurd (omega (arith, zero_long))
 
-part-some : (p : Part) (spelled more : List ℕ) → IsPart p spelled more → 0 < length spelled
+pub part-some : (p : Part) (spelled more : List ℕ) → IsPart p spelled more → 0 < length spelled
 part-some (StartTag tag attributes e) spelled more h = omega (arith, ap length h.end_to_end)
 part-some (EndTag tag) spelled more h = omega (arith, ap length h.end_to_end)
 part-some (Run []) spelled more h = absurd (h.some refl)

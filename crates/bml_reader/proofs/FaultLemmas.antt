@@ -6,7 +6,7 @@ use Rattle.dom_tree.specs.Items.{is_same}
 use Rattle.dom_tree.specs.Nested.{Nested, items_of}
 use Rattle.dom_tree.specs.Nested.Nested.{NoNodes, ElementNode, TextNode}
 use Rattle.bml_reader.specs.Faults.{most_levels, levels, HasWrongRoot, IsTooDeep}
-use Rattle.bml_reader.specs.ReaderViews.{has_other_root}
+use Rattle.bml_reader.specs.Readings.{has_other_root}
 use Rattle.bml_reader.proofs.MachineLemmas.{goes_deep, is_same-itself, is_same-is}
 
 or-left : (a b : Bool) → a ≡ true → (a || b) ≡ true

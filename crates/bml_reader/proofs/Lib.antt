@@ -9,4 +9,5 @@ pub mod ReachLemmas
 pub mod SeenLemmas
 pub mod FaultLemmas
 pub mod EndLemmas
+pub mod ReadingLemmas
 pub mod BuilderLemmas

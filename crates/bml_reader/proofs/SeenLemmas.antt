@@ -16,7 +16,8 @@ use Rattle.bml_reader.specs.Grammar.{is_left_out}
 use Rattle.bml_reader.specs.Faults.{most_levels}
 use Rattle.bml_reader.specs.Machine.{State, Opened, Kept, kept_of, innermost, items_with_text, phase_of, opened, started, step, IsSound, IsSoundIn}
 use Rattle.bml_reader.specs.Nodes.{kept_with_element, kept_with_text, kept_outside}
-use Rattle.bml_reader.specs.ReaderViews.{Seen, seen_of, has_other_root, kept_with_text_of, seen_flushed, seen_started, phase_of_tags, tags_with, seen_step, IsReady}
+use Rattle.bml_reader.specs.Readings.{has_other_root}
+use Rattle.bml_reader.specs.ReaderViews.{Seen, seen_of, kept_with_text_of, seen_flushed, seen_started, phase_of_tags, tags_with, seen_step, IsReady}
 use Rattle.bml_reader.specs.declared.phases.Phase.{Phase}
 use Rattle.bml_reader.specs.declared.phases.Phase.TheVariants.{BeforeDoctype, BeforeRoot, Inside, Behind}
 use Rattle.bml_reader.proofs.ByteLemmas.{some-same}

@@ -13,4 +13,5 @@ pub mod AttributeViews
 pub mod TagViews
 pub mod Nodes
 pub mod BuilderViews
+pub mod Readings
 pub mod ReaderViews

@@ -1,7 +1,7 @@
 -- What the reader keeps of what is known, and how it changes with a part.
 use Rattle.std.specs.Prelude.{◌≡◌, ◌≢◌, ℕ, nat_le, Bool, true, false, ◌||◌, not, if◌then◌else◌, List, [], ◌∷◌, ◌++◌, length, map, reverse, Option, Some, None, IfSome, option_map, option_and_then, codes as ascii}
 use Rattle.bml_bytes.specs.Codes.{codes}
-use Rattle.dom_tree.specs.Items.{Attribute, Item, is_same, tag_in}
+use Rattle.dom_tree.specs.Items.{Attribute, is_same}
 use Rattle.bml_reader.specs.References.{read_references}
 use Rattle.bml_reader.specs.Parts.{Part, NamesDiffer}
 use Rattle.bml_reader.specs.Parts.Part.{StartTag, EndTag, Run, Cdata, Remark, Doctype}
@@ -9,6 +9,7 @@ use Rattle.bml_reader.specs.Grammar.{is_left_out}
 use Rattle.bml_reader.specs.PartKinds.{is_misc}
 use Rattle.bml_reader.specs.Faults.{most_levels}
 use Rattle.bml_reader.specs.Machine.{State, Kept, kept_in}
+use Rattle.bml_reader.specs.Readings.{has_other_root}
 use Rattle.bml_reader.specs.Nodes.{kept_with_element, kept_with_text, kept_outside}
 use Rattle.bml_reader.specs.declared.faults.DocFault.{DocFault}
 use Rattle.bml_reader.specs.declared.faults.DocFault.TheVariants.{Malformed, WrongRoot, TooDeep, TooManyNodes, NoMemory}
@@ -26,14 +27,6 @@ pub record Seen : Type 0 where
   pub kept : Option Kept
   pub has_other_root : Bool
   pub is_deep : Bool
-
-abbrev pub is_other_root : Option (List ℕ) → Bool
-is_other_root None = false
-is_other_root (Some tag) = not (is_same tag (ascii "bml"))
-
-abbrev pub has_other_root : List Item → Bool
-has_other_root [] = false
-has_other_root (root ∷ _) = is_other_root (tag_in root.content)
 
 abbrev pub seen_of : State → Seen
 seen_of s = record { phase = s.phase; tags = map (λ o. o.tag) s.elements; text = s.text; kept = kept_in s; has_other_root = has_other_root s.items; is_deep = s.is_deep }

@@ -1,9 +1,11 @@
 //! Documents.
 
-ghost use Rattle.std.specs.Prelude.{◌≡◌, ℕ, List, IfOk, IfErr};
+ghost use Rattle.std.specs.Prelude.{◌≡◌, ◌≢◌, ◌↔◌, ℕ, List, IfOk, IfErr, MatchResult};
+ghost use Rattle.dom_tree.specs.Items.{Item};
 ghost use Rattle.dom_tree.specs.Nested.{Nested};
 ghost use Rattle.bml_reader.specs.Faults.{ReadsWell, HasFault};
 ghost use Rattle.bml_reader.specs.Grammar.{Reads};
+ghost use Rattle.bml_reader.specs.Readings.{reading_of};
 
 use crate::faults::DocFault;
 use crate::parts::next_part;
@@ -17,6 +19,7 @@ use std::alloc::Global;
 pub fn read_document(alloc: Global, bytes: &[u8]) -> Result<Tree, DocFault>
     ensures ok { IfOk result (λ tree. ReadsWell bytes.now tree) }
     ensures err { IfErr result (λ fault. HasFault bytes.now fault) }
+    ensures reading { MatchResult result (λ tree. reading_of bytes.now ≡ Ok tree) (λ fault. fault ≢ DocFault.NoMemory → reading_of bytes.now ≡ Err fault) }
 {
     let mut reader = Reader::new(alloc);
     let mut rest = bytes;
@@ -40,4 +43,12 @@ pub fn read_document(alloc: Global, bytes: &[u8]) -> Result<Tree, DocFault>
 /// Bytes stand for at most one tree.
 pub fn law_of_documents()
     ensures { (bytes : List ℕ) (one other : Nested) → Reads bytes one → Reads bytes other → one ≡ other }
+{}
+
+/// What bytes read as is a function of the bytes: it is the nodes of a document without a fault exactly where the
+/// bytes are one, the first fault that they have exactly where they have one, and never want of memory.
+pub fn law_of_readings()
+    ensures well { (bytes : List ℕ) (items : List Item) → (reading_of bytes ≡ Ok items) ↔ ReadsWell bytes items }
+    ensures faulty { (bytes : List ℕ) (fault : DocFault) → fault ≢ DocFault.NoMemory → (reading_of bytes ≡ Err fault) ↔ HasFault bytes fault }
+    ensures memory { (bytes : List ℕ) → reading_of bytes ≢ Err DocFault.NoMemory }
 {}

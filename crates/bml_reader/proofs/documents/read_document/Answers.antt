@@ -6,9 +6,11 @@ use Rattle.bml_reader.specs.Machine.{Kept}
 use Rattle.bml_reader.specs.Faults.{ReadsWell, HasFault}
 use Rattle.bml_reader.specs.PartViews.{part_of, found_part}
 use Rattle.bml_reader.specs.ReaderViews.{Seen, seen_by, seen_step, IsTaken, IsReady, Refuses}
+use Rattle.bml_reader.specs.declared.faults.DocFault.TheVariants.{Malformed}
 use Rattle.bml_reader.specs.declared.phases.Phase.TheVariants.{Behind}
 use Rattle.bml_reader.proofs.SeenLemmas.{ready}
 use Rattle.bml_reader.proofs.EndLemmas.{Keeps-start, Keeps-step, Keeps-refused, Keeps-stopped, Keeps-unfinished, Keeps-end, AtEnd, AtEnd-well, AtEnd-fault, different-names, part-shorter, some-rest, no-rest, ok-all, err-all}
+use Rattle.bml_reader.proofs.ReadingLemmas.{fault-reads, answer-reads}
 use Rattle.bml_reader.proofs.documents.read_document.Goals as goal
 
 pub parts-init : goal.parts-init
@@ -76,3 +78,17 @@ returns-clause-err c =
     let r : Seen = seen_by c.parts.reader in
     let end : AtEnd c.args.bytes.now r = Keeps-end c.args.bytes.now r rest c.parts.invariant (no-rest rest (c.parts-test.ensures {u = tt})) (c.is_whole.ensures.0 c.if-not-is_whole.false) in
     err-all c.finish.result (λ f. Refuses f r.has_other_root r.is_deep r.kept) (λ f. HasFault c.args.bytes.now f) c.finish.ensures.err (λ f h. AtEnd-fault c.args.bytes.now r f end h)
+
+-- what is answered is what the bytes read as
+
+pub returns-in-None-clause-reading : goal.returns-in-None-clause-reading
+returns-in-None-clause-reading c = λ n. fault-reads c.args.bytes.now Malformed n (returns-in-None-clause-err c)
+
+pub returns-then-not-branch-clause-reading : goal.returns-then-not-branch-clause-reading
+returns-then-not-branch-clause-reading c = λ n. fault-reads c.args.bytes.now Malformed n (returns-then-not-branch-clause-err c)
+
+pub returns-then-not-is_whole-clause-reading : goal.returns-then-not-is_whole-clause-reading
+returns-then-not-is_whole-clause-reading c = λ n. fault-reads c.args.bytes.now Malformed n (returns-then-not-is_whole-clause-err c)
+
+pub returns-clause-reading : goal.returns-clause-reading
+returns-clause-reading c = answer-reads c.args.bytes.now c.finish.result (returns-clause-ok c) (returns-clause-err c)
