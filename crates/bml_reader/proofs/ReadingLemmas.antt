@@ -1,24 +1,24 @@
 -- What bytes read as is the tree that they stand for, without a fault or with its first one.
-use Rattle.std.proofs.Common.{◌≡◌, ◌≢◌, ℕ, zero, suc, ◌<◌, ◌≤◌, Bool, true, false, cond, ◌⊎◌, inl, inr, List, [], ◌∷◌, ◌++◌, length, Option, Some, None, refl, sym, ◌∙◌, ap, subst, arith}
+use Rattle.std.proofs.Common.{◌≡◌, ◌≢◌, ℕ, zero, suc, ◌<◌, ◌≤◌, Bool, true, false, cond, List, [], ◌∷◌, ◌++◌, length, Option, Some, None, refl, sym, ◌∙◌, ap, subst, arith}
 use Rattle.std.specs.Prelude.{nat_le, option_map, option_and_then, Result, Ok, Err, IfOk, IfErr, MatchResult}
 use Rattle.std.proofs.lemmas.Bool.{false_from_ne_true, true_from_ne_false}
 use Rattle.std.proofs.lemmas.List.{length-append}
 use Rattle.std.proofs.lemmas.Bool.Decides.{nat_tests}
 use Rattle.dom_tree.specs.Items.{Item}
 use Rattle.dom_tree.specs.Walks.{most_nodes}
-use Rattle.dom_tree.specs.Nested.{Nested, items_of, node_count}
-use Rattle.bml_reader.specs.Parts.{Part, IsPart, Spells}
+use Rattle.dom_tree.specs.Nested.{Nested, items_of}
+use Rattle.bml_reader.specs.Parts.{Part, Spells}
 use Rattle.bml_reader.specs.Grammar.{Reads, parts_of, tree_of}
 use Rattle.bml_reader.specs.Faults.{ReadsWell, HasFault, HasWrongRoot, IsTooDeep, HasTooManyNodes}
 use Rattle.bml_reader.specs.Lexing.{Found, found, part_at}
 use Rattle.bml_reader.specs.Machine.{State, Kept, kept_of, start_state, step, steps}
-use Rattle.bml_reader.specs.Readings.{read_parts, has_other_root, is_behind, judged_nodes, judged, judged_where_read, reading_of}
+use Rattle.bml_reader.specs.Readings.{read_parts, has_other_root, judged_nodes, judged, judged_where_read, reading_of}
 use Rattle.bml_reader.specs.ReaderViews.{seen_of, Refuses}
 use Rattle.bml_reader.specs.declared.faults.DocFault.{DocFault}
 use Rattle.bml_reader.specs.declared.faults.DocFault.TheVariants.{Malformed, WrongRoot, TooDeep, TooManyNodes, NoMemory}
 use Rattle.bml_reader.specs.declared.phases.Phase.{Phase}
 use Rattle.bml_reader.specs.declared.phases.Phase.TheVariants.{BeforeDoctype, BeforeRoot, Inside, Behind}
-use Rattle.bml_reader.proofs.ByteLemmas.{some-same, chained}
+use Rattle.bml_reader.proofs.ByteLemmas.{chained}
 use Rattle.bml_reader.proofs.PartLemmas.{part_at-part, part_at-is}
 use Rattle.bml_reader.proofs.MachineLemmas.{steps-none, steps-one, goes_deep}
 use Rattle.bml_reader.proofs.DocumentLemmas.{behind_tree, document, read-document}
