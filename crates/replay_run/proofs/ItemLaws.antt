@@ -1,5 +1,5 @@
 -- What line is an item, and what line asks for nothing.
-use Rattle.std.proofs.Common.{◌≡◌, ◌≢◌, ℕ, ◌<◌, ◌≤◌, ◌==◌, ◌⊎◌, inl, inr, Bool, true, false, cond, nat_eq, nat_le, List, [], ◌∷◌, codes, length, Option, Some, None, option_and_then, refl, sym, ap, ◌∙◌, arith, eqb-true, leb-true, le-leb}
+use Rattle.std.proofs.Common.{◌≡◌, ◌≢◌, ℕ, ◌<◌, ◌≤◌, ◌==◌, inl, inr, Bool, true, false, cond, nat_le, List, [], ◌∷◌, codes, length, Option, Some, None, option_and_then, refl, sym, ap, ◌∙◌, arith, eqb-true, leb-true, le-leb}
 use Rattle.std.proofs.lemmas.Bool.Decides.{nat_tests}
 use Rattle.std.specs.Cmp.Lexicographic.{bytes_decides}
 use Rattle.bml_bytes.specs.Numerals.{decimal_field}
@@ -7,7 +7,7 @@ use Rattle.replay_run.specs.declared.record.Item.{Item}
 use Rattle.replay_run.specs.declared.record.Item.TheVariants.{All, Packets, Show}
 use Rattle.replay_run.specs.declared.record.Line.{Line}
 use Rattle.replay_run.specs.declared.record.Line.TheVariants.{Item as Read, Nothing, Bad}
-use Rattle.replay_run.specs.Record.{fields, is_word, plain_item, packets_item, item_of, item_line, is_comment, line_with, line_of, IsWritten, AsksNothing}
+use Rattle.replay_run.specs.Record.{fields, is_word, packets_item, item_of, item_line, is_comment, line_with, line_of, IsWritten, AsksNothing}
 
 -- ---- from how it is written
 
