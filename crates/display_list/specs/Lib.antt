@@ -1,0 +1,3 @@
+pub mod Inline
+pub mod Places
+pub mod Show
