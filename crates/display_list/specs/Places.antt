@@ -1,22 +1,26 @@
 -- Which elements of a document are drawn, and where they stand.
-use Rattle.std.specs.Prelude.{ℕ, ◌==◌, Bool, false, ◌&&◌, ℤ, pos, ◌+ℤ◌, List, [], ◌∷◌, length, map, Option, codes}
+use Rattle.std.specs.Prelude.{ℕ, ◌==◌, Bool, false, ◌&&◌, ◌||◌, ℤ, pos, ◌+ℤ◌, List, [], ◌∷◌, length, map, Option, codes}
 use Rattle.std.specs.Option.{option_map_or}
 use Rattle.std.specs.List.{list_any, filter, range_with_len}
 use Rattle.dom_tree.specs.Items.{Item, tag_in, tag_of, value_of, is_same}
 use Rattle.dom_tree.specs.Walks.{first, places, path_of}
 use Rattle.display_list.specs.Inline.{measured}
-use Rattle.display_list.specs.declared.inline_styles.Measure.{Measure}
-use Rattle.display_list.specs.declared.inline_styles.Measure.TheVariants.{Left, Top, Width, Height}
+use Rattle.display_list.specs.declared.places.Place.{Place}
+use Rattle.display_list.specs.declared.pixels.Measure.{Measure}
+use Rattle.display_list.specs.declared.pixels.Measure.TheVariants.{Left, Top, Width, Height}
 
 -- Tags; they compare by case.
 
--- the elements that have a place of their own, which what stands in them starts from
-abbrev pub is_placed_tag : List ℕ → Bool
-is_placed_tag tag = list_any (is_same tag) (codes "body" ∷ codes "div" ∷ codes "p" ∷ codes "input" ∷ codes "object" ∷ [])
+abbrev pub is_body_tag : List ℕ → Bool
+is_body_tag tag = is_same tag (codes "body")
 
 -- the elements that are drawn
 abbrev pub is_drawn_tag : List ℕ → Bool
-is_drawn_tag tag = list_any (is_same tag) (codes "body" ∷ codes "div" ∷ codes "p" ∷ [])
+is_drawn_tag tag = is_body_tag tag || (is_same tag (codes "div") || is_same tag (codes "p"))
+
+-- the elements that have a place, from which the places of what stands in them are counted
+abbrev pub is_placed_tag : List ℕ → Bool
+is_placed_tag tag = is_drawn_tag tag || (is_same tag (codes "input") || is_same tag (codes "object"))
 
 -- the node is an element with such a tag
 abbrev pub has_tag : (List ℕ → Bool) → List Item → ℕ → Bool
@@ -26,7 +30,7 @@ has_tag test items node = option_map_or test (tag_of items node) false
 
 -- the first `body` in document order
 unfoldable pub body_of : List Item → Option ℕ
-body_of items = first (places (λ item. option_map_or (is_same (codes "body")) (tag_in item.content) false) items)
+body_of items = first (places (λ item. option_map_or is_body_tag (tag_in item.content) false) items)
 
 -- the node is the body or stands under it, at any depth
 unfoldable pub is_under_body : List Item → ℕ → Bool
@@ -64,3 +68,7 @@ width_of items node = own_measure Width items node
 
 abbrev pub height_of : List Item → ℕ → ℤ
 height_of items node = own_measure Height items node
+
+-- the element's box
+unfoldable pub place_of : List Item → ℕ → Place
+place_of items node = record { x = x_of items node; y = y_of items node; width = width_of items node; height = height_of items node }

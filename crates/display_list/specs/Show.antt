@@ -6,7 +6,8 @@ use Rattle.bml_bytes.specs.Codes.{bytes_of}
 use Rattle.bml_bytes.specs.Numerals.{decimal_digits, signed_decimal_digits}
 use Rattle.dom_tree.specs.Items.{Item, text_of}
 use Rattle.dom_tree.specs.Walks.{children_of}
-use Rattle.display_list.specs.Places.{drawn, x_of, y_of, width_of, height_of}
+use Rattle.display_list.specs.Places.{drawn, place_of}
+use Rattle.display_list.specs.declared.places.Place.{Place}
 
 -- The bytes of a text
 
@@ -31,25 +32,25 @@ escaped bytes = flat_map escaped_byte bytes
 unfoldable pub clock_line : ℕ → List ℕ
 clock_line clock = codes "show " ++ decimal_digits clock ++ 10 ∷ []
 
--- `X Y W H` of an element
-unfoldable pub place_fields : List Item → ℕ → List ℕ
-place_fields items node = join_with_byte 32 (signed_decimal_digits (x_of items node) ∷ signed_decimal_digits (y_of items node) ∷ signed_decimal_digits (width_of items node) ∷ signed_decimal_digits (height_of items node) ∷ [])
+-- `X Y W H`
+unfoldable pub place_fields : Place → List ℕ
+place_fields place = join_with_byte 32 (signed_decimal_digits place.x ∷ signed_decimal_digits place.y ∷ signed_decimal_digits place.width ∷ signed_decimal_digits place.height ∷ [])
 
 -- `box X Y W H 8 0 7` of an element, whose background, border width and border colour are the initial ones
-unfoldable pub box_line : List Item → ℕ → List ℕ
-box_line items node = codes "box " ++ place_fields items node ++ codes " 8 0 7" ++ 10 ∷ []
+unfoldable pub box_line : Place → List ℕ
+box_line place = codes "box " ++ place_fields place ++ codes " 8 0 7" ++ 10 ∷ []
 
 -- `text X Y W H 7 24 BYTES` of a text in an element, with the element's place
-unfoldable pub text_line : List Item → ℕ → List ℕ → List ℕ
-text_line items node text = codes "text " ++ place_fields items node ++ codes " 7 24 " ++ escaped (bytes_of text) ++ 10 ∷ []
+unfoldable pub text_line : Place → List ℕ → List ℕ
+text_line place text = codes "text " ++ place_fields place ++ codes " 7 24 " ++ escaped (bytes_of text) ++ 10 ∷ []
 
 -- the line of a child, where it is a text
-unfoldable pub child_line : List Item → ℕ → ℕ → List ℕ
-child_line items node child = option_map_or (text_line items node) (text_of items child) []
+unfoldable pub child_line : List Item → Place → ℕ → List ℕ
+child_line items place child = option_map_or (text_line place) (text_of items child) []
 
 -- an element's box, and then the texts that hang in the element itself, in order
 unfoldable pub element_lines : List Item → ℕ → List ℕ
-element_lines items node = box_line items node ++ flat_map (child_line items node) (children_of items node)
+element_lines items node = box_line (place_of items node) ++ flat_map (child_line items (place_of items node)) (children_of items node)
 
 -- The display list of a document at a clock's time: the elements that are drawn, in document order.
 unfoldable pub shown : List Item → ℕ → List ℕ

@@ -6,7 +6,10 @@
 //! depth.
 #![tactic(auto)]
 
+mod comments;
 mod inline_styles;
+mod pixels;
+mod places;
 mod show;
 
 pub use crate::show::{push_clock_line, show_places};
