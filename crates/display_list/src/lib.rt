@@ -11,5 +11,7 @@ mod inline_styles;
 mod pixels;
 mod places;
 mod show;
+#[cfg(test)]
+mod tests;
 
 pub use crate::show::{push_clock_line, show_places};
