@@ -1,7 +1,7 @@
 -- The text of an element's attribute `style`, and the pixels that it gives (after the inline declarations of
 -- BML, ARIB STD-B24 volume 2, and of CSS level 1; in this project's own profile). Texts are lists of codes.
-use Rattle.std.specs.Prelude.{ℕ, ◌-◌, ◌==◌, nat_eq, nat_le, Bool, true, false, ◌&&◌, ◌||◌, if◌then◌else◌, ℤ, pos, negsuc, neg_ℤ, int_le, List, [], ◌∷◌, length, take, drop, map, Option, Some, None, option_map, option_and_then, unwrap_or, codes}
-use Rattle.std.specs.List.{list_all, filter_map, last_or, prefix_len, suffix_len, before_first, after_first, ends_with, slice_split}
+use Rattle.std.specs.Prelude.{ℕ, ◌-◌, ◌==◌, nat_le, Bool, true, false, ◌&&◌, ◌||◌, if◌then◌else◌, ℤ, pos, negsuc, neg_ℤ, int_le, List, [], ◌∷◌, length, take, drop, map, Option, Some, None, option_map, option_and_then, unwrap_or, codes}
+use Rattle.std.specs.List.{list_all, filter_map, last_or, prefix_len, suffix_len, before_first, after_first, slice_split}
 use Rattle.std.specs.Str.{str_to_ascii_lowercase}
 use Rattle.bml_bytes.specs.Numerals.{is_decimal_digit, decimal_number}
 use Rattle.dom_tree.specs.Items.{is_same}
@@ -75,13 +75,16 @@ may_be_negative Top = true
 may_be_negative Width = false
 may_be_negative Height = false
 
--- what stands before the last two codes
+-- the last two codes, and what stands before them
+abbrev pub unit_of : List ℕ → List ℕ
+unit_of value = drop (length value - 2) value
+
 abbrev pub without_unit : List ℕ → List ℕ
 without_unit value = take (length value - 2) value
 
 -- at least one digit and nothing else before `px`
 abbrev pub is_pixel_count : List ℕ → Bool
-is_pixel_count value = ends_with nat_eq value (codes "px") && (nat_le 3 (length value) && list_all is_decimal_digit (without_unit value))
+is_pixel_count value = is_same (unit_of value) (codes "px") && (nat_le 3 (length value) && list_all is_decimal_digit (without_unit value))
 
 -- a length without a sign: `0` alone, or digits and `px`
 unfoldable pub unsigned_pixels : List ℕ → Option ℕ

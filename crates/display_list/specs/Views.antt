@@ -1,5 +1,5 @@
 -- What the values that the code keeps stand for.
-use Rattle.std.specs.Prelude.{ℕ, ◌==◌, ◌&&◌, nat_le, Bool, true, false, if◌then◌else◌, ℤ, pos, List, [], ◌∷◌, length, drop, map, Option, Some, None, option_and_then, unwrap_or, nat_eq, codes}
+use Rattle.std.specs.Prelude.{ℕ, ◌==◌, ◌&&◌, nat_le, Bool, true, false, if◌then◌else◌, ℤ, pos, neg_ℤ, List, [], ◌∷◌, length, drop, map, Option, Some, None, option_map, option_and_then, unwrap_or, nat_eq, codes}
 use Rattle.std.specs.List.{list_all, filter_map, last_or, prefix_len}
 use Rattle.bml_bytes.specs.Numerals.{is_decimal_digit, decimal_number}
 use Rattle.dom_tree.specs.Items.{Item}
@@ -31,6 +31,12 @@ number_up_to most digits = if list_all is_decimal_digit digits then up_to most (
 -- the pixels without a sign that can be in range
 abbrev pub small_pixels : List ℕ → Option ℕ
 small_pixels value = option_and_then (up_to 32768) (unsigned_pixels value)
+
+abbrev pub small_signed_pixels : Bool → List ℕ → Option ℤ
+small_signed_pixels signed [] = None
+small_signed_pixels signed (first ∷ rest) =
+    if signed && (first == 45) then option_map (λ number. neg_ℤ (pos number)) (small_pixels rest)
+    else option_map pos (small_pixels (first ∷ rest))
 
 abbrev pub declaration_seen : DeclarationCode → Declaration
 declaration_seen declaration = record { name = declaration.name.now; value = declaration.value.now }

@@ -29,6 +29,7 @@ pub fn plain_text(alloc: Global, text: &[u16]) -> Result<Vec<u16>, NoMemory>
 }
 
 // The first code, or a space in place of the comment that stands first, and what stands behind it.
+#[tactic(auto, using(crate::proofs::CommentLemmas::comment_steps))]
 fn next_code(text: &[u16]) -> Option<(u16, &[u16])>
     ensures read { MatchOption result (text.now ≡ []) (λ found. uncommented_from false text.now ≡ found.0 ∷ uncommented_from false found.1.now) }
     ensures shorter { IfSome result (λ found. length found.1.now < length text.now) }
@@ -41,6 +42,7 @@ fn next_code(text: &[u16]) -> Option<(u16, &[u16])>
 }
 
 // What stands behind the comment that the text begins in.
+#[tactic(auto, using(crate::proofs::CommentLemmas::comment_steps))]
 fn behind_comment(text: &[u16]) -> &[u16]
     ensures outside { uncommented_from true text.now ≡ uncommented_from false result.now }
     ensures shorter { length result.now ≤ length text.now }

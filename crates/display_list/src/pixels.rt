@@ -4,7 +4,7 @@ ghost use Rattle.std.specs.Prelude.{◌≡◌, ◌≤◌, ◌-◌, length, is_so
 ghost use Rattle.std.specs.List.{list_all};
 ghost use Rattle.bml_bytes.specs.Numerals.{is_decimal_digit};
 ghost use Rattle.display_list.specs.Inline.{may_be_negative as spec_may_be_negative, name_of, pixels};
-ghost use Rattle.display_list.specs.Views.{number_up_to, small_pixels};
+ghost use Rattle.display_list.specs.Views.{number_up_to, small_pixels, small_signed_pixels};
 
 /// What a style gives an element, in pixels.
 #[derive(Clone, Copy, Debug, PartialEq, Eq)]
@@ -54,10 +54,7 @@ impl Measure {
     pub fn pixels(self, value: &[u16]) -> Option<i16>
         ensures { result ≡ pixels self value.now }
     {
-        let number = match value.split_first() {
-            Some((&MINUS, size)) if self.may_be_negative() => -(unsigned_pixels(size)? as i32),
-            _ => unsigned_pixels(value)? as i32,
-        };
+        let number = signed_pixels(self.may_be_negative(), value)?;
         i16::try_from(number).ok()
     }
 
@@ -68,6 +65,20 @@ impl Measure {
             Measure::Left | Measure::Top => true,
             Measure::Width | Measure::Height => false,
         }
+    }
+}
+
+// The pixels of a value that may have a sign or not, up to the most.
+fn signed_pixels(signed: bool, value: &[u16]) -> Option<i32>
+    ensures { result ≡ small_signed_pixels signed value.now }
+{
+    let (first, size) = value.split_first()?;
+    if signed && *first == MINUS {
+        let number = unsigned_pixels(size)?;
+        Some(-(number as i32))
+    } else {
+        let number = unsigned_pixels(value)?;
+        Some(number as i32)
     }
 }
 
