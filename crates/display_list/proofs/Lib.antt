@@ -1,3 +1,4 @@
 pub mod CommentLemmas
+pub mod DeclarationLemmas
 pub mod PixelLemmas
 pub mod RangeLemmas

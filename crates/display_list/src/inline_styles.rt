@@ -1,8 +1,8 @@
 //! The declarations in the text of an attribute `style`.
 
 ghost use Rattle.std.specs.Prelude.{◌≡◌, [], map, pos, IfOk};
-ghost use Rattle.std.specs.List.{slice_split};
-ghost use Rattle.display_list.specs.Inline.{declared_pixels, declaration_of, is_semicolon, is_white as spec_is_white, trimmed as spec_trimmed};
+ghost use Rattle.std.specs.List.{after_first, before_first, position, slice_split};
+ghost use Rattle.display_list.specs.Inline.{declared_pixels, declaration_of, is_colon, is_semicolon, is_white as spec_is_white, trimmed as spec_trimmed};
 ghost use Rattle.display_list.specs.Views.{declaration_seen, measures_of, measures_in, without_white_front as spec_without_white_front, with_declaration};
 
 use crate::comments::plain_text;
@@ -75,14 +75,11 @@ struct Declaration<'a> {
 }
 
 impl<'a> Declaration<'a> {
-    // The name ends at the first colon; without one all is the name.
+    // What a piece between semicolons declares.
     fn of(piece: &'a [u16]) -> Declaration<'a>
         ensures { declaration_seen result ≡ declaration_of piece.now }
     {
-        let (name, value) = match piece.iter().position(|code| *code == COLON) {
-            Some(place) => (&piece[..place], &piece[place + 1..]),
-            None => (piece, &piece[piece.len()..]),
-        };
+        let (name, value) = split_at_colon(piece);
         Declaration {
             name: trimmed(name),
             value: trimmed(value),
@@ -99,6 +96,23 @@ impl<'a> Declaration<'a> {
             None
         }
     }
+}
+
+// What stands before the first colon, or all of a text without one, and what stands behind it.
+fn split_at_colon(text: &[u16]) -> (&[u16], &[u16])
+    ensures before { result.0.now ≡ before_first is_colon text.now }
+    ensures behind { result.1.now ≡ after_first is_colon text.now }
+{
+    match place_of_colon(text) {
+        Some(place) => (&text[..place], &text[place + 1..]),
+        None => (text, &text[text.len()..]),
+    }
+}
+
+fn place_of_colon(text: &[u16]) -> Option<usize>
+    ensures { result ≡ position is_colon text.now }
+{
+    text.iter().position(|code| *code == COLON)
 }
 
 fn trimmed(text: &[u16]) -> &[u16]

@@ -31,4 +31,4 @@ returns-clause-pixels c =
     let some : 0 < length c.in_ok-digits.digits.now = grind (arith, nat_tests) in
     c.number_of.ensures.number
     ∙ (ap (number_up_to 32768) suffix.1
-      ∙ small-digits value (sym (c.if-eq.ensures {u = tt} ∙ ap (is_same value) c.as_slice.ensures)) suffix.0 (let more : 0 < length (without_unit value) = omega arith in more))
+    ∙ small-digits value (sym (c.if-eq.ensures {u = tt} ∙ ap (is_same value) c.as_slice.ensures)) suffix.0 (let more : 0 < length (without_unit value) = omega arith in more))
