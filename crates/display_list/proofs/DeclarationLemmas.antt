@@ -45,7 +45,7 @@ pub measures_in-more : (pieces : List (Bor (List ℕ))) (piece : Bor (List ℕ))
 measures_in-more pieces piece old new before more =
     let texts = map (λ (p : Bor (List ℕ)). p.now) pieces in
     let longer : map declaration_of (map (λ (p : Bor (List ℕ)). p.now) (pieces ++ piece ∷ [])) ≡ map declaration_of texts ++ declaration_of piece.now ∷ [] =
-        ap (map declaration_of) (map-append (λ (p : Bor (List ℕ)). p.now) pieces (piece ∷ [])) ∙ map-append declaration_of texts (piece.now ∷ [])
+    ap (map declaration_of) (map-append (λ (p : Bor (List ℕ)). p.now) pieces (piece ∷ [])) ∙ map-append declaration_of texts (piece.now ∷ [])
     in
     more ∙ (ap (λ (m : Measures). with_declaration m (declaration_of piece.now)) before ∙ (sym (measures_in-push (map declaration_of texts) (declaration_of piece.now)) ∙ ap measures_in (sym longer)))
 

@@ -1,4 +1,6 @@
 pub mod CommentLemmas
 pub mod DeclarationLemmas
+pub mod FirstLemmas
+pub mod OffsetLemmas
 pub mod PixelLemmas
 pub mod RangeLemmas

@@ -1,14 +1,16 @@
 -- What the values that the code keeps stand for.
-use Rattle.std.specs.Prelude.{ℕ, ◌==◌, ◌&&◌, nat_le, Bool, true, false, if◌then◌else◌, ℤ, pos, neg_ℤ, List, [], ◌∷◌, length, drop, map, Option, Some, None, option_map, option_and_then, unwrap_or, nat_eq, codes}
+use Rattle.std.specs.Prelude.{ℕ, ◌==◌, ◌&&◌, nat_le, Bool, true, false, if◌then◌else◌, ◌^◌, ℤ, pos, neg_ℤ, ◌+ℤ◌, ◌≤ℤ◌, List, [], ◌∷◌, length, drop, map, Option, Some, None, option_map, option_and_then, unwrap_or, nat_eq, codes}
+use Rattle.std.specs.Option.{option_map_or}
 use Rattle.std.specs.List.{list_all, filter_map, last_or, prefix_len}
 use Rattle.bml_bytes.specs.Numerals.{is_decimal_digit, decimal_number}
-use Rattle.dom_tree.specs.Items.{Item}
+use Rattle.dom_tree.specs.Items.{Item, parent_of}
 use Rattle.display_list.specs.Inline.{Declaration, declaration_of, declarations, declared_pixels, is_white, measured, unsigned_pixels}
 use Rattle.display_list.specs.Places.{is_drawn, is_under_body, own_measure, place_of}
 use Rattle.display_list.specs.declared.pixels.Measure.{Measure}
 use Rattle.display_list.specs.declared.pixels.Measure.TheVariants.{Left, Top, Width, Height}
 use Rattle.display_list.specs.declared.inline_styles.Measures.{Measures}
 use Rattle.display_list.specs.declared.inline_styles.Declaration.{Declaration as DeclarationCode}
+use Rattle.display_list.specs.declared.places.Place.{Place}
 use Rattle.display_list.specs.declared.places.Standing.{Standing}
 
 -- what stands behind two codes, where they stand first
@@ -67,3 +69,15 @@ standing_of items node = record { place = place_of items node; is_under_body = i
 -- what the root stands in
 abbrev pub standing_outside : Standing
 standing_outside = record { place = record { x = pos 0; y = pos 0; width = pos 0; height = pos 0 }; is_under_body = false; is_drawn = false }
+
+-- where the element stands that a node hangs in
+abbrev pub standing_around : List Item → ℕ → Standing
+standing_around items node = option_map_or (standing_of items) (parent_of items node) standing_outside
+
+-- the box of a node with these measures, from that of what it stands in; a node that isn't placed adds no offsets
+abbrev pub place_inside : Place → Measures → Bool → Place
+place_inside outer own is_placed = record { x = if is_placed then own.left +ℤ outer.x else outer.x; y = if is_placed then own.top +ℤ outer.y else outer.y; width = own.width; height = own.height }
+
+-- a sum of offsets of the most nodes
+abbrev pub IsFar : ℤ → Type 0
+IsFar number = (pos 0 ≤ℤ (number +ℤ pos (2 ^ 29))) × (number ≤ℤ pos (2 ^ 29))

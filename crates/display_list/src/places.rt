@@ -1,11 +1,13 @@
 //! Where the elements of a document stand.
 
-ghost use Rattle.std.specs.Prelude.{◌≡◌, ◌<◌, ◌==◌, false, length, map, IfOk, codes};
+ghost use Rattle.std.specs.Prelude.{◌≡◌, ◌<◌, ◌==◌, ◌∷◌, [], false, length, map, IfOk, codes};
 ghost use Rattle.std.specs.Option.{option_map_or};
 ghost use Rattle.std.specs.List.{range_with_len};
+ghost use Rattle.dom_tree.specs.Items.{parent_of};
 ghost use Rattle.dom_tree.specs.NodeNumbers.{number_of};
+ghost use Rattle.dom_tree.specs.Walks.{most_nodes, path_of};
 ghost use Rattle.display_list.specs.Places.{body_of, has_tag, is_body_tag, is_drawn_tag as spec_is_drawn_tag, is_placed_tag as spec_is_placed_tag};
-ghost use Rattle.display_list.specs.Views.{measures_at, standing_of, standing_outside};
+ghost use Rattle.display_list.specs.Views.{measures_at, place_inside, standing_around, standing_of, standing_outside, IsFar};
 
 use crate::inline_styles::Measures;
 use bml_bytes::{NoMemory, Text};
@@ -57,6 +59,30 @@ pub fn standings_of(alloc: Global, tree: &Tree) -> Result<Vec<Standing>, NoMemor
     Ok(standings)
 }
 
+impl Place {
+    // The box of a node, from that of what it stands in; a node that isn't placed adds no offsets.
+    fn inside(outer: Place, own: Measures, is_placed: bool) -> Place
+        requires x { IsFar outer.x }
+        requires y { IsFar outer.y }
+        ensures { result ≡ place_inside outer own is_placed }
+    {
+        let unmoved = Place {
+            x: outer.x,
+            y: outer.y,
+            width: own.width,
+            height: own.height,
+        };
+        if !is_placed {
+            return unmoved;
+        }
+        Place {
+            x: i32::from(own.left) + outer.x,
+            y: i32::from(own.top) + outer.y,
+            ..unmoved
+        }
+    }
+}
+
 impl Standing {
     // Where a node stands, from where those before it stand.
     fn of(
@@ -67,30 +93,36 @@ impl Standing {
         before: &[Standing],
     ) -> Standing
         requires node { node.0 < length tree.now }
+        requires few { node.0 < most_nodes }
         requires body { number_of body ≡ body_of tree.now }
         requires own { own ≡ measures_at tree.now node.0 }
         requires before { before.now ≡ map (standing_of tree.now) (range_with_len 0 node.0) }
         ensures { result ≡ standing_of tree.now node.0 }
     {
-        let outer = match tree.parent(node) {
-            Some(up) => before[up.0 as usize],
-            None => Standing::outside(),
-        };
+        let outer = Standing::around(tree, node, before);
+        let place = Place::inside(outer.place, own, is_placed(tree, node));
+        let is_box = is_box(tree, node);
         let is_under_body = is_node(body, node) || outer.is_under_body;
-        let (left, top) = if is_placed(tree, node) {
-            (own.left, own.top)
-        } else {
-            (0, 0)
-        };
         Standing {
-            place: Place {
-                x: outer.place.x + i32::from(left),
-                y: outer.place.y + i32::from(top),
-                width: own.width,
-                height: own.height,
-            },
+            place,
             is_under_body,
-            is_drawn: is_under_body && is_box(tree, node),
+            is_drawn: is_box && is_under_body,
+        }
+    }
+
+    // Where the element stands that a node hangs in.
+    fn around(tree: &Tree, node: NodeId, before: &[Standing]) -> Standing
+        requires node { node.0 < length tree.now }
+        requires few { node.0 < most_nodes }
+        requires before { before.now ≡ map (standing_of tree.now) (range_with_len 0 node.0) }
+        ensures outer { result ≡ standing_around tree.now node.0 }
+        ensures path { path_of tree.now node.0 ≡ node.0 ∷ option_map_or (path_of tree.now) (parent_of tree.now node.0) [] }
+        ensures x { IsFar result.place.x }
+        ensures y { IsFar result.place.y }
+    {
+        match tree.parent(node) {
+            Some(NodeId(up)) => before[up as usize],
+            None => Standing::outside(),
         }
     }
 
@@ -143,10 +175,10 @@ fn own_measures(
 
 // Whether it is this node.
 fn is_node(found: Option<NodeId>, node: NodeId) -> bool
-    ensures { result ≡ option_map_or (λ number. number == node.0) (number_of found) false }
+    ensures { result ≡ option_map_or (λ number. node.0 == number) (number_of found) false }
 {
     match found {
-        Some(other) => other.0 == node.0,
+        Some(other) => node.0 == other.0,
         None => false,
     }
 }
