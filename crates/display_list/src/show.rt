@@ -31,7 +31,7 @@ pub fn push_clock_line(clock: u64, out: &mut Vec<u8>) -> Result<(), NoMemory>
     ensures ok { OnOk result (out.new.items ≡ out.old.items ++ clock_line clock) }
     ensures err { OnErr result (out.new.items ≡ out.old.items) }
 {
-    let mut line = b"show ".to_vec(*out.allocator())?;
+    let mut line = Vec::from_slice(*out.allocator(), b"show ")?;
     push_decimal(clock as i64, &mut line)?;
     line.push(b'\n')?;
     out.extend_from_slice(line.as_slice())?;
