@@ -1,4 +1,6 @@
+pub mod ChildLemmas
 pub mod CommentLemmas
+pub mod DrawnLemmas
 pub mod DeclarationLemmas
 pub mod FirstLemmas
 pub mod LineLemmas
