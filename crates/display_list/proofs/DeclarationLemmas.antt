@@ -12,8 +12,7 @@ use Rattle.std.proofs.lemmas.Iterator.Consumers.{YieldsList-end}
 use Rattle.std.proofs.lemmas.Iterator.Splits.{YieldsList-from_slice_split}
 use Rattle.std.proofs.lemmas.List.{map-append}
 use Rattle.display_list.specs.Inline.{Declaration, declaration_of, declarations, declared_pixels, is_semicolon, measured}
-use Rattle.display_list.specs.Views.{last_pixels, measures_in, measures_of, with_declaration}
-use Rattle.display_list.specs.declared.pixels.Measure.{Measure}
+use Rattle.display_list.specs.Views.{measures_in, measures_of, with_declaration}
 use Rattle.display_list.specs.declared.pixels.Measure.TheVariants.{Left, Top, Width, Height}
 use Rattle.display_list.specs.declared.inline_styles.Measures.{Measures}
 

@@ -3,7 +3,7 @@ use Rattle.std.proofs.Common.{◌≡◌, ℕ, zero, suc, ◌+◌, ◌<◌, Bool,
 use Rattle.std.proofs.lemmas.Bool.{cases_eq}
 use Rattle.std.specs.Prelude.{slice_get, option_and_then}
 use Rattle.std.specs.Option.{option_map_or}
-use Rattle.dom_tree.specs.Items.{Item, Content, tag_in, tag_of}
+use Rattle.dom_tree.specs.Items.{Item, tag_in}
 use Rattle.dom_tree.specs.Walks.{first, places_from}
 use Rattle.display_list.specs.Places.{body_of, has_tag, is_body_tag}
 

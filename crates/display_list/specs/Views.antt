@@ -1,10 +1,10 @@
 -- What the values that the code keeps stand for.
-use Rattle.std.specs.Prelude.{ℕ, ◌==◌, ◌&&◌, nat_le, Bool, true, false, if◌then◌else◌, ◌^◌, ℤ, pos, neg_ℤ, ◌+ℤ◌, ◌≤ℤ◌, List, [], ◌∷◌, length, drop, map, Option, Some, None, option_map, option_and_then, unwrap_or, nat_eq, codes}
+use Rattle.std.specs.Prelude.{ℕ, ◌==◌, ◌&&◌, nat_le, Bool, false, if◌then◌else◌, ◌^◌, ℤ, pos, neg_ℤ, ◌+ℤ◌, ◌≤ℤ◌, List, [], ◌∷◌, drop, Option, Some, None, option_map, option_and_then, unwrap_or}
 use Rattle.std.specs.Option.{option_map_or}
 use Rattle.std.specs.List.{list_all, filter_map, last_or, prefix_len}
 use Rattle.bml_bytes.specs.Numerals.{is_decimal_digit, decimal_number}
 use Rattle.dom_tree.specs.Items.{Item, parent_of}
-use Rattle.display_list.specs.Inline.{Declaration, declaration_of, declarations, declared_pixels, is_white, measured, unsigned_pixels}
+use Rattle.display_list.specs.Inline.{Declaration, declared_pixels, is_white, measured, unsigned_pixels}
 use Rattle.display_list.specs.Places.{is_drawn, is_under_body, own_measure, place_of}
 use Rattle.display_list.specs.declared.pixels.Measure.{Measure}
 use Rattle.display_list.specs.declared.pixels.Measure.TheVariants.{Left, Top, Width, Height}

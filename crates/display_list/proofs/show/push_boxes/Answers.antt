@@ -1,6 +1,5 @@
-use Rattle.std.proofs.Common.{◌≡◌, ℕ, ◌<◌, Global, Vec, List, ◌++◌, length, map, ap, sym, ◌∙◌, subst, arith}
+use Rattle.std.proofs.Common.{◌≡◌, ℕ, Global, Vec, List, ◌++◌, length, ap, sym, ◌∙◌, arith}
 use Rattle.std.proofs.lemmas.List.FromFn.{length-map-range_with_len}
-use Rattle.display_list.specs.Places.{is_drawn}
 use Rattle.display_list.specs.Views.{standing_of}
 use Rattle.display_list.specs.declared.places.Standing.{Standing}
 use Rattle.display_list.proofs.DrawnLemmas.{lines_before, lines_before-none, lines_before-drawn, lines_before-other, lines_before-all, standing-at}

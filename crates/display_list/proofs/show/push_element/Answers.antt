@@ -1,4 +1,4 @@
-use Rattle.std.proofs.Common.{◌<◌, ◌≤◌, length, ap, sym, ◌∙◌, arith}
+use Rattle.std.proofs.Common.{length, ap}
 use Rattle.dom_tree.specs.NodeNumbers.{number_of}
 use Rattle.display_list.proofs.ChildLemmas.{ShowsChildren-start, ShowsChildren-within, ShowsChildren-more, ShowsChildren-end, fewer-left}
 use Rattle.display_list.proofs.show.push_element.Goals as goal

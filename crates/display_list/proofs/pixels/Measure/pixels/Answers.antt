@@ -1,7 +1,6 @@
-use Rattle.std.proofs.Common.{◌≡◌, List, ℕ, Bool, Option, ℤ, FitsSigned, sym, ap, ◌∙◌, rules}
+use Rattle.std.proofs.Common.{Bool, FitsSigned, ap, ◌∙◌, rules}
 use Rattle.std.specs.Prelude.{option_and_then}
-use Rattle.std.specs.Int.{w16, w32}
-use Rattle.std.specs.Result.{OkIff}
+use Rattle.std.specs.Int.{w32}
 use Rattle.std.proofs.lemmas.Int.{to_z-of_z}
 use Rattle.display_list.specs.Inline.{in_range}
 use Rattle.display_list.specs.Views.{small_signed_pixels}
