@@ -89,14 +89,14 @@ first_bad bytes = option_map (λ place. place + 1) (position is_bad (readings by
 
 -- the fields of an item
 abbrev pub IsWritten : Item → List (List ℕ) → Type 0
-IsWritten All line = line ≡ codes "all" ∷ []
-IsWritten (Packets count) line =
-    (number : List ℕ) × (line ≡ codes "packets" ∷ number ∷ []) × (decimal_field number ≡ Some count) × (0 < count)
-IsWritten Show line = line ≡ codes "show" ∷ []
+IsWritten All words = words ≡ codes "all" ∷ []
+IsWritten (Packets count) words =
+    (number : List ℕ) × (words ≡ codes "packets" ∷ number ∷ []) × (decimal_field number ≡ Some count) × (0 < count)
+IsWritten Show words = words ≡ codes "show" ∷ []
 
 -- the fields of a line that asks for nothing: there are none, or the first begins with `#`
 abbrev pub AsksNothing : List (List ℕ) → Type 0
-AsksNothing line = (line ≡ []) ⊎ ((name : List ℕ) × (more : List (List ℕ)) × (line ≡ (35 ∷ name) ∷ more))
+AsksNothing words = (words ≡ []) ⊎ ((name : List ℕ) × (more : List (List ℕ)) × (words ≡ (35 ∷ name) ∷ more))
 
 -- the item of a line that has one
 abbrev pub item_in : Line → Option Item

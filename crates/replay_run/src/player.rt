@@ -140,7 +140,7 @@ impl Player {
         Ok(())
     }
 
-    // How many packets are taken behind no more than so many, if there is a bound.
+    // The number of the last packet to take, counted from 1 at the start of the run, if there is a bound.
     fn last_packet(&self, most: Option<u32>) -> Option<u64>
         ensures { result ≡ option_map (λ count. self.now.packets + count) most }
     {
