@@ -10,7 +10,7 @@ use Rattle.carousel_blocks.specs.Message.{Message, Indication, Data}
 use Rattle.carousel_blocks.specs.InForce.{later, in_force, standing_of}
 use Rattle.carousel_blocks.specs.Held.{is_asked_by, counting, first_of, blocks_from, count_of, Kept, kept_with, kept, bytes_kept, held}
 use Rattle.carousel_blocks.specs.Order.{data_of, OnlyRepeats, SameBlocks, AreConsistent}
-use Rattle.carousel_blocks.specs.Changes.{with_block}
+use Rattle.carousel_blocks.specs.Steps.{with_block}
 use Rattle.carousel_blocks.proofs.HistoryLaws.{in_force-append, later_data, kept-same, kept-data, kept_with-asked, option_map-option_or}
 use Rattle.carousel_blocks.proofs.PutLaws.{with_block_not}
 use Rattle.std.proofs.lemmas.List.Elements.{Contains-append_right, Contains-append_cases}

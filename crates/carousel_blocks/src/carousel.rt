@@ -42,7 +42,7 @@ impl Carousel {
     ghost use Rattle.carousel_blocks.specs.Message.{Message, Indication, Data};
     ghost use Rattle.carousel_blocks.specs.Held.{held};
     ghost use Rattle.carousel_blocks.specs.Carousel.{StandsFor, KeepsSame, entry_in_force, skip_in_force, put_after};
-    ghost use Rattle.carousel_blocks.specs.Changes.{TakesDii, TakesBlock, is_in_force};
+    ghost use Rattle.carousel_blocks.specs.Steps.{TakesDii, TakesBlock, is_in_force};
 
     /// A carousel of which no message came.
     pub fn new(alloc: Global) -> Carousel

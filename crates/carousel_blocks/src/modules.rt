@@ -11,7 +11,7 @@ ghost use Rattle.dsmcc_messages.specs.Ddb.{fields_of};
 ghost use Rattle.carousel_blocks.specs.Drafts.{asked_key_of};
 ghost use Rattle.carousel_blocks.specs.Held.{bytes_kept};
 ghost use Rattle.carousel_blocks.specs.Buffers.{shape_length};
-ghost use Rattle.carousel_blocks.specs.Changes.{answer_in, answer_to, with_block, with_block_in};
+ghost use Rattle.carousel_blocks.specs.Steps.{answer_in, answer_to, with_block, with_block_in};
 
 use crate::buffer::{Buffer, Shape};
 use crate::put::Put;
