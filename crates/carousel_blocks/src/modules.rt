@@ -220,6 +220,14 @@ fn put_in(buffer: &mut Buffer, number: u16, block: &[u8]) -> Put
     }
 }
 
+/// What the DII says of a module, where it has it.
+pub fn standing_at(modules: &Modules, number: u16) -> Option<&Standing>
+    ensures { option_copied result ≡ option_map (λ m. m.standing) (value_at nat_eq modules.now number) }
+{
+    let module = modules.get(&number)?;
+    Some(&module.standing)
+}
+
 /// The bytes of a module, where it isn't skipped and each block came.
 pub fn whole_of<'a>(modules: &Modules, buffers: &'a Slab<Buffer>, number: u16) -> Option<&'a [u8]>
     requires { AreModules modules.now buffers.now }

@@ -1,6 +1,6 @@
 use Rattle.dsmcc_messages.specs.Ddb.{fields_of}
 use Rattle.carousel_blocks.proofs.StandingFor.{takes_block_by}
-use Rattle.carousel_blocks.proofs.carousel.Carousel.take.Goals as goal
+use Rattle.carousel_blocks.proofs.carousel.Carousel.put_block.Goals as goal
 
 pub returns : goal.returns
 returns c =
