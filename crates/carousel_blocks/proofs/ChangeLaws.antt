@@ -1,13 +1,11 @@
 -- Laws of what is told of a component's modules.
-use Rattle.std.proofs.Common.{◌≡◌, ℕ, ◌<◌, nat_eq, Bool, true, false, List, length, get_or, refl, sym, ap, ◌∙◌, subst, arith, ◌⊎◌, inl, inr}
+use Rattle.std.proofs.Common.{◌≡◌, ℕ, ◌<◌, nat_eq, Bool, List, refl, ◌⊎◌, inl, inr}
 use Rattle.std.specs.Prelude.{Option, Some, None, IsSome, Contains, All, option_map, option_and_then, is_some}
 use Rattle.std.specs.HashMap.{HashMap, ContainsKey, get as value_at}
-use Rattle.std.specs.List.{filter_map, range_with_len}
+use Rattle.std.specs.List.{filter_map}
 use Rattle.std.specs.List.Sorted.{IsStrictlyIncreasing}
 use Rattle.std.proofs.lemmas.List.Elements.{recursion_from_All}
-use Rattle.carousel_blocks.specs.declared.standing.Standing.{Standing}
 use Rattle.carousel_blocks.specs.declared.modules.Module.{Module}
-use Rattle.carousel_blocks.specs.declared.changes.Change.{Change}
 use Rattle.carousel_blocks.specs.Held.{Kept, bytes_kept}
 use Rattle.carousel_blocks.specs.Modules.{Buffers, module_kept, kept_at, standing_kept}
 use Rattle.carousel_blocks.specs.Changes.{number_bound}

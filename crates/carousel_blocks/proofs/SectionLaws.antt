@@ -6,7 +6,7 @@ use Rattle.bml_bytes.specs.declared.refusals.TableFault.{TableFault}
 use Rattle.dsmcc_messages.specs.declared.dii.Dii.{Dii}
 use Rattle.dsmcc_messages.specs.Ddb.{DataBlock}
 use Rattle.dsmcc_messages.specs.Reading.{dii_in, ddb_in}
-use Rattle.carousel_blocks.specs.Message.{Message, Indication, Data, message_with, message_of, messages_of, data_by, data_in}
+use Rattle.carousel_blocks.specs.Message.{Indication, Data, message_with, message_of, messages_of, data_by, data_in}
 
 pub carries_dii : (section : List ℕ) (dii : Dii) → dii_in section ≡ Ok dii → messages_of (section ∷ []) ≡ Indication dii ∷ []
 unfolding message_of

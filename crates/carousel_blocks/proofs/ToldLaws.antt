@@ -1,7 +1,7 @@
 -- Laws of the changes behind a list of messages.
-use Rattle.std.proofs.Common.{◌≡◌, ◌≢◌, ℕ, zero, suc, ◌+◌, ◌<◌, ◌≤◌, ◌==◌, nat_eq, Bool, true, false, not, ◌&&◌, List, [], ◌∷◌, ◌++◌, find, replicate, refl, sym, ap, ap₂, ◌∙◌, arith, eqb-true, if◌then◌else◌}
+use Rattle.std.proofs.Common.{◌≡◌, ◌≢◌, ℕ, zero, suc, ◌<◌, nat_eq, Bool, true, false, not, ◌&&◌, List, [], ◌∷◌, ◌++◌, find, replicate, refl, sym, ap, ap₂, ◌∙◌, arith, eqb-true, if◌then◌else◌}
 use Rattle.std.specs.Prelude.{Option, Some, None, is_some, option_map, option_and_then, option_to_list, slice_get, slice_set}
-use Rattle.std.specs.List.{filter_map, range_with_len}
+use Rattle.std.specs.List.{range_with_len}
 use Rattle.std.specs.Map.{lookup}
 use Rattle.std.specs.HashMap.{HashMap, get as value_at}
 use Rattle.dsmcc_messages.specs.declared.dii.Dii.{Dii}
@@ -14,11 +14,11 @@ use Rattle.carousel_blocks.specs.declared.modules.Module.{Module}
 use Rattle.carousel_blocks.specs.declared.changes.Change.{Change}
 use Rattle.carousel_blocks.specs.Message.{Message, Indication, Data}
 use Rattle.carousel_blocks.specs.InForce.{later, in_force, standings, standing_of, is_of_module}
-use Rattle.carousel_blocks.specs.Held.{Kept, kept, kept_with, counting, asked_count, count_of, is_asked, same_standing, unchanged, joined, bytes_by, bytes_kept, held}
+use Rattle.carousel_blocks.specs.Held.{Kept, kept, kept_with, counting, asked_count, count_of, is_asked, same_standing, unchanged, bytes_by, bytes_kept, held}
 use Rattle.carousel_blocks.specs.Buffers.{is_missing, all_came}
 use Rattle.carousel_blocks.specs.Modules.{Buffers, KeepModules, module_kept, kept_at, entries_kept, kept_for, blocks_kept, standing_kept}
 use Rattle.carousel_blocks.specs.Changes.{change_of, change_at, changes, departures, number_bound, completed, line_of, changed}
-use Rattle.carousel_blocks.specs.Steps.{TakesBlock, is_wanted, with_block, answer_kept, answer_to, is_in_force, entry_change, entry_change_at, entry_changes, block_change}
+use Rattle.carousel_blocks.specs.Steps.{TakesBlock, is_wanted, with_block, answer_to, is_in_force, entry_change, entry_change_at, entry_changes, block_change}
 use Rattle.carousel_blocks.specs.Carousel.{CarouselState, kept_in, StandsFor, put_after}
 use Rattle.carousel_blocks.proofs.BufferLaws.{is_some-joined}
 use Rattle.carousel_blocks.proofs.StandingLaws.{same_is_equal, same_standing_yes}
@@ -88,7 +88,7 @@ kept-others h block n other = kept-data h block n ∙ by (standing_of (in_force 
   by None c e = refl
   by (Some s) c e =
       ap (λ k. Some k) (with_block_not block (kept_with c s) (not_true (is_asked s block) (λ a.
-          absurd (other (sym ((asks s block a).number ∙ standing_number (in_force h) n s e))))))
+      absurd (other (sym ((asks s block a).number ∙ standing_number (in_force h) n s e))))))
 
 pub changes-block : (h : List Message) (block : DataBlock) → block.«module» < number_bound → changes h (h ++ Data block ∷ []) ≡ option_to_list (change_at h (h ++ Data block ∷ []) block.«module»)
 unfolding changes

@@ -1,6 +1,7 @@
 //! The carousel of one component.
 
-ghost use Rattle.std.specs.Prelude.{◌≡◌, ◌≤◌, ◌++◌, [], ◌∷◌, List, Option, Ok, IsOk, IfOk, OnOk, OnErr, length, option_copied};
+ghost use Rattle.std.specs.Prelude.{◌≡◌, ◌≤◌, ◌++◌, [], ◌∷◌, List, length, Option, option_copied};
+ghost use Rattle.std.specs.Prelude.{Ok, IsOk, IfOk, OnOk, OnErr};
 ghost use Rattle.dsmcc_messages.specs.Ddb.{fields_of};
 
 use crate::buffer::Buffer;
@@ -44,7 +45,8 @@ impl Carousel {
     ghost use Rattle.carousel_blocks.specs.Message.{Message, Indication, Data, data_in, messages_of};
     ghost use Rattle.carousel_blocks.specs.InForce.{in_force, standing_of};
     ghost use Rattle.carousel_blocks.specs.Held.{held};
-    ghost use Rattle.carousel_blocks.specs.Carousel.{StandsFor, KeepsSame, kept_in, entry_in_force, skip_in_force, put_after};
+    ghost use Rattle.carousel_blocks.specs.Carousel.{StandsFor, KeepsSame, kept_in};
+    ghost use Rattle.carousel_blocks.specs.Carousel.{entry_in_force, skip_in_force, put_after};
     ghost use Rattle.carousel_blocks.specs.Changes.{changes, departures};
     ghost use Rattle.carousel_blocks.specs.Steps.{TakesDii, TakesBlock, is_in_force, entry_changes, block_change};
 
@@ -67,10 +69,13 @@ impl Carousel {
     /// After `NoMemory` the carousel is as before, and may be told the section once more.
     pub fn take(&mut self, section: &[u8]) -> Result<Vec<Change>, NoMemory>
         requires { 12 ≤ length section.now }
-        ensures stands { OnOk result ((messages : List Message) → StandsFor self.old messages → StandsFor self.new (messages ++ messages_of (section.now ∷ []))) }
-        ensures changes { IfOk result (λ found. (messages : List Message) → StandsFor self.old messages → found.items ≡ changes messages (messages ++ messages_of (section.now ∷ []))) }
+        ensures stands { OnOk result ((messages : List Message) → StandsFor self.old messages
+            → StandsFor self.new (messages ++ messages_of (section.now ∷ []))) }
+        ensures changes { IfOk result (λ found. (messages : List Message) → StandsFor self.old messages
+            → found.items ≡ changes messages (messages ++ messages_of (section.now ∷ []))) }
         ensures same { OnErr result (KeepsSame self.old self.new) }
-        ensures before { OnErr result ((messages : List Message) → StandsFor self.old messages → StandsFor self.new messages) }
+        ensures before { OnErr result ((messages : List Message) → StandsFor self.old messages
+            → StandsFor self.new messages) }
     {
         match read_dii(self.alloc, section) {
             Ok(dii) => self.take_dii(dii),
@@ -81,7 +86,8 @@ impl Carousel {
 
     /// What goes where the component leaves: each module of the DII in force, in ascending number.
     pub fn departures(&self) -> Result<Vec<Change>, NoMemory>
-        ensures { IfOk result (λ found. (messages : List Message) → StandsFor self.now messages → found.items ≡ departures messages) }
+        ensures { IfOk result (λ found. (messages : List Message) → StandsFor self.now messages
+            → found.items ≡ departures messages) }
     {
         let none = HashMap::new(self.alloc);
         changes_between(self.alloc, &self.modules, &none, &self.buffers)
@@ -92,9 +98,11 @@ impl Carousel {
     ///
     /// After `NoMemory` everything is as before.
     pub fn set_dii(&mut self, dii: Dii) -> Result<(), NoMemory>
-        ensures stands { OnOk result ((messages : List Message) → StandsFor self.old messages → StandsFor self.new (messages ++ Indication dii ∷ [])) }
+        ensures stands { OnOk result ((messages : List Message) → StandsFor self.old messages
+            → StandsFor self.new (messages ++ Indication dii ∷ [])) }
         ensures same { OnErr result (KeepsSame self.old self.new) }
-        ensures before { OnErr result ((messages : List Message) → StandsFor self.old messages → StandsFor self.new messages) }
+        ensures before { OnErr result ((messages : List Message) → StandsFor self.old messages
+            → StandsFor self.new messages) }
     {
         let _changes = self.take_dii(dii)?;
         Ok(())
@@ -135,8 +143,10 @@ impl Carousel {
     // Takes a section that carries no readable DII.
     fn take_data(&mut self, section: &[u8]) -> Result<Vec<Change>, NoMemory>
         requires { 12 ≤ length section.now }
-        ensures stands { OnOk result ((messages : List Message) → StandsFor self.old messages → StandsFor self.new (messages ++ data_in section.now)) }
-        ensures changes { IfOk result (λ found. (messages : List Message) → StandsFor self.old messages → found.items ≡ changes messages (messages ++ data_in section.now)) }
+        ensures stands { OnOk result ((messages : List Message) → StandsFor self.old messages
+            → StandsFor self.new (messages ++ data_in section.now)) }
+        ensures changes { IfOk result (λ found. (messages : List Message) → StandsFor self.old messages
+            → found.items ≡ changes messages (messages ++ data_in section.now)) }
         ensures same { OnErr result (KeepsSame self.old self.new) }
     {
         match read_ddb(section) {
@@ -146,8 +156,10 @@ impl Carousel {
     }
 
     fn take_dii(&mut self, dii: Dii) -> Result<Vec<Change>, NoMemory>
-        ensures stands { OnOk result ((messages : List Message) → StandsFor self.old messages → StandsFor self.new (messages ++ Indication dii ∷ [])) }
-        ensures changes { IfOk result (λ found. (messages : List Message) → StandsFor self.old messages → found.items ≡ changes messages (messages ++ Indication dii ∷ [])) }
+        ensures stands { OnOk result ((messages : List Message) → StandsFor self.old messages
+            → StandsFor self.new (messages ++ Indication dii ∷ [])) }
+        ensures changes { IfOk result (λ found. (messages : List Message) → StandsFor self.old messages
+            → found.items ≡ changes messages (messages ++ Indication dii ∷ [])) }
         ensures same { OnErr result (KeepsSame self.old self.new) }
     {
         if self.is_in_force(dii.transaction) {
@@ -158,8 +170,10 @@ impl Carousel {
 
     // The room for its change is taken first, so that a block is kept only where its change is told.
     fn take_ddb(&mut self, ddb: Ddb<'_>) -> Result<Vec<Change>, NoMemory>
-        ensures stands { OnOk result ((messages : List Message) → StandsFor self.old messages → StandsFor self.new (messages ++ Data (fields_of ddb.entry) ∷ [])) }
-        ensures changes { IfOk result (λ found. (messages : List Message) → StandsFor self.old messages → found.items ≡ changes messages (messages ++ Data (fields_of ddb.entry) ∷ [])) }
+        ensures stands { OnOk result ((messages : List Message) → StandsFor self.old messages
+            → StandsFor self.new (messages ++ Data (fields_of ddb.entry) ∷ [])) }
+        ensures changes { IfOk result (λ found. (messages : List Message) → StandsFor self.old messages
+            → found.items ≡ changes messages (messages ++ Data (fields_of ddb.entry) ∷ [])) }
         ensures same { OnErr result (KeepsSame self.old self.new) }
     {
         let mut changes = Vec::with_capacity(self.alloc, 1)?;
@@ -172,7 +186,8 @@ impl Carousel {
 
     // What is told of a block, by what became of it.
     fn change_by(&self, put: Put) -> Option<Change>
-        ensures { (messages : List Message) → StandsFor self.now messages → result ≡ block_change (standing_of (in_force messages)) put }
+        ensures { (messages : List Message) → StandsFor self.now messages
+            → result ≡ block_change (standing_of (in_force messages)) put }
     {
         let Put::Completed(number) = put else {
             return None;

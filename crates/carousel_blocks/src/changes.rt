@@ -1,7 +1,8 @@
 //! What the next section changes in a component's modules.
 
-ghost use Rattle.std.specs.Prelude.{◌≡◌, ℕ, IfOk, OnOk, ◌++◌, ◌<◌, All, Contains, nat_eq, is_some, option_copied, option_map, option_and_then};
-ghost use Rattle.std.specs.HashMap.{HashMap, ContainsKey, keys, get as value_at};
+ghost use Rattle.std.specs.Prelude.{◌≡◌, ◌<◌, ℕ, nat_eq, ◌++◌, All, Contains, IfOk, OnOk};
+ghost use Rattle.std.specs.Prelude.{is_some, option_copied, option_and_then};
+ghost use Rattle.std.specs.HashMap.{ContainsKey, keys};
 ghost use Rattle.std.specs.List.{filter_map};
 ghost use Rattle.std.specs.List.Sorted.{IsStrictlyIncreasing};
 ghost use Rattle.carousel_blocks.specs.Held.{bytes_kept};
@@ -128,7 +129,8 @@ pub fn next_modules(
     requires { AreModules old.now buffers.old }
     ensures keeps { KeepModules old.now buffers.old buffers.new }
     ensures modules { IfOk result (λ next. AreModulesOf dii (kept_at old.now buffers.old) next.0 buffers.new) }
-    ensures changes { IfOk result (λ next. next.1.items ≡ entry_changes (kept_at old.now buffers.old) (kept_at next.0 buffers.new)) }
+    ensures changes { IfOk result (λ next. next.1.items
+        ≡ entry_changes (kept_at old.now buffers.old) (kept_at next.0 buffers.new)) }
 {
     let modules = modules_of(alloc, old, buffers, dii)?;
     let changes = changes_between(alloc, old, &modules, buffers)?;
@@ -144,7 +146,8 @@ pub fn changes_between(
     buffers: &Slab<Buffer>,
 ) -> Result<Vec<Change>, NoMemory>
     requires { AreModules new.now buffers.now }
-    ensures { IfOk result (λ found. found.items ≡ entry_changes (kept_at old.now buffers.now) (kept_at new.now buffers.now)) }
+    ensures { IfOk result (λ found. found.items
+        ≡ entry_changes (kept_at old.now buffers.now) (kept_at new.now buffers.now)) }
 {
     let numbers = numbers_of(alloc, old, new)?;
     changes_at(alloc, &numbers, old, new, buffers)
@@ -153,8 +156,10 @@ pub fn changes_between(
 // The numbers of the modules of both, each once, in ascending order.
 fn numbers_of(alloc: Global, old: &Modules, new: &Modules) -> Result<Vec<u16>, NoMemory>
     ensures rises { IfOk result (λ numbers. IsStrictlyIncreasing numbers.items) }
-    ensures old { IfOk result (λ numbers. (number : ℕ) → ContainsKey nat_eq old.now number → Contains numbers.items number) }
-    ensures new { IfOk result (λ numbers. (number : ℕ) → ContainsKey nat_eq new.now number → Contains numbers.items number) }
+    ensures old { IfOk result (λ numbers. (number : ℕ) → ContainsKey nat_eq old.now number
+        → Contains numbers.items number) }
+    ensures new { IfOk result (λ numbers. (number : ℕ) → ContainsKey nat_eq new.now number
+        → Contains numbers.items number) }
 {
     let mut numbers = Vec::new(alloc);
     add_numbers(&mut numbers, old)?;
@@ -180,7 +185,8 @@ fn changes_at(
     buffers: &Slab<Buffer>,
 ) -> Result<Vec<Change>, NoMemory>
     requires { AreModules new.now buffers.now }
-    ensures changes { IfOk result (λ found. found.items ≡ filter_map (entry_change_at (kept_at old.now buffers.now) (kept_at new.now buffers.now)) numbers.now) }
+    ensures changes { IfOk result (λ found. found.items
+        ≡ filter_map (entry_change_at (kept_at old.now buffers.now) (kept_at new.now buffers.now)) numbers.now) }
     // The numbers have two bytes.
     ensures fit { OnOk result (All (λ number. number < number_bound) numbers.now) }
 {

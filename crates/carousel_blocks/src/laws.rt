@@ -1,6 +1,7 @@
 //! What the definitions say, as laws.
 
-ghost use Rattle.std.specs.Prelude.{◌≡◌, ◌↔◌, ◌++◌, ◌∷◌, [], ◌<◌, ◌^◌, ℕ, List, None, Some, Contains, option_to_list};
+ghost use Rattle.std.specs.Prelude.{◌≡◌, ◌↔◌, ◌<◌, ◌^◌, ℕ, List, [], ◌∷◌, ◌++◌, Contains};
+ghost use Rattle.std.specs.Prelude.{None, Some, option_to_list};
 ghost use Rattle.dsmcc_messages.specs.declared.dii.Dii.{Dii};
 ghost use Rattle.dsmcc_messages.specs.Ddb.{DataBlock};
 ghost use Rattle.carousel_blocks.specs.Message.{Message, Indication, Data};
@@ -30,11 +31,15 @@ pub fn law_of_block_order()
 /// asked for.
 pub fn law_of_no_change()
     ensures same { (messages : List Message) → changes messages messages ≡ [] }
-    ensures repeated { (messages : List Message) (dii other : Dii) → in_force messages ≡ Some dii → other.transaction ≡ dii.transaction → changes messages (messages ++ Indication other ∷ []) ≡ [] }
-    ensures ignored { (messages : List Message) (block : DataBlock) → put_after messages block ≡ Put.Ignored → changes messages (messages ++ Data block ∷ []) ≡ [] }
+    ensures repeated { (messages : List Message) (dii other : Dii) → in_force messages ≡ Some dii
+        → other.transaction ≡ dii.transaction → changes messages (messages ++ Indication other ∷ []) ≡ [] }
+    ensures ignored { (messages : List Message) (block : DataBlock) → put_after messages block ≡ Put.Ignored
+        → changes messages (messages ++ Data block ∷ []) ≡ [] }
 {}
 
 /// Where a block comes, all changes are the one of its module.
 pub fn law_of_block_change()
-    ensures { (messages : List Message) (block : DataBlock) → block.«module» < 2 ^ 16 → changes messages (messages ++ Data block ∷ []) ≡ option_to_list (change_at messages (messages ++ Data block ∷ []) block.«module») }
+    ensures { (messages : List Message) (block : DataBlock) → block.«module» < 2 ^ 16
+        → changes messages (messages ++ Data block ∷ [])
+        ≡ option_to_list (change_at messages (messages ++ Data block ∷ []) block.«module») }
 {}

@@ -1,4 +1,4 @@
-use Rattle.std.proofs.Common.{sym, ap, ◌∙◌, subst, ◌<◌, ℕ, List}
+use Rattle.std.proofs.Common.{ap, ◌∙◌, subst, ◌<◌, ℕ, List}
 use Rattle.std.specs.Prelude.{Result, Ok, Err, IfOk, OnOk, All}
 use Rattle.std.specs.List.{filter_map}
 use Rattle.carousel_blocks.specs.Modules.{kept_at}
@@ -18,4 +18,4 @@ returns c =
     let same = c.deref.ensures.value in
     let listed = changes_listed c.args.old.now c.args.new.now c.args.buffers.now ns c.in_ok-numbers.ensures.rises c.in_ok-numbers.ensures.old c.in_ok-numbers.ensures.new in
     both c.changes_at.result c.changes_at.ensures.fit c.changes_at.ensures.changes (λ fit found is.
-        is ∙ ap (filter_map f) same ∙ listed (subst (λ (ms : List ℕ). All (λ n. n < number_bound) ms) same fit))
+    is ∙ ap (filter_map f) same ∙ listed (subst (λ (ms : List ℕ). All (λ n. n < number_bound) ms) same fit))

@@ -1,4 +1,3 @@
-use Rattle.std.proofs.Common.{nat_eq, sym}
 use Rattle.std.specs.HashMap.{keys}
 use Rattle.std.proofs.Common.{eqb-true}
 use Rattle.std.proofs.lemmas.List.Filters.{dedup_is}

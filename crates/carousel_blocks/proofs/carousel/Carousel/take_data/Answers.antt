@@ -1,5 +1,4 @@
-use Rattle.std.proofs.Common.{sym, ap, subst, List, ◌++◌, ◌≡◌, ◌∙◌, append-nil}
-use Rattle.std.specs.Prelude.{OnOk, IfOk}
+use Rattle.std.proofs.Common.{sym, ap, subst, List, ◌++◌, ◌∙◌, append-nil}
 use Rattle.std.proofs.lemmas.Result.{IfOk-weaker, on_ok_weaker}
 use Rattle.dsmcc_messages.specs.Ddb.{fields_of}
 use Rattle.carousel_blocks.specs.Message.{Message}

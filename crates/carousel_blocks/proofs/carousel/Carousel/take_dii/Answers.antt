@@ -23,4 +23,4 @@ pub returns-clause-changes : goal.returns-clause-changes
 returns-clause-changes c =
     let other = sym c.is_in_force.ensures ∙ c.if-is_in_force.false in
     both c.replace.result c.replace.ensures.taken c.replace.ensures.changes (λ takes found is h s.
-        is ∙ changes-other c.args.self.now c.replace.new.self c.args.dii other h s (stands_dii c.args.self.now c.replace.new.self c.args.dii other takes h s))
+    is ∙ changes-other c.args.self.now c.replace.new.self c.args.dii other h s (stands_dii c.args.self.now c.replace.new.self c.args.dii other takes h s))
