@@ -109,11 +109,27 @@ const FLIPPED: Sent = Sent::Flipped(1, 1, 0, b"abcd");
 const MODULE: &[Sent] = &[INDICATION, FIRST, SECOND, THIRD];
 
 const LATER: &[Sent] = &[
-    Sent::Indication(1, 4, &[Entry(1, 1, 4, &[]), Entry(2, 1, 4, &[]), Entry(3, 1, 4, &[])]),
+    Sent::Indication(
+        1,
+        4,
+        &[
+            Entry(1, 1, 4, &[]),
+            Entry(2, 1, 4, &[]),
+            Entry(3, 1, 4, &[]),
+        ],
+    ),
     Sent::Block(1, 1, 0, b"abcd"),
     Sent::Block(2, 1, 0, b"abcd"),
     Sent::Block(3, 1, 0, b"abcd"),
-    Sent::Indication(2, 4, &[Entry(1, 1, 4, &[]), Entry(2, 2, 4, &[]), Entry(4, 1, 4, &[])]),
+    Sent::Indication(
+        2,
+        4,
+        &[
+            Entry(1, 1, 4, &[]),
+            Entry(2, 2, 4, &[]),
+            Entry(4, 1, 4, &[]),
+        ],
+    ),
     Sent::Block(2, 2, 0, b"abcd"),
     Sent::Block(4, 1, 0, b"abcd"),
 ];

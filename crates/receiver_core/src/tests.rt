@@ -70,7 +70,8 @@ fn a_start_document_is_loaded_once_and_shown(rt: HostRuntime) -> Result<(), Fail
     take(&mut receiver, &packet_of(alloc, 1, BLOCK)?, &mut out)?;
     take(&mut receiver, &packet_of(alloc, 2, BLOCK)?, &mut out)?;
     receiver.show(&mut out)?;
-    let expected: &[u8] = b"show 0\nmodule 40 0000 01 50\nload /40/0000\nshow 0\nbox 1 0 0 0 8 0 7\n\
+    let expected: &[u8] =
+        b"show 0\nmodule 40 0000 01 50\nload /40/0000\nshow 0\nbox 1 0 0 0 8 0 7\n\
         box 1 0 0 0 8 0 7\ntext 1 0 0 0 7 24 hi\n";
     assert_eq!(rt; out.as_slice(), expected);
     Ok(())
