@@ -1,24 +1,24 @@
 -- What bytes read as is the tree that they stand for, without a fault or with its first one.
-use Rattle.std.proofs.Common.{◌≡◌, ◌≢◌, ℕ, zero, suc, ◌<◌, ◌≤◌, Bool, true, false, cond, ◌⊎◌, inl, inr, List, [], ◌∷◌, ◌++◌, length, Option, Some, None, refl, sym, ◌∙◌, ap, subst, arith}
+use Rattle.std.proofs.Common.{◌≡◌, ◌≢◌, ℕ, zero, suc, ◌<◌, ◌≤◌, Bool, true, false, cond, List, [], ◌∷◌, ◌++◌, length, Option, Some, None, refl, sym, ◌∙◌, ap, subst, arith}
 use Rattle.std.specs.Prelude.{nat_le, option_map, option_and_then, Result, Ok, Err, IfOk, IfErr, MatchResult}
 use Rattle.std.proofs.lemmas.Bool.{false_from_ne_true, true_from_ne_false}
 use Rattle.std.proofs.lemmas.List.{length-append}
 use Rattle.std.proofs.lemmas.Bool.Decides.{nat_tests}
 use Rattle.dom_tree.specs.Items.{Item}
 use Rattle.dom_tree.specs.Walks.{most_nodes}
-use Rattle.dom_tree.specs.Nested.{Nested, items_of, node_count}
-use Rattle.bml_reader.specs.Parts.{Part, IsPart, Spells}
+use Rattle.dom_tree.specs.Nested.{Nested, items_of}
+use Rattle.bml_reader.specs.Parts.{Part, Spells}
 use Rattle.bml_reader.specs.Grammar.{Reads, parts_of, tree_of}
 use Rattle.bml_reader.specs.Faults.{ReadsWell, HasFault, HasWrongRoot, IsTooDeep, HasTooManyNodes}
 use Rattle.bml_reader.specs.Lexing.{Found, found, part_at}
 use Rattle.bml_reader.specs.Machine.{State, Kept, kept_of, start_state, step, steps}
-use Rattle.bml_reader.specs.Readings.{read_parts, has_other_root, is_behind, judged_nodes, judged, judged_where_read, reading_of}
+use Rattle.bml_reader.specs.Readings.{read_parts, has_other_root, judged_nodes, judged, judged_where_read, reading_of}
 use Rattle.bml_reader.specs.ReaderViews.{seen_of, Refuses}
 use Rattle.bml_reader.specs.declared.faults.DocFault.{DocFault}
 use Rattle.bml_reader.specs.declared.faults.DocFault.TheVariants.{Malformed, WrongRoot, TooDeep, TooManyNodes, NoMemory}
 use Rattle.bml_reader.specs.declared.phases.Phase.{Phase}
 use Rattle.bml_reader.specs.declared.phases.Phase.TheVariants.{BeforeDoctype, BeforeRoot, Inside, Behind}
-use Rattle.bml_reader.proofs.ByteLemmas.{some-same, chained}
+use Rattle.bml_reader.proofs.ByteLemmas.{chained}
 use Rattle.bml_reader.proofs.PartLemmas.{part_at-part, part_at-is}
 use Rattle.bml_reader.proofs.MachineLemmas.{steps-none, steps-one, goes_deep}
 use Rattle.bml_reader.proofs.DocumentLemmas.{behind_tree, document, read-document}
@@ -81,7 +81,7 @@ reading-tree bytes tree h =
     let all : read_parts (suc (length bytes)) bytes start_state ≡ steps (parts_of h.document) start_state = read-spelled (parts_of h.document) (suc (length bytes)) bytes start_state h.spelled (omega arith) in
     ap judged_where_read (all ∙ (document h.document h.is_document ∙ ap (λ z. Some (behind_tree z)) (sym h.stands_for)))
 
--- what bytes come to that are a document with that tree, or none
+-- the bytes are a document with that tree, or what they come to is that they are none
 data Comes (bytes : List ℕ) (r : Result (List Item) DocFault) : Type 0 where
   Stands : (tree : Nested) → Reads bytes tree → Comes bytes r
   Fails : r ≡ Err Malformed → Comes bytes r
@@ -128,6 +128,10 @@ refuses : (other deep : Bool) (nodes : List Item) (fault : DocFault) → judged_
 refuses true deep nodes fault e = subst (λ f. Refuses f true deep (kept_of nodes [])) (fault_is WrongRoot fault e) refl
 refuses false true nodes fault e = subst (λ f. Refuses f false true (kept_of nodes [])) (fault_is TooDeep fault e) (refl, refl)
 refuses false false nodes fault e = refuses-by nodes fault (nat_le (length nodes) most_nodes) e
+
+-- where a document's bytes read as a fault, its tree has that fault
+tree-refuses : (bytes : List ℕ) (tree : Nested) (fault : DocFault) → Reads bytes tree → reading_of bytes ≡ Err fault → Refuses fault (has_other_root (items_of tree)) (goes_deep 0 tree) (kept_of (items_of tree) [])
+tree-refuses bytes tree fault h e = refuses (has_other_root (items_of tree)) (goes_deep 0 tree) (items_of tree) fault (sym (reading-tree bytes tree h) ∙ e)
 
 at_end : (bytes : List ℕ) (tree : Nested) → Reads bytes tree → AtEnd bytes (seen_of (behind_tree tree))
 at_end bytes tree h = record { tree = tree; reads = h; seen = refl }
@@ -183,10 +187,10 @@ well-reads bytes items h =
 
 reads-fault-by : (bytes : List ℕ) (fault : DocFault) → Comes bytes (reading_of bytes) → reading_of bytes ≡ Err fault → HasFault bytes fault
 reads-fault-by bytes fault (Stands tree h) e =
-    AtEnd-fault bytes (seen_of (behind_tree tree)) fault (at_end bytes tree h) (refuses (has_other_root (items_of tree)) (goes_deep 0 tree) (items_of tree) fault (sym (reading-tree bytes tree h) ∙ e))
+    AtEnd-fault bytes (seen_of (behind_tree tree)) fault (at_end bytes tree h) (tree-refuses bytes tree fault h e)
 reads-fault-by bytes fault (Fails f) e =
     let same : Malformed ≡ fault = fault_is Malformed fault (sym f ∙ e) in
-    subst (HasFault bytes) same (λ tree h. refuses (has_other_root (items_of tree)) (goes_deep 0 tree) (items_of tree) Malformed (sym (reading-tree bytes tree h) ∙ f))
+    subst (HasFault bytes) same (λ tree h. tree-refuses bytes tree Malformed h f)
 
 pub reads-fault : (bytes : List ℕ) (fault : DocFault) → reading_of bytes ≡ Err fault → HasFault bytes fault
 reads-fault bytes fault e = reads-fault-by bytes fault (comes bytes) e
@@ -206,14 +210,13 @@ fault-reads bytes TooManyNodes n h =
 fault-reads bytes NoMemory n h = absurd (n refl)
 
 no-memory-by : (bytes : List ℕ) → Comes bytes (reading_of bytes) → reading_of bytes ≡ Err NoMemory → ⊥
-no-memory-by bytes (Stands tree h) e = refuses (has_other_root (items_of tree)) (goes_deep 0 tree) (items_of tree) NoMemory (sym (reading-tree bytes tree h) ∙ e)
+no-memory-by bytes (Stands tree h) e = tree-refuses bytes tree NoMemory h e
 no-memory-by bytes (Fails f) e = let bad : ◌≡◌ {A = Judged} (Err Malformed) (Err NoMemory) = sym f ∙ e in cc
 
 pub no-memory : (bytes : List ℕ) → reading_of bytes ≡ Err NoMemory → ⊥
 no-memory bytes e = no-memory-by bytes (comes bytes) e
 
 -- and so is what the reader answers
-
 pub answer-reads : (bytes : List ℕ) (r : Result (List Item) DocFault) → IfOk r (ReadsWell bytes) → IfErr r (HasFault bytes) → MatchResult r (λ items. reading_of bytes ≡ Ok items) (λ fault. fault ≢ NoMemory → reading_of bytes ≡ Err fault)
 answer-reads bytes (Ok items) w f = well-reads bytes items w
 answer-reads bytes (Err fault) w f = λ n. fault-reads bytes fault n f

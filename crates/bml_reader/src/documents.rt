@@ -14,8 +14,9 @@ use dom_tree::Tree;
 use std::alloc::Global;
 
 /// Reads a document, and gives its nodes in document order. Where the bytes aren't a document that is shown,
-/// tells the first fault that they have, in the order in which `DocFault` lists them; each byte is read a
-/// bounded number of times, and what is kept is bounded by the tree, the open elements and the longest text.
+/// tells the first fault that they have, in the order in which `DocFault` lists them. So the answer is what the
+/// bytes read as, but that `NoMemory` may come in its place. Each byte is read a bounded number of times, and what
+/// is kept is bounded by the tree, the open elements and the longest text.
 pub fn read_document(alloc: Global, bytes: &[u8]) -> Result<Tree, DocFault>
     ensures ok { IfOk result (λ tree. ReadsWell bytes.now tree) }
     ensures err { IfErr result (λ fault. HasFault bytes.now fault) }

@@ -19,9 +19,10 @@ bml_replay replay --data-pid N STREAM RECORD
 
     N       the PID of the data carousel, 16 to 8190
     STREAM  the recorded stream
-    RECORD  what the receiver is to take, an item on each line: all
+    RECORD  what the receiver is to do, an item on each line: all, packets N, show
 
-It prints a line for each module that comes to be whole, and at the end the number of packets taken.
+It prints a line for each module that comes to be whole, one for the start document, and the display lists that the
+record asks for, and at the end the number of packets taken.
 The status is 0 where all was done. Otherwise standard error says what was not.
 ";
 

@@ -113,11 +113,27 @@ const COMPRESSED: Sent = Sent::Indication(1, 4, &[Entry(1, 1, 10, &[0xC2, 5, 0, 
 const LARGE: Sent = Sent::Indication(1, 4, &[Entry(1, 1, 1_048_577, &[])]);
 
 const LATER: &[Sent] = &[
-    Sent::Indication(1, 4, &[Entry(1, 1, 4, &[]), Entry(2, 1, 4, &[]), Entry(3, 1, 4, &[])]),
+    Sent::Indication(
+        1,
+        4,
+        &[
+            Entry(1, 1, 4, &[]),
+            Entry(2, 1, 4, &[]),
+            Entry(3, 1, 4, &[]),
+        ],
+    ),
     Sent::Block(1, 1, 0, b"abcd"),
     Sent::Block(2, 1, 0, b"abcd"),
     Sent::Block(3, 1, 0, b"abcd"),
-    Sent::Indication(2, 4, &[Entry(1, 1, 4, &[]), Entry(2, 2, 4, &[]), Entry(4, 1, 4, &[])]),
+    Sent::Indication(
+        2,
+        4,
+        &[
+            Entry(1, 1, 4, &[]),
+            Entry(2, 2, 4, &[]),
+            Entry(4, 1, 4, &[]),
+        ],
+    ),
     Sent::Block(2, 2, 0, b"abcd"),
     Sent::Block(4, 1, 0, b"abcd"),
 ];

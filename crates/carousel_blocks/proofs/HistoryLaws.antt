@@ -13,7 +13,7 @@ use Rattle.carousel_blocks.specs.InForce.{later, in_force, standings, standing_o
 use Rattle.carousel_blocks.specs.Held.{asked_count, count_of, is_asked, is_asked_by, asked_block, unchanged, stays, counting, first_of, blocks_from, Kept, kept_with, kept, bytes_by, bytes_kept, held}
 use Rattle.carousel_blocks.specs.Buffers.{is_missing, all_came}
 use Rattle.carousel_blocks.specs.Modules.{kept_for, blocks_for, blocks_kept, standing_kept}
-use Rattle.carousel_blocks.specs.Changes.{with_block, answer_kept, answer_to}
+use Rattle.carousel_blocks.specs.Steps.{with_block, answer_kept, answer_to}
 use Rattle.carousel_blocks.specs.Carousel.{put_after}
 use Rattle.carousel_blocks.proofs.BufferLaws.{is_some-joined}
 use Rattle.carousel_blocks.proofs.StandingLaws.{same_standing_yes, unchanged_equal}
@@ -218,7 +218,7 @@ kept-same h dii m e =
     ∙ ap (λ f. option_map (kept_with (if unchanged (standing_of (in_force h) m) (standing_of f m) then counting None m h ++ [] else [])) (standing_of f m)) e
     ∙ kept_again (standing_of (in_force h) m) (counting None m h)
 
-found_number : (m : ℕ) (l : List Standing) (n : Standing) → find (is_of_module m) l ≡ Some n → n.entry.id ≡ m
+pub found_number : (m : ℕ) (l : List Standing) (n : Standing) → find (is_of_module m) l ≡ Some n → n.entry.id ≡ m
 found_number m [] n h = cc
 found_number m (s ∷ l) n h = by (s.entry.id == m) refl (found_number m l n) h where
   by : (t : Bool) → (s.entry.id == m) ≡ t → (find (is_of_module m) l ≡ Some n → n.entry.id ≡ m) → cond t (Some s) (find (is_of_module m) l) ≡ Some n → n.entry.id ≡ m

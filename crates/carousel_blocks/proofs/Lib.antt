@@ -7,3 +7,7 @@ pub mod HistoryLaws
 pub mod StandingFor
 pub mod PlaceLaws
 pub mod OrderLaws
+pub mod NumberLaws
+pub mod ChangeLaws
+pub mod ToldLaws
+pub mod SectionLaws

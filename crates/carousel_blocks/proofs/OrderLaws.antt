@@ -10,7 +10,7 @@ use Rattle.carousel_blocks.specs.Message.{Message, Indication, Data}
 use Rattle.carousel_blocks.specs.InForce.{later, in_force, standing_of}
 use Rattle.carousel_blocks.specs.Held.{is_asked_by, counting, first_of, blocks_from, count_of, Kept, kept_with, kept, bytes_kept, held}
 use Rattle.carousel_blocks.specs.Order.{data_of, OnlyRepeats, SameBlocks, AreConsistent}
-use Rattle.carousel_blocks.specs.Changes.{with_block}
+use Rattle.carousel_blocks.specs.Steps.{with_block}
 use Rattle.carousel_blocks.proofs.HistoryLaws.{in_force-append, later_data, kept-same, kept-data, kept_with-asked, option_map-option_or}
 use Rattle.carousel_blocks.proofs.PutLaws.{with_block_not}
 use Rattle.std.proofs.lemmas.List.Elements.{Contains-append_right, Contains-append_cases}
@@ -26,7 +26,7 @@ snoc_asked s c b = by (is_asked_by (Some s) b) refl where
   by true e = sym (kept_with-asked s c b e)
   by false e = with_block_not b (kept_with c s) e ∙ ap (λ l. kept_with l s) (sym (append-nil c))
 
-repeat_same : (f : Option Dii) (dii other : Dii) → f ≡ Some dii → other.transaction ≡ dii.transaction → later f (Indication other) ≡ f
+pub repeat_same : (f : Option Dii) (dii other : Dii) → f ≡ Some dii → other.transaction ≡ dii.transaction → later f (Indication other) ≡ f
 repeat_same f dii other e h = ap (λ x. later x (Indication other)) e ∙ ap (λ (t : Bool). Some (if t then dii else other)) (same other.transaction dii.transaction h) ∙ sym e where
   same : (a b : ℕ) → a ≡ b → (a == b) ≡ true
   same a b h = grind arith

@@ -12,7 +12,7 @@ use Rattle.carousel_blocks.specs.Held.{Kept, count_of, block_length, is_asked, j
 use Rattle.carousel_blocks.specs.Buffers.{BufferState, is_missing, all_came, shape_length, with_block_at}
 use Rattle.carousel_blocks.specs.Modules.{Buffers, blocks_of, blocks_at, module_kept, shape_by, IsBacked, AreModules, kept_at}
 use Rattle.carousel_blocks.specs.Drafts.{asked_key_of, is_key}
-use Rattle.carousel_blocks.specs.Changes.{with_block, answer_kept, answer_to, with_block_in, answer_in}
+use Rattle.carousel_blocks.specs.Steps.{with_block, answer_kept, answer_to, with_block_in, answer_in}
 use Rattle.carousel_blocks.proofs.ModuleLaws.{has_buffer, no_key, ShapeIs, shape_is}
 use Rattle.carousel_blocks.proofs.DraftLaws.{skipped_count}
 

@@ -13,7 +13,7 @@ use Rattle.carousel_blocks.specs.InForce.{later, in_force, standing_of, standing
 use Rattle.carousel_blocks.specs.Held.{Kept, kept, held, bytes_kept, counting, kept_with}
 use Rattle.carousel_blocks.specs.Modules.{Buffers, module_kept, kept_at, kept_for, entries_kept, standing_kept, KeepModules}
 use Rattle.carousel_blocks.specs.Drafts.{HaveStandings}
-use Rattle.carousel_blocks.specs.Changes.{TakesDii, TakesBlock, is_transaction, is_in_force, with_block, answer_to}
+use Rattle.carousel_blocks.specs.Steps.{TakesDii, TakesBlock, is_transaction, is_in_force, with_block, answer_to}
 use Rattle.carousel_blocks.specs.Carousel.{CarouselState, kept_in, StandsFor, KeepsSame, put_after}
 use Rattle.carousel_blocks.proofs.HistoryLaws.{later_data, in_force-append, kept-data, kept-same, kept-other, answer-put}
 

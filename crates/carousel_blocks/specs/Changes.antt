@@ -1,55 +1,73 @@
--- What one message makes of what a carousel keeps.
-use Rattle.std.specs.Prelude.{◌≡◌, ℕ, ◌==◌, Bool, false, ◌&&◌, if◌then◌else◌, List, find, slice_get, slice_set, Option, Some, None, option_map}
-use Rattle.dsmcc_messages.specs.declared.dii.Dii.{Dii}
-use Rattle.dsmcc_messages.specs.Ddb.{DataBlock}
-use Rattle.carousel_blocks.specs.declared.put.Put.{Put}
-use Rattle.carousel_blocks.specs.declared.put.Put.TheVariants as puts
-use Rattle.carousel_blocks.specs.InForce.{is_of_module, standings}
-use Rattle.carousel_blocks.specs.Held.{Kept, is_asked}
-use Rattle.carousel_blocks.specs.Buffers.{BufferState, is_missing, all_came, with_block_at}
-use Rattle.carousel_blocks.specs.Modules.{kept_for}
-use Rattle.carousel_blocks.specs.Carousel.{CarouselState, kept_in}
+-- What the next section of a component changes in its modules (after ARIB STD-B24, volume 3; this project's own).
+--
+-- A module gone has the line Gone and status 1. A new one has status 2, and one in both DIIs in force and changed has
+-- status 0: where the entry is skipped its line is Skipped with the cause, where the module is held at once its line is
+-- Delivered, else it has none. A block that completes a module gives the line Delivered and no status.
+use Rattle.std.specs.Prelude.{ℕ, Bool, true, false, ◌&&◌, not, if◌then◌else◌, List, [], Option, Some, None, is_some}
+use Rattle.std.specs.List.{filter_map, range_with_len}
+use Rattle.dsmcc_messages.specs.declared.entry.Entry.{Entry}
+use Rattle.carousel_blocks.specs.declared.standing.SkipCause.{SkipCause}
+use Rattle.carousel_blocks.specs.declared.standing.Standing.{Standing}
+use Rattle.carousel_blocks.specs.declared.changes.Change.{Change}
+use Rattle.carousel_blocks.specs.declared.changes.ChangeLine.{ChangeLine}
+use Rattle.carousel_blocks.specs.declared.changes.ChangeLine.TheVariants.{Delivered, Gone, Skipped}
+use Rattle.carousel_blocks.specs.Message.{Message}
+use Rattle.carousel_blocks.specs.InForce.{in_force, standing_of}
+use Rattle.carousel_blocks.specs.Held.{same_standing, held}
 
--- the transactionId is that of the DII in force
-abbrev pub is_transaction : Option ℕ → ℕ → Bool
-is_transaction None transaction = false
-is_transaction (Some other) transaction = transaction == other
+-- the line of a module that is held
+abbrev pub delivered : Entry → ChangeLine
+delivered entry = Delivered entry.version entry.size
 
-abbrev pub is_in_force : CarouselState → ℕ → Bool
-is_in_force c transaction = is_transaction c.transaction transaction
+-- the line of an entry that is new, or another than before: why it is skipped, or that it is held at once
+abbrev pub line_by : Entry → Option SkipCause → Bool → Option ChangeLine
+line_by entry (Some cause) is_held = Some (Skipped cause)
+line_by entry None true = Some (delivered entry)
+line_by entry None false = None
 
--- another DII is in force
-pub record TakesDii (old new : CarouselState) (dii : Dii) : Type 0 where
-  pub transaction : new.transaction ≡ Some dii.transaction
-  pub modules : (number : ℕ) → kept_in new number ≡ option_map (kept_for (kept_in old)) (find (is_of_module number) (standings dii))
+abbrev pub line_of : Standing → Option (List ℕ) → Option ChangeLine
+line_of standing bytes = line_by standing.entry standing.skip (is_some bytes)
 
--- the block is one that is asked for, and none came for its number
-abbrev pub is_wanted : Kept → DataBlock → Bool
-is_wanted k block = is_asked k.standing block && is_missing (slice_get k.blocks block.number)
+-- what is told of a module whose entry went, changed or came
+abbrev pub gone : ℕ → Change
+gone number = record { «module» = number; status = Some 1; line = Some Gone; locked = false }
 
--- with a block more, where it is wanted
-abbrev pub with_block : DataBlock → Kept → Kept
-with_block block k = if is_wanted k block then record { standing = k.standing; blocks = slice_set k.blocks block.number (Some block.block) } else k
+abbrev pub changed : ℕ → Option ChangeLine → Change
+changed number line = record { «module» = number; status = Some 0; line = line; locked = false }
 
--- what becomes of the block
-abbrev pub answer_kept : Kept → DataBlock → Put
-answer_kept k block =
-    if is_wanted k block then (if all_came (slice_set k.blocks block.number (Some block.block)) then puts.Completed block.module else puts.Kept) else puts.Ignored
+abbrev pub appeared : ℕ → Option ChangeLine → Change
+appeared number line = record { «module» = number; status = Some 2; line = line; locked = false }
 
-abbrev pub answer_to : Option Kept → DataBlock → Put
-answer_to None block = puts.Ignored
-answer_to (Some k) block = answer_kept k block
+-- what is told of a module that its last block completed
+abbrev pub completed : ℕ → Entry → Change
+completed number entry = record { «module» = number; status = None; line = Some (delivered entry); locked = false }
 
--- a block came
-pub record TakesBlock (old new : CarouselState) (block : DataBlock) (answer : Put) : Type 0 where
-  pub transaction : new.transaction ≡ old.transaction
-  pub modules : (number : ℕ) → kept_in new number ≡ option_map (with_block block) (kept_in old number)
-  pub answer_is : answer ≡ answer_to (kept_in old block.module) block
+-- One module's change: its number, its entry before and now, and its bytes before and now.
+abbrev pub change_of : ℕ → Option Standing → Option Standing → Option (List ℕ) → Option (List ℕ) → Option Change
+change_of number None None was now = None
+change_of number (Some old) None was now = Some (gone number)
+change_of number None (Some new) was now = Some (appeared number (line_of new now))
+change_of number (Some old) (Some new) was now =
+    if same_standing old new then (if not (is_some was) && is_some now then Some (completed number new.entry) else None)
+    else Some (changed number (line_of new now))
 
--- what a buffer makes of a block with the length that it has there
-abbrev pub with_block_in : ℕ → List ℕ → BufferState → BufferState
-with_block_in number block buffer = if is_missing (slice_get buffer.blocks number) then with_block_at number block buffer else buffer
+-- the change of the module with that number, from the messages before to those now
+abbrev pub change_at : List Message → List Message → ℕ → Option Change
+change_at before now number =
+    change_of number (standing_of (in_force before) number) (standing_of (in_force now) number) (held before number) (held now number)
 
-abbrev pub answer_in : ℕ → List ℕ → BufferState → Put
-answer_in number block buffer =
-    if is_missing (slice_get buffer.blocks number) then (if all_came (slice_set buffer.blocks number (Some block)) then puts.Completed buffer.shape.number else puts.Kept) else puts.Ignored
+-- all changes of modules with numbers below a bound, in ascending number
+abbrev pub changes_within : ℕ → List Message → List Message → List Change
+changes_within bound before now = filter_map (change_at before now) (range_with_len 0 bound)
+
+-- module numbers have two bytes
+unfoldable pub number_bound : ℕ
+number_bound = 65536
+
+-- all changes, in ascending module number
+unfoldable pub changes : List Message → List Message → List Change
+changes before now = changes_within number_bound before now
+
+-- what goes where the component leaves
+abbrev pub departures : List Message → List Change
+departures messages = changes messages []

@@ -6,4 +6,5 @@ pub mod Carousel
 pub mod Modules
 pub mod Drafts
 pub mod Changes
+pub mod Steps
 pub mod Order

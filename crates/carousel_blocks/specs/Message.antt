@@ -1,5 +1,5 @@
 -- The messages of a data carousel (ISO/IEC 13818-6, 7.3), as they come one after the other.
-use Rattle.std.specs.Prelude.{ℕ, List, Option, Some, None, Result, Ok, Err}
+use Rattle.std.specs.Prelude.{ℕ, List, [], ◌∷◌, Option, Some, None, Result, Ok, Err}
 use Rattle.std.specs.List.{filter_map}
 use Rattle.dsmcc_messages.specs.declared.dii.Dii.{Dii}
 use Rattle.dsmcc_messages.specs.Ddb.{DataBlock}
@@ -22,3 +22,11 @@ message_of section = message_with (dii_in section) (ddb_in section)
 -- the messages of a list of sections
 abbrev pub messages_of : List (List ℕ) → List Message
 messages_of sections = filter_map message_of sections
+
+-- the DDB of a section, where it carries one that can be read
+abbrev pub data_by : {F : Type 0} → Result DataBlock F → List Message
+data_by (Ok ddb) = Data ddb ∷ []
+data_by (Err f) = []
+
+unfoldable pub data_in : List ℕ → List Message
+data_in section = data_by (ddb_in section)

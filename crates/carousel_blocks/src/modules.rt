@@ -11,7 +11,7 @@ ghost use Rattle.dsmcc_messages.specs.Ddb.{fields_of};
 ghost use Rattle.carousel_blocks.specs.Drafts.{asked_key_of};
 ghost use Rattle.carousel_blocks.specs.Held.{bytes_kept};
 ghost use Rattle.carousel_blocks.specs.Buffers.{shape_length};
-ghost use Rattle.carousel_blocks.specs.Changes.{answer_in, answer_to, with_block, with_block_in};
+ghost use Rattle.carousel_blocks.specs.Steps.{answer_in, answer_to, with_block, with_block_in};
 
 use crate::buffer::{Buffer, Shape};
 use crate::put::Put;
@@ -218,6 +218,14 @@ fn put_in(buffer: &mut Buffer, number: u16, block: &[u8]) -> Put
     } else {
         Put::Kept
     }
+}
+
+/// What the DII says of a module, where it has it.
+pub fn standing_at(modules: &Modules, number: u16) -> Option<&Standing>
+    ensures { option_copied result ≡ option_map (λ m. m.standing) (value_at nat_eq modules.now number) }
+{
+    let module = modules.get(&number)?;
+    Some(&module.standing)
 }
 
 /// The bytes of a module, where it isn't skipped and each block came.

@@ -1,3 +1,5 @@
+mod sections;
+
 use super::*;
 use bml_bytes::NoMemory;
 use dsmcc_messages::{Bytes, Ddb, Dii, Entries, Entry};

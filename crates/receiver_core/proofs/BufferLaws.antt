@@ -1,14 +1,16 @@
 -- Laws of the blocks in a buffer.
-use Rattle.std.proofs.Common.{◌≡◌, ℕ, zero, suc, ◌+◌, ◌-◌, ◌*◌, ◌<◌, ◌≤◌, ◌==◌, min, Bool, true, false, List, [], ◌∷◌, ◌++◌, length, take, drop, replicate, refl, sym, ap, ap₂, ◌∙◌, arith, ◌&&◌, if◌then◌else◌, append-nil, length-set, length-take, length-drop, length-append, ◌⊎◌, inl, inr}
-use Rattle.std.specs.Prelude.{slice_get, slice_set, Option, Some, None, is_some}
+use Rattle.std.proofs.Common.{◌≡◌, ℕ, zero, suc, ◌+◌, ◌-◌, ◌*◌, ◌/◌, ◌%◌, ◌<◌, ◌≤◌, ◌==◌, min, not, mul_comm, Bool, true, false, List, [], ◌∷◌, ◌++◌, length, take, drop, replicate, refl, sym, ap, ap₂, ◌∙◌, subst, arith, ◌&&◌, ◌||◌, if◌then◌else◌, append-nil, length-set, length-take, length-drop, length-append, ◌⊎◌, inl, inr}
+use Rattle.std.specs.Prelude.{slice_get, slice_set, Option, Some, None, is_some, option_map}
 use Rattle.std.specs.List.{list_all}
-use Rattle.std.proofs.lemmas.List.{take_at, drop_at, take_all, drop_all, take-append-le, drop-append-le, take-take, drop-take, drop-drop, length-take-le}
+use Rattle.std.proofs.lemmas.List.{take_at, drop_at, take_all, drop_all, take-append-drop, take-append-le, drop-append-le, take-take, drop-take, drop-drop, length-take-le}
 use Rattle.std.proofs.Math.Nat.{le-div_iff_mul-le}
 use Rattle.dsmcc_messages.specs.Ddb.{DataBlock}
+use Rattle.dsmcc_messages.specs.declared.dii.Dii.{Dii}
+use Rattle.dsmcc_messages.specs.declared.entry.Entry.{Entry}
 use Rattle.receiver_core.specs.declared.module_buffer.Wanted.{Wanted}
-use Rattle.receiver_core.specs.Acquisition.{block_count, block_length, is_block}
-use Rattle.receiver_core.specs.Keeping.{Kept, is_missing, with_block}
-use Rattle.receiver_core.specs.Buffers.{blocks_in, missing_in, is_unmarked, overwritten, IsSound}
+use Rattle.receiver_core.specs.Acquisition.{block_count, block_length, distinct, is_block, is_large, is_startup, wanted_entry, wanted_of}
+use Rattle.receiver_core.specs.Keeping.{Kept, is_missing, joined, with_block}
+use Rattle.receiver_core.specs.Buffers.{blocks_in, missing_in, is_unmarked, overwritten, IsCovered, IsSound}
 
 pub complete_by_missing : (size : ℕ) (marks : List Bool) (bytes : List ℕ) → (missing_in marks == 0) ≡ list_all is_some (blocks_in size marks bytes)
 complete_by_missing size [] bytes = refl
@@ -163,6 +165,7 @@ sound_with wanted bytes marks missing block sound room unmarked =
       size = length-overwritten (block.number * wanted.block_size) block.block bytes (ends_within wanted bytes block room) ∙ sound.size;
       count = length-set marks block.number true ∙ sound.count;
       missing_is = let a = missing_in-marked marks block.number unmarked in let b = sound.missing_is in omega arith;
+      covered = sound.covered;
     }
 
 with_both : (a b : Bool) (x y : Kept) → a ≡ true → b ≡ true → x ≡ (if a && b then x else y)
@@ -192,3 +195,61 @@ view_without wanted bytes marks block unmarked =
     let old = blocks_in wanted.block_size marks bytes in
     without_one (is_block wanted block.number block) (is_missing (slice_get old block.number)) (record { wanted = wanted; blocks = slice_set old block.number (Some block.block) }) (record { wanted = wanted; blocks = old })
     (is_missing-blocks_in wanted.block_size marks bytes block.number ∙ unmarked)
+
+-- ---- all blocks
+
+pub is_some-joined : (blocks : List (Option (List ℕ))) → is_some (joined blocks) ≡ list_all is_some blocks
+is_some-joined [] = refl
+is_some-joined (None ∷ blocks) = refl
+is_some-joined (Some block ∷ blocks) = mapped (joined blocks) ∙ is_some-joined blocks where
+  mapped : (x : Option (List ℕ)) → is_some (option_map (λ behind. block ++ behind) x) ≡ is_some x
+  mapped None = refl
+  mapped (Some y) = refl
+
+pub joined_none : (blocks : List (Option (List ℕ))) → list_all is_some blocks ≡ false → None ≡ joined blocks
+joined_none blocks h = absent (joined blocks) (is_some-joined blocks ∙ h) where
+  absent : (x : Option (List ℕ)) → is_some x ≡ false → None ≡ x
+  absent None h = refl
+  absent (Some y) h = cc
+
+pub joined_all : (size : ℕ) (marks : List Bool) (bytes : List ℕ) → missing_in marks ≡ 0 → length bytes ≤ length marks * size → joined (blocks_in size marks bytes) ≡ Some bytes
+joined_all size [] bytes h l = nothing bytes (omega arith) where
+  nothing : (xs : List ℕ) → length xs ≤ 0 → ◌≡◌ {A = Option (List ℕ)} (Some []) (Some xs)
+  nothing [] l = refl
+  nothing (x ∷ xs) l = absurd (omega arith)
+joined_all size (false ∷ marks) bytes h l = absurd (omega arith)
+joined_all size (true ∷ marks) bytes h l =
+    ap (option_map (λ behind. take size bytes ++ behind)) (joined_all size marks (drop size bytes) h (shorter (length marks)))
+    ∙ ap (λ (x : List ℕ). Some x) (take-append-drop size bytes)
+  where
+    suc_times : (p n : ℕ) → suc p * n ≡ n + p * n
+    suc_times p n = grind arith
+
+    shorter : (count : ℕ) → length (drop size bytes) ≤ length marks * size
+    shorter count = let e = suc_times (length marks) size in let d = length-drop size bytes in omega arith
+
+-- ---- the blocks make up the module
+
+covered : (block_size size : ℕ) → is_large block_size size ≡ false → size ≤ block_count block_size size * block_size
+covered zero size h = let e : size ≡ 0 = grind arith in omega arith
+covered (suc n) size h =
+    let r : (size + n) % suc n < suc n = omega arith in
+    let e : suc n * ((size + n) / suc n) + (size + n) % suc n ≡ size + n = omega arith in
+    let c : suc n * ((size + n) / suc n) ≡ (size + n) / suc n * suc n = mul_comm (suc n) ((size + n) / suc n) in
+    omega arith
+
+-- a module that is acquired isn't large
+pub covers_wanted : (dii : Dii) (wanted : Wanted) → wanted_of dii ≡ Some wanted → IsCovered wanted
+unfolding wanted_of
+covers_wanted dii wanted h = by (distinct dii.entries) h where
+  one : (entry : Entry) (fresh : Wanted) (a large : Bool) → is_large fresh.block_size fresh.size ≡ large → (if a && not large then Some fresh else None) ≡ Some wanted → IsCovered wanted
+  one entry fresh true false e h = let same : fresh ≡ wanted = cc in subst IsCovered same (covered fresh.block_size fresh.size e)
+  one entry fresh true true e h = cc
+  one entry fresh false large e h = cc
+
+  by : (entries : List Entry) → wanted_entry dii entries ≡ Some wanted → IsCovered wanted
+  by [] h = cc
+  by (entry ∷ []) h =
+      one entry (record { transaction = dii.transaction; download = dii.download; block_size = dii.block_size; number = entry.id; version = entry.version; size = entry.size; is_startup = is_startup entry })
+      ((length entry.info == 0) || is_startup entry) (is_large dii.block_size entry.size) refl h
+  by (entry ∷ other ∷ entries) h = cc

@@ -5,7 +5,7 @@ use Rattle.std.specs.List.{list_any}
 use Rattle.dsmcc_messages.specs.declared.entry.Entry.{Entry}
 use Rattle.dsmcc_messages.specs.declared.dii.Dii.{Dii}
 use Rattle.receiver_core.specs.declared.module_buffer.Wanted.{Wanted}
-use Rattle.receiver_core.specs.Acquisition.{distinct, is_large, wanted_entry, wanted_of}
+use Rattle.receiver_core.specs.Acquisition.{distinct, is_large, is_startup, wanted_entry, wanted_of}
 use Rattle.receiver_core.specs.Buffers.{differs, single}
 
 abbrev is_nil : List Entry → Bool
@@ -62,12 +62,12 @@ wanted_entry-single dii [] = refl
 wanted_entry-single dii (entry ∷ []) = refl
 wanted_entry-single dii (entry ∷ other ∷ entries) = refl
 
-pub acquired_entry : (dii : Dii) (entry : Entry) (b : Bool) → single (distinct dii.entries) ≡ Some entry → b ≡ ((length entry.info == 0) && not (is_large dii.block_size entry.size))
-    → wanted_of dii ≡ (if b then Some (record { transaction = dii.transaction; download = dii.download; block_size = dii.block_size; number = entry.id; version = entry.version; size = entry.size }) else None)
+pub acquired_entry : (dii : Dii) (entry : Entry) (b : Bool) → single (distinct dii.entries) ≡ Some entry → b ≡ (((length entry.info == 0) || is_startup entry) && not (is_large dii.block_size entry.size))
+    → wanted_of dii ≡ (if b then Some (record { transaction = dii.transaction; download = dii.download; block_size = dii.block_size; number = entry.id; version = entry.version; size = entry.size; is_startup = is_startup entry }) else None)
 unfolding wanted_of
 acquired_entry dii entry b h e =
     wanted_entry-single dii (distinct dii.entries) ∙ ap (option_and_then (λ x. wanted_entry dii (x ∷ []))) h
-    ∙ ap (λ (t : Bool). if t then Some (let w : Wanted = record { transaction = dii.transaction; download = dii.download; block_size = dii.block_size; number = entry.id; version = entry.version; size = entry.size } in w) else None) (sym e)
+    ∙ ap (λ (t : Bool). if t then Some (let w : Wanted = record { transaction = dii.transaction; download = dii.download; block_size = dii.block_size; number = entry.id; version = entry.version; size = entry.size; is_startup = is_startup entry } in w) else None) (sym e)
 
 pub no_entry : (dii : Dii) → single (distinct dii.entries) ≡ None → wanted_of dii ≡ None
 unfolding wanted_of

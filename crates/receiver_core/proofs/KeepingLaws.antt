@@ -11,8 +11,9 @@ use Rattle.dsmcc_messages.specs.Reading.{dii_in, ddb_in}
 use Rattle.bml_bytes.specs.declared.refusals.TableFault.{TableFault}
 use Rattle.receiver_core.specs.declared.module_buffer.Wanted.{Wanted}
 use Rattle.receiver_core.specs.Lines.{unbuilt_line}
-use Rattle.receiver_core.specs.Acquisition.{Message, Indication, Data, Acquired, message_of, messages_of, block_in, wanted_of, acquired, acquired_from, is_block, first_block, joined_from, bytes_of_blocks, held, passed_line, delivered_line, turn_text}
-use Rattle.receiver_core.specs.Keeping.{Kept, StandsFor, TakesTurn, blocks_from, count_of, kept_of, without_blocks, is_missing, with_block, kept_after, is_complete, line_of, completed_text, acquired_text, text_of}
+use Rattle.receiver_core.specs.Acquisition.{Message, Indication, Data, Acquired, message_of, messages_of, block_in, wanted_of, acquired, acquired_from, is_block, first_block, joined_from, bytes_of_blocks, held, passed_line, delivered_line, modules_text}
+use Rattle.receiver_core.specs.Startup.{startup_of, startup_bytes}
+use Rattle.receiver_core.specs.Keeping.{Kept, StandsFor, TakesTurn, blocks_from, count_of, joined, kept_of, kept_startup, without_blocks, is_missing, with_block, kept_after, is_complete, line_of, completed_text, acquired_text, text_of}
 
 -- ---- the blocks, place by place
 
@@ -227,7 +228,7 @@ stands_first = record { kept_is = refl }
 
 -- the turn of a section with a message
 pub takes_message : (old new : Option Kept) (section : List ℕ) (message : Message) → message_of section ≡ Some message → new ≡ kept_after message old → TakesTurn old new section (text_of message old)
-unfolding turn_text held held_of
+unfolding modules_text held held_of
 takes_message old new section message h e = record {
   text_is = λ earlier s.
       let before = messages_of earlier in
@@ -243,7 +244,7 @@ takes_message old new section message h e = record {
 
 -- the turn of a section without one
 pub takes_nothing : (old : Option Kept) (section : List ℕ) → message_of section ≡ None → TakesTurn old old section []
-unfolding turn_text held
+unfolding modules_text held
 takes_nothing old section h = record {
   text_is = λ earlier s. sym (nothing earlier);
   stands = λ earlier s. record { kept_is = s.kept_is ∙ ap (λ m. option_map kept_of (acquired m)) (sym (no_message-append earlier section h)) };
@@ -252,7 +253,7 @@ takes_nothing old section h = record {
   silent None x = refl
   silent (Some a) x = delivered_once a x
 
-  nothing : (earlier : List (List ℕ)) → turn_text earlier section ≡ []
+  nothing : (earlier : List (List ℕ)) → modules_text earlier section ≡ []
   nothing earlier =
       ap₂ (λ m (after : List Message). passed_line (acquired (messages_of earlier)) m ++ delivered_line (acquired after) (held (messages_of earlier)) (held after)) h (no_message-append earlier section h)
       ∙ silent (acquired (messages_of earlier)) (held (messages_of earlier))
@@ -270,3 +271,74 @@ is_data section fault block h k = rw (h, k) refl
 pub is_neither : (section : List ℕ) (fault other : TableFault) → dii_in section ≡ Err fault → ddb_in section ≡ Err other → message_of section ≡ None
 unfolding message_of
 is_neither section fault other h k = rw (h, k) refl
+
+-- ---- the start document's bytes
+
+joined_step : (x rest : Option (List ℕ)) (blocks : List (Option (List ℕ))) → rest ≡ joined blocks → option_and_then (λ (bytes : List ℕ). option_map (λ (behind : List ℕ). bytes ++ behind) rest) x ≡ joined (x ∷ blocks)
+joined_step None rest blocks h = refl
+joined_step (Some bytes) rest blocks h = ap (option_map (λ (behind : List ℕ). bytes ++ behind)) h
+
+joined-blocks : (f : ℕ → Option (List ℕ)) (start count : ℕ) → joined_from f start count ≡ joined (blocks_from f start count)
+unfolding joined_from
+joined-blocks f start zero = refl
+joined-blocks f start (suc count) = joined_step (f start) (joined_from f (start + 1) count) (blocks_from f (start + 1) count) (joined-blocks f (start + 1) count)
+
+bytes_of_kept : (a : Acquired) → bytes_of_blocks a ≡ joined (kept_of a).blocks
+bytes_of_kept a = joined-blocks (first_block a.wanted a.blocks) 0 (count_of a.wanted)
+
+startup_in : Option Acquired → Option (List ℕ)
+startup_in a = startup_of a (held_of a)
+
+-- what is kept has the start document's bytes
+pub startup_kept : (kept : Option Kept) (sections : List (List ℕ)) → StandsFor kept sections → kept_startup kept ≡ startup_bytes sections
+unfolding startup_bytes held
+startup_kept kept sections s = ap kept_startup s.kept_is ∙ by (acquired (messages_of sections)) where
+  by : (a : Option Acquired) → kept_startup (option_map kept_of a) ≡ startup_of a (option_and_then bytes_of_blocks a)
+  by None = refl
+  by (Some a) = ap (λ (b : Option (List ℕ)). if a.wanted.is_startup then b else None) (sym (bytes_of_kept a))
+
+none_missing : (blocks : List (Option (List ℕ))) (place : ℕ) → list_all is_some blocks ≡ true → is_missing (slice_get blocks place) ≡ false
+none_missing [] place h = refl
+none_missing (None ∷ blocks) place h = cc
+none_missing (Some block ∷ blocks) zero h = refl
+none_missing (Some block ∷ blocks) (suc place) h = none_missing blocks place h
+
+-- a module that is there stays as it is
+with_none : (asked missing : Bool) (x y : Kept) → missing ≡ false → (if asked && missing then x else y) ≡ y
+with_none true true x y h = cc
+with_none true false x y h = refl
+with_none false missing x y h = refl
+
+complete_stays : (block : DataBlock) (kept : Kept) → is_complete kept ≡ true → with_block block kept ≡ kept
+complete_stays block kept h =
+    with_none (is_block kept.wanted block.number block) (is_missing (slice_get kept.blocks block.number))
+    (record { wanted = kept.wanted; blocks = slice_set kept.blocks block.number (Some block.block) }) kept (none_missing kept.blocks block.number h)
+
+bytes_stay : (a : Acquired) (block : DataBlock) (bytes : List ℕ) → bytes_of_blocks a ≡ Some bytes → bytes_of_blocks (record { wanted = a.wanted; blocks = a.blocks ++ block ∷ [] }) ≡ Some bytes
+bytes_stay a block bytes h =
+    let more : Acquired = record { wanted = a.wanted; blocks = a.blocks ++ block ∷ [] } in
+    bytes_of_kept more
+    ∙ ap (λ (k : Kept). joined k.blocks) (kept_of-append a.wanted a.blocks block ∙ complete_stays block (kept_of a) (sym (complete_by_bytes a) ∙ ap is_some h))
+    ∙ sym (bytes_of_kept a) ∙ h
+
+where_startup : (t : Bool) (x y : Option (List ℕ)) (bytes : List ℕ) → (x ≡ Some bytes → y ≡ Some bytes) → (if t then x else None) ≡ Some bytes → (if t then y else None) ≡ Some bytes
+where_startup true x y bytes f h = f h
+where_startup false x y bytes f h = cc
+
+startup_behind : (message : Message) (a : Option Acquired) (bytes : List ℕ) → startup_in a ≡ Some bytes → startup_in (acquired_after message a) ≡ Some bytes
+unfolding startup_in acquired_after held_of
+startup_behind (Indication dii) None bytes h = cc
+startup_behind (Indication dii) (Some a) bytes h = h
+startup_behind (Data block) None bytes h = h
+startup_behind (Data block) (Some a) bytes h =
+    where_startup a.wanted.is_startup (bytes_of_blocks a) (bytes_of_blocks (record { wanted = a.wanted; blocks = a.blocks ++ block ∷ [] })) bytes (bytes_stay a block bytes) h
+
+-- once they are there they stay, whatever section comes
+pub startup_stays : (earlier : List (List ℕ)) (section bytes : List ℕ) → startup_bytes earlier ≡ Some bytes → startup_bytes (earlier ++ section ∷ []) ≡ Some bytes
+unfolding startup_bytes held startup_in held_of
+startup_stays earlier section bytes h = by (message_of section) refl where
+  by : (m : Option Message) → message_of section ≡ m → startup_of (acquired (messages_of (earlier ++ section ∷ []))) (option_and_then bytes_of_blocks (acquired (messages_of (earlier ++ section ∷ [])))) ≡ Some bytes
+  by None e = ap (λ (ms : List Message). startup_in (acquired ms)) (no_message-append earlier section e) ∙ h
+  by (Some m) e =
+      ap (λ (ms : List Message). startup_in (acquired ms)) (messages_of-append earlier section m e) ∙ ap startup_in (acquired-append (messages_of earlier) m)
+      ∙ startup_behind m (acquired (messages_of earlier)) bytes h

@@ -1,7 +1,8 @@
 -- Which module is acquired, and when it is there. (ARIB STD-B24, volume 3, in this project's own profile, which
 -- at this stage knows one module: that of the first DII with one entry that it can acquire.)
-use Rattle.std.specs.Prelude.{ℕ, zero, suc, ◌+◌, ◌-◌, ◌*◌, ◌/◌, ◌==◌, nat_lt, min, Bool, not, ◌&&◌, ◌||◌, if◌then◌else◌, List, [], ◌∷◌, ◌++◌, length, filter, find, Option, Some, None, is_some, option_map, option_and_then, Result, Ok, Err}
+use Rattle.std.specs.Prelude.{ℕ, zero, suc, ◌+◌, ◌-◌, ◌*◌, ◌/◌, ◌==◌, nat_lt, min, Bool, false, not, ◌&&◌, ◌||◌, if◌then◌else◌, List, [], ◌∷◌, ◌++◌, length, take, codes, filter, find, Option, Some, None, is_some, option_map, option_and_then, Result, Ok, Err}
 use Rattle.std.specs.List.{filter_map}
+use Rattle.std.specs.Str.{str_eq_ignore_ascii_case}
 use Rattle.dsmcc_messages.specs.declared.entry.Entry.{Entry}
 use Rattle.dsmcc_messages.specs.declared.dii.Dii.{Dii}
 use Rattle.dsmcc_messages.specs.Ddb.{DataBlock}
@@ -48,12 +49,9 @@ abbrev pub is_large : ℕ → ℕ → Bool
 is_large zero size = nat_lt 0 size
 is_large (suc n) size = nat_lt 1048576 size || nat_lt 65536 (block_count (suc n) size)
 
--- The media type begins with `multipart/mixed`, without ASCII case: the module holds an entity of several parts.
-abbrev pub lower : ℕ → ℕ
-lower byte = if nat_le 65 byte && nat_le byte 90 then byte + 32 else byte
-
+-- the media type begins with `multipart/mixed`, without ASCII case: the module holds an entity of several parts
 abbrev pub is_multipart : List ℕ → Bool
-is_multipart media = bytes_eq (map lower (take 15 media)) (codes "multipart/mixed")
+is_multipart media = str_eq_ignore_ascii_case (take 15 media) (codes "multipart/mixed")
 
 -- the info is one Type descriptor (tag 0x01), whose media type isn't that of an entity: the module is one resource
 abbrev pub is_resource : List ℕ → Bool

@@ -1,5 +1,5 @@
 -- How the buffer of a module holds its blocks.
-use Rattle.std.specs.Prelude.{◌≡◌, ℕ, ◌+◌, ◌==◌, Bool, true, false, not, List, [], ◌∷◌, ◌++◌, length, take, drop, Option, Some, None}
+use Rattle.std.specs.Prelude.{◌≡◌, ◌≤◌, ℕ, ◌+◌, ◌*◌, ◌==◌, Bool, true, false, not, List, [], ◌∷◌, ◌++◌, length, take, drop, Option, Some, None}
 use Rattle.dsmcc_messages.specs.declared.entry.Entry.{Entry}
 use Rattle.receiver_core.specs.declared.module_buffer.Wanted.{Wanted}
 use Rattle.receiver_core.specs.Acquisition.{block_count}
@@ -25,11 +25,16 @@ is_unmarked _ = false
 abbrev pub overwritten : ℕ → List ℕ → List ℕ → List ℕ
 overwritten start block bytes = take start bytes ++ (block ++ drop (start + length block) bytes)
 
--- bytes for the module, a mark for each block, and how many blocks are missing
+-- the blocks make up the module
+abbrev pub IsCovered : Wanted → Type 0
+IsCovered wanted = wanted.size ≤ block_count wanted.block_size wanted.size * wanted.block_size
+
+-- bytes for the module, a mark for each block, and how many blocks are missing; the blocks make up the module
 pub record IsSound (wanted : Wanted) (bytes : List ℕ) (marks : List Bool) (missing : ℕ) : Type 0 where
   pub size : length bytes ≡ wanted.size
   pub count : length marks ≡ block_count wanted.block_size wanted.size
   pub missing_is : missing ≡ missing_in marks
+  pub covered : IsCovered wanted
 
 -- the entry has another number
 abbrev pub differs : ℕ → Entry → Bool

@@ -6,7 +6,7 @@ use Rattle.std.specs.List.{list_all}
 use Rattle.dsmcc_messages.specs.Ddb.{DataBlock}
 use Rattle.receiver_core.specs.declared.module_buffer.Wanted.{Wanted}
 use Rattle.receiver_core.specs.Lines.{module_line, unbuilt_line}
-use Rattle.receiver_core.specs.Acquisition.{Message, Indication, Data, Acquired, messages_of, wanted_of, acquired, is_block, first_block, block_count, turn_text}
+use Rattle.receiver_core.specs.Acquisition.{Message, Indication, Data, Acquired, messages_of, wanted_of, acquired, is_block, first_block, block_count, modules_text}
 
 -- the wanted module, and for each place its block, where it came
 pub record Kept : Type 0 where
@@ -32,7 +32,7 @@ pub record StandsFor (kept : Option Kept) (sections : List (List ℕ)) : Type 0 
 -- Behind whatever intact sections came before, the turn of the section printed this text, and what is kept
 -- afterwards is what is to be kept of all of them.
 pub record TakesTurn (old new : Option Kept) (section text : List ℕ) : Type 0 where
-  pub text_is : (earlier : List (List ℕ)) → StandsFor old earlier → text ≡ turn_text earlier section
+  pub text_is : (earlier : List (List ℕ)) → StandsFor old earlier → text ≡ modules_text earlier section
   pub stands : (earlier : List (List ℕ)) → StandsFor old earlier → StandsFor new (earlier ++ section ∷ [])
 
 -- ---- what one message does
@@ -60,6 +60,17 @@ kept_after (Data block) kept = option_map (with_block block) kept
 
 abbrev pub is_complete : Kept → Bool
 is_complete kept = list_all is_some kept.blocks
+
+-- the blocks joined; none where one is missing
+abbrev pub joined : List (Option (List ℕ)) → Option (List ℕ)
+joined [] = Some []
+joined (None ∷ blocks) = None
+joined (Some block ∷ blocks) = option_map (λ behind. block ++ behind) (joined blocks)
+
+-- the bytes of the start document, where that is the module, once each block came
+abbrev pub kept_startup : Option Kept → Option (List ℕ)
+kept_startup None = None
+kept_startup (Some kept) = if kept.wanted.is_startup then joined kept.blocks else None
 
 abbrev pub line_of : Wanted → List ℕ
 line_of wanted = module_line 0x40 wanted.number wanted.version wanted.size

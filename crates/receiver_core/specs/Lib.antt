@@ -3,6 +3,7 @@ pub mod Buffers
 pub mod Fronts
 pub mod Keeping
 pub mod Lines
+pub mod Loading
 pub mod Outputs
 pub mod Receiving
 pub mod Startup

@@ -23,7 +23,15 @@ fault_name TooDeep = codes "TooDeep"
 fault_name TooManyNodes = codes "TooManyNodes"
 fault_name NoMemory = codes "NoMemory"
 
--- the start document was loaded, or refused for this fault
+-- the start document was loaded
+abbrev pub loaded_line : List ℕ
+loaded_line = codes "load /40/0000\n"
+
+-- it was refused for this fault
+abbrev pub refused_line : DocFault → List ℕ
+refused_line fault = codes "refuse /40/0000 " ++ (fault_name fault ++ codes "\n")
+
+-- what the start document was read as
 abbrev pub load_line : Result (List Item) DocFault → List ℕ
-load_line (Ok items) = codes "load /40/0000\n"
-load_line (Err fault) = codes "refuse /40/0000 " ++ (fault_name fault ++ codes "\n")
+load_line (Ok items) = loaded_line
+load_line (Err fault) = refused_line fault

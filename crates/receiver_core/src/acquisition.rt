@@ -1,6 +1,6 @@
 //! Acquiring a module from the sections of a data carousel.
 
-ghost use Rattle.std.specs.Prelude.{◌≡◌, ◌≤◌, ◌++◌, ℕ, List, [], None, Some, length, OnOk};
+ghost use Rattle.std.specs.Prelude.{◌≡◌, ◌≤◌, ◌++◌, ℕ, List, [], None, Some, length, option_copied, OnOk};
 ghost use Rattle.dsmcc_messages.specs.Ddb.{fields_of};
 ghost use Rattle.receiver_core.specs.Keeping.{completed_text, is_complete, line_of, with_block};
 
@@ -35,6 +35,7 @@ impl Model for Acquisition {
 impl Acquisition {
     ghost use Rattle.receiver_core.specs.Acquisition.{Indication, Data};
     ghost use Rattle.receiver_core.specs.Keeping.{StandsFor, TakesTurn, Handles};
+    ghost use Rattle.receiver_core.specs.Startup.{startup_bytes};
 
     /// Nothing is acquired, and no section came.
     pub fn new(alloc: Global) -> Acquisition
@@ -60,6 +61,17 @@ impl Acquisition {
                 Err(_) => Ok(()),
             },
         }
+    }
+
+    /// The bytes of the start document, once its module is held.
+    pub fn startup_bytes(&self) -> Option<&[u8]>
+        ensures { (sections : List (List ℕ)) → StandsFor self.now sections → option_copied result ≡ startup_bytes sections }
+    {
+        let buffer = self.buffer.as_ref()?;
+        if !buffer.wanted().is_startup {
+            return None;
+        }
+        buffer.bytes()
     }
 
     // A DII is passed over where a module is acquired already.

@@ -13,6 +13,8 @@ mod lines;
 mod module_buffer;
 mod receiver;
 mod startup;
+#[cfg(test)]
+mod tests;
 
 pub use crate::laws::{law_of_outputs, law_of_receivers};
 pub use crate::receiver::Receiver;

@@ -1,26 +1,11 @@
-//! The lines that a run prints.
+//! The lines that the turns of a receiver print.
 
 ghost use Rattle.std.specs.Prelude.{◌≡◌, ◌≤◌, ◌<◌, ◌^◌, ◌++◌, codes, length, take, OnOk, OnErr};
 ghost use Rattle.bml_bytes.specs.Numerals.{decimal_digits, hex_digits};
-ghost use Rattle.replay_run.specs.Lines.{end_line, module_line, unbuilt_line};
+ghost use Rattle.receiver_core.specs.Lines.{fault_name, loaded_line, module_line, refused_line, unbuilt_line};
 
 use bml_bytes::{NoMemory, push_decimal, push_hex};
-
-/// Appends the last line of a run, which tells how many packets were taken.
-pub fn push_end_line(packets: u64, out: &mut Vec<u8>) -> Result<(), NoMemory>
-    requires { packets < 2 ^ 63 }
-    ensures ok { OnOk result (out.new.items ≡ out.old.items ++ end_line packets) }
-    ensures err { OnErr result (out.new.items ≡ out.old.items) }
-{
-    let before = out.len();
-    match push_end_fields(packets, out) {
-        Ok(()) => Ok(()),
-        Err(error) => {
-            out.truncate(before);
-            Err(error)
-        }
-    }
-}
+use bml_reader::DocFault;
 
 /// Appends the line of an acquired module: its component, its number, its version and its size in bytes.
 pub fn push_module_line(
@@ -58,17 +43,30 @@ pub fn push_unbuilt_line(component: u8, out: &mut Vec<u8>) -> Result<(), NoMemor
     }
 }
 
-// Each of the next three stops in the middle of its line where it finds no memory.
-
-fn push_end_fields(packets: u64, out: &mut Vec<u8>) -> Result<(), NoMemory>
-    requires { packets < 2 ^ 63 }
-    ensures ok { OnOk result (out.new.items ≡ out.old.items ++ end_line packets) }
-    ensures grows { take (length out.old.items) out.new.items ≡ out.old.items }
+/// Appends the line of the start document that was loaded.
+pub fn push_load_line(out: &mut Vec<u8>) -> Result<(), NoMemory>
+    ensures ok { OnOk result (out.new.items ≡ out.old.items ++ loaded_line) }
+    ensures err { OnErr result (out.new.items ≡ out.old.items) }
 {
-    push_text(b"end ", out)?;
-    push_number(packets, out)?;
-    push_text(b"\n", out)
+    push_text(b"load /40/0000\n", out)
 }
+
+/// Appends the line of the start document that was refused.
+pub fn push_refuse_line(fault: DocFault, out: &mut Vec<u8>) -> Result<(), NoMemory>
+    ensures ok { OnOk result (out.new.items ≡ out.old.items ++ refused_line fault) }
+    ensures err { OnErr result (out.new.items ≡ out.old.items) }
+{
+    let before = out.len();
+    match push_refuse_fields(fault, out) {
+        Ok(()) => Ok(()),
+        Err(error) => {
+            out.truncate(before);
+            Err(error)
+        }
+    }
+}
+
+// Each of the next three stops in the middle of its line where it finds no memory.
 
 fn push_module_fields(
     component: u8,
@@ -100,6 +98,27 @@ fn push_unbuilt_fields(component: u8, out: &mut Vec<u8>) -> Result<(), NoMemory>
     push_text(b" unbuilt\n", out)
 }
 
+fn push_refuse_fields(fault: DocFault, out: &mut Vec<u8>) -> Result<(), NoMemory>
+    ensures ok { OnOk result (out.new.items ≡ out.old.items ++ refused_line fault) }
+    ensures grows { take (length out.old.items) out.new.items ≡ out.old.items }
+{
+    push_text(b"refuse /40/0000 ", out)?;
+    push_text(name_of(fault), out)?;
+    push_text(b"\n", out)
+}
+
+fn name_of(fault: DocFault) -> &'static [u8]
+    ensures { result.now ≡ fault_name fault }
+{
+    match fault {
+        DocFault::Malformed => b"Malformed",
+        DocFault::WrongRoot => b"WrongRoot",
+        DocFault::TooDeep => b"TooDeep",
+        DocFault::TooManyNodes => b"TooManyNodes",
+        DocFault::NoMemory => b"NoMemory",
+    }
+}
+
 fn push_text(text: &[u8], out: &mut Vec<u8>) -> Result<(), NoMemory>
     ensures ok { OnOk result (out.new.items ≡ out.old.items ++ text.now) }
     ensures err { OnErr result (out.new.items ≡ out.old.items) }
@@ -127,10 +146,8 @@ mod tests {
         push_module_line(0x40, 0x0001, 0x01, 10, &mut out)?;
         push_module_line(0xab, 0xfffe, 0xff, u32::MAX, &mut out)?;
         push_unbuilt_line(0x0c, &mut out)?;
-        push_end_line(0, &mut out)?;
-        push_end_line(4294967296, &mut out)?;
         let expected: &[u8] =
-            b"module 40 0001 01 10\nmodule ab fffe ff 4294967295\nskip 0c unbuilt\nend 0\nend 4294967296\n";
+            b"module 40 0001 01 10\nmodule ab fffe ff 4294967295\nskip 0c unbuilt\n";
         assert_eq!(rt; out.as_slice(), expected);
         Ok(())
     }

@@ -1,9 +1,9 @@
 //! The module that is being acquired, block by block.
 
-ghost use Rattle.std.specs.Prelude.{◌≡◌, ◌+◌, ◌*◌, ◌≤◌, ◌==◌, ◌&&◌, not, IfOk, length, option_copied, slice_get};
+ghost use Rattle.std.specs.Prelude.{◌≡◌, ◌+◌, ◌*◌, ◌≤◌, ◌==◌, ◌&&◌, ◌||◌, not, IfOk, length, option_copied, slice_get};
 ghost use Rattle.std.specs.List.{list_any};
 ghost use Rattle.dsmcc_messages.specs.Ddb.{fields_of};
-ghost use Rattle.receiver_core.specs.Acquisition.{distinct};
+ghost use Rattle.receiver_core.specs.Acquisition.{distinct, is_multipart, is_resource, is_startup};
 ghost use Rattle.receiver_core.specs.Buffers.{differs, is_unmarked, overwritten, single};
 
 use bml_bytes::NoMemory;
@@ -16,6 +16,12 @@ const SIZE_LIMIT: u32 = 1_048_576;
 
 /// The most blocks of a module that is acquired.
 const BLOCK_LIMIT: usize = 65_536;
+
+/// The tag of the Type descriptor.
+const TYPE_TAG: u8 = 0x01;
+
+/// How the media type of an entity of several parts begins.
+const MULTIPART: &[u8] = b"multipart/mixed";
 
 /// What a DII says of the module that is acquired.
 #[derive(Clone, Copy, Debug, PartialEq, Eq)]
@@ -31,6 +37,8 @@ pub struct Wanted {
     pub version: u8,
     /// The module's length in bytes.
     pub size: u32,
+    /// Whether it is the start document: module 0, whose info is one Type descriptor of one resource.
+    pub is_startup: bool,
 }
 
 /// A module with the blocks that came for it so far.
@@ -60,7 +68,7 @@ impl Wanted {
     ghost use Rattle.receiver_core.specs.Acquisition.{block_count, block_length, is_block, is_large, wanted_of};
 
     /// What a DII says of its one module. `None` where it hasn't exactly one entry (of two with one number the
-    /// first counts), where that has info, or more than 1,048,576 bytes or 65,536 blocks.
+    /// first counts), where that has info and isn't the start document, or more than 1,048,576 bytes or 65,536 blocks.
     pub fn of(dii: &Dii) -> Option<Wanted>
         ensures { result ≡ wanted_of dii.now }
     {
@@ -72,6 +80,7 @@ impl Wanted {
             number: entry.id,
             version: entry.version,
             size: entry.size,
+            is_startup: is_startup(entry),
         };
         if !wanted.is_acquired_with(entry.info.as_slice()) {
             return None;
@@ -81,9 +90,10 @@ impl Wanted {
 
     // Whether the module is acquired where that is its info.
     fn is_acquired_with(&self, info: &[u8]) -> bool
-        ensures { result ≡ ((length info.now == 0) && not (is_large self.now.block_size self.now.size)) }
+        ensures { result ≡ (((length info.now == 0) || self.now.is_startup)
+            && not (is_large self.now.block_size self.now.size)) }
     {
-        info.is_empty() && !self.is_large()
+        (info.is_empty() || self.is_startup) && !self.is_large()
     }
 
     // Whether the module is too large to be acquired. Blocks of no bytes make up only an empty module.
@@ -134,10 +144,12 @@ impl Wanted {
 }
 
 impl ModuleBuffer {
-    ghost use Rattle.receiver_core.specs.Keeping.{is_complete, with_block, without_blocks};
+    ghost use Rattle.receiver_core.specs.Buffers.{IsCovered};
+    ghost use Rattle.receiver_core.specs.Keeping.{is_complete, joined, with_block, without_blocks};
 
     /// A buffer for the module, to which no block came. All of its memory is taken here.
     pub fn new(alloc: Global, wanted: Wanted) -> Result<ModuleBuffer, NoMemory>
+        requires { IsCovered wanted }
         ensures { IfOk result (λ buffer. buffer ≡ without_blocks wanted) }
     {
         let count = wanted.block_count();
@@ -161,6 +173,16 @@ impl ModuleBuffer {
         ensures { result ≡ is_complete self.now }
     {
         self.missing == 0
+    }
+
+    /// The module's bytes, once each block came.
+    pub fn bytes(&self) -> Option<&[u8]>
+        ensures { option_copied result ≡ joined self.now.blocks }
+    {
+        if self.missing > 0 {
+            return None;
+        }
+        Some(self.bytes.as_slice())
     }
 
     /// Keeps a block, where it is one of the module and the first for its place.
@@ -196,6 +218,30 @@ fn write_block(bytes: &mut Vec<u8>, start: usize, block: &[u8])
     ensures { bytes.new.items ≡ overwritten start block.now bytes.old.items }
 {
     bytes[start..start + block.len()].copy_from_slice(block);
+}
+
+// Whether the entry is that of the start document.
+fn is_startup(entry: &Entry) -> bool
+    ensures { result ≡ is_startup entry.now }
+{
+    entry.id == 0 && is_resource(entry.info.as_slice())
+}
+
+// Whether the info is one Type descriptor, and the module one resource.
+fn is_resource(info: &[u8]) -> bool
+    ensures { result ≡ is_resource info.now }
+{
+    match info {
+        [TYPE_TAG, size, media @ ..] => usize::from(*size) == media.len() && !is_multipart(media),
+        _ => false,
+    }
+}
+
+// Whether the media type is that of an entity of several parts.
+fn is_multipart(media: &[u8]) -> bool
+    ensures { result ≡ is_multipart media.now }
+{
+    media[..media.len().min(MULTIPART.len())].eq_ignore_ascii_case(MULTIPART)
 }
 
 // The one entry, where there is exactly one. Of two with one number the first counts.

@@ -6,6 +6,7 @@ ghost use Rattle.ts_packets.specs.Packet.{pid_of};
 ghost use Rattle.receiver_core.specs.State.{Input, Packet as APacket, Show};
 
 use crate::acquisition::Acquisition;
+use crate::startup::Startup;
 use bml_bytes::NoMemory;
 use std::alloc::Global;
 use std::marker::Model;
@@ -18,17 +19,20 @@ use ts_sections::{Assembler, is_intact};
 /// [`section_turn`](Receiver::section_turn), until that answers `false`.
 #[derive(Drop)]
 pub struct Receiver {
+    alloc: Global,
     pid: u16,
     assembler: Assembler,
     acquisition: Acquisition,
+    startup: Startup,
 }
 
 impl Model for Receiver {
+    ghost use Rattle.receiver_core.specs.Loading.{kept_in};
     ghost use Rattle.receiver_core.specs.Receiving.{ReceiverState};
 
     ghost Value = { ReceiverState };
 
-    ghost view = { λ r. record { pid = r.pid; assembler = r.assembler; kept = r.acquisition } };
+    ghost view = { λ r. record { pid = r.pid; assembler = r.assembler; kept = r.acquisition; startup = kept_in r.startup } };
 }
 
 impl Receiver {
@@ -40,9 +44,11 @@ impl Receiver {
         ensures idle { IsIdle result }
     {
         Receiver {
+            alloc,
             pid,
             assembler: Assembler::new(),
             acquisition: Acquisition::new(alloc),
+            startup: Startup::Wanted,
         }
     }
 
@@ -83,6 +89,8 @@ impl Receiver {
         };
         if is_intact(section) {
             self.acquisition.take(section, out)?;
+            self.startup
+                .load(self.alloc, self.acquisition.startup_bytes(), out)?;
         }
         Ok(true)
     }
@@ -96,6 +104,6 @@ impl Receiver {
             × ((data_pid : ℕ) (inputs : List Input) (given : List (List ℕ)) → StandsFor data_pid self.old inputs given
             → StandsFor data_pid self.new (inputs ++ Show ∷ []) (given ++ text ∷ []))) }
     {
-        todo
+        self.startup.show(out)
     }
 }

@@ -5,9 +5,8 @@ use Rattle.std.proofs.Math.Seq.{drop-cons}
 use Rattle.std.proofs.lemmas.Bool.Decides.{nat_tests}
 use Rattle.std.proofs.lemmas.List.Elements.{All-weaker}
 use Rattle.std.specs.Str.Lines.{strip_carriage_return}
-use Rattle.replay_run.specs.declared.record.Item.{Item}
 use Rattle.replay_run.specs.declared.record.Line.{Line}
-use Rattle.replay_run.specs.declared.record.Line.TheVariants.{Item as Read, Bad}
+use Rattle.replay_run.specs.declared.record.Line.TheVariants.{Item as Read, Nothing, Bad}
 use Rattle.replay_run.specs.declared.record.Noted.{Noted}
 use Rattle.replay_run.specs.declared.record.Noted.TheVariants.{Line as Next, NeedMore, End}
 use Rattle.replay_run.specs.Record.{line_of, readings}
@@ -34,66 +33,76 @@ long_begins_bad held more clear long =
 -- the bytes are too many for a line
 pub cut_long : (held : List ℕ) (ended : Bool) (noted : Noted) (taken : ℕ) → All (λ byte. (byte == 10) ≡ false) (take 130 held) → 130 ≤ length held → noted ≡ Next Bad → taken ≡ 0 → IsFirstCut held ended noted taken
 cut_long held ended noted taken clear long is_bad none = record {
-  item = λ item e. absurd (cc);
+  good = λ line g e. let same : line ≡ Bad = cc in absurd (g same);
   bad = λ e more follows. long_begins_bad held more clear long;
   need_more = (λ e. absurd (cc), λ waits. absurd (omega (arith, waits.short)));
   end = (λ e. absurd (cc), λ over. absurd (omega (arith, ap length (over.none))));
   is_within = omega arith;
-  takes = λ item e. absurd (cc);
+  takes = λ line g e. let same : line ≡ Bad = cc in absurd (g same);
   stays = λ good. none;
 }
 
 -- more bytes are needed
 pub cut_unfinished : (held : List ℕ) (ended : Bool) (noted : Noted) (taken : ℕ) → All (λ byte. (byte == 10) ≡ false) (take 130 held) → length held < 130 → ended ≡ false → noted ≡ NeedMore → taken ≡ 0 → IsFirstCut held ended noted taken
 cut_unfinished held ended noted taken clear short open_end is_more none = record {
-  item = λ item e. absurd (cc);
+  good = λ line g e. absurd (cc);
   bad = λ e more follows. absurd (cc);
   need_more = (λ e. record { open_end = open_end; no_line_feed = no_line_feed held clear short; short = short }, λ waits. is_more);
   end = (λ e. absurd (cc), λ over. absurd (true≢false (sym (over.ended) ∙ open_end)));
   is_within = omega arith;
-  takes = λ item e. absurd (cc);
+  takes = λ line g e. absurd (cc);
   stays = λ good. none;
 }
 
 -- no line is left
 pub cut_over : (held : List ℕ) (ended : Bool) (noted : Noted) (taken : ℕ) → ended ≡ true → held ≡ [] → noted ≡ End → taken ≡ 0 → IsFirstCut held ended noted taken
 cut_over held ended noted taken over empty is_end none = record {
-  item = λ item e. absurd (cc);
+  good = λ line g e. absurd (cc);
   bad = λ e more follows. absurd (cc);
   need_more = (λ e. absurd (cc), λ waits. absurd (true≢false (sym over ∙ waits.open_end)));
   end = (λ e. record { ended = over; none = empty }, λ end. is_end);
   is_within = omega arith;
-  takes = λ item e. absurd (cc);
+  takes = λ line g e. absurd (cc);
   stays = λ good. none;
 }
 
+-- a line is there that isn't bad
+next_good : (held : List ℕ) (ended : Bool) (noted : Noted) (taken n : ℕ) (line : Line) → line ≢ Bad
+    → ((more : List ℕ) → MayFollow (state held ended) more → readings (held ++ more) ≡ line ∷ readings (drop n held ++ more))
+    → 0 < n → n ≤ length held → (IsUnfinished (state held ended) → ⊥) → noted ≡ Next line → taken ≡ n → IsFirstCut held ended noted taken
+next_good held ended noted taken n line is_good ahead some fits closed is_next all = record {
+  good = λ other g e more follows.
+      let same : line ≡ other = cc in
+      ahead more follows ∙ ap₂ (λ l rest. l ∷ readings (drop rest held ++ more)) same (sym all);
+  bad = λ e more follows. let same : line ≡ Bad = cc in absurd (is_good same);
+  need_more = (λ e. absurd (cc), λ waits. absurd (closed waits));
+  end = (λ e. absurd (cc), λ over. absurd (omega (arith, ap length (over.none))));
+  is_within = omega arith;
+  takes = λ other g e. omega arith;
+  stays = λ none. absurd (none line is_good is_next);
+}
+
 -- a line is there
-next_line : (held : List ℕ) (ended : Bool) (noted : Noted) (taken n : ℕ) (line : Line) → ((more : List ℕ) → MayFollow (state held ended) more → readings (held ++ more) ≡ line ∷ readings (drop n held ++ more)) → 0 < n → n ≤ length held → (IsUnfinished (state held ended) → ⊥) → noted ≡ Next line → ((item : Item) → line ≡ Read item → taken ≡ n) → (line ≡ Bad → taken ≡ 0) → IsFirstCut held ended noted taken
+next_line : (held : List ℕ) (ended : Bool) (noted : Noted) (taken n : ℕ) (line : Line)
+    → ((more : List ℕ) → MayFollow (state held ended) more → readings (held ++ more) ≡ line ∷ readings (drop n held ++ more))
+    → 0 < n → n ≤ length held → (IsUnfinished (state held ended) → ⊥) → noted ≡ Next line → (line ≢ Bad → taken ≡ n) → (line ≡ Bad → taken ≡ 0)
+    → IsFirstCut held ended noted taken
 next_line held ended noted taken n (Read item) ahead some fits closed is_next good bad =
-    let all : taken ≡ n = good item refl in
-    record {
-      item = λ i e more follows.
-          let same : item ≡ i = cc in
-          ahead more follows ∙ ap₂ (λ line rest. Read line ∷ readings (drop rest held ++ more)) same (sym all);
-      bad = λ e more follows. absurd (cc);
-      need_more = (λ e. absurd (cc), λ waits. absurd (closed waits));
-      end = (λ e. absurd (cc), λ over. absurd (omega (arith, ap length (over.none))));
-      is_within = omega arith;
-      takes = λ i e. omega arith;
-      stays = λ none. absurd (none item is_next);
-    }
+    let is_good : Read item ≢ Bad = λ e. cc in next_good held ended noted taken n (Read item) is_good ahead some fits closed is_next (good is_good)
+next_line held ended noted taken n Nothing ahead some fits closed is_next good bad =
+    let is_good : Nothing ≢ Bad = λ e. cc in next_good held ended noted taken n Nothing is_good ahead some fits closed is_next (good is_good)
 next_line held ended noted taken n Bad ahead some fits closed is_next good bad = record {
-  item = λ i e more follows. absurd (cc);
+  good = λ other g e. let same : other ≡ Bad = cc in absurd (g same);
   bad = λ e more follows. ap (λ lines. slice_get lines 0) (ahead more follows);
   need_more = (λ e. absurd (cc), λ waits. absurd (closed waits));
   end = (λ e. absurd (cc), λ over. absurd (omega (arith, ap length (over.none))));
   is_within = let none : taken ≡ 0 = bad refl in omega arith;
-  takes = λ i e. absurd (cc);
+  takes = λ other g e. let same : other ≡ Bad = cc in absurd (g same);
   stays = λ none. bad refl;
 }
 
 -- the last line, which lacks its end
-pub cut_last : (held : List ℕ) (ended : Bool) (noted : Noted) (taken : ℕ) (line : Line) → All (λ byte. (byte == 10) ≡ false) (take 130 held) → length held < 130 → 0 < length held → ended ≡ true → line ≡ line_of held → noted ≡ Next line → ((item : Item) → line ≡ Read item → taken ≡ length held) → (line ≡ Bad → taken ≡ 0) → IsFirstCut held ended noted taken
+pub cut_last : (held : List ℕ) (ended : Bool) (noted : Noted) (taken : ℕ) (line : Line) → All (λ byte. (byte == 10) ≡ false) (take 130 held) → length held < 130 → 0 < length held → ended ≡ true → line ≡ line_of held → noted ≡ Next line → (line ≢ Bad → taken ≡ length held) → (line ≡ Bad → taken ≡ 0) → IsFirstCut held ended noted taken
 cut_last held ended noted taken line clear short some over is_line is_next good bad =
     let whole : take 130 held ≡ held = take_all 130 held (omega arith) in
     let P : List ℕ → Type 0 = All (λ byte. (byte == 10) ≡ false) in
@@ -125,7 +134,7 @@ held_feed held place n first none =
     none place 0 fits (sym (get_or-take n held place 0 near) ∙ eqb-true _ _ (first.here 0))
 
 -- a line with its line feed
-pub cut_ended : (held : List ℕ) (ended : Bool) (noted : Noted) (taken place n : ℕ) (line : Line) → IsFirstPlace (λ byte. byte == 10) (take n held) place → line ≡ line_of (strip_carriage_return (take place held)) → noted ≡ Next line → ((item : Item) → line ≡ Read item → taken ≡ place + 1) → (line ≡ Bad → taken ≡ 0) → IsFirstCut held ended noted taken
+pub cut_ended : (held : List ℕ) (ended : Bool) (noted : Noted) (taken place n : ℕ) (line : Line) → IsFirstPlace (λ byte. byte == 10) (take n held) place → line ≡ line_of (strip_carriage_return (take place held)) → noted ≡ Next line → (line ≢ Bad → taken ≡ place + 1) → (line ≡ Bad → taken ≡ 0) → IsFirstCut held ended noted taken
 cut_ended held ended noted taken place n line first is_line is_next good bad =
     next_line held ended noted taken (place + 1) line
     (λ more follows. ends_at held more place n first ∙ ap (λ l. l ∷ readings (drop (place + 1) held ++ more)) (sym is_line))
@@ -141,12 +150,15 @@ same_front held n e = by_size held n e (cases_lt (length held) 130)
     by_size held n e (inr long) = let all : n ≡ 130 = omega arith in ap (λ m. take m held) all
 
 -- the same of a reader, whose bytes held stand behind those that it has given
-pub gives_item : (items slice : List ℕ) (start taken : ℕ) (ended : Bool) (noted : Noted) (old : ReaderState) → slice ≡ items → state (drop start items) ended ≡ old → IsFirstCut (take (length slice - start) (drop start slice)) ended noted taken → (item : Item) → noted ≡ Next (Read item) → (more : List ℕ) → MayFollow old more → readings (old.held ++ more) ≡ Read item ∷ readings (drop (start + taken) items ++ more)
-gives_item items slice start taken ended noted old same seen cut item e more follows =
+pub gives_good : (items slice : List ℕ) (start taken : ℕ) (ended : Bool) (noted : Noted) (old : ReaderState)
+    → slice ≡ items → state (drop start items) ended ≡ old → IsFirstCut (take (length slice - start) (drop start slice)) ended noted taken
+    → (line : Line) → line ≢ Bad → noted ≡ Next line
+    → (more : List ℕ) → MayFollow old more → readings (old.held ++ more) ≡ line ∷ readings (drop (start + taken) items ++ more)
+gives_good items slice start taken ended noted old same seen cut line is_good e more follows =
     let whole : take (length slice - start) (drop start slice) ≡ drop start items = take_all (length slice - start) (drop start slice) (omega (arith, length-drop start slice)) ∙ ap (drop start) same in
     let P : List ℕ → Type 0 = λ held. IsFirstCut held ended noted taken in
     let here : IsFirstCut (drop start items) ended noted taken = subst P whole cut in
     let Q : ReaderState → Type 0 = λ reader. MayFollow reader more in
     ap (λ reader. readings (reader.held ++ more)) (sym seen)
-    ∙ here.item item e more (subst Q (sym seen) follows)
-    ∙ ap (λ rest. Read item ∷ readings (rest ++ more)) (drop-drop taken start items)
+    ∙ here.good line is_good e more (subst Q (sym seen) follows)
+    ∙ ap (λ rest. line ∷ readings (rest ++ more)) (drop-drop taken start items)

@@ -1,21 +1,25 @@
 -- How a replay ends, over plain values.
-use Rattle.std.proofs.Common.{◌≡◌, ℕ, ◌≤◌, List, [], ◌∷◌, ◌++◌, map, refl, sym, ap, ◌∙◌, subst, append_assoc, append-nil, length, Option, Some, None, Result, Ok, Err, OnOk, IfErr, arith, inl, inr}
+use Rattle.std.proofs.Common.{◌≡◌, ℕ, ◌≤◌, List, [], ◌∷◌, ◌++◌, map, refl, sym, ap, ◌∙◌, subst, append_assoc, append-nil, Option, Some, None, Result, Ok, Err, OnOk, IfErr, arith, inl, inr}
 use Rattle.std.specs.List.{concat}
 use Rattle.std.proofs.lemmas.List.Folds.{concat-append}
 use Rattle.std.specs.Io.KnownBytes.{Appends}
 use Rattle.bml_ports.specs.declared.outside.Port.TheVariants.{Stream, Notes}
 use Rattle.bml_ports.specs.Worlds.{WorldState, PortState}
 use Rattle.ts_packets.specs.Packets.{packets_of}
+use Rattle.receiver_core.specs.Fronts.{IsFront}
+use Rattle.receiver_core.specs.Outputs.{outputs}
+use Rattle.receiver_core.specs.Receiving.{ReceiverState, StandsFor, IsIdle}
+use Rattle.receiver_core.specs.State.{Input}
+use Rattle.receiver_core.proofs.FrontLaws.{front_of_self, front_of_append, front_of_front, front_of_concat}
 use Rattle.replay_run.specs.declared.record.Item.{Item}
-use Rattle.replay_run.specs.declared.record.Item.TheVariants.{All}
 use Rattle.replay_run.specs.declared.status.Status.{Status}
 use Rattle.replay_run.specs.declared.status.Status.TheVariants.{Done, Usage, BadRecord, OpenFault, ReadFault, WriteFault, KeepFault, BadArea, TooLong, NoMemory}
 use Rattle.replay_run.specs.Ending.{EndsAs}
-use Rattle.replay_run.specs.Fronts.{IsFront}
 use Rattle.replay_run.specs.Lines.{end_line}
-use Rattle.replay_run.specs.Meaning.{Piece, piece_of, replay_meaning, replay_texts, texts_of, last_texts, status_behind}
+use Rattle.replay_run.specs.Meaning.{Piece, piece_of, replay_inputs, replay_meaning, replay_texts, texts_of, last_texts, status_behind}
+use Rattle.replay_run.specs.Midway.{StopsIn}
 use Rattle.replay_run.specs.Noting.{NotesState, IsAt, IsWhole, LeavesItems}
-use Rattle.replay_run.specs.Play.{played, at_start}
+use Rattle.replay_run.specs.Play.{inputs_of, packets_in}
 use Rattle.replay_run.specs.Progress.{PlayerState, IsBetween}
 use Rattle.replay_run.specs.Record.{items_before_bad, first_bad}
 use Rattle.replay_run.specs.Replaying.{StopsLine, OnlyReadsBoth, outcome_of}
@@ -23,33 +27,44 @@ use Rattle.replay_run.specs.Output.{WritesPieces, WritesBytes}
 use Rattle.replay_run.specs.Limits.{GaveAtMost, stream_limit, record_limit}
 use Rattle.replay_run.specs.Stopping.{LeavesPackets, OnlyReads}
 use Rattle.replay_run.specs.Writing.{WritesOn, WritesShort}
-use Rattle.replay_run.proofs.FrontLaws.{front_of_self, front_of_append, front_of_front, front_of_concat}
 use Rattle.replay_run.proofs.NotingLaws.{items_of_whole}
-use Rattle.replay_run.proofs.PlayLaws.{play-append_pieces}
+use Rattle.replay_run.proofs.PlayLaws.{front_of_inputs}
 use Rattle.replay_run.proofs.WritingLaws.{appends_from, appends_more}
+
+-- what is known of receivers
+pub record ReceiverLaws : Type 0 where
+  pub more : (pid : ℕ) (inputs further : List Input) → IsFront (outputs pid inputs) (outputs pid (inputs ++ further))
+  pub given : (pid : ℕ) (state : ReceiverState) (inputs : List Input) (given : List (List ℕ)) → StandsFor pid state inputs given → IsFront given (outputs pid inputs)
 
 -- the texts of a meaning are those that it was made of
 pub texts_of_pieces : (texts : List (List ℕ)) → map (λ (piece : Piece). piece.text) (map piece_of texts) ≡ texts
 texts_of_pieces [] = refl
 texts_of_pieces (text ∷ texts) = ap (λ l. text ∷ l) (texts_of_pieces texts)
 
--- the pieces of the first items stand in front of all
-pub front_of_texts : (pid : ℕ) (stream notes : List ℕ) (items : List Item) → IsFront items (items_before_bad notes)
-    → IsFront (played pid (packets_of stream) items).pieces (texts_of (replay_meaning pid stream notes))
+-- what the first items hand over stands in front of all
+front_of_items : (stream notes : List ℕ) (items : List Item) → IsFront items (items_before_bad notes) → IsFront (inputs_of (packets_of stream) items) (replay_inputs stream notes)
+front_of_items stream notes items front =
+    subst (λ l. IsFront (inputs_of (packets_of stream) items) (inputs_of (packets_of stream) l)) (sym front.joined) (front_of_inputs (packets_of stream) items front.rest)
+
+-- texts that a receiver gave for the first inputs stand in front of all
+front_of_given : ReceiverLaws → (pid : ℕ) (stream notes : List ℕ) (receiver : ReceiverState) (inputs : List Input) (given : List (List ℕ))
+    → IsFront inputs (replay_inputs stream notes) → StandsFor pid receiver inputs given
+    → IsFront given (texts_of (replay_meaning pid stream notes))
 unfolding replay_texts
-front_of_texts pid stream notes items front =
-    let packets = packets_of stream in
-    let some : IsFront (played pid packets items).pieces (played pid packets (items_before_bad notes)).pieces =
-    subst (λ l. IsFront (played pid packets items).pieces (played pid packets l).pieces) (sym front.joined) (play-append_pieces pid (at_start packets) items front.rest) in
-    subst (λ l. IsFront (played pid packets items).pieces l) (sym (texts_of_pieces (replay_texts pid stream notes)))
-    (front_of_front (played pid packets items).pieces (played pid packets (items_before_bad notes)).pieces (replay_texts pid stream notes) some
-    (front_of_append (played pid packets (items_before_bad notes)).pieces (last_texts (first_bad notes) (played pid packets (items_before_bad notes)))))
+front_of_given laws pid stream notes receiver inputs given front stands =
+    let all = replay_inputs stream notes in
+    let first : IsFront given (outputs pid inputs) = laws.given pid receiver inputs given stands in
+    let more : IsFront (outputs pid inputs) (outputs pid all) =
+    subst (λ l. IsFront (outputs pid inputs) (outputs pid l)) (sym front.joined) (laws.more pid inputs front.rest) in
+    let last : IsFront (outputs pid all) (replay_texts pid stream notes) = front_of_append (outputs pid all) (last_texts (first_bad notes) all) in
+    subst (λ l. IsFront given l) (sym (texts_of_pieces (replay_texts pid stream notes)))
+    (front_of_front given (outputs pid all) (replay_texts pid stream notes) (front_of_front given (outputs pid inputs) (outputs pid all) first more) last)
 
 -- pieces that were written stand in front of all
-pub writes_in_front : (old new : Option (List ℕ)) (pieces all : List (List ℕ)) → IsFront pieces all → WritesPieces old new pieces → WritesPieces old new all
+writes_in_front : (old new : Option (List ℕ)) (pieces all : List (List ℕ)) → IsFront pieces all → WritesPieces old new pieces → WritesPieces old new all
 writes_in_front old new pieces all front w = record { written = w.written; front = front_of_front w.written pieces all w.front front; appended = w.appended }
 
-pub bytes_in_front : (old new : Option (List ℕ)) (pieces all : List (List ℕ)) → IsFront pieces all → WritesBytes old new pieces → WritesBytes old new all
+bytes_in_front : (old new : Option (List ℕ)) (pieces all : List (List ℕ)) → IsFront pieces all → WritesBytes old new pieces → WritesBytes old new all
 bytes_in_front old new pieces all front w =
     record { written = w.written; front = front_of_front w.written (concat pieces) (concat all) w.front (front_of_concat pieces all front); appended = w.appended }
 
@@ -61,104 +76,120 @@ between_within pid stream first left written player items limit within b =
     record { rest = b.rest; left_is = b.left_is; most = omega arith }
 
 -- whole pieces between two items
-pub between_pieces : (pid : ℕ) (stream notes : List ℕ) (first left written : Option (List ℕ)) (player : PlayerState) (items : List Item)
+between_pieces : ReceiverLaws → (pid : ℕ) (stream notes : List ℕ) (first left written : Option (List ℕ)) (player : PlayerState) (items : List Item)
     → IsFront items (items_before_bad notes) → IsBetween pid stream first left written player items
     → WritesPieces first written (texts_of (replay_meaning pid stream notes))
-between_pieces pid stream notes first left written player items front b =
-    let pieces = (played pid (packets_of stream) items).pieces in
-    record { written = pieces; front = front_of_texts pid stream notes items front; appended = b.wrote }
+between_pieces laws pid stream notes first left written player items front b =
+    record { written = b.given; front = front_of_given laws pid stream notes player.receiver _ b.given (front_of_items stream notes items front) b.stands; appended = b.wrote }
 
--- ---- an item's packets stop the replay
+-- ---- an item stops the replay
 
-pub ends_in_packets : (status : Status) (pid : ℕ) (stream notes : List ℕ) (first stream_left notes_left written : Option (List ℕ)) (items : List Item)
-    → IsFront (items ++ All ∷ []) (items_before_bad notes) → GaveAtMost record_limit notes notes_left
-    → LeavesPackets status stream stream_left first written (played pid (packets_of stream) (items ++ All ∷ [])).pieces
+leaves_in_front : (status : Status) (pid : ℕ) (stream notes : List ℕ) (first stream_left notes_left written : Option (List ℕ)) (given : List (List ℕ))
+    → IsFront given (texts_of (replay_meaning pid stream notes)) → GaveAtMost record_limit notes notes_left
+    → LeavesPackets status stream stream_left first written given
     → EndsAs (replay_meaning pid stream notes) (record { stream = stream; notes = notes; stream_left = stream_left; notes_left = notes_left }) first written status
-ends_in_packets ReadFault pid stream notes first stream_left notes_left written items front within l =
-    (record { stream = l.0; notes = within }, writes_in_front first written _ _ (front_of_texts pid stream notes (items ++ All ∷ []) front) l.1)
-ends_in_packets WriteFault pid stream notes first stream_left notes_left written items front within l =
-    (record { stream = l.0; notes = within }, bytes_in_front first written _ _ (front_of_texts pid stream notes (items ++ All ∷ []) front) l.1)
-ends_in_packets TooLong pid stream notes first stream_left notes_left written items front within l =
-    (inl l.0, writes_in_front first written _ _ (front_of_texts pid stream notes (items ++ All ∷ []) front) l.1)
-ends_in_packets NoMemory pid stream notes first stream_left notes_left written items front within l =
-    writes_in_front first written _ _ (front_of_texts pid stream notes (items ++ All ∷ []) front) l.1
-ends_in_packets Done pid stream notes first stream_left notes_left written items front within l = absurd l
-ends_in_packets Usage pid stream notes first stream_left notes_left written items front within l = absurd l
-ends_in_packets (BadRecord line) pid stream notes first stream_left notes_left written items front within l = absurd l
-ends_in_packets OpenFault pid stream notes first stream_left notes_left written items front within l = absurd l
-ends_in_packets KeepFault pid stream notes first stream_left notes_left written items front within l = absurd l
-ends_in_packets (BadArea size) pid stream notes first stream_left notes_left written items front within l = absurd l
+leaves_in_front ReadFault pid stream notes first stream_left notes_left written given front within l =
+    (record { stream = l.0; notes = within }, writes_in_front first written given _ front l.1)
+leaves_in_front WriteFault pid stream notes first stream_left notes_left written given front within l =
+    (record { stream = l.0; notes = within }, bytes_in_front first written given _ front l.1)
+leaves_in_front TooLong pid stream notes first stream_left notes_left written given front within l =
+    (inl l.0, writes_in_front first written given _ front l.1)
+leaves_in_front NoMemory pid stream notes first stream_left notes_left written given front within l =
+    writes_in_front first written given _ front l.1
+leaves_in_front Done pid stream notes first stream_left notes_left written given front within l = absurd l
+leaves_in_front Usage pid stream notes first stream_left notes_left written given front within l = absurd l
+leaves_in_front (BadRecord line) pid stream notes first stream_left notes_left written given front within l = absurd l
+leaves_in_front OpenFault pid stream notes first stream_left notes_left written given front within l = absurd l
+leaves_in_front KeepFault pid stream notes first stream_left notes_left written given front within l = absurd l
+leaves_in_front (BadArea size) pid stream notes first stream_left notes_left written given front within l = absurd l
+
+pub ends_in_item : ReceiverLaws → (status : Status) (pid : ℕ) (stream notes : List ℕ) (first stream_left notes_left written : Option (List ℕ)) (items : List Item)
+    → IsFront items (items_before_bad notes) → GaveAtMost record_limit notes notes_left
+    → StopsIn status pid stream stream_left first written (inputs_of (packets_of stream) items)
+    → EndsAs (replay_meaning pid stream notes) (record { stream = stream; notes = notes; stream_left = stream_left; notes_left = notes_left }) first written status
+ends_in_item laws status pid stream notes first stream_left notes_left written items front within s =
+    let some : IsFront s.inputs (replay_inputs stream notes) =
+    front_of_front s.inputs (inputs_of (packets_of stream) items) (replay_inputs stream notes) s.front (front_of_items stream notes items front) in
+    leaves_in_front status pid stream notes first stream_left notes_left written s.given
+    (front_of_given laws pid stream notes s.receiver s.inputs s.given some s.stands) within s.leaves
 
 -- ---- the record stops the replay
 
 -- a bad line behind these items
-pub ends_bad : (line : ℕ) (pid : ℕ) (stream notes : List ℕ) (first stream_left notes_left written : Option (List ℕ)) (player : PlayerState) (items : List Item)
+ends_bad : (line : ℕ) (pid : ℕ) (stream notes : List ℕ) (first stream_left notes_left written : Option (List ℕ)) (player : PlayerState) (items : List Item)
     → first_bad notes ≡ Some line → items_before_bad notes ≡ items → GaveAtMost stream_limit stream stream_left → GaveAtMost record_limit notes notes_left
-    → IsBetween pid stream first stream_left written player items
+    → IsIdle player.receiver → IsBetween pid stream first stream_left written player items
     → EndsAs (replay_meaning pid stream notes) (record { stream = stream; notes = notes; stream_left = stream_left; notes_left = notes_left }) first written (BadRecord line)
 unfolding replay_texts
-ends_bad line pid stream notes first stream_left notes_left written player items number are stream_within notes_within b =
-    let now = played pid (packets_of stream) items in
-    let texts : replay_texts pid stream notes ≡ now.pieces =
-    ap (λ n. (played pid (packets_of stream) (items_before_bad notes)).pieces ++ last_texts n (played pid (packets_of stream) (items_before_bad notes))) number
-    ∙ append-nil (played pid (packets_of stream) (items_before_bad notes)).pieces
-    ∙ ap (λ l. (played pid (packets_of stream) l).pieces) are in
+ends_bad line pid stream notes first stream_left notes_left written player items number are stream_within notes_within idle b =
+    let inputs = inputs_of (packets_of stream) items in
+    let all = replay_inputs stream notes in
+    let texts : replay_texts pid stream notes ≡ b.given =
+    ap (λ n. outputs pid all ++ last_texts n all) number
+    ∙ append-nil (outputs pid all)
+    ∙ ap (λ l. outputs pid (inputs_of (packets_of stream) l)) are
+    ∙ sym (idle.all pid inputs b.given b.stands) in
     record {
       same = ap status_behind number;
       within = record { stream = stream_within; notes = notes_within };
       written = subst (λ l. Appends first written (concat l)) (sym (texts_of_pieces (replay_texts pid stream notes) ∙ texts)) b.wrote;
     }
 
-pub ends_in_items : (status : Status) (pid : ℕ) (stream notes : List ℕ) (first stream_left notes_left written : Option (List ℕ)) (player : PlayerState) (items : List Item)
+pub ends_in_items : ReceiverLaws → (status : Status) (pid : ℕ) (stream notes : List ℕ) (first stream_left notes_left written : Option (List ℕ)) (player : PlayerState) (items : List Item)
     → IsFront items (items_before_bad notes) → GaveAtMost stream_limit stream stream_left
-    → IsBetween pid stream first stream_left written player items
+    → IsIdle player.receiver → IsBetween pid stream first stream_left written player items
     → LeavesItems status notes notes_left items
     → EndsAs (replay_meaning pid stream notes) (record { stream = stream; notes = notes; stream_left = stream_left; notes_left = notes_left }) first written status
-ends_in_items ReadFault pid stream notes first stream_left notes_left written player items front within b l =
-    (record { stream = within; notes = l }, between_pieces pid stream notes first stream_left written player items front b)
-ends_in_items TooLong pid stream notes first stream_left notes_left written player items front within b l =
-    (inr l, between_pieces pid stream notes first stream_left written player items front b)
-ends_in_items (BadRecord line) pid stream notes first stream_left notes_left written player items front within b l =
-    ends_bad line pid stream notes first stream_left notes_left written player items l.1 l.2 within l.0 b
-ends_in_items Done pid stream notes first stream_left notes_left written player items front within b l = absurd l
-ends_in_items Usage pid stream notes first stream_left notes_left written player items front within b l = absurd l
-ends_in_items OpenFault pid stream notes first stream_left notes_left written player items front within b l = absurd l
-ends_in_items WriteFault pid stream notes first stream_left notes_left written player items front within b l = absurd l
-ends_in_items KeepFault pid stream notes first stream_left notes_left written player items front within b l = absurd l
-ends_in_items (BadArea size) pid stream notes first stream_left notes_left written player items front within b l = absurd l
-ends_in_items NoMemory pid stream notes first stream_left notes_left written player items front within b l = absurd l
+ends_in_items laws ReadFault pid stream notes first stream_left notes_left written player items front within idle b l =
+    (record { stream = within; notes = l }, between_pieces laws pid stream notes first stream_left written player items front b)
+ends_in_items laws TooLong pid stream notes first stream_left notes_left written player items front within idle b l =
+    (inr l, between_pieces laws pid stream notes first stream_left written player items front b)
+ends_in_items laws (BadRecord line) pid stream notes first stream_left notes_left written player items front within idle b l =
+    ends_bad line pid stream notes first stream_left notes_left written player items l.1 l.2 within l.0 idle b
+ends_in_items laws Done pid stream notes first stream_left notes_left written player items front within idle b l = absurd l
+ends_in_items laws Usage pid stream notes first stream_left notes_left written player items front within idle b l = absurd l
+ends_in_items laws OpenFault pid stream notes first stream_left notes_left written player items front within idle b l = absurd l
+ends_in_items laws WriteFault pid stream notes first stream_left notes_left written player items front within idle b l = absurd l
+ends_in_items laws KeepFault pid stream notes first stream_left notes_left written player items front within idle b l = absurd l
+ends_in_items laws (BadArea size) pid stream notes first stream_left notes_left written player items front within idle b l = absurd l
+ends_in_items laws NoMemory pid stream notes first stream_left notes_left written player items front within idle b l = absurd l
 
 -- ---- the last line
 
--- the texts of a record of good lines
-pub whole_texts : (pid : ℕ) (stream notes : List ℕ) (items : List Item) → first_bad notes ≡ None → items_before_bad notes ≡ items
-    → texts_of (replay_meaning pid stream notes) ≡ (played pid (packets_of stream) items).pieces ++ end_line (length (played pid (packets_of stream) items).taken) ∷ []
-unfolding replay_texts
-whole_texts pid stream notes items none are =
-    texts_of_pieces (replay_texts pid stream notes)
-    ∙ ap (λ n. (played pid (packets_of stream) (items_before_bad notes)).pieces ++ last_texts n (played pid (packets_of stream) (items_before_bad notes))) none
-    ∙ ap (λ l. (played pid (packets_of stream) l).pieces ++ end_line (length (played pid (packets_of stream) l).taken) ∷ []) are
-
 -- all bytes of the texts
-pub whole_bytes : (pieces : List (List ℕ)) (line : List ℕ) → concat (pieces ++ line ∷ []) ≡ concat pieces ++ line
+whole_bytes : (pieces : List (List ℕ)) (line : List ℕ) → concat (pieces ++ line ∷ []) ≡ concat pieces ++ line
 whole_bytes pieces line = concat-append pieces (line ∷ []) ∙ ap (λ l. concat pieces ++ l) (append-nil line)
 
+-- the bytes of a record of good lines
+all_bytes : (pid : ℕ) (stream notes : List ℕ) (first stream_left notes_left old : Option (List ℕ)) (player : PlayerState) (items : List Item)
+    → IsWhole notes notes_left items → IsIdle player.receiver → (b : IsBetween pid stream first stream_left old player items)
+    → concat (texts_of (replay_meaning pid stream notes)) ≡ concat b.given ++ end_line player.packets
+unfolding replay_texts
+all_bytes pid stream notes first stream_left notes_left old player items whole idle b =
+    let good = items_of_whole notes notes_left items whole in
+    let inputs = inputs_of (packets_of stream) items in
+    let all = replay_inputs stream notes in
+    ap concat (
+    texts_of_pieces (replay_texts pid stream notes)
+    ∙ ap (λ n. outputs pid all ++ last_texts n all) good.0
+    ∙ ap (λ l. outputs pid (inputs_of (packets_of stream) l) ++ end_line (packets_in (inputs_of (packets_of stream) l)) ∷ []) good.1
+    ∙ ap (λ l. l ++ end_line (packets_in inputs) ∷ []) (sym (idle.all pid inputs b.given b.stands))
+    ∙ ap (λ n. b.given ++ end_line n ∷ []) (sym b.packets)
+    )
+    ∙ whole_bytes b.given (end_line player.packets)
+
 -- it was written
-pub ends_done : (pid : ℕ) (stream notes : List ℕ) (first stream_left notes_left old new : Option (List ℕ)) (player : PlayerState) (items : List Item)
+ends_done : (pid : ℕ) (stream notes : List ℕ) (first stream_left notes_left old new : Option (List ℕ)) (player : PlayerState) (items : List Item)
     → IsWhole notes notes_left items → GaveAtMost stream_limit stream stream_left → GaveAtMost record_limit notes notes_left
     → WritesOn old new (end_line player.packets)
-    → IsBetween pid stream first stream_left old player items
+    → IsIdle player.receiver → IsBetween pid stream first stream_left old player items
     → EndsAs (replay_meaning pid stream notes) (record { stream = stream; notes = notes; stream_left = stream_left; notes_left = notes_left }) first new Done
-ends_done pid stream notes first stream_left notes_left old new player items whole stream_within notes_within wrote b =
-    let now = played pid (packets_of stream) items in
-    let all = items_of_whole notes notes_left items whole in
-    let texts = whole_texts pid stream notes items all.0 all.1 in
-    let bytes : concat (texts_of (replay_meaning pid stream notes)) ≡ concat now.pieces ++ end_line player.packets =
-    ap concat texts ∙ whole_bytes now.pieces (end_line (length now.taken)) ∙ ap (λ n. concat now.pieces ++ end_line n) (sym b.packets) in
+ends_done pid stream notes first stream_left notes_left old new player items whole stream_within notes_within wrote idle b =
     record {
-      same = ap status_behind all.0;
+      same = ap status_behind (items_of_whole notes notes_left items whole).0;
       within = record { stream = stream_within; notes = notes_within };
-      written = subst (λ l. Appends first new l) (sym bytes) (appends_more first old new (concat now.pieces) (end_line player.packets) b.wrote wrote);
+      written = subst (λ l. Appends first new l) (sym (all_bytes pid stream notes first stream_left notes_left old player items whole idle b))
+          (appends_more first old new (concat b.given) (end_line player.packets) b.wrote wrote);
     }
 
 -- the last bytes were cut short
@@ -175,33 +206,30 @@ line_short (Some start) (Some told) new pieces shown line bytes short a =
     }
 
 -- it wasn't
-pub ends_in_line : (status : Status) (pid : ℕ) (stream notes : List ℕ) (first stream_left notes_left old new : Option (List ℕ)) (player : PlayerState) (items : List Item)
+ends_in_line : ReceiverLaws → (status : Status) (pid : ℕ) (stream notes : List ℕ) (first stream_left notes_left old new : Option (List ℕ)) (player : PlayerState) (items : List Item)
     → IsWhole notes notes_left items → GaveAtMost stream_limit stream stream_left → GaveAtMost record_limit notes notes_left
     → StopsLine status old new (end_line player.packets)
-    → IsBetween pid stream first stream_left old player items
+    → IsIdle player.receiver → IsBetween pid stream first stream_left old player items
     → EndsAs (replay_meaning pid stream notes) (record { stream = stream; notes = notes; stream_left = stream_left; notes_left = notes_left }) first new status
-ends_in_line WriteFault pid stream notes first stream_left notes_left old new player items whole stream_within notes_within short b =
-    let now = played pid (packets_of stream) items in
+ends_in_line laws WriteFault pid stream notes first stream_left notes_left old new player items whole stream_within notes_within short idle b =
+    let bytes = all_bytes pid stream notes first stream_left notes_left old player items whole idle b in
+    (record { stream = stream_within; notes = notes_within }, line_short first old new (texts_of (replay_meaning pid stream notes)) (concat b.given) (end_line player.packets) bytes short b.wrote)
+ends_in_line laws NoMemory pid stream notes first stream_left notes_left old new player items whole stream_within notes_within kept idle b =
     let all = items_of_whole notes notes_left items whole in
-    let bytes : concat (texts_of (replay_meaning pid stream notes)) ≡ concat now.pieces ++ end_line player.packets =
-    ap concat (whole_texts pid stream notes items all.0 all.1) ∙ whole_bytes now.pieces (end_line (length now.taken)) ∙ ap (λ n. concat now.pieces ++ end_line n) (sym b.packets) in
-    (record { stream = stream_within; notes = notes_within }, line_short first old new (texts_of (replay_meaning pid stream notes)) (concat now.pieces) (end_line player.packets) bytes short b.wrote)
-ends_in_line NoMemory pid stream notes first stream_left notes_left old new player items whole stream_within notes_within kept b =
-    let now = played pid (packets_of stream) items in
-    let all = items_of_whole notes notes_left items whole in
+    let front : IsFront items (items_before_bad notes) = subst (λ l. IsFront items l) (sym all.1) (front_of_self items) in
     record {
-      written = now.pieces;
-      front = front_of_texts pid stream notes items (subst (λ l. IsFront items l) (sym all.1) (front_of_self items));
-      appended = subst (λ l. Appends first new l) (append-nil (concat now.pieces)) (appends_more first old new (concat now.pieces) [] b.wrote kept);
+      written = b.given;
+      front = front_of_given laws pid stream notes player.receiver _ b.given (front_of_items stream notes items front) b.stands;
+      appended = subst (λ l. Appends first new l) (append-nil (concat b.given)) (appends_more first old new (concat b.given) [] b.wrote kept);
     }
-ends_in_line Done pid stream notes first stream_left notes_left old new player items whole stream_within notes_within s b = absurd s
-ends_in_line Usage pid stream notes first stream_left notes_left old new player items whole stream_within notes_within s b = absurd s
-ends_in_line (BadRecord line) pid stream notes first stream_left notes_left old new player items whole stream_within notes_within s b = absurd s
-ends_in_line OpenFault pid stream notes first stream_left notes_left old new player items whole stream_within notes_within s b = absurd s
-ends_in_line ReadFault pid stream notes first stream_left notes_left old new player items whole stream_within notes_within s b = absurd s
-ends_in_line KeepFault pid stream notes first stream_left notes_left old new player items whole stream_within notes_within s b = absurd s
-ends_in_line (BadArea size) pid stream notes first stream_left notes_left old new player items whole stream_within notes_within s b = absurd s
-ends_in_line TooLong pid stream notes first stream_left notes_left old new player items whole stream_within notes_within s b = absurd s
+ends_in_line laws Done pid stream notes first stream_left notes_left old new player items whole stream_within notes_within s idle b = absurd s
+ends_in_line laws Usage pid stream notes first stream_left notes_left old new player items whole stream_within notes_within s idle b = absurd s
+ends_in_line laws (BadRecord line) pid stream notes first stream_left notes_left old new player items whole stream_within notes_within s idle b = absurd s
+ends_in_line laws OpenFault pid stream notes first stream_left notes_left old new player items whole stream_within notes_within s idle b = absurd s
+ends_in_line laws ReadFault pid stream notes first stream_left notes_left old new player items whole stream_within notes_within s idle b = absurd s
+ends_in_line laws KeepFault pid stream notes first stream_left notes_left old new player items whole stream_within notes_within s idle b = absurd s
+ends_in_line laws (BadArea size) pid stream notes first stream_left notes_left old new player items whole stream_within notes_within s idle b = absurd s
+ends_in_line laws TooLong pid stream notes first stream_left notes_left old new player items whole stream_within notes_within s idle b = absurd s
 
 -- ---- steps between items
 
@@ -245,16 +273,13 @@ reads_notes a b c x y = record {
 }
 
 -- the answer of writing the last line
-pub ends_with_line : (result : Result (Unit {0}) Status) (packets pid : ℕ) (stream notes : List ℕ) (first stream_left notes_left old new : Option (List ℕ)) (player : PlayerState) (items : List Item)
+pub ends_with_line : ReceiverLaws → (result : Result (Unit {0}) Status) (packets pid : ℕ) (stream notes : List ℕ) (first stream_left notes_left old new : Option (List ℕ)) (player : PlayerState) (items : List Item)
     → packets ≡ player.packets
     → OnOk result (WritesOn old new (end_line packets)) → IfErr result (λ status. StopsLine status old new (end_line packets))
     → IsWhole notes notes_left items → GaveAtMost stream_limit stream stream_left → GaveAtMost record_limit notes notes_left
-    → IsBetween pid stream first stream_left old player items
+    → IsIdle player.receiver → IsBetween pid stream first stream_left old player items
     → EndsAs (replay_meaning pid stream notes) (record { stream = stream; notes = notes; stream_left = stream_left; notes_left = notes_left }) first new (outcome_of result)
-ends_with_line (Ok u) packets pid stream notes first stream_left notes_left old new player items same wrote stops whole stream_within notes_within b =
-    ends_done pid stream notes first stream_left notes_left old new player items whole stream_within notes_within (subst (λ n. WritesOn old new (end_line n)) same wrote) b
-ends_with_line (Err status) packets pid stream notes first stream_left notes_left old new player items same wrote stops whole stream_within notes_within b =
-    ends_in_line status pid stream notes first stream_left notes_left old new player items whole stream_within notes_within (subst (λ n. StopsLine status old new (end_line n)) same stops) b
-
-pub only_all : (item : Item) → item ≡ All
-only_all All = refl
+ends_with_line laws (Ok u) packets pid stream notes first stream_left notes_left old new player items same wrote stops whole stream_within notes_within idle b =
+    ends_done pid stream notes first stream_left notes_left old new player items whole stream_within notes_within (subst (λ n. WritesOn old new (end_line n)) same wrote) idle b
+ends_with_line laws (Err status) packets pid stream notes first stream_left notes_left old new player items same wrote stops whole stream_within notes_within idle b =
+    ends_in_line laws status pid stream notes first stream_left notes_left old new player items whole stream_within notes_within (subst (λ n. StopsLine status old new (end_line n)) same stops) idle b

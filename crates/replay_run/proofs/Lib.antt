@@ -4,7 +4,6 @@ pub mod CutLaws
 pub mod EndingLaws
 pub mod FieldLaws
 pub mod FirstPlaces
-pub mod FrontLaws
 pub mod ItemLaws
 pub mod LineLaws
 pub mod NotingLaws

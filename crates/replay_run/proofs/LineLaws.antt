@@ -8,7 +8,7 @@ use Rattle.std.proofs.lemmas.List.Splits.{slice_split-cons_no, slice_split_none,
 use Rattle.std.proofs.lemmas.List.Elements.{All-head, All-tail, All-weaker, All-push}
 use Rattle.std.proofs.lemmas.Grind.{common_steps}
 use Rattle.replay_run.specs.declared.record.Line.TheVariants.{Bad}
-use Rattle.replay_run.specs.Record.{fields, item_of, line_with, line_of, readings}
+use Rattle.replay_run.specs.Record.{fields, line_with, line_of, readings}
 
 behind_part : (x : List ℕ) (parts : List (List ℕ)) → 0 < length parts → lines_of_parts (x ∷ parts) ≡ strip_carriage_return x ∷ lines_of_parts parts
 behind_part x [] l = absurd (omega arith)
@@ -45,7 +45,7 @@ readings-nil = refl
 -- a line that is too long
 pub line_of_long : (line : List ℕ) → 128 < length line → line_of line ≡ Bad
 unfolding line_of
-line_of_long line l = let e : nat_le (length line) 128 ≡ false = grind (arith, nat_tests) in ap (λ b. cond b (line_with (item_of (fields line))) Bad) e
+line_of_long line l = let e : nat_le (length line) 128 ≡ false = grind (arith, nat_tests) in ap (λ b. cond b (line_with (fields line)) Bad) e
 
 -- the first part between line feeds begins with the line
 record BeginsWith (line : List ℕ) (parts : List (List ℕ)) : Type 0 where

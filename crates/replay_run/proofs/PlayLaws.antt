@@ -1,45 +1,119 @@
--- Laws of items that are handled one after the other.
-use Rattle.std.proofs.Common.{◌≡◌, ℕ, List, [], ◌∷◌, ◌++◌, refl}
+-- Laws of what items hand over.
+use Rattle.std.proofs.Common.{◌≡◌, ℕ, ◌+◌, ◌-◌, ◌≤◌, List, [], ◌∷◌, ◌++◌, map, length, take, drop, refl, sym, ap, ◌∙◌, append_assoc, append-nil, take_all, take-append-drop, drop_of_length-le, length-drop, eq-eqb, true≢false, arith, ◌≢◌, Bool, true, not, nat_eq, Option, Some, None, option_map, cond}
+use Rattle.std.proofs.Math.Seq.{take-add}
+use Rattle.std.specs.Option.{option_eq}
+use Rattle.std.proofs.lemmas.List.{map-append}
+use Rattle.std.proofs.lemmas.List.Sums.{sum_by-append}
+use Rattle.receiver_core.specs.Fronts.{IsFront}
+use Rattle.receiver_core.specs.State.{Input, Packet, Show as Display}
 use Rattle.replay_run.specs.declared.record.Item.{Item}
-use Rattle.replay_run.specs.declared.record.Item.TheVariants.{All}
-use Rattle.replay_run.specs.Fronts.{IsFront}
-use Rattle.replay_run.specs.Play.{Played, play, play_item}
-use Rattle.replay_run.specs.Turns.{turns_behind}
-use Rattle.replay_run.proofs.FrontLaws.{front_of_self, front_of_append, front_of_front}
+use Rattle.replay_run.specs.Midway.{taking}
+use Rattle.replay_run.specs.Play.{handed, left_by, inputs_of, packets_left, is_packet, packets_in}
 
--- one more item at the end
-pub play-append : (pid : ℕ) (now : Played) (items : List Item) (item : Item) → play pid now (items ++ item ∷ []) ≡ play_item pid item (play pid now items)
-unfolding play
-play-append pid now [] item = refl
-play-append pid now (i ∷ items) item = play-append pid (play_item pid i now) items item
+-- further items hand over what they do with the packets left
+pub inputs_of-append : (packets : List (List ℕ)) (items more : List Item) → inputs_of packets (items ++ more) ≡ inputs_of packets items ++ inputs_of (packets_left packets items) more
+unfolding inputs_of packets_left
+inputs_of-append packets [] more = refl
+inputs_of-append packets (item ∷ items) more =
+    ap (λ l. handed item packets ++ l) (inputs_of-append (left_by item packets) items more)
+    ∙ sym (append_assoc (handed item packets) (inputs_of (left_by item packets) items) (inputs_of (packets_left (left_by item packets) items) more))
 
--- what was written stays
-pub item_keeps_pieces : (pid : ℕ) (item : Item) (now : Played) → IsFront now.pieces (play_item pid item now).pieces
-unfolding play_item
-item_keeps_pieces pid All now = front_of_append now.pieces _
+pub front_of_inputs : (packets : List (List ℕ)) (items more : List Item) → IsFront (inputs_of packets items) (inputs_of packets (items ++ more))
+front_of_inputs packets items more = record { rest = inputs_of (packets_left packets items) more; joined = inputs_of-append packets items more }
 
-pub play_keeps_pieces : (pid : ℕ) (now : Played) (items : List Item) → IsFront now.pieces (play pid now items).pieces
-unfolding play
-play_keeps_pieces pid now [] = front_of_self now.pieces
-play_keeps_pieces pid now (item ∷ items) =
-    front_of_front now.pieces (play_item pid item now).pieces (play pid (play_item pid item now) items).pieces
-    (item_keeps_pieces pid item now) (play_keeps_pieces pid (play_item pid item now) items)
+-- one item more
+pub inputs_of-push : (packets : List (List ℕ)) (items : List Item) (item : Item) → inputs_of packets (items ++ item ∷ []) ≡ inputs_of packets items ++ handed item (packets_left packets items)
+unfolding inputs_of
+inputs_of-push packets items item =
+    inputs_of-append packets items (item ∷ []) ∙ ap (λ l. inputs_of packets items ++ l) (append-nil (handed item (packets_left packets items)))
 
--- further items add pieces behind those so far
-pub play-append_pieces : (pid : ℕ) (now : Played) (items more : List Item) → IsFront (play pid now items).pieces (play pid now (items ++ more)).pieces
-unfolding play
-play-append_pieces pid now [] more = play_keeps_pieces pid now more
-play-append_pieces pid now (item ∷ items) more = play-append_pieces pid (play_item pid item now) items more
+pub packets_left-push : (packets : List (List ℕ)) (items : List Item) (item : Item) → packets_left packets (items ++ item ∷ []) ≡ left_by item (packets_left packets items)
+unfolding packets_left
+packets_left-push packets [] item = refl
+packets_left-push packets (first ∷ items) item = packets_left-push (left_by first packets) items item
 
--- `all` by its parts
-pub item_all_taken : (pid : ℕ) (now : Played) → (play_item pid All now).taken ≡ now.taken ++ now.left
-unfolding play_item
-item_all_taken pid now = refl
+pub no_items : (packets : List (List ℕ)) → (inputs_of packets [] ≡ []) × (packets_left packets [] ≡ packets)
+unfolding inputs_of packets_left
+no_items packets = (refl, refl)
 
-pub item_all_pieces : (pid : ℕ) (now : Played) → (play_item pid All now).pieces ≡ now.pieces ++ turns_behind pid now.taken now.left
-unfolding play_item
-item_all_pieces pid now = refl
+-- ---- packets among inputs
 
-pub item_all_left : (pid : ℕ) (now : Played) → (play_item pid All now).left ≡ []
-unfolding play_item
-item_all_left pid now = refl
+packets_in-append : (inputs more : List Input) → packets_in (inputs ++ more) ≡ packets_in inputs + packets_in more
+packets_in-append inputs more = sum_by-append (λ input. cond (is_packet input) 1 0) inputs more
+
+pub packets_in-packet : (inputs : List Input) (packet : List ℕ) → packets_in (inputs ++ Packet packet ∷ []) ≡ packets_in inputs + 1
+packets_in-packet inputs packet = packets_in-append inputs (Packet packet ∷ [])
+
+pub packets_in-show : (inputs : List Input) → packets_in (inputs ++ Display ∷ []) ≡ packets_in inputs
+packets_in-show inputs = packets_in-append inputs (Display ∷ []) ∙ omega arith
+
+-- ---- packets that are taken one by one
+
+-- behind so many packets
+abbrev pub with_packets : List Input → ℕ → List (List ℕ) → List Input
+with_packets inputs count ahead = inputs ++ map Packet (take count ahead)
+
+pub with_none : (inputs : List Input) (ahead : List (List ℕ)) → with_packets inputs 0 ahead ≡ inputs
+with_none inputs ahead = append-nil inputs
+
+-- some, and then more
+pub with_more : (inputs : List Input) (some more : ℕ) (ahead : List (List ℕ)) → with_packets (with_packets inputs some ahead) more (drop some ahead) ≡ with_packets inputs (some + more) ahead
+with_more inputs some more ahead =
+    append_assoc inputs (map Packet (take some ahead)) (map Packet (take more (drop some ahead)))
+    ∙ ap (λ l. inputs ++ l) (sym (map-append Packet (take some ahead) (take more (drop some ahead))))
+    ∙ ap (λ l. inputs ++ map Packet l) (sym (take-add some more ahead))
+
+-- an item takes that many, or more
+pub record Allows (most : Option ℕ) (count : ℕ) : Type 0 where
+  pub bound : (n : ℕ) → most ≡ Some n → count ≤ n
+
+-- so many of those that it takes
+pub front_of_taken : (inputs : List Input) (most : Option ℕ) (count : ℕ) (ahead : List (List ℕ)) → Allows most count
+    → IsFront (with_packets inputs count ahead) (inputs ++ handed (taking most) ahead)
+front_of_taken inputs None count ahead allows = record {
+  rest = map Packet (drop count ahead);
+  joined = ap (λ l. inputs ++ map Packet l) (sym (take-append-drop count ahead))
+      ∙ ap (λ l. inputs ++ l) (map-append Packet (take count ahead) (drop count ahead))
+      ∙ sym (append_assoc inputs (map Packet (take count ahead)) (map Packet (drop count ahead)));
+}
+front_of_taken inputs (Some n) count ahead allows =
+    let split : count + (n - count) ≡ n = let most : count ≤ n = allows.bound n refl in omega arith in
+    record {
+      rest = map Packet (take (n - count) (drop count ahead));
+      joined = sym (with_more inputs count (n - count) ahead ∙ ap (λ k. with_packets inputs k ahead) split);
+    }
+
+-- a test that tells two optional numbers apart
+pub told_apart : (test : Bool) (last : Option ℕ) (now : ℕ) → test ≡ not (option_eq nat_eq last (Some now)) → test ≡ true → last ≢ Some now
+told_apart test last now means e same =
+    let equal : option_eq nat_eq last (Some now) ≡ true = ap (λ o. option_eq nat_eq o (Some now)) same ∙ eq-eqb now now refl in
+    true≢false (sym e ∙ means ∙ ap not equal)
+
+-- they are as many as it takes
+pub took_enough : (most last : Option ℕ) (start now count : ℕ) → last ≡ option_map (λ n. start + n) most → now ≡ start + count → last ≡ Some now → most ≡ Some count
+took_enough None last start now count are moved e = let clash : None ≡ Some now = sym are ∙ e in cc
+took_enough (Some n) last start now count are moved e =
+    let same : start + n ≡ now = cc in
+    let all : n ≡ count = omega arith in
+    ap Some all
+
+-- or fewer
+pub took_less : (most last : Option ℕ) (start now count : ℕ) → last ≡ option_map (λ n. start + n) most → now ≡ start + count → last ≢ Some now → Allows most count → Allows most (count + 1)
+took_less most last start now count are moved other allows = record {
+  bound = λ n e.
+      let within : count ≤ n = allows.bound n e in
+      let differ : count ≢ n = λ same. other (are ∙ ap (option_map (λ k. start + k)) e ∙ ap (λ k. Some (start + k)) (sym same) ∙ ap Some (sym moved)) in
+      omega arith;
+}
+
+-- or all that there are
+pub took_all : (inputs : List Input) (most : Option ℕ) (count : ℕ) (ahead : List (List ℕ)) → Allows most count → drop count ahead ≡ []
+    → (with_packets inputs count ahead ≡ inputs ++ handed (taking most) ahead) × (drop count ahead ≡ left_by (taking most) ahead)
+took_all inputs None count ahead allows none =
+    let few : length ahead ≤ count = omega (arith, length-drop count ahead, ap length none) in
+    (ap (λ l. inputs ++ map Packet l) (take_all count ahead few), none)
+took_all inputs (Some n) count ahead allows none =
+    let few : length ahead ≤ count = omega (arith, length-drop count ahead, ap length none) in
+    let most : count ≤ n = allows.bound n refl in
+    let more : length ahead ≤ n = omega arith in
+    (ap (λ l. inputs ++ map Packet l) (take_all count ahead few ∙ sym (take_all n ahead more)), none ∙ sym (drop_of_length-le ahead more))

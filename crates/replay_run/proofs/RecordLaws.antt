@@ -1,51 +1,60 @@
 -- Laws of the items of a record and of its first bad line.
-use Rattle.std.proofs.Common.{◌≡◌, ℕ, ◌+◌, ◌<◌, true, false, cond, List, [], ◌∷◌, ◌++◌, length, map, position, Some, None, option_map, nat_lt, refl, ap, ◌∙◌, arith, length-append}
-use Rattle.std.specs.List.{position_or_len}
+use Rattle.std.proofs.Common.{◌≡◌, ◌≢◌, ℕ, ◌+◌, ◌<◌, true, false, cond, List, [], ◌∷◌, ◌++◌, All, length, position, Some, None, option_map, nat_lt, refl, sym, ap, ◌∙◌, arith, append-nil, length-append}
+use Rattle.std.specs.List.{filter_map, position_or_len}
 use Rattle.std.proofs.lemmas.Bool.Decides.{nat_tests}
-use Rattle.replay_run.specs.declared.record.Item.{Item}
+use Rattle.std.proofs.lemmas.List.Elements.{All-head, All-tail}
 use Rattle.replay_run.specs.declared.record.Line.{Line}
-use Rattle.replay_run.specs.declared.record.Line.TheVariants.{Item as Read, Bad}
-use Rattle.replay_run.specs.Record.{readings, is_bad, items_until_bad, items_before_bad, first_bad}
+use Rattle.replay_run.specs.declared.record.Line.TheVariants.{Item as Read, Nothing, Bad}
+use Rattle.replay_run.specs.Record.{readings, is_bad, item_in, items_until_bad, items_before_bad, first_bad}
 
-items-whole : (items : List Item) → items_until_bad (map Read items) ≡ items
-items-whole [] = refl
-items-whole (item ∷ items) = ap (λ xs. item ∷ xs) (items-whole items)
+-- none of these lines is bad
+pub record AreGood (lines : List Line) : Type 0 where
+  pub each : All (λ line. line ≢ Bad) lines
 
-items-bad : (items : List Item) (rest : List Line) → items_until_bad (map Read items ++ Bad ∷ rest) ≡ items
-items-bad [] rest = refl
-items-bad (item ∷ items) rest = ap (λ xs. item ∷ xs) (items-bad items rest)
+good-tail : (line : Line) (lines : List Line) → AreGood (line ∷ lines) → AreGood lines
+good-tail line lines good = record { each = All-tail (λ l. l ≢ Bad) line lines good.each }
 
-place-whole : (items : List Item) → position_or_len is_bad (map Read items) ≡ length (map Read items)
-place-whole [] = refl
-place-whole (item ∷ items) = ap (λ n. 1 + n) (place-whole items) ∙ omega arith
+never : (lines : List Line) → AreGood (Bad ∷ lines) → ⊥
+never lines good = All-head (λ l. l ≢ Bad) Bad lines good.each refl
 
-place-bad : (items : List Item) (rest : List Line) → position_or_len is_bad (map Read items ++ Bad ∷ rest) ≡ length items
-place-bad [] rest = refl
-place-bad (item ∷ items) rest = ap (λ n. 1 + n) (place-bad items rest) ∙ omega arith
+-- good lines in front of others have their items
+pub items-good : (lines more : List Line) → AreGood lines → items_until_bad (lines ++ more) ≡ filter_map item_in lines ++ items_until_bad more
+items-good [] more good = refl
+items-good (Read item ∷ lines) more good = ap (λ xs. item ∷ xs) (items-good lines more (good-tail (Read item) lines good))
+items-good (Nothing ∷ lines) more good = items-good lines more (good-tail Nothing lines good)
+items-good (Bad ∷ lines) more good = absurd (never lines good)
 
-length-read : (items : List Item) → length (map Read items) ≡ length items
-length-read [] = refl
-length-read (item ∷ items) = omega (arith, length-read items)
+-- and no bad one
+place-good : (lines more : List Line) → AreGood lines → position_or_len is_bad (lines ++ more) ≡ length lines + position_or_len is_bad more
+place-good [] more good = omega arith
+place-good (Read item ∷ lines) more good = ap (λ n. 1 + n) (place-good lines more (good-tail (Read item) lines good)) ∙ omega arith
+place-good (Nothing ∷ lines) more good = ap (λ n. 1 + n) (place-good lines more (good-tail Nothing lines good)) ∙ omega arith
+place-good (Bad ∷ lines) more good = absurd (never lines good)
 
-no_bad : (items : List Item) → position is_bad (map Read items) ≡ None
-no_bad items =
-    let none : nat_lt (position_or_len is_bad (map Read items)) (length (map Read items)) ≡ false = grind (arith, nat_tests, place-whole items) in
-    ap (λ b. cond b (Some (position_or_len is_bad (map Read items))) None) none
+no_bad : (lines : List Line) → AreGood lines → position is_bad lines ≡ None
+no_bad lines good =
+    let place : position_or_len is_bad lines ≡ length lines =
+    ap (position_or_len is_bad) (sym (append-nil lines)) ∙ place-good lines [] good ∙ omega arith in
+    let none : nat_lt (position_or_len is_bad lines) (length lines) ≡ false = grind (arith, nat_tests, place) in
+    ap (λ b. cond b (Some (position_or_len is_bad lines)) None) none
 
-one_bad : (items : List Item) (rest : List Line) → position is_bad (map Read items ++ Bad ∷ rest) ≡ Some (length items)
-one_bad items rest =
-    let long : length items < length (map Read items ++ Bad ∷ rest) = omega (arith, length-append (map Read items) (Bad ∷ rest), length-read items) in
-    let some : nat_lt (position_or_len is_bad (map Read items ++ Bad ∷ rest)) (length (map Read items ++ Bad ∷ rest)) ≡ true = grind (arith, nat_tests, place-bad items rest) in
-    ap (λ b. cond b (Some (position_or_len is_bad (map Read items ++ Bad ∷ rest))) None) some ∙ ap Some (place-bad items rest)
+one_bad : (lines rest : List Line) → AreGood lines → position is_bad (lines ++ Bad ∷ rest) ≡ Some (length lines)
+one_bad lines rest good =
+    let place : position_or_len is_bad (lines ++ Bad ∷ rest) ≡ length lines = place-good lines (Bad ∷ rest) good ∙ omega arith in
+    let long : length lines < length (lines ++ Bad ∷ rest) = omega (arith, length-append lines (Bad ∷ rest)) in
+    let some : nat_lt (position_or_len is_bad (lines ++ Bad ∷ rest)) (length (lines ++ Bad ∷ rest)) ≡ true = grind (arith, nat_tests, place) in
+    ap (λ b. cond b (Some (position_or_len is_bad (lines ++ Bad ∷ rest))) None) some ∙ ap Some place
 
-pub whole_items : (bytes : List ℕ) (items : List Item) → readings bytes ≡ map Read items → items_before_bad bytes ≡ items
-whole_items bytes items e = ap items_until_bad e ∙ items-whole items
+pub whole_items : (bytes : List ℕ) → AreGood (readings bytes) → items_before_bad bytes ≡ filter_map item_in (readings bytes)
+whole_items bytes good =
+    ap items_until_bad (sym (append-nil (readings bytes))) ∙ items-good (readings bytes) [] good ∙ append-nil (filter_map item_in (readings bytes))
 
-pub whole_bad : (bytes : List ℕ) (items : List Item) → readings bytes ≡ map Read items → first_bad bytes ≡ None
-whole_bad bytes items e = ap (λ ls. option_map (λ place. place + 1) (position is_bad ls)) e ∙ ap (option_map (λ place. place + 1)) (no_bad items)
+pub whole_bad : (bytes : List ℕ) → AreGood (readings bytes) → first_bad bytes ≡ None
+whole_bad bytes good = ap (option_map (λ place. place + 1)) (no_bad (readings bytes) good)
 
-pub bad_items : (bytes : List ℕ) (items : List Item) (rest : List Line) → readings bytes ≡ map Read items ++ Bad ∷ rest → items_before_bad bytes ≡ items
-bad_items bytes items rest e = ap items_until_bad e ∙ items-bad items rest
+pub bad_items : (bytes : List ℕ) (before rest : List Line) → readings bytes ≡ before ++ Bad ∷ rest → AreGood before → items_before_bad bytes ≡ filter_map item_in before
+bad_items bytes before rest e good = ap items_until_bad e ∙ items-good before (Bad ∷ rest) good ∙ append-nil (filter_map item_in before)
 
-pub bad_number : (bytes : List ℕ) (items : List Item) (rest : List Line) → readings bytes ≡ map Read items ++ Bad ∷ rest → first_bad bytes ≡ Some (length items + 1)
-bad_number bytes items rest e = ap (λ ls. option_map (λ place. place + 1) (position is_bad ls)) e ∙ ap (option_map (λ place. place + 1)) (one_bad items rest)
+pub bad_number : (bytes : List ℕ) (before rest : List Line) → readings bytes ≡ before ++ Bad ∷ rest → AreGood before → first_bad bytes ≡ Some (length before + 1)
+bad_number bytes before rest e good =
+    ap (λ ls. option_map (λ place. place + 1) (position is_bad ls)) e ∙ ap (option_map (λ place. place + 1)) (one_bad before rest good)

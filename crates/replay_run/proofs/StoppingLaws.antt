@@ -1,27 +1,27 @@
 -- What is written where a replay stops in the middle of an item, over plain values.
-use Rattle.std.proofs.Common.{◌≡◌, ℕ, ◌+◌, ◌<◌, ◌≤◌, List, [], ◌∷◌, ◌++◌, refl, sym, ap, ◌∙◌, append_assoc, length, Option, Some, None, arith, length-append}
+use Rattle.std.proofs.Common.{◌≡◌, ℕ, ◌+◌, ◌<◌, ◌≤◌, List, [], ◌∷◌, ◌++◌, drop, refl, sym, ap, ◌∙◌, subst, append_assoc, length, Option, Some, None, Result, Ok, Err, OnErr, IfErr, arith, length-append}
 use Rattle.std.specs.List.{concat}
-use Rattle.std.specs.Io.KnownBytes.{Consumes, IsAtEnd, Keeps}
-use Rattle.std.proofs.lemmas.List.{append_cancel_left}
+use Rattle.std.specs.Io.KnownBytes.{Appends, Consumes, IsAtEnd, Keeps}
+use Rattle.std.proofs.lemmas.List.Folds.{concat-append}
 use Rattle.bml_ports.specs.declared.outside.Port.{Port}
 use Rattle.bml_ports.specs.Worlds.{WorldState}
 use Rattle.ts_packets.specs.Packets.{packets_of, packets_after}
+use Rattle.receiver_core.specs.Fronts.{IsFront}
+use Rattle.receiver_core.specs.Receiving.{ReceiverState, StandsFor}
+use Rattle.receiver_core.specs.State.{Input}
+use Rattle.receiver_core.proofs.FrontLaws.{front_of_self, front_of_front}
 use Rattle.replay_run.specs.declared.record.Item.{Item}
-use Rattle.replay_run.specs.declared.record.Item.TheVariants.{All}
-use Rattle.replay_run.specs.Fronts.{IsFront}
-use Rattle.replay_run.specs.Play.{played}
+use Rattle.replay_run.specs.declared.status.Status.{Status}
+use Rattle.replay_run.specs.declared.status.Status.TheVariants.{ReadFault, WriteFault, TooLong, NoMemory}
+use Rattle.replay_run.specs.Midway.{StopsIn}
+use Rattle.replay_run.specs.Play.{handed, inputs_of, packets_left}
 use Rattle.replay_run.specs.Progress.{PlayerState, IsMidway}
-use Rattle.replay_run.specs.Receiving.{ReceiverState, StandsFor}
 use Rattle.replay_run.specs.Output.{WritesPieces, WritesBytes}
-use Rattle.replay_run.specs.Limits.{GaveMore, GaveAtMost, stream_limit}
+use Rattle.replay_run.specs.Limits.{GaveAtMost, stream_limit}
 use Rattle.replay_run.specs.Stopping.{OnlyReads}
 use Rattle.replay_run.specs.Writing.{CutShort}
-use Rattle.replay_run.proofs.FrontLaws.{front_of_front, front_of_concat}
+use Rattle.replay_run.proofs.PlayLaws.{inputs_of-push, with_packets, with_more}
 use Rattle.replay_run.proofs.WritingLaws.{appends_from}
-use Rattle.replay_run.proofs.ProgressLaws.{midway_stop, midway_turn}
-
-some_same : {x y : List ℕ} → Some x ≡ Some y → x ≡ y
-some_same e = cc
 
 -- what a read that gave these bytes left
 pub consumed_some : (bytes : List ℕ) (old new : Option (List ℕ)) → Consumes old new bytes
@@ -35,27 +35,51 @@ ended_some None new c end rest e = let clash : None ≡ Some rest = e in cc
 ended_some (Some x) None c end rest e = absurd c
 ended_some (Some x) (Some y) c end rest e = let same : x ≡ rest = cc in (sym same ∙ c ∙ end, ap Some end)
 
--- whole pieces
-pub stops_whole : (pid : ℕ) (stream : List ℕ) (first left written : Option (List ℕ)) (player : PlayerState) (items : List Item)
-    → IsMidway pid stream first left written player items
-    → WritesPieces first written (played pid (packets_of stream) (items ++ All ∷ [])).pieces
-stops_whole pid stream first left written player items m =
-    let s = midway_stop pid stream first left written player items m in
-    record { written = s.0; front = s.1; appended = s.2 }
+-- a replay that stops in some inputs stops in more
+pub stops_further : (status : Status) (pid : ℕ) (stream : List ℕ) (left first written : Option (List ℕ)) (some all : List Input) → IsFront some all
+    → StopsIn status pid stream left first written some → StopsIn status pid stream left first written all
+stops_further status pid stream left first written some all front s =
+    record { inputs = s.inputs; front = front_of_front s.inputs some all s.front front; receiver = s.receiver; given = s.given; stands = s.stands; leaves = s.leaves }
+
+-- in those of the items and one more
+pub stops_pushed : (status : Status) (pid : ℕ) (stream : List ℕ) (left first written : Option (List ℕ)) (items : List Item) (item : Item)
+    → StopsIn status pid stream left first written (inputs_of (packets_of stream) items ++ handed item (packets_left (packets_of stream) items))
+    → StopsIn status pid stream left first written (inputs_of (packets_of stream) (items ++ item ∷ []))
+stops_pushed status pid stream left first written items item s =
+    subst (λ l. StopsIn status pid stream left first written l) (sym (inputs_of-push (packets_of stream) items item)) s
+
+-- in those of some packets, and then one more
+pub stops_more : (status : Status) (pid : ℕ) (stream : List ℕ) (left first written : Option (List ℕ)) (inputs : List Input) (ahead : List (List ℕ)) (count : ℕ)
+    → StopsIn status pid stream left first written (with_packets (with_packets inputs count ahead) 1 (drop count ahead))
+    → StopsIn status pid stream left first written (with_packets inputs (count + 1) ahead)
+stops_more status pid stream left first written inputs ahead count s =
+    subst (λ l. StopsIn status pid stream left first written l) (with_more inputs count 1 ahead) s
+
+-- whole texts
+stops_whole : (pid : ℕ) (stream : List ℕ) (first left written : Option (List ℕ)) (player : PlayerState) (inputs : List Input) (ahead : List (List ℕ))
+    → (m : IsMidway pid stream first left written player inputs ahead) → WritesPieces first written m.given
+stops_whole pid stream first left written player inputs ahead m =
+    record { written = m.given; front = front_of_self m.given; appended = m.wrote }
 
 -- the stream gave no more than it may
-pub midway_within : (pid : ℕ) (stream : List ℕ) (first left written : Option (List ℕ)) (player : PlayerState) (items : List Item) (limit : ℕ)
-    → player.bytes ≤ limit → IsMidway pid stream first left written player items → GaveAtMost limit stream left
-midway_within pid stream first left written player items limit within m =
+pub midway_within : (pid : ℕ) (stream : List ℕ) (first left written : Option (List ℕ)) (player : PlayerState) (inputs : List Input) (ahead : List (List ℕ)) (limit : ℕ)
+    → player.bytes ≤ limit → IsMidway pid stream first left written player inputs ahead → GaveAtMost limit stream left
+midway_within pid stream first left written player inputs ahead limit within m =
     let whole = m.counted in
     record { rest = m.rest; left_is = m.left_is; most = omega arith }
 
--- whole pieces, and no more than the stream may give
-pub stops_within : (pid : ℕ) (stream : List ℕ) (first left written : Option (List ℕ)) (player : PlayerState) (items : List Item)
-    → player.bytes ≤ stream_limit → IsMidway pid stream first left written player items
-    → GaveAtMost stream_limit stream left × WritesPieces first written (played pid (packets_of stream) (items ++ All ∷ [])).pieces
-stops_within pid stream first left written player items within m =
-    (midway_within pid stream first left written player items stream_limit within m, stops_whole pid stream first left written player items m)
+-- memory was wanting
+pub stops_within : (pid : ℕ) (stream : List ℕ) (first left written : Option (List ℕ)) (player : PlayerState) (inputs : List Input) (ahead : List (List ℕ))
+    → player.bytes ≤ stream_limit → IsMidway pid stream first left written player inputs ahead
+    → StopsIn NoMemory pid stream left first written inputs
+stops_within pid stream first left written player inputs ahead within m = record {
+  inputs = inputs;
+  front = front_of_self inputs;
+  receiver = player.receiver;
+  given = m.given;
+  stands = m.stands;
+  leaves = (midway_within pid stream first left written player inputs ahead stream_limit within m, stops_whole pid stream first left written player inputs ahead m);
+}
 
 -- a failed read took nothing
 pub within_kept : (limit : ℕ) (bytes : List ℕ) (old new : Option (List ℕ)) → Keeps old new → GaveAtMost limit bytes old → GaveAtMost limit bytes new
@@ -63,48 +87,79 @@ within_kept limit bytes None new kept g = let clash : None ≡ Some g.rest = g.l
 within_kept limit bytes (Some x) None kept g = absurd kept
 within_kept limit bytes (Some x) (Some y) kept g = record { rest = g.rest; left_is = ap Some kept ∙ g.left_is; most = g.most }
 
+pub stops_unread : (pid : ℕ) (stream : List ℕ) (first old new written : Option (List ℕ)) (player : PlayerState) (inputs : List Input) (ahead : List (List ℕ))
+    → player.bytes ≤ stream_limit → Keeps old new → IsMidway pid stream first old written player inputs ahead
+    → StopsIn ReadFault pid stream new first written inputs
+stops_unread pid stream first old new written player inputs ahead within kept m = record {
+  inputs = inputs;
+  front = front_of_self inputs;
+  receiver = player.receiver;
+  given = m.given;
+  stands = m.stands;
+  leaves = (
+    within_kept stream_limit stream old new kept (midway_within pid stream first old written player inputs ahead stream_limit within m),
+    stops_whole pid stream first old written player inputs ahead m,
+  );
+}
+
 -- the stream gave too much
-pub stops_long : (pid : ℕ) (stream : List ℕ) (first old new written : Option (List ℕ)) (player : PlayerState) (items : List Item) (bytes : List ℕ) (count limit : ℕ)
-    → length bytes ≡ count → limit < player.bytes + count → Consumes old new bytes
-    → IsMidway pid stream first old written player items
-    → GaveMore limit stream new × WritesPieces first written (played pid (packets_of stream) (items ++ All ∷ [])).pieces
-stops_long pid stream first old new written player items bytes count limit size above consumed m =
+pub stops_long : (pid : ℕ) (stream : List ℕ) (first old new written : Option (List ℕ)) (player : PlayerState) (inputs : List Input) (ahead : List (List ℕ)) (bytes : List ℕ) (count : ℕ)
+    → length bytes ≡ count → stream_limit < player.bytes + count → Consumes old new bytes
+    → IsMidway pid stream first old written player inputs ahead
+    → StopsIn TooLong pid stream new first written inputs
+stops_long pid stream first old new written player inputs ahead bytes count size above consumed m =
     let g = consumed_some bytes old new consumed m.rest m.left_is in
     let split : length m.rest ≡ length bytes + length g.0 = ap length g.2 ∙ length-append bytes g.0 in
     let whole = m.counted in
-    (record { rest = g.0; left_is = g.1; more = omega arith }, stops_whole pid stream first old written player items m)
-
--- a turn's text was cut short
-pub stops_short : (pid : ℕ) (stream : List ℕ) (first left old new : Option (List ℕ)) (player : PlayerState) (items : List Item) (receiver : ReceiverState) (texts : List (List ℕ))
-    → ((packets given : List (List ℕ)) → StandsFor pid player.receiver packets given → StandsFor pid receiver packets (given ++ texts))
-    → ((start : List ℕ) → old ≡ Some start → CutShort start new (concat texts))
-    → IsMidway pid stream first left old player items
-    → WritesBytes first new (played pid (packets_of stream) (items ++ All ∷ [])).pieces
-stops_short pid stream None left old new player items receiver texts turned cut m =
-    record { written = []; front = record { rest = concat (played pid (packets_of stream) (items ++ All ∷ [])).pieces; joined = refl }; appended = tt }
-stops_short pid stream (Some start) left None new player items receiver texts turned cut m = absurd m.wrote
-stops_short pid stream (Some start) left (Some told) new player items receiver texts turned cut m =
-    let before = played pid (packets_of stream) items in
-    let shown = concat before.pieces ++ concat m.fresh in
-    let short = cut told refl in
-    -- as if all of the turn had been written
-    let whole = midway_turn pid stream (Some start) left (Some told) (Some (told ++ concat texts)) player items receiver texts turned
-    (λ other e. ap (λ l. Some (l ++ concat texts)) (some_same e)) m in
-    let s = midway_stop pid stream (Some start) left (Some (told ++ concat texts)) (record player { receiver = receiver }) items whole in
-    let all_behind : concat s.0 ≡ shown ++ concat texts =
-    append_cancel_left start (concat s.0) (shown ++ concat texts) (sym s.2 ∙ ap (λ l. l ++ concat texts) m.wrote ∙ append_assoc start shown (concat texts)) in
-    let front : IsFront (shown ++ short.front) (concat s.0) =
-    record { rest = short.rest; joined = all_behind ∙ ap (λ l. shown ++ l) short.whole ∙ sym (append_assoc shown short.front short.rest) } in
     record {
-      written = shown ++ short.front;
-      front = front_of_front (shown ++ short.front) (concat s.0) (concat (played pid (packets_of stream) (items ++ All ∷ [])).pieces) front
-          (front_of_concat s.0 (played pid (packets_of stream) (items ++ All ∷ [])).pieces s.1);
-      appended = appends_from start (shown ++ short.front) new (short.written ∙ ap Some (ap (λ l. l ++ short.front) m.wrote ∙ append_assoc start shown short.front));
+      inputs = inputs;
+      front = front_of_self inputs;
+      receiver = player.receiver;
+      given = m.given;
+      stands = m.stands;
+      leaves = (record { rest = g.0; left_is = g.1; more = omega arith }, stops_whole pid stream first old written player inputs ahead m);
     }
+
+-- the bytes of texts, of which the last ones were cut short
+short_bytes : (first old new : Option (List ℕ)) (given texts : List (List ℕ)) → ((start : List ℕ) → old ≡ Some start → CutShort start new (concat texts))
+    → Appends first old (concat given) → WritesBytes first new (given ++ texts)
+short_bytes None old new given texts cut a = record { written = []; front = record { rest = concat (given ++ texts); joined = refl }; appended = tt }
+short_bytes (Some start) None new given texts cut a = absurd a
+short_bytes (Some start) (Some told) new given texts cut a =
+    let short = cut told refl in
+    record {
+      written = concat given ++ short.front;
+      front = record { rest = short.rest; joined = concat-append given texts ∙ ap (λ l. concat given ++ l) short.whole ∙ sym (append_assoc (concat given) short.front short.rest) };
+      appended = appends_from start (concat given ++ short.front) new (short.written ∙ ap Some (ap (λ l. l ++ short.front) a ∙ append_assoc start (concat given) short.front));
+    }
+
+-- texts were cut short that the receiver gave
+pub stops_short : (pid : ℕ) (stream : List ℕ) (first left old new : Option (List ℕ)) (player : PlayerState) (inputs more : List Input) (ahead : List (List ℕ)) (receiver : ReceiverState) (texts : List (List ℕ))
+    → ((given : List (List ℕ)) → StandsFor pid player.receiver inputs given → StandsFor pid receiver more (given ++ texts))
+    → ((start : List ℕ) → old ≡ Some start → CutShort start new (concat texts))
+    → player.bytes ≤ stream_limit
+    → IsMidway pid stream first left old player inputs ahead
+    → StopsIn WriteFault pid stream left first new more
+stops_short pid stream first left old new player inputs more ahead receiver texts gave cut within m = record {
+  inputs = more;
+  front = front_of_self more;
+  receiver = receiver;
+  given = m.given ++ texts;
+  stands = gave m.given m.stands;
+  leaves = (midway_within pid stream first left old player inputs ahead stream_limit within m, short_bytes first old new m.given texts cut m.wrote);
+}
+
+-- a piece that wasn't written whole
+pub piece_stops : (result : Result (Unit {0}) Status) (P : Status → Type 0) (Q : Type 0) → OnErr result Q → IfErr result (λ status. status ≡ WriteFault) → (Q → P WriteFault) → IfErr result P
+piece_stops (Ok u) P Q short fault stops = tt
+piece_stops (Err status) P Q short fault stops = subst P (sym fault) (stops short)
 
 pub only_reads_more : (port : Port) (a b c : WorldState) → OnlyReads port a b → OnlyReads port b c → OnlyReads port a c
 only_reads_more port a b c x y =
     record { files = y.files ∙ x.files; openings = y.openings ∙ x.openings; other = y.other ∙ x.other; asked = y.asked ∙ x.asked; later = omega (arith, x.later, y.later) }
+
+pub only_reads_none : (port : Port) (a : WorldState) → OnlyReads port a a
+only_reads_none port a = record { files = refl; openings = refl; other = refl; asked = refl; later = omega arith }
 
 pub no_packets : packets_of [] ≡ []
 unfolding packets_of packets_after

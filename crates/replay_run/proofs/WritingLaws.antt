@@ -1,5 +1,6 @@
 -- Laws of what writes leave.
-use Rattle.std.proofs.Common.{◌≡◌, ℕ, ◌-◌, List, ◌++◌, refl, sym, ap, ◌∙◌, append_assoc, length, take, drop, Option, Some, None, take-append-drop}
+use Rattle.std.proofs.Common.{◌≡◌, ℕ, ◌-◌, List, [], ◌∷◌, ◌++◌, refl, sym, ap, ◌∙◌, append_assoc, append-nil, length, take, drop, Option, Some, None, take-append-drop}
+use Rattle.std.specs.List.{concat}
 use Rattle.std.specs.Io.KnownBytes.{Appends}
 use Rattle.std.proofs.lemmas.List.{take_rest}
 use Rattle.replay_run.specs.Writing.{WritesOn}
@@ -35,3 +36,10 @@ appends_more None old new bytes more a w = tt
 appends_more (Some start) None new bytes more a w = absurd a
 appends_more (Some start) (Some x) new bytes more a w =
     appends_from start (bytes ++ more) new (w x refl ∙ ap Some (ap (λ l. l ++ more) a ∙ append_assoc start bytes more))
+
+-- the piece that texts were appended to, once it was cleared
+pub piece_of_texts : (piece made cleared : List ℕ) (texts : List (List ℕ)) → piece ≡ made → made ≡ cleared ++ concat texts → cleared ≡ [] → piece ≡ concat texts
+piece_of_texts piece made cleared texts is_made more none = is_made ∙ more ∙ ap (λ l. l ++ concat texts) none
+
+pub piece_of_text : (piece made cleared text : List ℕ) → piece ≡ made → made ≡ cleared ++ text → cleared ≡ [] → piece ≡ concat (text ∷ [])
+piece_of_text piece made cleared text is_made more none = is_made ∙ more ∙ ap (λ l. l ++ text) none ∙ sym (append-nil text)

@@ -1,11 +1,13 @@
 -- What a run means: its words, the whole stream and the whole record fix the pieces of its output, the area after
 -- each, and how it ends. (Own definitions.)
-use Rattle.std.specs.Prelude.{ℕ, List, [], ◌∷◌, ◌++◌, map, length, replicate, Option, Some, None}
+use Rattle.std.specs.Prelude.{ℕ, List, [], ◌∷◌, ◌++◌, map, replicate, Option, Some, None}
 use Rattle.ts_packets.specs.Packets.{packets_of}
+use Rattle.receiver_core.specs.Outputs.{outputs}
+use Rattle.receiver_core.specs.State.{Input}
 use Rattle.replay_run.specs.declared.status.Status.{Status}
 use Rattle.replay_run.specs.declared.status.Status.TheVariants.{Done, Usage, BadRecord}
 use Rattle.replay_run.specs.Lines.{end_line}
-use Rattle.replay_run.specs.Play.{Played, played}
+use Rattle.replay_run.specs.Play.{inputs_of, packets_in}
 use Rattle.replay_run.specs.Record.{items_before_bad, first_bad}
 use Rattle.replay_run.specs.Words.{CommandWords, command}
 
@@ -27,18 +29,22 @@ abbrev pub piece_of : List ℕ → Piece
 piece_of text = record { text = text; area = empty_area }
 
 -- the last piece, where no line of the record is bad: how many packets were taken
-abbrev pub last_texts : Option ℕ → Played → List (List ℕ)
-last_texts None now = end_line (length now.taken) ∷ []
-last_texts (Some line) now = []
+abbrev pub last_texts : Option ℕ → List Input → List (List ℕ)
+last_texts None inputs = end_line (packets_in inputs) ∷ []
+last_texts (Some line) inputs = []
 
 abbrev pub status_behind : Option ℕ → Status
 status_behind None = Done
 status_behind (Some line) = BadRecord line
 
--- the texts of the pieces: those of the items before the first bad line, and the last one
+-- what comes to the receiver: what the items before the first bad line hand over
+abbrev pub replay_inputs : List ℕ → List ℕ → List Input
+replay_inputs stream notes = inputs_of (packets_of stream) (items_before_bad notes)
+
+-- the texts of the pieces: what a receiver prints for that, and the last one
 unfoldable pub replay_texts : ℕ → List ℕ → List ℕ → List (List ℕ)
 replay_texts pid stream notes =
-    let now = played pid (packets_of stream) (items_before_bad notes) in now.pieces ++ last_texts (first_bad notes) now
+    let inputs = replay_inputs stream notes in outputs pid inputs ++ last_texts (first_bad notes) inputs
 
 -- the meaning of a replay of the data on this PID
 abbrev pub replay_meaning : ℕ → List ℕ → List ℕ → Meaning

@@ -1,13 +1,15 @@
 -- What the steps of a replay do to where it stands.
-use Rattle.std.specs.Prelude.{◌≡◌, ℕ, ◌+◌, ◌-◌, ◌*◌, ◌^◌, Bool, true, false, IsTrue, length, List, [], ◌∷◌, ◌++◌, Option}
+use Rattle.std.specs.Prelude.{◌≡◌, ℕ, ◌+◌, ◌-◌, ◌*◌, ◌^◌, Bool, true, false, IsTrue, length, List, ◌++◌, Option, Some, None}
 use Rattle.ts_packets.specs.Cutter.{CutterState}
-use Rattle.ts_packets.specs.Packets.{packets_of}
 use Rattle.bml_ports.specs.Worlds.{WorldState}
+use Rattle.receiver_core.specs.Fronts.{IsFront}
+use Rattle.receiver_core.specs.Receiving.{ReceiverState, StandsFor}
+use Rattle.receiver_core.specs.State.{Input}
 use Rattle.replay_run.specs.declared.player.Player.{Player}
 use Rattle.replay_run.specs.declared.record.Item.{Item}
-use Rattle.replay_run.specs.declared.record.Item.TheVariants.{All}
+use Rattle.replay_run.specs.declared.record.Item.TheVariants.{All, Packets}
 use Rattle.replay_run.specs.declared.status.Status.{Status}
-use Rattle.replay_run.specs.Play.{played}
+use Rattle.replay_run.specs.Play.{handed, left_by}
 use Rattle.replay_run.specs.Progress.{PlayerState, IsMidway}
 use Rattle.replay_run.specs.Stopping.{LeavesPackets}
 
@@ -27,16 +29,45 @@ not_ended false = 1
 abbrev pub work_left : CutterState → ℕ → ℕ
 work_left cutter bytes = 2 * (2 ^ 37 - bytes) + length cutter.held + not_ended cutter.ended
 
--- whatever stream and record it is, the replay stands where it stood, some packets and turns further
+-- the item that takes so many packets, or all
+abbrev pub taking : Option ℕ → Item
+taking None = All
+taking (Some count) = Packets count
+
+-- whatever stream and record it is, the replay stands where it stood
 abbrev pub Goes : Option (List ℕ) → Option (List ℕ) → Option (List ℕ) → Option (List ℕ) → PlayerState → PlayerState → Type 0
 Goes left_old left_new written_old written_new old new =
-    (pid : ℕ) (stream : List ℕ) (first : Option (List ℕ)) (items : List Item)
-    → IsMidway pid stream first left_old written_old old items
-    → IsMidway pid stream first left_new written_new new items
+    (pid : ℕ) (stream : List ℕ) (first : Option (List ℕ)) (inputs : List Input) (ahead : List (List ℕ))
+    → IsMidway pid stream first left_old written_old old inputs ahead
+    → IsMidway pid stream first left_new written_new new inputs ahead
 
--- whatever stream and record it is, the replay stops with a front of the pieces written
+-- and with what this item hands over more
+abbrev pub Handles : Item → Option (List ℕ) → Option (List ℕ) → Option (List ℕ) → Option (List ℕ) → PlayerState → PlayerState → Type 0
+Handles item left_old left_new written_old written_new old new =
+    (pid : ℕ) (stream : List ℕ) (first : Option (List ℕ)) (inputs : List Input) (ahead : List (List ℕ))
+    → IsMidway pid stream first left_old written_old old inputs ahead
+    → IsMidway pid stream first left_new written_new new (inputs ++ handed item ahead) (left_by item ahead)
+
+-- The replay stopped somewhere in these inputs: a front of the texts is written that a receiver gave for the first of
+-- them.
+pub record StopsIn (status : Status) (pid : ℕ) (stream : List ℕ) (left first written : Option (List ℕ)) (all : List Input) : Type 0 where
+  pub inputs : List Input
+  pub front : IsFront inputs all
+  pub receiver : ReceiverState
+  pub given : List (List ℕ)
+  pub stands : StandsFor pid receiver inputs given
+  pub leaves : LeavesPackets status stream left first written given
+
+-- whatever stream and record it is, the replay stops in the inputs that came
 abbrev pub Stops : Status → Option (List ℕ) → Option (List ℕ) → Option (List ℕ) → Option (List ℕ) → PlayerState → Type 0
 Stops status left_old left_new written_old written_new old =
-    (pid : ℕ) (stream : List ℕ) (first : Option (List ℕ)) (items : List Item)
-    → IsMidway pid stream first left_old written_old old items
-    → LeavesPackets status stream left_new first written_new (played pid (packets_of stream) (items ++ All ∷ [])).pieces
+    (pid : ℕ) (stream : List ℕ) (first : Option (List ℕ)) (inputs : List Input) (ahead : List (List ℕ))
+    → IsMidway pid stream first left_old written_old old inputs ahead
+    → StopsIn status pid stream left_new first written_new inputs
+
+-- or in those that this item hands over
+abbrev pub StopsHandling : Item → Status → Option (List ℕ) → Option (List ℕ) → Option (List ℕ) → Option (List ℕ) → PlayerState → Type 0
+StopsHandling item status left_old left_new written_old written_new old =
+    (pid : ℕ) (stream : List ℕ) (first : Option (List ℕ)) (inputs : List Input) (ahead : List (List ℕ))
+    → IsMidway pid stream first left_old written_old old inputs ahead
+    → StopsIn status pid stream left_new first written_new (inputs ++ handed item ahead)

@@ -2,7 +2,7 @@
 use Rattle.std.specs.Prelude.{ℕ, List, Option}
 use Rattle.std.specs.List.{concat}
 use Rattle.std.specs.Io.KnownBytes.{Appends}
-use Rattle.replay_run.specs.Fronts.{IsFront}
+use Rattle.receiver_core.specs.Fronts.{IsFront}
 
 -- all pieces were written
 abbrev pub WritesAll : Option (List ℕ) → Option (List ℕ) → List (List ℕ) → Type 0

@@ -1,32 +1,35 @@
--- How the items of a record are handled, one after the other, over the packets of a stream. (Own definitions.)
-use Rattle.std.specs.Prelude.{ℕ, List, [], ◌∷◌, ◌++◌}
+-- What the items of a record hand to a receiver, over the packets of a stream. (Own definitions.)
+use Rattle.std.specs.Prelude.{ℕ, Bool, true, false, List, [], ◌∷◌, ◌++◌, map, take, drop, count_by}
+use Rattle.receiver_core.specs.State.{Input, Packet, Show as Display}
 use Rattle.replay_run.specs.declared.record.Item.{Item}
-use Rattle.replay_run.specs.declared.record.Item.TheVariants.{All}
-use Rattle.replay_run.specs.Turns.{turns_behind}
+use Rattle.replay_run.specs.declared.record.Item.TheVariants.{All, Packets, Show}
 
--- where a replay stands between two items: the text of each piece so far, the packets taken, and those left
-pub record Played : Type 0 where
-  pub pieces : List (List ℕ)
-  pub taken : List (List ℕ)
-  pub left : List (List ℕ)
+-- what an item hands over where these packets are left: the packets that it takes, or the wish to see the display list
+abbrev pub handed : Item → List (List ℕ) → List Input
+handed All packets = map Packet packets
+handed (Packets count) packets = map Packet (take count packets)
+handed Show packets = Display ∷ []
 
--- before the first item
-abbrev pub at_start : List (List ℕ) → Played
-at_start packets = record { pieces = []; taken = []; left = packets }
+-- and the packets that it leaves
+abbrev pub left_by : Item → List (List ℕ) → List (List ℕ)
+left_by All packets = []
+left_by (Packets count) packets = drop count packets
+left_by Show packets = packets
 
--- `all` takes the packets that are left; each of their turns is a piece
-unfoldable pub play_item : ℕ → Item → Played → Played
-play_item pid All now = record {
-  pieces = now.pieces ++ turns_behind pid now.taken now.left;
-  taken = now.taken ++ now.left;
-  left = [];
-}
+-- what items hand over, one after the other
+unfoldable pub inputs_of : List (List ℕ) → List Item → List Input
+inputs_of packets [] = []
+inputs_of packets (item ∷ items) = handed item packets ++ inputs_of (left_by item packets) items
 
--- items are handled in their order
-unfoldable pub play : ℕ → Played → List Item → Played
-play pid now [] = now
-play pid now (item ∷ items) = play pid (play_item pid item now) items
+-- the packets that they leave
+unfoldable pub packets_left : List (List ℕ) → List Item → List (List ℕ)
+packets_left packets [] = packets
+packets_left packets (item ∷ items) = packets_left (left_by item packets) items
 
--- what the items come to over a whole stream
-abbrev pub played : ℕ → List (List ℕ) → List Item → Played
-played pid packets items = play pid (at_start packets) items
+-- how many packets were taken
+abbrev pub is_packet : Input → Bool
+is_packet (Packet packet) = true
+is_packet Display = false
+
+abbrev pub packets_in : List Input → ℕ
+packets_in inputs = count_by is_packet inputs

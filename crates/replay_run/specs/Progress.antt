@@ -1,14 +1,14 @@
--- How far a replay has come: the stream, the packets, the turns and what was written hang together.
+-- How far a replay has come: the stream, the inputs, the texts and what was written hang together.
 -- (Definitions of the proof of `run`; what a run means is in `Meaning`.)
 use Rattle.std.specs.Prelude.{◌≡◌, ℕ, ◌+◌, true, List, [], ◌++◌, length, Option, Some}
 use Rattle.std.specs.List.{concat}
 use Rattle.std.specs.Io.KnownBytes.{Appends}
 use Rattle.ts_packets.specs.Cutter.{CutterState}
 use Rattle.ts_packets.specs.Packets.{packets_of}
+use Rattle.receiver_core.specs.Receiving.{ReceiverState, StandsFor}
+use Rattle.receiver_core.specs.State.{Input}
 use Rattle.replay_run.specs.declared.record.Item.{Item}
-use Rattle.replay_run.specs.Play.{played}
-use Rattle.replay_run.specs.Receiving.{ReceiverState, StandsFor}
-use Rattle.replay_run.specs.Turns.{turns}
+use Rattle.replay_run.specs.Play.{inputs_of, packets_left, packets_in}
 
 -- What a replay holds between two of its steps.
 pub record PlayerState : Type 0 where
@@ -19,27 +19,20 @@ pub record PlayerState : Type 0 where
   pub bytes : ℕ
   pub packets : ℕ
 
--- In the middle of an item that takes packets: `since` were taken in it, and their turns so far printed `fresh`.
+-- These inputs came to the receiver, all texts that it gave for them so far are written, and these packets are ahead.
 -- The stream has `left` to give, and the sink told `first` when the run began, if it tells anything.
-pub record IsMidway (pid : ℕ) (stream : List ℕ) (first left written : Option (List ℕ)) (player : PlayerState) (items : List Item) : Type 0 where
+pub record IsMidway (pid : ℕ) (stream : List ℕ) (first left written : Option (List ℕ)) (player : PlayerState) (inputs : List Input) (ahead : List (List ℕ)) : Type 0 where
   pub rest : List ℕ
+  pub given : List (List ℕ)
   pub left_is : left ≡ Some rest
   pub counted : player.bytes + length rest ≡ length stream
   pub ended : player.cutter.ended ≡ true → rest ≡ []
-  pub since : List (List ℕ)
-  pub fresh : List (List ℕ)
-  pub ahead : (played pid (packets_of stream) items).left ≡ since ++ packets_of (player.cutter.held ++ rest)
-  pub packets : player.packets ≡ length ((played pid (packets_of stream) items).taken ++ since)
-  pub stands : StandsFor pid player.receiver ((played pid (packets_of stream) items).taken ++ since) (turns pid (played pid (packets_of stream) items).taken ++ fresh)
-  pub wrote : Appends first written (concat (played pid (packets_of stream) items).pieces ++ concat fresh)
+  pub ahead_is : packets_of (player.cutter.held ++ rest) ≡ ahead
+  pub packets : player.packets ≡ packets_in inputs
+  pub stands : StandsFor pid player.receiver inputs given
+  pub wrote : Appends first written (concat given)
 
--- Between two items: what was taken and written is what these items come to.
-pub record IsBetween (pid : ℕ) (stream : List ℕ) (first left written : Option (List ℕ)) (player : PlayerState) (items : List Item) : Type 0 where
-  pub rest : List ℕ
-  pub left_is : left ≡ Some rest
-  pub counted : player.bytes + length rest ≡ length stream
-  pub ended : player.cutter.ended ≡ true → rest ≡ []
-  pub ahead : (played pid (packets_of stream) items).left ≡ packets_of (player.cutter.held ++ rest)
-  pub packets : player.packets ≡ length (played pid (packets_of stream) items).taken
-  pub stands : StandsFor pid player.receiver (played pid (packets_of stream) items).taken (turns pid (played pid (packets_of stream) items).taken)
-  pub wrote : Appends first written (concat (played pid (packets_of stream) items).pieces)
+-- Between two items: the inputs and the packets ahead are those of the items so far.
+abbrev pub IsBetween : ℕ → List ℕ → Option (List ℕ) → Option (List ℕ) → Option (List ℕ) → PlayerState → List Item → Type 0
+IsBetween pid stream first left written player items =
+    IsMidway pid stream first left written player (inputs_of (packets_of stream) items) (packets_left (packets_of stream) items)

@@ -1,10 +1,10 @@
-//! The lines that a run prints.
+//! The last line of a run.
 
-ghost use Rattle.std.specs.Prelude.{◌≡◌, ◌≤◌, ◌<◌, ◌^◌, ◌++◌, codes, length, take, OnOk, OnErr};
-ghost use Rattle.bml_bytes.specs.Numerals.{decimal_digits, hex_digits};
-ghost use Rattle.replay_run.specs.Lines.{end_line, module_line, unbuilt_line};
+ghost use Rattle.std.specs.Prelude.{◌≡◌, ◌≤◌, ◌<◌, ◌^◌, ◌++◌, length, take, OnOk, OnErr};
+ghost use Rattle.bml_bytes.specs.Numerals.{decimal_digits};
+ghost use Rattle.replay_run.specs.Lines.{end_line};
 
-use bml_bytes::{NoMemory, push_decimal, push_hex};
+use bml_bytes::{NoMemory, push_decimal};
 
 /// Appends the last line of a run, which tells how many packets were taken.
 pub fn push_end_line(packets: u64, out: &mut Vec<u8>) -> Result<(), NoMemory>
@@ -22,44 +22,7 @@ pub fn push_end_line(packets: u64, out: &mut Vec<u8>) -> Result<(), NoMemory>
     }
 }
 
-/// Appends the line of an acquired module: its component, its number, its version and its size in bytes.
-pub fn push_module_line(
-    component: u8,
-    number: u16,
-    version: u8,
-    size: u32,
-    out: &mut Vec<u8>,
-) -> Result<(), NoMemory>
-    ensures ok { OnOk result (out.new.items ≡ out.old.items ++ module_line component number version size) }
-    ensures err { OnErr result (out.new.items ≡ out.old.items) }
-{
-    let before = out.len();
-    match push_module_fields(component, number, version, size, out) {
-        Ok(()) => Ok(()),
-        Err(error) => {
-            out.truncate(before);
-            Err(error)
-        }
-    }
-}
-
-/// Appends the line of a component that sent what isn't built yet.
-pub fn push_unbuilt_line(component: u8, out: &mut Vec<u8>) -> Result<(), NoMemory>
-    ensures ok { OnOk result (out.new.items ≡ out.old.items ++ unbuilt_line component) }
-    ensures err { OnErr result (out.new.items ≡ out.old.items) }
-{
-    let before = out.len();
-    match push_unbuilt_fields(component, out) {
-        Ok(()) => Ok(()),
-        Err(error) => {
-            out.truncate(before);
-            Err(error)
-        }
-    }
-}
-
-// Each of the next three stops in the middle of its line where it finds no memory.
-
+// Stops in the middle of the line where it finds no memory.
 fn push_end_fields(packets: u64, out: &mut Vec<u8>) -> Result<(), NoMemory>
     requires { packets < 2 ^ 63 }
     ensures ok { OnOk result (out.new.items ≡ out.old.items ++ end_line packets) }
@@ -68,36 +31,6 @@ fn push_end_fields(packets: u64, out: &mut Vec<u8>) -> Result<(), NoMemory>
     push_text(b"end ", out)?;
     push_number(packets, out)?;
     push_text(b"\n", out)
-}
-
-fn push_module_fields(
-    component: u8,
-    number: u16,
-    version: u8,
-    size: u32,
-    out: &mut Vec<u8>,
-) -> Result<(), NoMemory>
-    ensures ok { OnOk result (out.new.items ≡ out.old.items ++ module_line component number version size) }
-    ensures grows { take (length out.old.items) out.new.items ≡ out.old.items }
-{
-    push_text(b"module ", out)?;
-    push_hex(u32::from(component), 2, out)?;
-    push_text(b" ", out)?;
-    push_hex(u32::from(number), 4, out)?;
-    push_text(b" ", out)?;
-    push_hex(u32::from(version), 2, out)?;
-    push_text(b" ", out)?;
-    push_number(u64::from(size), out)?;
-    push_text(b"\n", out)
-}
-
-fn push_unbuilt_fields(component: u8, out: &mut Vec<u8>) -> Result<(), NoMemory>
-    ensures ok { OnOk result (out.new.items ≡ out.old.items ++ unbuilt_line component) }
-    ensures grows { take (length out.old.items) out.new.items ≡ out.old.items }
-{
-    push_text(b"skip ", out)?;
-    push_hex(u32::from(component), 2, out)?;
-    push_text(b" unbuilt\n", out)
 }
 
 fn push_text(text: &[u8], out: &mut Vec<u8>) -> Result<(), NoMemory>
@@ -124,13 +57,9 @@ mod tests {
     #[test]
     fn printed(rt: HostRuntime) -> Result<(), Fail> {
         let mut out = Vec::new(rt.alloc());
-        push_module_line(0x40, 0x0001, 0x01, 10, &mut out)?;
-        push_module_line(0xab, 0xfffe, 0xff, u32::MAX, &mut out)?;
-        push_unbuilt_line(0x0c, &mut out)?;
         push_end_line(0, &mut out)?;
         push_end_line(4294967296, &mut out)?;
-        let expected: &[u8] =
-            b"module 40 0001 01 10\nmodule ab fffe ff 4294967295\nskip 0c unbuilt\nend 0\nend 4294967296\n";
+        let expected: &[u8] = b"end 0\nend 4294967296\n";
         assert_eq!(rt; out.as_slice(), expected);
         Ok(())
     }

@@ -46,7 +46,7 @@ impl Notes {
         }
     }
 
-    /// The next item, and None where the record has no more lines.
+    /// The next item, and None where the record has no more lines. Lines that ask for nothing are passed over.
     pub fn next_item<W: World>(&mut self, world: &mut W) -> Result<Option<Item>, Status>
         requires within { self.old.bytes ≤ record_limit }
         requires readable { IsReadable self.old.reader (W.told world.old) }
@@ -56,7 +56,7 @@ impl Notes {
         ensures reads { OnlyReads Port.Notes (W.told world.old) (W.told world.new) }
         ensures cause { IfErr result (λ status. StopsItems status
             (W.told world.old).notes.reads (W.told world.new).notes.reads self.new.bytes) }
-        ensures further { (item : Item) → result ≡ Ok (Some item) → self.new.lines ≡ self.old.lines + 1 }
+        ensures further { (item : Item) → result ≡ Ok (Some item) → self.old.lines < self.new.lines }
 
         ensures item { (item : Item) → result ≡ Ok (Some item)
             → (notes : List ℕ) (items : List Item)
@@ -75,6 +75,7 @@ impl Notes {
                     self.lines += 1;
                     return Ok(Some(item));
                 }
+                Noted::Line(Line::Nothing) => self.lines += 1,
                 Noted::Line(Line::Bad) => {
                     return Err(Status::BadRecord {
                         line: self.lines + 1,

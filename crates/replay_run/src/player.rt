@@ -1,13 +1,14 @@
 //! Handles the items of a record over the packets of a stream.
 
-ghost use Rattle.std.specs.Prelude.{◌≡◌, ℕ, ◌+◌, ◌*◌, ◌^◌, ◌<◌, ◌≤◌, ◌++◌, ◌∷◌, [], List, length, true, false, IsTrue, OnOk, OnErr, IfErr, Option, Some};
+ghost use Rattle.std.specs.Prelude.{◌≡◌, ℕ, ◌+◌, ◌*◌, ◌^◌, ◌<◌, ◌≤◌, ◌++◌, ◌∷◌, [], List, length, true, false, IsTrue, OnOk, OnErr, IfErr, Option, Some, option_map};
 ghost use Rattle.bml_ports.specs.Worlds.{WorldState};
 ghost use Rattle.ts_packets.specs.Cutter.{IsCertainAt};
 
 use crate::output::write_piece;
-use crate::receiver::Receiver;
+use crate::record::Item;
 use crate::status::Status;
 use bml_ports::{Port, Sink, World};
+use receiver_core::Receiver;
 use std::alloc::Global;
 use ts_packets::{Ahead, Cutter};
 
@@ -34,12 +35,11 @@ pub struct Player {
 }
 
 impl Player {
-    ghost use Rattle.replay_run.specs.Midway.{state_of, Goes, Stops, IsReadable, work_left};
+    ghost use Rattle.replay_run.specs.Midway.{state_of, taking, Goes, Stops, Handles, StopsHandling, IsReadable, work_left};
     ghost use Rattle.replay_run.specs.Progress.{IsBetween};
-    ghost use Rattle.replay_run.specs.Receiving.{IsIdle};
+    ghost use Rattle.receiver_core.specs.Receiving.{IsIdle};
     ghost use Rattle.replay_run.specs.Limits.{stream_limit};
     ghost use Rattle.replay_run.specs.Stopping.{OnlyReads, StopsPackets, StopsTurns, StopsReading};
-    ghost use Rattle.replay_run.specs.declared.record.Item.{Item};
 
     /// A replay at the start of its stream.
     pub fn new(alloc: Global, pid: u16) -> Player
@@ -67,8 +67,14 @@ impl Player {
         self.packets
     }
 
-    /// Takes the packets that are left, and writes what each of their turns prints.
-    pub fn take_all<W: World, S: Sink>(&mut self, world: &mut W, out: &mut S) -> Result<(), Status>
+    /// Handles an item: takes the packets that it asks for, or shows the display list. It writes what each of the
+    /// packets' turns prints, and the display list.
+    pub fn handle<W: World, S: Sink>(
+        &mut self,
+        item: Item,
+        world: &mut W,
+        out: &mut S,
+    ) -> Result<(), Status>
         requires idle { IsIdle self.old.receiver }
         requires within { self.old.bytes ≤ stream_limit }
         requires readable { IsReadable self.old.cutter (W.told world.old) }
@@ -82,22 +88,83 @@ impl Player {
             (W.told world.old).stream.reads (W.told world.new).stream.reads
             (S.told out.old).writes (S.told out.new).writes self.new.bytes) }
 
-        ensures played { OnOk result ((pid : ℕ) (stream : List ℕ) (first : Option (List ℕ)) (items : List Item)
-            → IsBetween pid stream first (W.told world.old).stream.left (S.told out.old).written
-            (state_of self.old) items
-            → IsBetween pid stream first (W.told world.new).stream.left (S.told out.new).written
-            (state_of self.new) (items ++ Item.All ∷ [])) }
-        ensures stopped { IfErr result (λ status. Stops status
+        ensures handled { OnOk result (Handles item
+            (W.told world.old).stream.left (W.told world.new).stream.left
+            (S.told out.old).written (S.told out.new).written (state_of self.old) (state_of self.new)) }
+        ensures stopped { IfErr result (λ status. StopsHandling item status
             (W.told world.old).stream.left (W.told world.new).stream.left
             (S.told out.old).written (S.told out.new).written (state_of self.old)) }
     {
-        'packets: loop {
+        match item {
+            Item::All => self.take(None, world, out),
+            Item::Packets(count) => self.take(Some(count), world, out),
+            Item::Show => self.show(out),
+        }
+    }
+
+    // Takes the packets that are left, or no more than so many, and writes what each of their turns prints.
+    fn take<W: World, S: Sink>(
+        &mut self,
+        most: Option<u32>,
+        world: &mut W,
+        out: &mut S,
+    ) -> Result<(), Status>
+        requires idle { IsIdle self.old.receiver }
+        requires within { self.old.bytes ≤ stream_limit }
+        requires readable { IsReadable self.old.cutter (W.told world.old) }
+
+        ensures within { OnOk result (self.new.bytes ≤ stream_limit) }
+        ensures idle { OnOk result (IsIdle self.new.receiver) }
+        ensures readable { OnOk result (IsReadable self.new.cutter (W.told world.new)) }
+        ensures reads { OnlyReads Port.Stream (W.told world.old) (W.told world.new) }
+        ensures writes { (S.told out.old).writes.faults ≤ (S.told out.new).writes.faults }
+        ensures cause { IfErr result (λ status. StopsPackets status
+            (W.told world.old).stream.reads (W.told world.new).stream.reads
+            (S.told out.old).writes (S.told out.new).writes self.new.bytes) }
+
+        ensures handled { OnOk result (Handles (taking most)
+            (W.told world.old).stream.left (W.told world.new).stream.left
+            (S.told out.old).written (S.told out.new).written (state_of self.old) (state_of self.new)) }
+        ensures stopped { IfErr result (λ status. StopsHandling (taking most) status
+            (W.told world.old).stream.left (W.told world.new).stream.left
+            (S.told out.old).written (S.told out.new).written (state_of self.old)) }
+    {
+        let last = self.last_packet(most);
+        'packets: while last != Some(self.packets) {
             match self.cutter.seek() {
                 Ahead::Packet => self.next_packet(out)?,
                 Ahead::NeedMore => self.read_stream(world)?,
                 Ahead::End => return Ok(()),
             }
         }
+        Ok(())
+    }
+
+    // The number of the last packet to take, counted from 1 at the start of the run, if there is a bound.
+    fn last_packet(&self, most: Option<u32>) -> Option<u64>
+        ensures { result ≡ option_map (λ count. self.now.packets + count) most }
+    {
+        most.map(|count| self.packets + u64::from(count))
+    }
+
+    // Shows the display list. All turns were made before.
+    fn show<S: Sink>(&mut self, out: &mut S) -> Result<(), Status>
+        requires idle { IsIdle self.old.receiver }
+        requires within { self.old.bytes ≤ stream_limit }
+
+        ensures idle { OnOk result (IsIdle self.new.receiver) }
+        ensures bytes { self.new.bytes ≡ self.old.bytes }
+        ensures cutter { self.new.cutter ≡ self.old.cutter }
+        ensures writes { (S.told out.old).writes.faults ≤ (S.told out.new).writes.faults }
+        ensures cause { IfErr result (λ status. StopsTurns status (S.told out.old).writes (S.told out.new).writes) }
+        ensures handled { OnOk result ((left : Option (List ℕ)) → Handles Item.Show left left
+            (S.told out.old).written (S.told out.new).written (state_of self.old) (state_of self.new)) }
+        ensures stopped { IfErr result (λ status. (left : Option (List ℕ)) → StopsHandling Item.Show status left left
+            (S.told out.old).written (S.told out.new).written (state_of self.old)) }
+    {
+        self.piece.clear();
+        self.receiver.show(&mut self.piece)?;
+        write_piece(out, &self.piece)
     }
 
     // Takes the packet at the front.
@@ -108,13 +175,14 @@ impl Player {
 
         ensures idle { OnOk result (IsIdle self.new.receiver) }
         ensures bytes { self.new.bytes ≡ self.old.bytes }
+        ensures packets { self.new.packets ≡ self.old.packets + 1 }
         ensures shorter { length self.new.cutter.held < length self.old.cutter.held }
         ensures ended { self.new.cutter.ended ≡ self.old.cutter.ended }
         ensures writes { (S.told out.old).writes.faults ≤ (S.told out.new).writes.faults }
         ensures cause { IfErr result (λ status. StopsTurns status (S.told out.old).writes (S.told out.new).writes) }
-        ensures goes { OnOk result ((left : Option (List ℕ)) → Goes left left
+        ensures handled { OnOk result ((left : Option (List ℕ)) → Handles (Item.Packets 1) left left
             (S.told out.old).written (S.told out.new).written (state_of self.old) (state_of self.new)) }
-        ensures stops { IfErr result (λ status. (left : Option (List ℕ)) → Stops status left left
+        ensures stopped { IfErr result (λ status. (left : Option (List ℕ)) → StopsHandling (Item.Packets 1) status left left
             (S.told out.old).written (S.told out.new).written (state_of self.old)) }
     {
         self.packets += 1;
@@ -132,6 +200,7 @@ impl Player {
         requires { self.old.bytes ≤ stream_limit }
         ensures idle { OnOk result (IsIdle self.new.receiver) }
         ensures bytes { self.new.bytes ≡ self.old.bytes }
+        ensures packets { self.new.packets ≡ self.old.packets }
         ensures cutter { self.new.cutter ≡ self.old.cutter }
         ensures writes { (S.told out.old).writes.faults ≤ (S.told out.new).writes.faults }
         ensures cause { IfErr result (λ status. StopsTurns status (S.told out.old).writes (S.told out.new).writes) }
@@ -157,6 +226,7 @@ impl Player {
         requires readable { IsTrue (W.told world.old).stream.readable }
 
         ensures receiver { self.new.receiver ≡ self.old.receiver }
+        ensures packets { self.new.packets ≡ self.old.packets }
         ensures within { OnOk result (self.new.bytes ≤ stream_limit) }
         ensures readable { OnOk result (IsReadable self.new.cutter (W.told world.new)) }
         ensures reads { OnlyReads Port.Stream (W.told world.old) (W.told world.new) }

@@ -4,9 +4,10 @@ ghost use Rattle.std.specs.Prelude.{◌≡◌, ◌≢◌, ℕ, ◌+◌, ◌-◌,
 ghost use Rattle.std.specs.Str.Lines.{strip_carriage_return};
 ghost use Rattle.replay_run.specs.Reading.{IsFirstCut};
 ghost use Rattle.replay_run.specs.RecordReader.{capacity, Gives, BeginsBad, IsUnfinished, IsOver, DropsFront};
-ghost use Rattle.replay_run.specs.Record.{is_blank as is_blank_of, fields, item_of, line_of as line_of_bytes};
+ghost use Rattle.replay_run.specs.Record.{is_blank as is_blank_of, fields, is_comment as is_comment_of, item_of, line_of as line_of_bytes, line_with, plain_item as plain_item_of};
 
 use arrayvec::ArrayVec;
+use bml_bytes::read_decimal;
 use std::marker::Model;
 
 /// The most bytes that a [`RecordReader`] holds.
@@ -18,11 +19,15 @@ const LINE_LIMIT: usize = 128;
 // The bytes of the longest good line with its end.
 const LONGEST_LINE: usize = LINE_LIMIT + 2;
 
-/// What a good line of the record asks for.
+/// What a line of the record asks for.
 #[derive(Clone, Copy, Debug, PartialEq, Eq)]
 pub enum Item {
     /// Take all packets that are left.
     All,
+    /// Take so many packets, 1 to 4,294,967,295, or all that are left.
+    Packets(u32),
+    /// Print the display list.
+    Show,
 }
 
 /// A line of the record.
@@ -30,7 +35,9 @@ pub enum Item {
 pub enum Line {
     /// It is an item.
     Item(Item),
-    /// It is none, or too long.
+    /// It asks for nothing: it is empty or blank, or a comment.
+    Nothing,
+    /// It is none of these, or too long.
     Bad,
 }
 
@@ -121,17 +128,18 @@ impl RecordReader {
         self.ended = true;
     }
 
-    /// The next line of the record, if what is held tells it. A good line is taken away. A bad one is left, so each
-    /// later call answers it again.
+    /// The next line of the record, if what is held tells it. An item and a line that asks for nothing are taken
+    /// away. A bad line is left, so each later call answers it again.
     pub fn next(&mut self) -> Noted
-        ensures item { (item : Item) → result ≡ Noted.Line (Line.Item item) → Gives self.old (Line.Item item) self.new }
+        ensures good { (line : Line) → line ≢ Line.Bad → result ≡ Noted.Line line → Gives self.old line self.new }
         ensures bad { result ≡ Noted.Line Line.Bad → BeginsBad self.old }
         ensures need_more { (result ≡ Noted.NeedMore) ↔ IsUnfinished self.old }
         ensures end { (result ≡ Noted.End) ↔ IsOver self.old }
 
         ensures drops { DropsFront self.old self.new }
-        ensures takes { (item : Item) → result ≡ Noted.Line (Line.Item item) → length self.new.held < length self.old.held }
-        ensures stays { ((item : Item) → result ≢ Noted.Line (Line.Item item)) → self.new ≡ self.old }
+        ensures takes { (line : Line) → line ≢ Line.Bad → result ≡ Noted.Line line
+            → length self.new.held < length self.old.held }
+        ensures stays { ((line : Line) → line ≢ Line.Bad → result ≢ Noted.Line line) → self.new ≡ self.old }
     {
         let cut = cut_line(&self.bytes.as_slice()[self.start..], self.ended);
         self.start += cut.length;
@@ -157,11 +165,11 @@ impl LineCut {
     // A good line is taken with its end, and a bad one is left.
     fn of_line(line: Line, length: usize) -> LineCut
         ensures noted { result.noted ≡ Noted.Line line }
-        ensures good { (item : Item) → line ≡ Line.Item item → result.length ≡ length }
+        ensures good { line ≢ Line.Bad → result.length ≡ length }
         ensures bad { line ≡ Line.Bad → result.length ≡ 0 }
     {
         let length = match line {
-            Line::Item(_) => length,
+            Line::Item(_) | Line::Nothing => length,
             Line::Bad => 0,
         };
         LineCut {
@@ -223,28 +231,75 @@ fn line_of(bytes: &[u8]) -> Line
     if bytes.len() > LINE_LIMIT {
         return Line::Bad;
     }
-    match read_item(bytes) {
+    match next_field(bytes) {
+        None => Line::Nothing,
+        Some((name, rest)) => named_line(name, rest),
+    }
+}
+
+// What a line with this first field is, and these bytes behind it.
+fn named_line(name: &[u8], rest: &[u8]) -> Line
+    ensures { result ≡ line_with (name.now ∷ fields rest.now) }
+{
+    if is_comment(name) {
+        return Line::Nothing;
+    }
+    match read_item(name, rest) {
         Some(item) => Line::Item(item),
         None => Line::Bad,
     }
 }
 
-// The item that the fields of a line are.
-fn read_item(line: &[u8]) -> Option<Item>
-    ensures { result ≡ item_of (fields line.now) }
+// Whether a first field begins a comment.
+fn is_comment(name: &[u8]) -> bool
+    ensures { result ≡ is_comment_of name.now }
 {
-    let (name, rest) = next_field(line)?;
-    match next_field(rest) {
-        Some(_) => None,
-        None => item_of_name(name),
+    match name {
+        [first, ..] => *first == b'#',
+        [] => false,
     }
 }
 
-fn item_of_name(name: &[u8]) -> Option<Item>
-    ensures { result ≡ item_of (name.now ∷ []) }
+// The item with this name, and these bytes behind that.
+fn read_item(name: &[u8], rest: &[u8]) -> Option<Item>
+    ensures { result ≡ item_of (name.now ∷ fields rest.now) }
+{
+    let Some((number, behind)) = next_field(rest) else {
+        return plain_item(name);
+    };
+    match next_field(behind) {
+        None => numbered_item(name, number),
+        Some(_) => None,
+    }
+}
+
+// The item that is its name alone.
+fn plain_item(name: &[u8]) -> Option<Item>
+    ensures { result ≡ plain_item_of name.now }
 {
     let all: &[u8] = b"all";
-    if name == all { Some(Item::All) } else { None }
+    let show: &[u8] = b"show";
+    if name == all {
+        Some(Item::All)
+    } else if name == show {
+        Some(Item::Show)
+    } else {
+        None
+    }
+}
+
+// The item that is its name and a number.
+fn numbered_item(name: &[u8], number: &[u8]) -> Option<Item>
+    ensures { result ≡ item_of (name.now ∷ number.now ∷ []) }
+{
+    let packets: &[u8] = b"packets";
+    if name != packets {
+        return None;
+    }
+    match read_decimal(number)? {
+        0 => None,
+        count => Some(Item::Packets(count)),
+    }
 }
 
 // The first field of a line, and the bytes behind it.
@@ -316,7 +371,8 @@ mod tests {
         let mut items: u64 = 0;
         for _ in 0..u64::MAX {
             match reader.next() {
-                Noted::Line(Line::Item(Item::All)) => items = items.saturating_add(1),
+                Noted::Line(Line::Item(_)) => items = items.saturating_add(1),
+                Noted::Line(Line::Nothing) => {}
                 Noted::Line(Line::Bad) => return Some((items, true)),
                 Noted::End => return Some((items, false)),
                 Noted::NeedMore => {
@@ -329,6 +385,53 @@ mod tests {
             }
         }
         None
+    }
+
+    // What the one line of a record is.
+    fn only_line(bytes: &[u8]) -> Noted {
+        let mut reader = RecordReader::new();
+        reader.feed(bytes);
+        reader.finish();
+        reader.next()
+    }
+
+    #[test]
+    fn lines(rt: HostRuntime) {
+        let table: [(&[u8], Line); 30] = [
+            (b"all", Line::Item(Item::All)),
+            (b"show", Line::Item(Item::Show)),
+            (b"packets 1", Line::Item(Item::Packets(1))),
+            (b" packets\t 42\t", Line::Item(Item::Packets(42))),
+            (b"packets 0000000007", Line::Item(Item::Packets(7))),
+            (b"packets 4294967295", Line::Item(Item::Packets(u32::MAX))),
+            (b"packets 4294967296", Line::Bad),
+            (b"packets 00000000007", Line::Bad),
+            (b"packets 0", Line::Bad),
+            (b"packets", Line::Bad),
+            (b"packets -1", Line::Bad),
+            (b"packets 0x1", Line::Bad),
+            (b"packets 1 2", Line::Bad),
+            (b"packets1", Line::Bad),
+            (b"packet 1", Line::Bad),
+            (b"1 packets", Line::Bad),
+            (b"Packets 1", Line::Bad),
+            (b"all x", Line::Bad),
+            (b"all 1", Line::Bad),
+            (b"show 1", Line::Bad),
+            (b"shows", Line::Bad),
+            (b"all # all", Line::Bad),
+            (b"packets 1 #", Line::Bad),
+            (b" \t ", Line::Nothing),
+            (b"\n", Line::Nothing),
+            (b"#", Line::Nothing),
+            (b"#all", Line::Nothing),
+            (b"# packets 0", Line::Nothing),
+            (b"\t ## x", Line::Nothing),
+            (b"\x0b#", Line::Bad),
+        ];
+        for (bytes, line) in table {
+            assert_eq!(rt; only_line(bytes), Noted::Line(line), "{bytes:?}");
+        }
     }
 
     #[test]
@@ -345,7 +448,10 @@ mod tests {
         over_crlf[129..131].copy_from_slice(b"\r\n");
         let mut returns = full;
         returns[128] = b'\r';
-        let table: [(&[u8], u64, bool); 29] = [
+        let mut comment = full;
+        comment[0] = b'#';
+        let blanks = [b'\t'; 129];
+        let table: [(&[u8], u64, bool); 35] = [
             (b"", 0, false),
             (b"all", 1, false),
             (b"all\n", 1, false),
@@ -356,12 +462,14 @@ mod tests {
             (b" \tall\t \n", 1, false),
             (b"\tall", 1, false),
             (b"all\nall\r\nall", 3, false),
-            (b"all\nall\nshow\nall\n", 2, true),
-            (b"\n", 0, true),
-            (b"\r\n", 0, true),
-            (b"   \n", 0, true),
-            (b"all\n\nall\n", 1, true),
-            (b"all\n# all\n", 1, true),
+            (b"all\nall\nload\nall\n", 2, true),
+            (b"packets 1\nshow\nall\nshow", 4, false),
+            (b"\n", 0, false),
+            (b"\r\n", 0, false),
+            (b"\r\r\n", 0, true),
+            (b"   \n", 0, false),
+            (b"all\n\n\r\nall\n\n", 2, false),
+            (b"# one\nall\n# all\n", 1, false),
             (b"al", 0, true),
             (b"alll", 0, true),
             (b"ALL", 0, true),
@@ -375,6 +483,10 @@ mod tests {
             (&over_line[..130], 0, true),
             (&over_crlf[..131], 0, true),
             (&returns[..129], 0, true),
+            (&comment[..128], 0, false),
+            (&comment[..129], 0, true),
+            (&blanks[..128], 0, false),
+            (&blanks[..], 0, true),
         ];
         for (bytes, items, bad) in table {
             for piece in [1, 7, 200] {

@@ -1,21 +1,23 @@
 //! What the definitions of a record say together. Each function is a law: its contract is what it is for,
 //! and it does nothing when it runs.
 
-ghost use Rattle.std.specs.Prelude.{◌≡◌, ◌≢◌, ◌+◌, ◌-◌, ◌<◌, ◌≤◌, ℕ, true, false, List, [], ◌∷◌, ◌++◌, All as Each, length, map, slice_index, codes, Some, None};
+ghost use Rattle.std.specs.Prelude.{◌≡◌, ◌≢◌, ◌+◌, ◌-◌, ◌<◌, ◌≤◌, ℕ, true, false, List, [], ◌∷◌, ◌++◌, All as Each, length, slice_index, Some, None};
+ghost use Rattle.std.specs.List.{filter_map};
 ghost use Rattle.std.specs.Str.Lines.{lines};
-ghost use Rattle.replay_run.specs.Record.{is_blank, fields, line_of, readings, items_before_bad, first_bad};
+ghost use Rattle.replay_run.specs.Record.{is_blank, fields, line_of, readings, items_before_bad, first_bad, item_in, AsksNothing, IsWritten};
 ghost use Rattle.replay_run.specs.declared.record.Item.{Item};
-ghost use Rattle.replay_run.specs.declared.record.Item.TheVariants.{All};
 ghost use Rattle.replay_run.specs.declared.record.Line.{Line as ALine};
-ghost use Rattle.replay_run.specs.declared.record.Line.TheVariants.{Item as Read, Bad};
+ghost use Rattle.replay_run.specs.declared.record.Line.TheVariants.{Item as Read, Nothing, Bad};
 
-/// A record of good lines has their items and no bad line. Where a bad line stands behind good ones, the items
-/// are those of the good ones, and the bad line's number is one more than theirs.
+/// A record without a bad line has the items of its lines. Where a bad line stands behind others, the items are
+/// those of these, and the bad line's number is one more than theirs; lines that ask for nothing count.
 pub fn law_of_records()
-    ensures all { (bytes : List ℕ) (items : List Item) → readings bytes ≡ map Read items → items_before_bad bytes ≡ items }
-    ensures none_bad { (bytes : List ℕ) (items : List Item) → readings bytes ≡ map Read items → first_bad bytes ≡ None }
-    ensures before_bad { (bytes : List ℕ) (items : List Item) (rest : List ALine) → readings bytes ≡ map Read items ++ Bad ∷ rest → items_before_bad bytes ≡ items }
-    ensures number { (bytes : List ℕ) (items : List Item) (rest : List ALine) → readings bytes ≡ map Read items ++ Bad ∷ rest → first_bad bytes ≡ Some (length items + 1) }
+    ensures all { (bytes : List ℕ) → Each (λ line. line ≢ Bad) (readings bytes) → items_before_bad bytes ≡ filter_map item_in (readings bytes) }
+    ensures none_bad { (bytes : List ℕ) → Each (λ line. line ≢ Bad) (readings bytes) → first_bad bytes ≡ None }
+    ensures before_bad { (bytes : List ℕ) (before rest : List ALine) → readings bytes ≡ before ++ Bad ∷ rest
+        → Each (λ line. line ≢ Bad) before → items_before_bad bytes ≡ filter_map item_in before }
+    ensures number { (bytes : List ℕ) (before rest : List ALine) → readings bytes ≡ before ++ Bad ∷ rest
+        → Each (λ line. line ≢ Bad) before → first_bad bytes ≡ Some (length before + 1) }
 {}
 
 /// The lines of some bytes, by how they are written: a line and a line feed, or a carriage return and a line
@@ -27,10 +29,12 @@ pub fn law_of_lines()
     ensures nothing { lines [] ≡ [] }
 {}
 
-/// A line of at most 128 bytes whose one field is `all` is the item, and no other line is one.
+/// A line is an item, and it asks for nothing, exactly where it has at most 128 bytes and its fields are written so.
 pub fn law_of_items()
-    ensures all { (line : List ℕ) → length line ≤ 128 → fields line ≡ codes "all" ∷ [] → line_of line ≡ Read All }
-    ensures only { (line : List ℕ) (item : Item) → line_of line ≡ Read item → (length line ≤ 128) × (fields line ≡ codes "all" ∷ []) }
+    ensures item { (line : List ℕ) (item : Item) → length line ≤ 128 → IsWritten item (fields line) → line_of line ≡ Read item }
+    ensures only_items { (line : List ℕ) (item : Item) → line_of line ≡ Read item → (length line ≤ 128) × IsWritten item (fields line) }
+    ensures nothing { (line : List ℕ) → length line ≤ 128 → AsksNothing (fields line) → line_of line ≡ Nothing }
+    ensures only_nothing { (line : List ℕ) → line_of line ≡ Nothing → (length line ≤ 128) × AsksNothing (fields line) }
 {}
 
 /// The fields of a line, by how it is written: a blank in front changes nothing; bytes up to a blank, or to the

@@ -13,9 +13,9 @@ use crate::lines::push_end_line;
 use crate::notes::Notes;
 use crate::output::write_piece;
 use crate::player::Player;
-use crate::record::Item;
 use crate::status::Status;
 use bml_ports::{Port, Sink, Text, World};
+use receiver_core::{law_of_outputs, law_of_receivers};
 use std::alloc::Global;
 
 /// Opens a file at a port.
@@ -49,11 +49,13 @@ pub fn play_record<W: World, S: Sink>(
     ensures ends { ReplayEnds pid (W.told world.old) (W.told world.new)
         (S.told out.old).written (S.told out.new).written (outcome_of result) }
 {
+    law_of_outputs();
+    law_of_receivers();
     let mut player = Player::new(alloc, pid);
     let mut notes = Notes::new();
     'items: loop {
         match notes.next_item(world)? {
-            Some(Item::All) => player.take_all(world, out)?,
+            Some(item) => player.handle(item, world, out)?,
             None => return write_end(alloc, player.packets(), out),
         }
     }

@@ -1,8 +1,14 @@
-use Rattle.replay_run.proofs.ItemLaws.{all_is_read, read_is_all}
+use Rattle.replay_run.proofs.ItemLaws.{item_read, read_item, nothing_read, read_nothing}
 use Rattle.replay_run.proofs.record_laws.law_of_items.Goals as goal
 
-pub returns-clause-all : goal.returns-clause-all
-returns-clause-all c = all_is_read
+pub returns-clause-item : goal.returns-clause-item
+returns-clause-item c = item_read
 
-pub returns-clause-only : goal.returns-clause-only
-returns-clause-only c = read_is_all
+pub returns-clause-only_items : goal.returns-clause-only_items
+returns-clause-only_items c = read_item
+
+pub returns-clause-nothing : goal.returns-clause-nothing
+returns-clause-nothing c = nothing_read
+
+pub returns-clause-only_nothing : goal.returns-clause-only_nothing
+returns-clause-only_nothing c = read_nothing

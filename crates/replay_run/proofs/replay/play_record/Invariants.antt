@@ -1,9 +1,9 @@
 use Rattle.std.proofs.Common.{◌≡◌, ◌≤◌, ℕ, ◌-◌, ◌^◌, List, Some}
+use Rattle.receiver_core.specs.Receiving.{IsIdle}
 use Rattle.replay_run.specs.declared.record.Item.{Item}
 use Rattle.replay_run.specs.Midway as midway
 use Rattle.replay_run.specs.Noting as noting
 use Rattle.replay_run.specs.Progress.{IsBetween}
-use Rattle.replay_run.specs.Receiving.{IsIdle}
 use Rattle.replay_run.specs.Replaying.{OnlyReadsBoth}
 use Rattle.replay_run.specs.Limits.{stream_limit, record_limit}
 use Rattle.replay_run.proofs.replay.play_record.Given as goal

@@ -15,6 +15,7 @@ invariant_of-result c =
       size = ap length bytes ∙ length-replicate c.args.wanted.size 0;
       count = ap length marks ∙ length-replicate count false ∙ c.block_count-count.ensures;
       missing_is = missing_in-unmarked count ∙ ap missing_in (sym marks);
+      covered = c.requires;
     }
 
 pub returns : goal.returns

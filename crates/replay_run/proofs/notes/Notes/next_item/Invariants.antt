@@ -1,4 +1,4 @@
-use Rattle.std.proofs.Common.{◌≡◌, ◌≤◌, ℕ, List}
+use Rattle.std.proofs.Common.{◌≤◌, ℕ, List}
 use Rattle.bml_ports.specs.declared.outside.Port.TheVariants as ports
 use Rattle.replay_run.specs.declared.record.Item.{Item}
 use Rattle.replay_run.specs.Noting.{state_of, IsAt, IsReadable, work_left}
@@ -6,11 +6,11 @@ use Rattle.replay_run.specs.Limits.{record_limit}
 use Rattle.replay_run.specs.Stopping.{OnlyReads}
 use Rattle.replay_run.proofs.notes.Notes.next_item.Given as goal
 
--- bytes were read, and no line yet
+-- lines were passed over that ask for nothing, and bytes were read
 abbrev pub invariant-lines : goal.invariant-lines
 invariant-lines g l = record {
   within : l.self.bytes ≤ record_limit;
-  lines : l.self.lines ≡ l.initial.self.lines;
+  further : l.initial.self.lines ≤ l.self.lines;
   readable : IsReadable l.self.reader (g.W.World.told l.world);
   reads : OnlyReads ports.Notes (g.W.World.told l.initial.world) (g.W.World.told l.world);
   goes : (notes : List ℕ) (items : List Item)

@@ -1,0 +1,8 @@
+use Rattle.std.proofs.Common.{rules}
+use Rattle.std.specs.HashMap.{keys}
+use Rattle.std.proofs.lemmas.Iterator.Adapters.{items_from_extend}
+use Rattle.std.proofs.lemmas.Iterator.Consumers.{YieldsList-from_copied, YieldsList-from_rest}
+use Rattle.carousel_blocks.proofs.changes.add_numbers.Goals as goal
+
+pub returns : goal.returns
+returns c = let h = items_from_extend c.extend.result c.extend.ensures.ran (YieldsList-from_copied (YieldsList-from_rest (keys c.args.modules.now) cc)) in search rules

@@ -1,0 +1,9 @@
+pub mod ChildLemmas
+pub mod CommentLemmas
+pub mod DrawnLemmas
+pub mod DeclarationLemmas
+pub mod FirstLemmas
+pub mod LineLemmas
+pub mod OffsetLemmas
+pub mod PixelLemmas
+pub mod RangeLemmas

@@ -1,0 +1,4 @@
+pub mod Inline
+pub mod Places
+pub mod Show
+pub mod Views
