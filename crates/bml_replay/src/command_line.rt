@@ -9,20 +9,21 @@ use std::env;
 use std::io::ErrorKind;
 
 /// What is printed behind the status line of a faulty command line.
-pub const SYNOPSIS: &str = "bml_replay replay --data-pid N STREAM RECORD\n";
+pub const SYNOPSIS: &str = "bml_replay replay [--service N | --data-pid N] STREAM RECORD\n";
 
 /// What `--help` prints.
 pub const HELP: &str = "\
 bml_replay replays a recorded MPEG-2 transport stream as a receiver of data broadcasting would see it.
 
-bml_replay replay --data-pid N STREAM RECORD
+bml_replay replay [--service N | --data-pid N] STREAM RECORD
 
-    N       the PID of the data carousel, 16 to 8190
-    STREAM  the recorded stream
-    RECORD  what the receiver is to do, an item on each line: all, packets N, show
+    --service N   receives the service with that program_number, 1 to 65535, in place of the first one
+    --data-pid N  receives the data carousel on that PID, 16 to 8190, without any table
+    STREAM        the recorded stream
+    RECORD        what the receiver is to do, an item on each line: all, packets N, show
 
-It prints a line for each module that comes to be whole, one for the start document, and the display lists that the
-record asks for, and at the end the number of packets taken.
+It prints a line for each module that comes, goes or is skipped, one for the start document, and the display lists that
+the record asks for, and at the end the number of packets taken.
 The status is 0 where all was done. Otherwise standard error says what was not.
 ";
 
