@@ -99,6 +99,13 @@ impl Services {
         tag_of(self.map.as_slice(), pid)
     }
 
+    /// The components of the map, at most 16, with distinct tags and distinct PIDs.
+    pub fn components(&self) -> &[Component]
+        ensures { result.now ≡ self.now.map }
+    {
+        self.map.as_slice()
+    }
+
     /// Hands in the next intact section, with the PID on which it came. Answers whether the component map, as a
     /// map from tags to PIDs, changed.
     pub fn feed(&mut self, pid: u16, section: &[u8]) -> Result<bool, NoMemory>
