@@ -1,7 +1,7 @@
 //! The components of a program.
 
-ghost use Rattle.std.specs.Prelude.{◌≡◌, ◌≤◌, length, true, false};
-ghost use Rattle.psi_tables.specs.Components.{components_of, component_of_stream, is_taken as taken_by, pid_in, tag_in, AreSameMap};
+ghost use Rattle.std.specs.Prelude.{◌≡◌, ◌≤◌, length, AllPairs, true, false};
+ghost use Rattle.psi_tables.specs.Components.{AreApart, components_of, component_of_stream, is_taken as taken_by, pid_in, tag_in, AreSameMap};
 ghost use Rattle.psi_tables.specs.Step.{agree_on as agrees_on, is_same_pid as same_pid, with_next, with_option};
 
 use crate::pmt::PmtStream;
@@ -19,7 +19,8 @@ pub struct Component {
 
 /// The components that a PMT's streams bring: the first 16 with distinct tags and distinct PIDs.
 pub fn components(streams: &[PmtStream]) -> ArrayVec<Component, COMPONENT_LIMIT>
-    ensures { result.items ≡ components_of streams.now }
+    ensures components { result.items ≡ components_of streams.now }
+    ensures apart { AllPairs AreApart result.items }
 {
     let mut taken = ArrayVec::new();
     for stream in streams {

@@ -1,7 +1,7 @@
 //! The service that is played and its components, followed from section to section.
 
-ghost use Rattle.std.specs.Prelude.{◌≡◌, ◌≤◌, ◌++◌, ◌∷◌, [], List, length, IfOk, OnOk, OnErr, MatchBool, option_copied, option_map};
-ghost use Rattle.psi_tables.specs.Components.{pid_in, tag_in, AreSameMap};
+ghost use Rattle.std.specs.Prelude.{◌≡◌, ◌≤◌, ◌++◌, ◌∷◌, [], List, length, AllPairs, IfOk, IfSome, OnOk, OnErr, MatchBool, option_copied, option_map};
+ghost use Rattle.psi_tables.specs.Components.{pid_in, tag_in, AreApart, AreSameMap};
 ghost use Rattle.psi_tables.specs.History.{Handled, is_on as comes_on, pmt_of_program, service_in as chosen, service_in_pat};
 ghost use Rattle.psi_tables.specs.Service.{StandsFor, reads_table as table_on, wants as wants_by};
 ghost use Rattle.psi_tables.specs.Step.{after_pat, after_pmt, components_in as components_by};
@@ -36,11 +36,15 @@ pub struct Services {
 }
 
 impl Model for Services {
+    ghost use Rattle.std.specs.Prelude.{AllPairs};
+    ghost use Rattle.psi_tables.specs.Components.{AreApart};
     ghost use Rattle.psi_tables.specs.Service.{ServicesState};
 
     ghost Value = { ServicesState };
 
     ghost view = { λ s. record { selection = s.selection; service = s.service; map = s.map.items } };
+
+    ghost invariant = { λ s. AllPairs AreApart s.map.items };
 }
 
 /// The component that the data on a PID asked for is.
@@ -101,7 +105,8 @@ impl Services {
 
     /// The components of the map, at most 16, with distinct tags and distinct PIDs.
     pub fn components(&self) -> &[Component]
-        ensures { result.now ≡ self.now.map }
+        ensures map { result.now ≡ self.now.map }
+        ensures apart { AllPairs AreApart result.now }
     {
         self.map.as_slice()
     }
@@ -211,7 +216,8 @@ fn components_in(
     section: &[u8],
 ) -> Result<Option<ArrayVec<Component, COMPONENT_LIMIT>>, NoMemory>
     requires { 12 ≤ length section.now }
-    ensures { IfOk result (λ map. option_map (λ map. map.items) map ≡ components_by (pmt_of_program program section.now)) }
+    ensures map { IfOk result (λ map. option_map (λ map. map.items) map ≡ components_by (pmt_of_program program section.now)) }
+    ensures apart { IfOk result (λ map. IfSome map (λ map. AllPairs AreApart map.items)) }
 {
     match read_pmt(alloc, section) {
         Ok(pmt) if pmt.program == program => Ok(Some(components(pmt.streams.as_slice()))),

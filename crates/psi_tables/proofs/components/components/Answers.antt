@@ -1,4 +1,7 @@
-use Rattle.std.proofs.Common.{List, ap, sym, ◌∙◌}
+use Rattle.std.proofs.Common.{List, ap, sym, subst, ◌∙◌}
+use Rattle.std.specs.Prelude.{AllPairs}
+use Rattle.psi_tables.specs.Components.{AreApart}
+use Rattle.psi_tables.proofs.DistinctLemmas.{components_apart}
 use Rattle.psi_tables.specs.declared.components.Component.{Component}
 use Rattle.psi_tables.proofs.ComponentLemmas.{begins, taking, goes_on_at, stays_small_at, starts_small, ends_at}
 use Rattle.psi_tables.proofs.components.components.Goals as goal
@@ -15,5 +18,10 @@ loop-stream-preserved c = record {
   room = stays_small_at c.loop-stream.taken.items c.add.new.taken.items c.component_of.result c.add.ensures c.loop-stream.invariant.room;
 }
 
-pub returns : goal.returns
-returns c = ends_at c.loop-stream.taken.items c.loop-stream.stream-index c.args.streams.now c.loop-stream-test.false c.loop-stream.invariant.room c.loop-stream.invariant.so_far
+pub returns-clause-components : goal.returns-clause-components
+returns-clause-components c = ends_at c.loop-stream.taken.items c.loop-stream.stream-index c.args.streams.now c.loop-stream-test.false c.loop-stream.invariant.room c.loop-stream.invariant.so_far
+
+pub returns-clause-apart : goal.returns-clause-apart
+returns-clause-apart c =
+    let is = ends_at c.loop-stream.taken.items c.loop-stream.stream-index c.args.streams.now c.loop-stream-test.false c.loop-stream.invariant.room c.loop-stream.invariant.so_far in
+    subst (AllPairs AreApart) (sym is) (components_apart c.args.streams.now)
