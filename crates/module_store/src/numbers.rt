@@ -49,14 +49,14 @@ impl Numbers {
         ensures numbers { (number : ℕ) → slice_index self.new number ≡ noted count (deliveries_of changes.now) (slice_index self.old) number }
         ensures count { result ≡ noted_count count (deliveries_of changes.now) }
     {
-        let mut count = count;
+        let mut last = count;
         'changes: for change in changes {
             if let Some(ChangeLine::Delivered { .. }) = change.line {
-                count = count.saturating_add(1);
-                self.set(change.module, count);
+                last = last.saturating_add(1);
+                self.set(change.module, last);
             }
         }
-        count
+        last
     }
 
     fn set(&mut self, module: u16, number: u64)
