@@ -218,7 +218,7 @@ kept-same h dii m e =
     ∙ ap (λ f. option_map (kept_with (if unchanged (standing_of (in_force h) m) (standing_of f m) then counting None m h ++ [] else [])) (standing_of f m)) e
     ∙ kept_again (standing_of (in_force h) m) (counting None m h)
 
-found_number : (m : ℕ) (l : List Standing) (n : Standing) → find (is_of_module m) l ≡ Some n → n.entry.id ≡ m
+pub found_number : (m : ℕ) (l : List Standing) (n : Standing) → find (is_of_module m) l ≡ Some n → n.entry.id ≡ m
 found_number m [] n h = cc
 found_number m (s ∷ l) n h = by (s.entry.id == m) refl (found_number m l n) h where
   by : (t : Bool) → (s.entry.id == m) ≡ t → (find (is_of_module m) l ≡ Some n → n.entry.id ≡ m) → cond t (Some s) (find (is_of_module m) l) ≡ Some n → n.entry.id ≡ m

@@ -9,3 +9,5 @@ pub mod PlaceLaws
 pub mod OrderLaws
 pub mod NumberLaws
 pub mod ChangeLaws
+pub mod ToldLaws
+pub mod SectionLaws

@@ -26,7 +26,7 @@ snoc_asked s c b = by (is_asked_by (Some s) b) refl where
   by true e = sym (kept_with-asked s c b e)
   by false e = with_block_not b (kept_with c s) e ∙ ap (λ l. kept_with l s) (sym (append-nil c))
 
-repeat_same : (f : Option Dii) (dii other : Dii) → f ≡ Some dii → other.transaction ≡ dii.transaction → later f (Indication other) ≡ f
+pub repeat_same : (f : Option Dii) (dii other : Dii) → f ≡ Some dii → other.transaction ≡ dii.transaction → later f (Indication other) ≡ f
 repeat_same f dii other e h = ap (λ x. later x (Indication other)) e ∙ ap (λ (t : Bool). Some (if t then dii else other)) (same other.transaction dii.transaction h) ∙ sym e where
   same : (a b : ℕ) → a ≡ b → (a == b) ≡ true
   same a b h = grind arith

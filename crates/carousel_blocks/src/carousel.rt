@@ -140,7 +140,7 @@ impl Carousel {
         ensures same { OnErr result (KeepsSame self.old self.new) }
     {
         match read_ddb(section) {
-            Ok(ddb) => self.take_ddb(&ddb),
+            Ok(ddb) => self.take_ddb(ddb),
             Err(_) => Ok(Vec::new(self.alloc)),
         }
     }
@@ -157,13 +157,13 @@ impl Carousel {
     }
 
     // The room for its change is taken first, so that a block is kept only where its change is told.
-    fn take_ddb(&mut self, ddb: &Ddb<'_>) -> Result<Vec<Change>, NoMemory>
-        ensures stands { OnOk result ((messages : List Message) → StandsFor self.old messages → StandsFor self.new (messages ++ Data (fields_of ddb.now) ∷ [])) }
-        ensures changes { IfOk result (λ found. (messages : List Message) → StandsFor self.old messages → found.items ≡ changes messages (messages ++ Data (fields_of ddb.now) ∷ [])) }
+    fn take_ddb(&mut self, ddb: Ddb<'_>) -> Result<Vec<Change>, NoMemory>
+        ensures stands { OnOk result ((messages : List Message) → StandsFor self.old messages → StandsFor self.new (messages ++ Data (fields_of ddb.entry) ∷ [])) }
+        ensures changes { IfOk result (λ found. (messages : List Message) → StandsFor self.old messages → found.items ≡ changes messages (messages ++ Data (fields_of ddb.entry) ∷ [])) }
         ensures same { OnErr result (KeepsSame self.old self.new) }
     {
         let mut changes = Vec::with_capacity(self.alloc, 1)?;
-        let put = self.put_block(ddb);
+        let put = self.put_block(&ddb);
         if let Some(change) = self.change_by(put) {
             changes.push_reserved(change);
         }

@@ -1,12 +1,16 @@
 //! What the definitions say, as laws.
 
-ghost use Rattle.std.specs.Prelude.{◌≡◌, ◌↔◌, ◌++◌, ℕ, List, None, Some, Contains};
+ghost use Rattle.std.specs.Prelude.{◌≡◌, ◌↔◌, ◌++◌, ◌∷◌, [], ◌<◌, ◌^◌, ℕ, List, None, Some, Contains, option_to_list};
 ghost use Rattle.dsmcc_messages.specs.declared.dii.Dii.{Dii};
 ghost use Rattle.dsmcc_messages.specs.Ddb.{DataBlock};
-ghost use Rattle.carousel_blocks.specs.Message.{Message};
+ghost use Rattle.carousel_blocks.specs.Message.{Message, Indication, Data};
 ghost use Rattle.carousel_blocks.specs.InForce.{in_force, standing_of};
 ghost use Rattle.carousel_blocks.specs.Held.{CountsAt, counting, held};
+ghost use Rattle.carousel_blocks.specs.Carousel.{put_after};
+ghost use Rattle.carousel_blocks.specs.Changes.{change_at, changes};
 ghost use Rattle.carousel_blocks.specs.Order.{AreConsistent, OnlyRepeats, SameBlocks};
+
+use crate::put::Put;
 
 /// The blocks that count are those that stand at a place of the messages where they are asked for by an entry that
 /// stays unchanged from there on.
@@ -20,4 +24,17 @@ pub fn law_of_counting()
 /// held behind both with the same bytes, or behind neither.
 pub fn law_of_block_order()
     ensures { (messages first second : List Message) (dii : Dii) (number : ℕ) → in_force messages ≡ Some dii → OnlyRepeats dii.transaction first → OnlyRepeats dii.transaction second → SameBlocks first second → AreConsistent (standing_of (Some dii) number) first → held (messages ++ first) number ≡ held (messages ++ second) number }
+{}
+
+/// What stays isn't told: the DII in force once more changes nothing, and neither does a block that is held or isn't
+/// asked for.
+pub fn law_of_no_change()
+    ensures same { (messages : List Message) → changes messages messages ≡ [] }
+    ensures repeated { (messages : List Message) (dii other : Dii) → in_force messages ≡ Some dii → other.transaction ≡ dii.transaction → changes messages (messages ++ Indication other ∷ []) ≡ [] }
+    ensures ignored { (messages : List Message) (block : DataBlock) → put_after messages block ≡ Put.Ignored → changes messages (messages ++ Data block ∷ []) ≡ [] }
+{}
+
+/// Where a block comes, all changes are the one of its module.
+pub fn law_of_block_change()
+    ensures { (messages : List Message) (block : DataBlock) → block.«module» < 2 ^ 16 → changes messages (messages ++ Data block ∷ []) ≡ option_to_list (change_at messages (messages ++ Data block ∷ []) block.«module») }
 {}

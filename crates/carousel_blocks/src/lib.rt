@@ -17,7 +17,9 @@ mod standing;
 
 pub use crate::carousel::Carousel;
 pub use crate::changes::{Change, ChangeLine};
-pub use crate::laws::{law_of_block_order, law_of_counting};
+pub use crate::laws::{
+    law_of_block_change, law_of_block_order, law_of_counting, law_of_no_change,
+};
 pub use crate::put::Put;
 pub use crate::standing::{SkipCause, Standing};
 
