@@ -1,5 +1,5 @@
 -- For which components, messages and deliveries a store stands.
-use Rattle.std.specs.Prelude.{◌≡◌, ◌≤◌, ◌<◌, ◌==◌, ℕ, Bool, true, List, length, find, count_by, slice_index, Option, Some, is_some, option_map}
+use Rattle.std.specs.Prelude.{◌≡◌, ◌≤◌, ◌<◌, ◌==◌, ℕ, Bool, true, List, length, find, filter, slice_index, Option, Some, is_some, option_map}
 use Rattle.carousel_blocks.specs.Changes.{number_bound}
 use Rattle.carousel_blocks.specs.Held.{held}
 use Rattle.carousel_blocks.specs.Carousel as of_carousel
@@ -18,9 +18,9 @@ has_tag tag slot = slot.tag == tag
 abbrev pub slot_in : List Slot → ℕ → Option Slot
 slot_in slots tag = find (has_tag tag) slots
 
--- no two have one tag
+-- at most one has each tag
 abbrev pub AreDistinct : List Slot → Type 0
-AreDistinct slots = (tag : ℕ) → count_by (has_tag tag) slots ≤ 1
+AreDistinct slots = (tag : ℕ) → length (filter (has_tag tag) slots) ≤ 1
 
 abbrev pub has_component : StoreState → ℕ → Bool
 has_component state tag = is_some (slot_in state.slots tag)

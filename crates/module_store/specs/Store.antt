@@ -1,6 +1,6 @@
 -- The components of a service with the messages of their carousels, the deliveries of their modules, and what one more
 -- section or another component map changes (this project's own, after ARIB STD-B24, volume 3).
-use Rattle.std.specs.Prelude.{ℕ, ◌+◌, ◌-◌, ◌^◌, ◌==◌, min, Bool, true, false, ◌&&◌, if◌then◌else◌, List, [], ◌∷◌, ◌++◌, map, find, Option, Some, None, is_some, option_map, option_and_then, unwrap_or}
+use Rattle.std.specs.Prelude.{ℕ, ◌+◌, ◌-◌, ◌^◌, ◌==◌, min, Bool, true, false, ◌&&◌, if◌then◌else◌, List, [], ◌∷◌, ◌++◌, map, find, Option, Some, None, is_some, option_map, option_and_then}
 use Rattle.std.specs.List.{filter_map, flat_map, list_any, range_with_len}
 use Rattle.std.specs.Option.{option_or}
 use Rattle.dsmcc_messages.specs.declared.entry.Entry.{Entry}
@@ -71,14 +71,14 @@ fed tag section stored = record {
 
 -- ---- another component map
 
--- a component of that tag on that PID
-abbrev pub is_same_component : ℕ → ℕ → ℕ → ℕ → Bool
-is_same_component tag pid other_tag other_pid = (other_tag == tag) && (other_pid == pid)
+-- the messages of a component, where it was followed on that PID
+abbrev pub messages_on : ℕ → Option Followed → List Message
+messages_on pid None = []
+messages_on pid (Some component) = if component.pid == pid then component.messages else []
 
 -- A component that was followed on the same PID keeps its messages; every other begins with none.
 abbrev pub messages_kept : List Followed → Component → List Message
-messages_kept followed component =
-    unwrap_or (option_map (λ f. f.messages) (find (λ f. is_same_component component.tag component.pid f.tag f.pid) followed)) []
+messages_kept followed component = messages_on component.pid (component_in followed component.tag)
 
 abbrev pub followed_from : List Followed → Component → Followed
 followed_from followed component = record { tag = component.tag; pid = component.pid; messages = messages_kept followed component }
@@ -89,12 +89,13 @@ with_map components stored = record { components = map (followed_from stored.com
 
 -- the map has the component on the same PID
 abbrev pub is_kept : List Component → ℕ → ℕ → Bool
-is_kept components tag pid = list_any (λ component. is_same_component tag pid component.tag component.pid) components
+is_kept components tag pid = list_any (λ component. (component.tag == tag) && (component.pid == pid)) components
 
 -- what goes with a component that left the map or got another PID: the entry of each of its modules
 abbrev pub gone_with : List Component → Option Followed → List (ℕ × Change)
 gone_with components None = []
-gone_with components (Some f) = if is_kept components f.tag f.pid then [] else map (λ change. (f.tag, change)) (departures f.messages)
+gone_with components (Some component) =
+    if is_kept components component.tag component.pid then [] else map (λ change. (component.tag, change)) (departures component.messages)
 
 -- component_tags have one byte
 unfoldable pub tag_bound : ℕ

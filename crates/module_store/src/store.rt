@@ -4,7 +4,7 @@ ghost use Rattle.std.specs.Prelude.{◌≡◌, ◌≤◌, ◌++◌, [], ℕ, Lis
 ghost use Rattle.psi_tables.specs.Components.{AreApart, pid_in};
 ghost use Rattle.carousel_blocks.specs.Changes.{departures};
 ghost use Rattle.carousel_blocks.specs.Carousel as of_carousel;
-ghost use Rattle.module_store.specs.Store.{Followed, Stored, gone_with, at_start, changes_by, fed, with_map, gone_by, number_of, start_of, messages_of_component, is_same_component, is_kept as kept_by};
+ghost use Rattle.module_store.specs.Store.{Followed, Stored, gone_with, at_start, changes_by, fed, with_map, gone_by, number_of, start_of, messages_of_component, is_kept as kept_by};
 ghost use Rattle.module_store.specs.Standing.{StandsFor, has_component, has_tag, slot_in};
 ghost use Rattle.module_store.specs.Slots.{AreAdded, is_followed as followed_by};
 
@@ -78,9 +78,7 @@ impl Store {
             unreachable!()
         };
         let slot = &mut self.slots[place];
-        let changes = slot.carousel.take(section)?;
-        self.count = slot.numbers.note(self.count, changes.as_slice());
-        Ok(changes)
+        slot.take(&mut self.count, section)
     }
 
     /// Takes the component map of the service. A component that stays on its PID keeps its modules; every other begins
