@@ -1,7 +1,11 @@
 -- The first element that passes a test, and how many pass.
-use Rattle.std.proofs.Common.{◌≡◌, ◌∙◌, ℕ, suc, ◌≤◌, Bool, true, false, cond, List, [], ◌∷◌, length, Option, Some, None, refl, sym, ap, arith}
-use Rattle.std.specs.Prelude.{◌&&◌, ◌||◌, map, filter, find, is_some, option_map, option_and_then}
-use Rattle.std.specs.List.{list_any}
+use Rattle.std.proofs.Common.{◌≡◌, ◌∙◌, ℕ, zero, suc, ◌<◌, ◌≤◌, ltb, get_or, set, Bool, true, false, cond, List, [], ◌∷◌, length, Option, Some, None, refl, sym, ap, inl, inr, arith}
+use Rattle.std.specs.Prelude.{◌&&◌, ◌||◌, ◌⊎◌, slice_get, position, map, filter, find, is_some, option_map, option_and_then}
+use Rattle.std.specs.List.{list_any, position_or_len}
+use Rattle.std.proofs.lemmas.Option.{cond_some, slice_get-get_or, slice_get_cases}
+use Rattle.std.proofs.lemmas.Bool.{lt-ltb, le-ltb}
+use Rattle.std.proofs.lemmas.List.Folds.{find_at, find-set}
+use Rattle.std.proofs.lemmas.List.Quantifiers.{position-Some}
 
 module _ {X : Type 0} where
   pub find-ext : (p q : X → Bool) → ((x : X) → p x ≡ q x) → (xs : List X) → find p xs ≡ find q xs
@@ -82,3 +86,42 @@ module _ {X Y : Type 0} where
   length-filter-map p f (x ∷ xs) =
       let h = length-filter-map p f xs in
       elim (p (f x)) as (λ b. length (cond b (f x ∷ filter p (map f xs)) (filter p (map f xs))) ≡ length (cond b (x ∷ filter (λ y. p (f y)) xs) (filter (λ y. p (f y)) xs))) [ true ↦ ap (λ n. suc n) h | false ↦ h ]
+
+-- ---- one element in place of another
+
+module _ {X : Type 0} where
+  -- where p passes first, the element there is found
+  pub found_at : (p : X → Bool) (xs : List X) (place : ℕ) (x : X) → position p xs ≡ Some place → x ≡ get_or xs place x → find p xs ≡ Some x
+  found_at p xs place x e is =
+      let at = cond_some (ltb (position_or_len p xs) (length xs)) (position_or_len p xs) place e in
+      let low = position-Some p xs place x e in
+      find_at p xs ∙ ap (λ i. slice_get xs i) at.1 ∙ slice_get-get_or xs place x low.0 ∙ ap (λ (y : X). Some y) (sym is)
+
+  pub found_set : (p : X → Bool) (xs : List X) (place : ℕ) (x : X) → position p xs ≡ Some place → p x ≡ true → find p (set xs place x) ≡ Some x
+  found_set p xs place x e passes =
+      let at = cond_some (ltb (position_or_len p xs) (length xs)) (position_or_len p xs) place e in
+      find-set p xs place x (sym at.1) (position-Some p xs place x e).0 passes
+
+  pub length-filter-set : (p : X → Bool) (xs : List X) (place : ℕ) (x d : X) → p x ≡ p (get_or xs place d) → length (filter p (set xs place x)) ≡ length (filter p xs)
+  length-filter-set p [] place x d e = refl
+  length-filter-set p (y ∷ xs) zero x d e = rw e (elim (p y) as (λ b. length (cond b (x ∷ filter p xs) (filter p xs)) ≡ length (cond b (y ∷ filter p xs) (filter p xs))) [ true ↦ refl | false ↦ refl ])
+  length-filter-set p (y ∷ xs) (suc place) x d e =
+      let h = length-filter-set p xs place x d e in
+      elim (p y) as (λ b. length (cond b (y ∷ filter p (set xs place x)) (filter p (set xs place x))) ≡ length (cond b (y ∷ filter p xs) (filter p xs))) [ true ↦ ap (λ n. suc n) h | false ↦ h ]
+
+-- there is a first place exactly where one is found
+is_some-cond : (b : Bool) (place : ℕ) → is_some (cond b (Some place) None) ≡ b
+is_some-cond true place = refl
+is_some-cond false place = refl
+
+module _ {X : Type 0} where
+  in_list : (xs : List X) (place : ℕ) → is_some (slice_get xs place) ≡ ltb place (length xs)
+  in_list xs place = by_cases (slice_get_cases xs place).1
+    where
+      by_cases : ((x : X) × (place < length xs) × (slice_get xs place ≡ Some x) × (get_or xs place x ≡ x)) ⊎ ((length xs ≤ place) × (slice_get xs place ≡ None)) → is_some (slice_get xs place) ≡ ltb place (length xs)
+      by_cases (inl h) = ap (λ (o : Option X). is_some o) h.2 ∙ sym (lt-ltb place (length xs) h.1)
+      by_cases (inr h) = ap (λ (o : Option X). is_some o) h.1 ∙ sym (le-ltb place (length xs) h.0)
+
+  pub is_some-position : (p : X → Bool) (xs : List X) → is_some (position p xs) ≡ is_some (find p xs)
+  is_some-position p xs =
+      is_some-cond (ltb (position_or_len p xs) (length xs)) (position_or_len p xs) ∙ sym (in_list xs (position_or_len p xs)) ∙ sym (ap (λ (o : Option X). is_some o) (find_at p xs))
