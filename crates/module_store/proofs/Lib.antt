@@ -1,3 +1,4 @@
 pub mod FindLaws
 pub mod DeliveryLaws
 pub mod FeedLaws
+pub mod DeliveryNumber
