@@ -2,3 +2,4 @@ pub mod FindLaws
 pub mod DeliveryLaws
 pub mod FeedLaws
 pub mod DeliveryNumber
+pub mod GoneLaws

@@ -4,7 +4,7 @@ ghost use Rattle.std.specs.Prelude.{◌≡◌, ◌≤◌, ◌++◌, [], ℕ, Lis
 ghost use Rattle.psi_tables.specs.Components.{AreApart, pid_in};
 ghost use Rattle.carousel_blocks.specs.Changes.{departures};
 ghost use Rattle.carousel_blocks.specs.Carousel as of_carousel;
-ghost use Rattle.module_store.specs.Store.{Followed, Stored, gone_with, at_start, changes_by, fed, with_map, gone_by, number_of, start_of, messages_of_component, is_kept as kept_by};
+ghost use Rattle.module_store.specs.Store.{Followed, Stored, component_in, gone_with, at_start, changes_by, fed, with_map, gone_by, number_of, start_of, messages_of_component, is_kept as kept_by};
 ghost use Rattle.module_store.specs.Standing.{StandsFor, has_component, has_tag, slot_in};
 ghost use Rattle.module_store.specs.Slots.{AreAdded, is_followed as followed_by};
 
@@ -126,11 +126,24 @@ impl Store {
     {
         let mut gone = Vec::new(self.alloc);
         'tags: for tag in 0..=u8::MAX {
-            if let Some(slot) = slot_of(&self.slots, tag) {
-                add_departures(&mut gone, components, slot)?;
-            }
+            self.add_gone(&mut gone, components, tag)?;
         }
         Ok(gone)
+    }
+
+    // Adds what goes with the component of that tag, where there is one.
+    fn add_gone(
+        &self,
+        gone: &mut Vec<(u8, Change)>,
+        components: &[Component],
+        tag: u8,
+    ) -> Result<(), NoMemory>
+        ensures { OnOk result ((stored : Stored) → StandsFor self.now stored → gone.new.items ≡ gone.old.items ++ gone_with components.now (component_in stored.components tag)) }
+    {
+        match slot_of(&self.slots, tag) {
+            None => Ok(()),
+            Some(slot) => add_departures(gone, components, slot),
+        }
     }
 }
 
@@ -189,8 +202,20 @@ fn add_departures(
     if is_kept(components, slot) {
         return Ok(());
     }
-    'departures: for change in slot.carousel.departures()? {
-        gone.push((slot.tag, change))?;
+    let departures = slot.carousel.departures()?;
+    add_changes(gone, slot.tag, departures.as_slice())
+}
+
+// Adds changes of a component.
+fn add_changes(
+    changes: &mut Vec<(u8, Change)>,
+    component: u8,
+    more: &[Change],
+) -> Result<(), NoMemory>
+    ensures { OnOk result (changes.new.items ≡ changes.old.items ++ map (λ change. (component, change)) more.now) }
+{
+    'more: for change in more {
+        changes.push((component, *change))?;
     }
     Ok(())
 }
