@@ -3,3 +3,4 @@ pub mod DeliveryLaws
 pub mod FeedLaws
 pub mod DeliveryNumber
 pub mod GoneLaws
+pub mod MapLaws
