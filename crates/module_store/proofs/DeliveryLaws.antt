@@ -55,7 +55,7 @@ last_place-other place other tag number (n ∷ numbers) differ = rw (differ, las
 eqb_same : (n : ℕ) → eqb n n ≡ true
 eqb_same n = eq-eqb n n refl
 
-eqb_sym : (a b : ℕ) → eqb a b ≡ eqb b a
+pub eqb_sym : (a b : ℕ) → eqb a b ≡ eqb b a
 eqb_sym a b = by_test (eqb a b) refl
   where
     by_test : (t : Bool) → eqb a b ≡ t → eqb a b ≡ eqb b a

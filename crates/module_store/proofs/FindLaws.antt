@@ -1,6 +1,6 @@
 -- The first element that passes a test, and how many pass.
-use Rattle.std.proofs.Common.{◌≡◌, ◌∙◌, ℕ, zero, suc, ◌<◌, ◌≤◌, ltb, get_or, set, Bool, true, false, cond, List, [], ◌∷◌, length, Option, Some, None, refl, sym, ap, inl, inr, arith}
-use Rattle.std.specs.Prelude.{◌&&◌, ◌||◌, ◌⊎◌, slice_get, position, map, filter, find, is_some, option_map, option_and_then}
+use Rattle.std.proofs.Common.{◌≡◌, ◌∙◌, ℕ, zero, suc, ◌<◌, ◌≤◌, ltb, get_or, set, Bool, true, false, cond, List, [], ◌∷◌, length, Option, Some, None, refl, sym, ap, subst, inl, inr, arith}
+use Rattle.std.specs.Prelude.{All, AllPairs, ◌&&◌, ◌||◌, ◌⊎◌, slice_get, position, map, filter, find, is_some, option_map, option_and_then}
 use Rattle.std.specs.List.{list_any, position_or_len}
 use Rattle.std.proofs.lemmas.Option.{cond_some, slice_get-get_or, slice_get_cases}
 use Rattle.std.proofs.lemmas.Bool.{lt-ltb, le-ltb}
@@ -125,3 +125,31 @@ module _ {X : Type 0} where
   pub is_some-position : (p : X → Bool) (xs : List X) → is_some (position p xs) ≡ is_some (find p xs)
   is_some-position p xs =
       is_some-cond (ltb (position_or_len p xs) (length xs)) (position_or_len p xs) ∙ sym (in_list xs (position_or_len p xs)) ∙ sym (ap (λ (o : Option X). is_some o) (find_at p xs))
+
+-- ---- lists whose elements differ
+
+module _ {X : Type 0} where
+  none_of : (p : X → Bool) (xs : List X) → ((k : ℕ) (d : X) → k < length xs → p (get_or xs k d) ≡ false) → length (filter p xs) ≡ 0
+  none_of p [] h = refl
+  none_of p (x ∷ xs) h =
+      let here : p x ≡ false = h 0 x (omega arith) in
+      rw here (none_of p xs (λ k d low. h (suc k) d (omega arith)))
+
+  -- at most one passes where no two do
+  pub at_most_one : (R : X → X → Type 0) (p : X → Bool) → ((x y : X) → R x y → p x ≡ true → p y ≡ false) → (xs : List X) → AllPairs R xs → length (filter p xs) ≤ 1
+  at_most_one R p differ [] h = omega arith
+  at_most_one R p differ (x ∷ xs) h = by_test (p x) refl (at_most_one R p differ xs (λ i j d low high. h (suc i) (suc j) d (omega arith) (omega arith)))
+    where
+      by_test : (b : Bool) → p x ≡ b → length (filter p xs) ≤ 1 → length (cond b (x ∷ filter p xs) (filter p xs)) ≤ 1
+      by_test true e behind =
+          let none = none_of p xs (λ k d low. differ x (get_or xs k d) (h 0 (suc k) d (omega arith) (omega arith)) e) in
+          omega arith
+      by_test false e behind = behind
+
+  pub found_has : (P : X → Type 0) (p : X → Bool) (xs : List X) (x : X) → All P xs → find p xs ≡ Some x → P x
+  found_has P p [] x all e = absurd cc
+  found_has P p (y ∷ xs) x all e = by_test (p y) (found_has P p xs x (λ k d low. all (suc k) d (omega arith))) e
+    where
+      by_test : (b : Bool) → (find p xs ≡ Some x → P x) → cond b (Some y) (find p xs) ≡ Some x → P x
+      by_test true behind e = let same : y ≡ x = cc in subst P same (all 0 y (omega arith))
+      by_test false behind e = behind e

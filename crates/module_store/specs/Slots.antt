@@ -7,7 +7,7 @@ use Rattle.module_store.specs.declared.slot.Slot.{Slot}
 use Rattle.carousel_blocks.specs.declared.changes.Change.{Change}
 use Rattle.carousel_blocks.specs.Message.{Message, messages_of}
 use Rattle.carousel_blocks.specs.Changes.{changes}
-use Rattle.module_store.specs.Store.{deliveries_of}
+use Rattle.module_store.specs.Store.{deliveries_of, is_kept}
 use Rattle.module_store.specs.Noted.{noted, noted_count}
 
 -- the component that is followed
@@ -31,6 +31,10 @@ pub record AreAdded (slots : List Slot) (components : List Component) (added : L
   pub are : map component_of added ≡ filter (λ component. not (is_followed slots component)) components
   pub empty : All IsEmpty added
 
+
+-- those that the map has on the same PID
+abbrev pub kept_of : List Component → List Slot → List Slot
+kept_of components slots = filter (λ slot. is_kept components slot.tag slot.pid) slots
 
 -- ---- a section
 

@@ -6,7 +6,7 @@ ghost use Rattle.carousel_blocks.specs.Changes.{departures};
 ghost use Rattle.carousel_blocks.specs.Carousel as of_carousel;
 ghost use Rattle.module_store.specs.Store.{Followed, Stored, component_in, gone_with, at_start, changes_by, fed, with_map, gone_by, number_of, start_of, messages_of_component, is_kept as kept_by};
 ghost use Rattle.module_store.specs.Standing.{StandsFor, has_component, has_tag, slot_in};
-ghost use Rattle.module_store.specs.Slots.{AreAdded, is_followed as followed_by};
+ghost use Rattle.module_store.specs.Slots.{AreAdded, kept_of, is_followed as followed_by};
 
 use crate::resource::is_resource;
 use crate::slot::Slot;
@@ -94,7 +94,7 @@ impl Store {
         let gone = self.gone_by(components)?;
         let mut added = added_to(self.alloc, &self.slots, components)?;
         self.slots.append(&mut added)?;
-        self.slots.retain(|slot| is_kept(components, slot));
+        keep(&mut self.slots, components);
         Ok(gone)
     }
 
@@ -165,6 +165,13 @@ fn is_kept(components: &[Component], slot: &Slot) -> bool
     ensures { result ≡ kept_by components.now slot.now.tag slot.now.pid }
 {
     components.iter().any(|component| component.tag == slot.tag && component.pid == slot.pid)
+}
+
+// Gives back what is kept of components that the map doesn't have on the same PID.
+fn keep(slots: &mut Vec<Slot>, components: &[Component])
+    ensures { slots.new.items ≡ kept_of components.now slots.old.items }
+{
+    slots.retain(|slot| is_kept(components, slot));
 }
 
 // Whether the component is followed on the same PID.
