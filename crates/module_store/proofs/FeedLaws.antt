@@ -38,8 +38,11 @@ module _ (slots : List Slot) (place tag : ℕ) (slot new : Slot) (at : position 
       by_test : (b : Bool) → eqb tag t ≡ b → LookedUp t
       by_test true e =
           let equal = eqb-true tag t e in
-          inl (equal, subst (λ u. slot_in slots u ≡ Some slot) equal (found_at (has_tag tag) slots place slot at is),
-          subst (λ u. slot_in (set slots place new) u ≡ Some new) equal (found_set (has_tag tag) slots place new at (ap (λ u. eqb u tag) same ∙ slot_tag)))
+          inl (
+            equal,
+            subst (λ u. slot_in slots u ≡ Some slot) equal (found_at (has_tag tag) slots place slot at is),
+            subst (λ u. slot_in (set slots place new) u ≡ Some new) equal (found_set (has_tag tag) slots place new at (ap (λ u. eqb u tag) same ∙ slot_tag)),
+          )
       by_test false e =
           let old : has_tag t (get_or slots place slot) ≡ false = ap (λ (s : Slot). has_tag t s) (sym is) ∙ ap (λ u. eqb u t) (eqb-true slot.tag tag slot_tag) ∙ e in
           let now : has_tag t new ≡ false = ap (λ u. eqb u t) (same ∙ eqb-true slot.tag tag slot_tag) ∙ e in
@@ -93,13 +96,16 @@ follows_taken slot new component deliveries count new_count tag section found ta
   where
     now : List Message
     now = component.messages ++ messages_of (section ∷ [])
+
     later : ℕ → Option ℕ
     later number = last_place_from (length deliveries + 1) tag number (of_component tag (deliveries_of found))
+
     before : (number : ℕ) → number < number_bound → is_some (held now number) ≡ true → is_some (later number) ≡ false → option_map number_at (last_place tag number deliveries) ≡ Some (slice_index slot.numbers number)
     before number low is none =
         let changed : list_any (λ n. eqb n number) (deliveries_of (changes component.messages now)) ≡ false
-            = ap (λ l. list_any (λ n. eqb n number) (deliveries_of l)) (sym (t.changes_are component.messages f.carousel)) ∙ sym (has_place (length deliveries + 1) tag number (deliveries_of found)) ∙ none in
+        = ap (λ l. list_any (λ n. eqb n number) (deliveries_of l)) (sym (t.changes_are component.messages f.carousel)) ∙ sym (has_place (length deliveries + 1) tag number (deliveries_of found)) ∙ none in
         rw (← tagged) (f.numbers number low (was_held component.messages now number low is changed))
+
     numbers : (number : ℕ) → number < number_bound → is_some (held now number) ≡ true
         → option_map number_at (last_place component.tag number (deliveries ++ of_component tag (deliveries_of found))) ≡ Some (slice_index new.numbers number)
     numbers number low is =

@@ -46,9 +46,10 @@ module _ {X : Type 0} where
   fewer p k [] = omega arith
   fewer p k (x ∷ xs) =
       let h = fewer p k xs in
-      elim (k x) as (λ a. length (cond (a && p x) (x ∷ filter (λ y. k y && p y) xs) (filter (λ y. k y && p y) xs)) ≤ length (cond (p x) (x ∷ filter p xs) (filter p xs)))
-      [ true ↦ elim (p x) as (λ b. length (cond b (x ∷ filter (λ y. k y && p y) xs) (filter (λ y. k y && p y) xs)) ≤ length (cond b (x ∷ filter p xs) (filter p xs))) [ true ↦ omega arith | false ↦ h ]
-      | false ↦ elim (p x) as (λ b. length (filter (λ y. k y && p y) xs) ≤ length (cond b (x ∷ filter p xs) (filter p xs))) [ true ↦ omega arith | false ↦ h ] ]
+      elim (k x) as (λ a. length (cond (a && p x) (x ∷ filter (λ y. k y && p y) xs) (filter (λ y. k y && p y) xs)) ≤ length (cond (p x) (x ∷ filter p xs) (filter p xs))) [
+        | true ↦ elim (p x) as (λ b. length (cond b (x ∷ filter (λ y. k y && p y) xs) (filter (λ y. k y && p y) xs)) ≤ length (cond b (x ∷ filter p xs) (filter p xs))) [ true ↦ omega arith | false ↦ h ]
+        | false ↦ elim (p x) as (λ b. length (filter (λ y. k y && p y) xs) ≤ length (cond b (x ∷ filter p xs) (filter p xs))) [ true ↦ omega arith | false ↦ h ]
+      ]
 
   -- where none is found, none passes
   pub none_pass : (p : X → Bool) (xs : List X) → find p xs ≡ None → length (filter p xs) ≡ 0
@@ -70,11 +71,12 @@ module _ {X : Type 0} where
   pub find-and : (p k : X → Bool) (xs : List X) → length (filter p xs) ≤ 1 → find (λ x. k x && p x) xs ≡ option_and_then (if_passes k) (find p xs)
   find-and p k [] few = refl
   find-and p k (x ∷ xs) few =
-      elim (p x) as (λ b. length (cond b (x ∷ filter p xs) (filter p xs)) ≤ 1 → cond (k x && b) (Some x) (find (λ y. k y && p y) xs) ≡ option_and_then (if_passes k) (cond b (Some x) (find p xs)))
-      [ true ↦ λ few.
-          let none : length (filter (λ y. k y && p y) xs) ≤ 0 = omega (arith, fewer p k xs) in
-          elim (k x) as (λ a. cond (a && true) (Some x) (find (λ y. k y && p y) xs) ≡ cond a (Some x) None) [ true ↦ refl | false ↦ none_found (λ y. k y && p y) xs none ]
-      | false ↦ λ few. elim (k x) as (λ a. cond (a && false) (Some x) (find (λ y. k y && p y) xs) ≡ option_and_then (if_passes k) (find p xs)) [ true ↦ find-and p k xs few | false ↦ find-and p k xs few ] ] few
+      elim (p x) as (λ b. length (cond b (x ∷ filter p xs) (filter p xs)) ≤ 1 → cond (k x && b) (Some x) (find (λ y. k y && p y) xs) ≡ option_and_then (if_passes k) (cond b (Some x) (find p xs))) [
+        | true ↦ λ few.
+            let none : length (filter (λ y. k y && p y) xs) ≤ 0 = omega (arith, fewer p k xs) in
+            elim (k x) as (λ a. cond (a && true) (Some x) (find (λ y. k y && p y) xs) ≡ cond a (Some x) None) [ true ↦ refl | false ↦ none_found (λ y. k y && p y) xs none ]
+        | false ↦ λ few. elim (k x) as (λ a. cond (a && false) (Some x) (find (λ y. k y && p y) xs) ≡ option_and_then (if_passes k) (find p xs)) [ true ↦ find-and p k xs few | false ↦ find-and p k xs few ]
+      ] few
 
 module _ {X Y : Type 0} where
   pub find-map : (p : Y → Bool) (f : X → Y) (xs : List X) → find p (map f xs) ≡ option_map f (find (λ x. p (f x)) xs)

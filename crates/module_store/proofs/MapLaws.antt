@@ -201,11 +201,13 @@ module _ (components : List Component) (each : (tag : ℕ) → length (filter (i
       where
         on_tag : Slot → Bool
         on_tag slot = is_on c.pid slot && has_tag tag slot
+
         both : length (filter (has_tag tag) all_kept) ≡ length (filter on_tag slots) + length (filter on_tag added)
         both =
             ap (λ (l : List Slot). length l) (filter-filter (has_tag tag) (λ slot. is_kept components slot.tag slot.pid) (slots ++ added)
             ∙ filter-ext (λ slot. is_kept components slot.tag slot.pid && has_tag tag slot) on_tag (kept_slot tag c e) (slots ++ added) ∙ filter-append on_tag slots added)
             ∙ length-append (filter on_tag slots) (filter on_tag added)
+
         by_kept : (o : Option Slot) → option_and_then (if_passes (is_on c.pid)) (slot_in slots tag) ≡ o → length (filter (has_tag tag) all_kept) ≤ 1
         by_kept None h =
             let none = none_pass on_tag slots (find-and (has_tag tag) (is_on c.pid) slots (distinct tag) ∙ h) in
@@ -259,6 +261,7 @@ module _ (components : List Component) (each : (tag : ℕ) → length (filter (i
               off_by : (b : Bool) (slot : Slot) → cond b (Some slot) None ≡ None → b ≡ false
               off_by true slot e = absurd cc
               off_by false slot e = refl
+
           by_followed : (o : Option Followed) → component_in stored.components c.tag ≡ o → messages_on c.pid o ≡ []
           by_followed None h = refl
           by_followed (Some f) h = by_slot (slot_in slots c.tag) refl

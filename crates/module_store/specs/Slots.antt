@@ -31,7 +31,6 @@ pub record AreAdded (slots : List Slot) (components : List Component) (added : L
   pub are : map component_of added ≡ filter (λ component. not (is_followed slots component)) components
   pub empty : All IsEmpty added
 
-
 -- those that the map has on the same PID
 abbrev pub kept_of : List Component → List Slot → List Slot
 kept_of components slots = filter (λ slot. is_kept components slot.tag slot.pid) slots

@@ -182,11 +182,7 @@ fn is_followed(slots: &[Slot], component: &Component) -> bool
 }
 
 // The components that aren't followed on the same PID, without sections.
-fn added_to(
-    alloc: Global,
-    slots: &[Slot],
-    components: &[Component],
-) -> Result<Vec<Slot>, NoMemory>
+fn added_to(alloc: Global, slots: &[Slot], components: &[Component]) -> Result<Vec<Slot>, NoMemory>
     ensures { IfOk result (λ added. AreAdded slots.now components.now added.items) }
 {
     let mut added = Vec::new(alloc);

@@ -11,6 +11,6 @@ pub returns : goal.returns
 returns c =
     on_ok_weaker c.add_changes.result
     (λ is component tagged placed stands.
-        modules_go c.args.components.now c.args.slot.now.tag c.args.slot.now.pid component tagged placed c.args.gone.now.items c.add_changes.new.changes.items c.as_slice.result.now
-        (sym c.is_kept.ensures ∙ c.if-is_kept.false) (c.as_slice.ensures.value ∙ c.in_ok-departures.ensures component.messages stands) is)
+    modules_go c.args.components.now c.args.slot.now.tag c.args.slot.now.pid component tagged placed c.args.gone.now.items c.add_changes.new.changes.items c.as_slice.result.now
+    (sym c.is_kept.ensures ∙ c.if-is_kept.false) (c.as_slice.ensures.value ∙ c.in_ok-departures.ensures component.messages stands) is)
     c.add_changes.ensures

@@ -13,10 +13,10 @@ tags-preserved c = λ stored stands.
 pub returns : goal.returns
 returns c = λ stored stands.
     elim c.tags-test.branch [
-      else-tags-test w ↦ absurd (omega arith)
-    | then-tags-test+in_ok-add_gone+else-tag-lt255 w ↦
-        let all : c.tags.tag + 1 ≡ 256 = omega arith in
-        ap (λ (v : Vec (ℕ × Change) Global). v.items) w.gone-is
-        ∙ gone_below_more c.tags.tag c.args.components.now stored c.tags.gone.items w.add_gone.new.gone.items (c.tags.invariant stored stands) (w.in_ok-add_gone.ensures stored stands)
-        ∙ gone_below_all (c.tags.tag + 1) c.args.components.now stored all
+      | else-tags-test w ↦ absurd (omega arith)
+      | then-tags-test+in_ok-add_gone+else-tag-lt255 w ↦
+          let all : c.tags.tag + 1 ≡ 256 = omega arith in
+          ap (λ (v : Vec (ℕ × Change) Global). v.items) w.gone-is
+          ∙ gone_below_more c.tags.tag c.args.components.now stored c.tags.gone.items w.add_gone.new.gone.items (c.tags.invariant stored stands) (w.in_ok-add_gone.ensures stored stands)
+          ∙ gone_below_all (c.tags.tag + 1) c.args.components.now stored all
     ]
