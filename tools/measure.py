@@ -1,14 +1,19 @@
 #!/usr/bin/env python3
-"""Measures how fast a release build replays a large stream, beside md5sum and cat over the same file.
+"""Measures how fast a release build replays large streams, beside md5sum and cat over the same file.
 
-usage: measure.py PROGRAM [--megabytes N] [--rounds N] [--stream FILE]
+usage: measure.py PROGRAM [--megabytes N] [--rounds N] [--stream FILE] [KIND..]
 
-It makes a stream of at least N million bytes (320). One packet in 20 is on the data PID, 256, with a carousel of one
-module of 1 MiB that repeats; the others have random payloads. The program replays it with the record `all`, and what
-it writes is compared with what is due. Each command runs once to warm the cache, then N rounds (3), of which the best
-counts, and then once more for its greatest resident memory. `processor` is in seconds too, and says more than `seconds`
-where other work shares the machine. With --stream the stream is made as FILE and kept, else it
-lies in a temporary folder (TMPDIR) and is removed. Status: 0 where all was measured, 1 where a run went wrong.
+It makes a stream of at least N million bytes (320) of each kind that is named, or of all three:
+
+    module      one packet in 20 is on the data PID, with a carousel of one module of 1 MiB that repeats
+    service     PAT, PMT and 16 components, on whose PIDs every fifth packet is, with 2 modules of 1 MiB each
+    data        every packet is on the data PID, with the carousel of `module`
+
+The other packets have random payloads. The program replays each with the record `all`, and what it writes is compared with
+what is due. Each command runs once to warm the cache, then N rounds (3), of which the best counts, and then once more for
+its greatest resident memory. `processor` is in seconds too, and says more than `seconds` where other work shares the machine.
+With --stream the stream is made as FILE and kept, else it lies in a temporary folder (TMPDIR) and is removed. Status: 0 where
+all was measured, 1 where a run went wrong.
 """
 
 import argparse
@@ -21,13 +26,26 @@ import tempfile
 import time
 from typing import NamedTuple
 
-from transport import PACKET_SIZE, PAYLOAD_SIZE, Module, ddb_section, dii_section, packet, packets_taken, section_packets
+from transport import (
+    PACKET_SIZE,
+    PAYLOAD_SIZE,
+    ElementaryStream,
+    Module,
+    ddb_section,
+    dii_section,
+    packet,
+    packets_taken,
+    pat_section,
+    pmt_section,
+    section_packets,
+)
 
 DATA_PID = 256
-DATA_EVERY = 20  # one packet in so many is on the data PID
+MAP_PID = 496
+COMPONENTS = 16
 # The PIDs of the others: fifteen times a picture's, three times a sound's, once that of null packets.
 OTHER_PIDS = [0x111] * 15 + [0x112] * 3 + [0x1FFF]
-MODULE = Module(number=1, version=1, size=1 << 20)
+MODULE_SIZE = 1 << 20
 BLOCK_SIZE = 4000
 
 
@@ -35,44 +53,103 @@ class WentWrong(Exception):
     """A run whose outcome is not what is due."""
 
 
-def carousel_sections(noise):
-    """Returns the sections of one round of the carousel: the DII and each block."""
-    content = noise.randbytes(MODULE.size)
-    blocks = [content[at : at + BLOCK_SIZE] for at in range(0, MODULE.size, BLOCK_SIZE)]
-    sections = [dii_section(1, 1, BLOCK_SIZE, [MODULE])]
-    return sections + [ddb_section(1, MODULE.number, MODULE.version, number, block) for number, block in enumerate(blocks)]
+class Payload(NamedTuple):
+    """What a packet carries: its PID, whether it starts a unit, and its payload."""
+
+    pid: int
+    starts_unit: bool
+    payload: bytes
 
 
-def round_payloads(sections):
-    """Returns for each packet of a round whether it starts a unit, and its payload."""
+class Kind(NamedTuple):
+    """A kind of stream: its tables, its data, one packet of which comes in so many, the program's option, and what is due."""
+
+    tables: list[Payload]
+    data: list[Payload]
+    every: int
+    option: list[str]
+    lines: str
+
+
+def payloads_of(pid, sections):
+    """Returns the payloads of sections that begin in packets of their own."""
     packets = []
     for section in sections:
         # (the counters are set where the packets are sent)
-        packets += section_packets(DATA_PID, [0] * packets_taken(section), section)
-    return [(one[1] & 0x40 != 0, one[4:]) for one in packets]
+        packets += section_packets(pid, [0] * packets_taken(section), section)
+    return [Payload(pid, one[1] & 0x40 != 0, one[4:]) for one in packets]
 
 
-def write_stream(path, megabytes):
+def carousel_of(noise, pid, numbers):
+    """Returns the payloads of one round of a carousel of modules with these numbers: the DII and each block."""
+    sections = [dii_section(1, 1, BLOCK_SIZE, [Module(number, 1, MODULE_SIZE) for number in numbers])]
+    for number in numbers:
+        content = noise.randbytes(MODULE_SIZE)
+        for block, at in enumerate(range(0, MODULE_SIZE, BLOCK_SIZE)):
+            sections.append(ddb_section(1, number, 1, block, content[at : at + BLOCK_SIZE]))
+    return payloads_of(pid, sections)
+
+
+def one_module(noise, every):
+    line = f"module 40 0001 01 {MODULE_SIZE}\n"
+    return Kind([], carousel_of(noise, DATA_PID, [1]), every, ["--data-pid", str(DATA_PID)], line)
+
+
+def whole_service(noise):
+    streams = [ElementaryStream(0x0D, DATA_PID + at, 0x40 + at) for at in range(COMPONENTS)]
+    tables = payloads_of(0, [pat_section([(1, MAP_PID)])]) + payloads_of(MAP_PID, [pmt_section(1, streams)])
+    rounds = [carousel_of(noise, stream.pid, [1, 2]) for stream in streams]
+    # (all have as many packets, so that their modules come in turn)
+    data = [payload for at_once in zip(*rounds) for payload in at_once]
+    due = [(number, at) for number in (1, 2) for at in range(COMPONENTS)]
+    lines = "".join(f"module {0x40 + at:02x} {number:04x} 01 {MODULE_SIZE}\n" for number, at in due)
+    return Kind(tables, data, 5, [], lines)
+
+
+KINDS = {
+    "module": lambda noise: one_module(noise, 20),
+    "service": whole_service,
+    "data": lambda noise: one_module(noise, 1),
+}
+
+
+class Sender:
+    """Writes packets to a file, and counts them."""
+
+    def __init__(self, file):
+        self.file = file
+        self.counters = {}
+        self.packets = 0
+
+    def send(self, payloads):
+        sent = []
+        for pid, starts_unit, payload in payloads:
+            counter = self.counters.get(pid, 0)
+            self.counters[pid] = (counter + 1) % 16
+            sent.append(packet(pid, counter, starts_unit, payload))
+        self.file.write(b"".join(sent))
+        self.packets += len(sent)
+
+
+def write_stream(path, kind, noise, megabytes):
     """Writes the stream and returns how many packets it has."""
-    noise = random.Random(1)
-    round_of_data = round_payloads(carousel_sections(noise))
-    groups = -(-megabytes * 1_000_000 // (DATA_EVERY * PACKET_SIZE))
-    if groups < len(round_of_data):
-        raise WentWrong(f"{megabytes} million bytes do not hold one round of the carousel")
-    counters = {pid: 0 for pid in OTHER_PIDS}
+    groups = -(-megabytes * 1_000_000 // (kind.every * PACKET_SIZE))
+    if groups < len(kind.data):
+        raise WentWrong(f"{megabytes} million bytes do not hold one round of the data")
     with open(path, "wb") as file:
+        sender = Sender(file)
+        sender.send(kind.tables)
         for group in range(groups):
-            starts, payload = round_of_data[group % len(round_of_data)]
-            packets = [packet(DATA_PID, group % 16, starts, payload)]
-            payloads = noise.randbytes(PAYLOAD_SIZE * len(OTHER_PIDS))
-            for at, pid in enumerate(OTHER_PIDS):
-                packets.append(packet(pid, counters[pid], False, payloads[at * PAYLOAD_SIZE : (at + 1) * PAYLOAD_SIZE]))
-                counters[pid] = (counters[pid] + 1) % 16
-            file.write(b"".join(packets))
+            payloads = [kind.data[group % len(kind.data)]]
+            random_bytes = noise.randbytes(PAYLOAD_SIZE * (kind.every - 1))
+            for at in range(kind.every - 1):
+                pid = OTHER_PIDS[(group + at) % len(OTHER_PIDS)]
+                payloads.append(Payload(pid, False, random_bytes[at * PAYLOAD_SIZE : (at + 1) * PAYLOAD_SIZE]))
+            sender.send(payloads)
         # (so that no writing goes on while the commands run)
         file.flush()
         os.fsync(file.fileno())
-    return groups * DATA_EVERY
+    return sender.packets
 
 
 class Cost(NamedTuple):
@@ -110,11 +187,11 @@ def greatest_memory(command):
     return greatest
 
 
-def measure(program, stream, record, packets, rounds):
+def measure(program, kind, stream, record, packets, rounds):
     """Returns for each command its name, its least costs, and its greatest resident memory in KiB."""
-    lines = f"module 40 {MODULE.number:04x} {MODULE.version:02x} {MODULE.size}\nend {packets}\n".encode("ascii")
+    lines = f"{kind.lines}end {packets}\n".encode("ascii")
     commands = [
-        (os.path.basename(program), [program, "replay", "--data-pid", str(DATA_PID), stream, record], lines),
+        (os.path.basename(program), [program, "replay", *kind.option, stream, record], lines),
         ("md5sum", ["md5sum", stream], None),
         ("cat", ["cat", stream], None),
     ]
@@ -127,11 +204,10 @@ def measure(program, stream, record, packets, rounds):
     return found
 
 
-def table(found, size, packets, rounds):
+def table(name, found, size, packets, rounds):
     """Returns the lines of the table."""
-    of_data = packets // DATA_EVERY
     lines = [
-        f"{size:,} bytes, {packets:,} packets, {of_data:,} of them on the data PID; best of {rounds}, warm cache",
+        f"{name}: {size:,} bytes, {packets:,} packets; best of {rounds}, warm cache",
         f"{'':12} {'seconds':>8} {'MB/s':>7} {'x md5sum':>9} {'x cat':>7} {'processor':>10} {'peak MiB':>9}",
     ]
     elapsed = {name: cost.elapsed for name, cost, _ in found}
@@ -143,8 +219,9 @@ def table(found, size, packets, rounds):
 
 
 def main():
-    parser = argparse.ArgumentParser(usage="measure.py PROGRAM [--megabytes N] [--rounds N] [--stream FILE]")
+    parser = argparse.ArgumentParser(usage="measure.py PROGRAM [--megabytes N] [--rounds N] [--stream FILE] [KIND..]")
     parser.add_argument("program")
+    parser.add_argument("kinds", nargs="*", choices=[[], *KINDS])  # (argparse looks for the empty list too)
     parser.add_argument("--megabytes", type=int, default=320)
     parser.add_argument("--rounds", type=int, default=3)
     parser.add_argument("--stream")
@@ -153,13 +230,16 @@ def main():
         stream, record = asked.stream or f"{room}/stream.ts", f"{room}/record.txt"
         with open(record, "wb") as file:
             file.write(b"all\n")
-        try:
-            packets = write_stream(stream, asked.megabytes)
-            found = measure(os.path.abspath(asked.program), stream, record, packets, asked.rounds)
-        except (WentWrong, OSError) as fault:
-            print(f"measure.py: {fault}", file=sys.stderr)
-            return 1
-        print("\n".join(table(found, os.path.getsize(stream), packets, asked.rounds)))
+        for name in asked.kinds or KINDS:
+            noise = random.Random(1)
+            try:
+                kind = KINDS[name](noise)
+                packets = write_stream(stream, kind, noise, asked.megabytes)
+                found = measure(os.path.abspath(asked.program), kind, stream, record, packets, asked.rounds)
+            except (WentWrong, OSError) as fault:
+                print(f"measure.py: {fault}", file=sys.stderr)
+                return 1
+            print("\n".join(table(name, found, os.path.getsize(stream), packets, asked.rounds)))
     return 0
 
 
