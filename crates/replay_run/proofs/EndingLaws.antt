@@ -274,7 +274,7 @@ reads_notes a b c x y = record {
 }
 
 -- the answer of writing the last line
-pub ends_with_line : ReceiverLaws → (result : Result (Unit {0}) Status) (packets selection : ℕ) (stream notes : List ℕ) (first stream_left notes_left old new : Option (List ℕ)) (player : PlayerState) (items : List Item)
+pub ends_with_line : ReceiverLaws → (result : Result (Unit {0}) Status) (packets : ℕ) (selection : Selection) (stream notes : List ℕ) (first stream_left notes_left old new : Option (List ℕ)) (player : PlayerState) (items : List Item)
     → packets ≡ player.packets
     → OnOk result (WritesOn old new (end_line packets)) → IfErr result (λ status. StopsLine status old new (end_line packets))
     → IsWhole notes notes_left items → GaveAtMost stream_limit stream stream_left → GaveAtMost record_limit notes notes_left

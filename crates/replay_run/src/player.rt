@@ -62,37 +62,6 @@ impl Player {
     }
 
     /// The packets that were taken.
-    packets: u64,
-    ghost cut: { 188 * packets + length cutter.held ≤ bytes },
-    ghost limited: { bytes ≤ 2 ^ 36 + 3904 },
-}
-
-impl Player {
-    ghost use Rattle.replay_run.specs.Midway.{state_of, taking, Goes, Stops, Handles, StopsHandling, IsReadable, work_left};
-    ghost use Rattle.replay_run.specs.Progress.{IsBetween};
-    ghost use Rattle.receiver_core.specs.Receiving.{IsIdle};
-    ghost use Rattle.replay_run.specs.Limits.{stream_limit};
-    ghost use Rattle.replay_run.specs.Stopping.{OnlyReads, StopsPackets, StopsTurns, StopsReading};
-
-    /// A replay at the start of its stream.
-    pub fn new(alloc: Global, selection: u16) -> Player
-        ensures start { (stream : List ℕ) (first : Option (List ℕ))
-            → IsBetween selection stream first (Some stream) first (state_of result) [] }
-        ensures idle { IsIdle result.receiver }
-        ensures within { result.bytes ≤ stream_limit }
-        ensures readable { (world : WorldState)
-            → IsTrue world.stream.readable → IsReadable result.cutter world }
-    {
-        Player {
-            cutter: Cutter::new(),
-            receiver: Receiver::new(alloc, selection),
-            piece: Vec::new(alloc),
-            bytes: 0,
-            packets: 0,
-        }
-    }
-
-    /// The packets that were taken.
     pub fn packets(&self) -> u64
         ensures packets { result ≡ self.now.packets }
         ensures few { result < 2 ^ 63 }

@@ -9,20 +9,20 @@ use Rattle.replay_run.proofs.replay.play_record.Goals as goal
 
 pub items-init : goal.items-init
 items-init g c = record {
-  idle = c.new-player.ensures.idle;
-  stream_within = c.new-player.ensures.within;
-  stream_readable = c.new-player.ensures.readable (g.W.World.told c.args.world.now) c.requires.stream;
+  idle = c.in_ok-player.ensures.idle;
+  stream_within = c.in_ok-player.ensures.within;
+  stream_readable = c.in_ok-player.ensures.readable (g.W.World.told c.args.world.now) c.requires.stream;
   notes_within = c.new-notes.ensures.within;
   notes_readable = c.new-notes.ensures.readable (g.W.World.told c.args.world.now) c.requires.notes;
   reads = reads_none (g.W.World.told c.args.world.now);
   later = omega arith;
   goes = λ stream notes l n. let first = (g.S.Sink.told c.args.out.now).written in
-      ([], between_told c.args.selection stream first _ _ _ [] l refl (c.new-player.ensures.start stream first), at_told notes _ _ [] n (c.new-notes.ensures.start notes));
+      ([], between_told c.args.selection stream first _ _ _ [] l refl (c.in_ok-player.ensures.start stream first), at_told notes _ _ [] n (c.new-notes.ensures.start notes));
 }
 
 pub returns-in_err-item-clause-ends : goal.returns-in_err-item-clause-ends
 returns-in_err-item-clause-ends g c =
-    let p = err_from_is_err_and c.from_residual.result c.from_residual.ensures.1 in
+    let p = err_from_is_err_and c.from_residual-in_err-item.result c.from_residual-in_err-item.ensures.1 in
     let stopped = c.in_err-item.ensures in
     let laws : ReceiverLaws = record { more = c.law_of_outputs.ensures.more; given = c.law_of_receivers.ensures } in
     rw (p.1, p.2) (λ stream notes l n. let first = (g.S.Sink.told c.args.out.now).written in
