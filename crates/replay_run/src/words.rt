@@ -172,13 +172,19 @@ mod tests {
         for (line, expected) in [
             ("replay|s|r", Some(Selection::First)),
             ("replay|--service|1|s|r", Some(Selection::Service(1))),
-            ("replay|--service|65535|s|r", Some(Selection::Service(65535))),
+            (
+                "replay|--service|65535|s|r",
+                Some(Selection::Service(65535)),
+            ),
             ("replay|--service|0|s|r", None),
             ("replay|--service|65536|s|r", None),
             ("replay|--service||s|r", None),
             ("replay|--data-pid|16|s|r", Some(Selection::Pid(16))),
             ("replay|--data-pid|8190|s|r", Some(Selection::Pid(8190))),
-            ("replay|--data-pid|0000000300|s|r", Some(Selection::Pid(300))),
+            (
+                "replay|--data-pid|0000000300|s|r",
+                Some(Selection::Pid(300)),
+            ),
             ("replay|--data-pid|15|s|r", None),
             ("replay|--data-pid|8191|s|r", None),
             ("replay|--data-pid|00000000300|s|r", None),
