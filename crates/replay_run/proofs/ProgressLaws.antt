@@ -6,6 +6,7 @@ use Rattle.std.proofs.lemmas.List.Folds.{concat-append}
 use Rattle.std.specs.Io.KnownBytes.{Appends}
 use Rattle.ts_packets.specs.Cutter.{CutterState, Gives}
 use Rattle.ts_packets.specs.Packets.{packets_of}
+use Rattle.psi_tables.specs.declared.services.Selection.{Selection}
 use Rattle.receiver_core.specs.Receiving.{ReceiverState, StandsFor}
 use Rattle.receiver_core.specs.State.{Input, Packet}
 use Rattle.replay_run.specs.declared.record.Item.{Item}
@@ -16,11 +17,11 @@ use Rattle.replay_run.proofs.PlayLaws.{inputs_of-push, packets_left-push, no_ite
 use Rattle.replay_run.proofs.WritingLaws.{appends_more}
 
 -- the cutter left bytes out in front of the next packet
-pub midway_seek : (pid : ℕ) (stream : List ℕ) (first left written : Option (List ℕ)) (player : PlayerState) (inputs : List Input) (ahead : List (List ℕ)) (cutter : CutterState)
+pub midway_seek : (selection : Selection) (stream : List ℕ) (first left written : Option (List ℕ)) (player : PlayerState) (inputs : List Input) (ahead : List (List ℕ)) (cutter : CutterState)
     → Gives player.cutter [] cutter → cutter.ended ≡ player.cutter.ended
-    → IsMidway pid stream first left written player inputs ahead
-    → IsMidway pid stream first left written (record player { cutter = cutter }) inputs ahead
-midway_seek pid stream first left written player inputs ahead cutter gives ended m =
+    → IsMidway selection stream first left written player inputs ahead
+    → IsMidway selection stream first left written (record player { cutter = cutter }) inputs ahead
+midway_seek selection stream first left written player inputs ahead cutter gives ended m =
     record {
       rest = m.rest;
       given = m.given;
@@ -34,16 +35,16 @@ midway_seek pid stream first left written player inputs ahead cutter gives ended
     }
 
 -- a packet was cut, and the receiver stands for one more
-pub midway_packet : (pid : ℕ) (stream : List ℕ) (first left written : Option (List ℕ)) (player : PlayerState) (inputs : List Input) (ahead : List (List ℕ)) (cutter : CutterState) (receiver : ReceiverState) (packet : List ℕ)
+pub midway_packet : (selection : Selection) (stream : List ℕ) (first left written : Option (List ℕ)) (player : PlayerState) (inputs : List Input) (ahead : List (List ℕ)) (cutter : CutterState) (receiver : ReceiverState) (packet : List ℕ)
     → Gives player.cutter (packet ∷ []) cutter → cutter.ended ≡ player.cutter.ended
-    → ((inputs : List Input) (given : List (List ℕ)) → StandsFor pid player.receiver inputs given → StandsFor pid receiver (inputs ++ Packet packet ∷ []) given)
-    → IsMidway pid stream first left written player inputs ahead
-    → IsMidway pid stream first left written (record { cutter = cutter; receiver = receiver; bytes = player.bytes; packets = player.packets + 1 }) (with_packets inputs 1 ahead) (drop 1 ahead)
-midway_packet pid stream first left written player inputs ahead cutter receiver packet gives ended pushed m =
+    → ((inputs : List Input) (given : List (List ℕ)) → StandsFor selection player.receiver inputs given → StandsFor selection receiver (inputs ++ Packet packet ∷ []) given)
+    → IsMidway selection stream first left written player inputs ahead
+    → IsMidway selection stream first left written (record { cutter = cutter; receiver = receiver; bytes = player.bytes; packets = player.packets + 1 }) (with_packets inputs 1 ahead) (drop 1 ahead)
+midway_packet selection stream first left written player inputs ahead cutter receiver packet gives ended pushed m =
     let behind = packets_of (cutter.held ++ m.rest) in
     let are : packet ∷ behind ≡ ahead = sym (gives m.rest m.ended) ∙ m.ahead_is in
     let after : PlayerState = record { cutter = cutter; receiver = receiver; bytes = player.bytes; packets = player.packets + 1 } in
-    let P : List (List ℕ) → Type 0 = λ l. IsMidway pid stream first left written after (with_packets inputs 1 l) (drop 1 l) in
+    let P : List (List ℕ) → Type 0 = λ l. IsMidway selection stream first left written after (with_packets inputs 1 l) (drop 1 l) in
     subst P are (record {
       rest = m.rest;
       given = m.given;
@@ -57,13 +58,13 @@ midway_packet pid stream first left written player inputs ahead cutter receiver 
     })
 
 -- the receiver gave texts, which were written
-pub midway_texts : (pid : ℕ) (stream : List ℕ) (first left old new : Option (List ℕ)) (player : PlayerState) (inputs more : List Input) (ahead : List (List ℕ)) (receiver : ReceiverState) (texts : List (List ℕ))
-    → ((given : List (List ℕ)) → StandsFor pid player.receiver inputs given → StandsFor pid receiver more (given ++ texts))
+pub midway_texts : (selection : Selection) (stream : List ℕ) (first left old new : Option (List ℕ)) (player : PlayerState) (inputs more : List Input) (ahead : List (List ℕ)) (receiver : ReceiverState) (texts : List (List ℕ))
+    → ((given : List (List ℕ)) → StandsFor selection player.receiver inputs given → StandsFor selection receiver more (given ++ texts))
     → packets_in more ≡ packets_in inputs
     → ((start : List ℕ) → old ≡ Some start → new ≡ Some (start ++ concat texts))
-    → IsMidway pid stream first left old player inputs ahead
-    → IsMidway pid stream first left new (record player { receiver = receiver }) more ahead
-midway_texts pid stream first left old new player inputs more ahead receiver texts gave count appended m =
+    → IsMidway selection stream first left old player inputs ahead
+    → IsMidway selection stream first left new (record player { receiver = receiver }) more ahead
+midway_texts selection stream first left old new player inputs more ahead receiver texts gave count appended m =
     record {
       rest = m.rest;
       given = m.given ++ texts;
@@ -77,12 +78,12 @@ midway_texts pid stream first left old new player inputs more ahead receiver tex
     }
 
 -- the stream gave bytes, and the cutter took them
-pub midway_read : (pid : ℕ) (stream : List ℕ) (first old new written : Option (List ℕ)) (player : PlayerState) (inputs : List Input) (ahead : List (List ℕ)) (cutter : CutterState) (bytes : List ℕ)
+pub midway_read : (selection : Selection) (stream : List ℕ) (first old new written : Option (List ℕ)) (player : PlayerState) (inputs : List Input) (ahead : List (List ℕ)) (cutter : CutterState) (bytes : List ℕ)
     → ((rest : List ℕ) → old ≡ Some rest → (more : List ℕ) × (new ≡ Some more) × (rest ≡ bytes ++ more))
     → player.cutter.ended ≡ false → cutter.held ≡ player.cutter.held ++ bytes → cutter.ended ≡ player.cutter.ended
-    → IsMidway pid stream first old written player inputs ahead
-    → IsMidway pid stream first new written (record { cutter = cutter; receiver = player.receiver; bytes = player.bytes + length bytes; packets = player.packets }) inputs ahead
-midway_read pid stream first old new written player inputs ahead cutter bytes gave open_end held ended m =
+    → IsMidway selection stream first old written player inputs ahead
+    → IsMidway selection stream first new written (record { cutter = cutter; receiver = player.receiver; bytes = player.bytes + length bytes; packets = player.packets }) inputs ahead
+midway_read selection stream first old new written player inputs ahead cutter bytes gave open_end held ended m =
     let g = gave m.rest m.left_is in
     let same : cutter.held ++ g.0 ≡ player.cutter.held ++ m.rest = ap (λ l. l ++ g.0) held ∙ append_assoc player.cutter.held bytes g.0 ∙ ap (λ l. player.cutter.held ++ l) (sym g.2) in
     let size : length m.rest ≡ length bytes + length g.0 = ap length g.2 ∙ length-append bytes g.0 in
@@ -100,12 +101,12 @@ midway_read pid stream first old new written player inputs ahead cutter bytes ga
     }
 
 -- the stream came to its end
-pub midway_end : (pid : ℕ) (stream : List ℕ) (first old new written : Option (List ℕ)) (player : PlayerState) (inputs : List Input) (ahead : List (List ℕ)) (cutter : CutterState)
+pub midway_end : (selection : Selection) (stream : List ℕ) (first old new written : Option (List ℕ)) (player : PlayerState) (inputs : List Input) (ahead : List (List ℕ)) (cutter : CutterState)
     → ((rest : List ℕ) → old ≡ Some rest → (rest ≡ []) × (new ≡ Some []))
     → cutter.held ≡ player.cutter.held
-    → IsMidway pid stream first old written player inputs ahead
-    → IsMidway pid stream first new written (record player { cutter = cutter }) inputs ahead
-midway_end pid stream first old new written player inputs ahead cutter gave held m =
+    → IsMidway selection stream first old written player inputs ahead
+    → IsMidway selection stream first new written (record player { cutter = cutter }) inputs ahead
+midway_end selection stream first old new written player inputs ahead cutter gave held m =
     let g = gave m.rest m.left_is in
     record {
       rest = [];
@@ -120,14 +121,14 @@ midway_end pid stream first old new written player inputs ahead cutter gave held
     }
 
 -- a replay begins
-pub between_start : (pid : ℕ) (stream : List ℕ) (first left written : Option (List ℕ)) (player : PlayerState)
+pub between_start : (selection : Selection) (stream : List ℕ) (first left written : Option (List ℕ)) (player : PlayerState)
     → left ≡ Some stream → written ≡ first
     → player.cutter.held ≡ [] → player.cutter.ended ≡ false → player.bytes ≡ 0 → player.packets ≡ 0
-    → StandsFor pid player.receiver [] []
-    → IsBetween pid stream first left written player []
-between_start pid stream first left written player l w held open_end bytes packets stands =
+    → StandsFor selection player.receiver [] []
+    → IsBetween selection stream first left written player []
+between_start selection stream first left written player l w held open_end bytes packets stands =
     let none = no_items (packets_of stream) in
-    let P : List Input → Type 0 = λ inputs. IsMidway pid stream first left written player inputs (packets_left (packets_of stream) []) in
+    let P : List Input → Type 0 = λ inputs. IsMidway selection stream first left written player inputs (packets_left (packets_of stream) []) in
     subst P (sym none.0) (record {
       rest = stream;
       given = [];
@@ -141,39 +142,39 @@ between_start pid stream first left written player l w held open_end bytes packe
     })
 
 -- one more item was handled
-pub between_push : (pid : ℕ) (stream : List ℕ) (first left written : Option (List ℕ)) (player : PlayerState) (items : List Item) (item : Item)
-    → IsMidway pid stream first left written player
+pub between_push : (selection : Selection) (stream : List ℕ) (first left written : Option (List ℕ)) (player : PlayerState) (items : List Item) (item : Item)
+    → IsMidway selection stream first left written player
     (inputs_of (packets_of stream) items ++ handed item (packets_left (packets_of stream) items)) (left_by item (packets_left (packets_of stream) items))
-    → IsBetween pid stream first left written player (items ++ item ∷ [])
-between_push pid stream first left written player items item m =
+    → IsBetween selection stream first left written player (items ++ item ∷ [])
+between_push selection stream first left written player items item m =
     let packets = packets_of stream in
-    subst (λ inputs. IsMidway pid stream first left written player inputs (packets_left packets (items ++ item ∷ []))) (sym (inputs_of-push packets items item))
-    (subst (λ l. IsMidway pid stream first left written player (inputs_of packets items ++ handed item (packets_left packets items)) l) (sym (packets_left-push packets items item)) m)
+    subst (λ inputs. IsMidway selection stream first left written player inputs (packets_left packets (items ++ item ∷ []))) (sym (inputs_of-push packets items item))
+    (subst (λ l. IsMidway selection stream first left written player (inputs_of packets items ++ handed item (packets_left packets items)) l) (sym (packets_left-push packets items item)) m)
 
 -- ---- packets one by one
 
 -- none was taken yet
-pub midway_none : (pid : ℕ) (stream : List ℕ) (first left written : Option (List ℕ)) (player : PlayerState) (inputs : List Input) (ahead : List (List ℕ))
-    → IsMidway pid stream first left written player inputs ahead
-    → IsMidway pid stream first left written player (with_packets inputs 0 ahead) (drop 0 ahead)
-midway_none pid stream first left written player inputs ahead m =
-    subst (λ l. IsMidway pid stream first left written player l ahead) (sym (with_none inputs ahead)) m
+pub midway_none : (selection : Selection) (stream : List ℕ) (first left written : Option (List ℕ)) (player : PlayerState) (inputs : List Input) (ahead : List (List ℕ))
+    → IsMidway selection stream first left written player inputs ahead
+    → IsMidway selection stream first left written player (with_packets inputs 0 ahead) (drop 0 ahead)
+midway_none selection stream first left written player inputs ahead m =
+    subst (λ l. IsMidway selection stream first left written player l ahead) (sym (with_none inputs ahead)) m
 
 -- some were taken, and then one more
-pub midway_more : (pid : ℕ) (stream : List ℕ) (first left written : Option (List ℕ)) (player : PlayerState) (inputs : List Input) (ahead : List (List ℕ)) (count : ℕ)
-    → IsMidway pid stream first left written player (with_packets (with_packets inputs count ahead) 1 (drop count ahead)) (drop 1 (drop count ahead))
-    → IsMidway pid stream first left written player (with_packets inputs (count + 1) ahead) (drop (count + 1) ahead)
-midway_more pid stream first left written player inputs ahead count m =
-    subst (λ l. IsMidway pid stream first left written player l (drop (count + 1) ahead)) (with_more inputs count 1 ahead)
-    (subst (λ l. IsMidway pid stream first left written player (with_packets (with_packets inputs count ahead) 1 (drop count ahead)) l) (drop-drop 1 count ahead) m)
+pub midway_more : (selection : Selection) (stream : List ℕ) (first left written : Option (List ℕ)) (player : PlayerState) (inputs : List Input) (ahead : List (List ℕ)) (count : ℕ)
+    → IsMidway selection stream first left written player (with_packets (with_packets inputs count ahead) 1 (drop count ahead)) (drop 1 (drop count ahead))
+    → IsMidway selection stream first left written player (with_packets inputs (count + 1) ahead) (drop (count + 1) ahead)
+midway_more selection stream first left written player inputs ahead count m =
+    subst (λ l. IsMidway selection stream first left written player l (drop (count + 1) ahead)) (with_more inputs count 1 ahead)
+    (subst (λ l. IsMidway selection stream first left written player (with_packets (with_packets inputs count ahead) 1 (drop count ahead)) l) (drop-drop 1 count ahead) m)
 
 -- no packet is left
-pub midway_over : (pid : ℕ) (stream : List ℕ) (first left written : Option (List ℕ)) (player : PlayerState) (inputs : List Input) (ahead : List (List ℕ)) (most : Option ℕ) (count : ℕ)
+pub midway_over : (selection : Selection) (stream : List ℕ) (first left written : Option (List ℕ)) (player : PlayerState) (inputs : List Input) (ahead : List (List ℕ)) (most : Option ℕ) (count : ℕ)
     → player.cutter.ended ≡ true → packets_of player.cutter.held ≡ [] → Allows most count
-    → IsMidway pid stream first left written player (with_packets inputs count ahead) (drop count ahead)
-    → IsMidway pid stream first left written player (inputs ++ handed (taking most) ahead) (left_by (taking most) ahead)
-midway_over pid stream first left written player inputs ahead most count ended none allows m =
+    → IsMidway selection stream first left written player (with_packets inputs count ahead) (drop count ahead)
+    → IsMidway selection stream first left written player (inputs ++ handed (taking most) ahead) (left_by (taking most) ahead)
+midway_over selection stream first left written player inputs ahead most count ended none allows m =
     let nothing : drop count ahead ≡ [] = sym m.ahead_is ∙ ap (λ l. packets_of (player.cutter.held ++ l)) (m.ended ended) ∙ ap packets_of (append-nil player.cutter.held) ∙ none in
     let all = took_all inputs most count ahead allows nothing in
-    subst (λ l. IsMidway pid stream first left written player l (left_by (taking most) ahead)) all.0
-    (subst (λ l. IsMidway pid stream first left written player (with_packets inputs count ahead) l) all.1 m)
+    subst (λ l. IsMidway selection stream first left written player l (left_by (taking most) ahead)) all.0
+    (subst (λ l. IsMidway selection stream first left written player (with_packets inputs count ahead) l) all.1 m)

@@ -6,6 +6,7 @@ use Rattle.std.proofs.lemmas.List.Folds.{concat-append}
 use Rattle.bml_ports.specs.declared.outside.Port.{Port}
 use Rattle.bml_ports.specs.Worlds.{WorldState}
 use Rattle.ts_packets.specs.Packets.{packets_of, packets_after}
+use Rattle.psi_tables.specs.declared.services.Selection.{Selection}
 use Rattle.receiver_core.specs.Fronts.{IsFront}
 use Rattle.receiver_core.specs.Receiving.{ReceiverState, StandsFor}
 use Rattle.receiver_core.specs.State.{Input}
@@ -36,49 +37,49 @@ ended_some (Some x) None c end rest e = absurd c
 ended_some (Some x) (Some y) c end rest e = let same : x ≡ rest = cc in (sym same ∙ c ∙ end, ap Some end)
 
 -- a replay that stops in some inputs stops in more
-pub stops_further : (status : Status) (pid : ℕ) (stream : List ℕ) (left first written : Option (List ℕ)) (some all : List Input) → IsFront some all
-    → StopsIn status pid stream left first written some → StopsIn status pid stream left first written all
-stops_further status pid stream left first written some all front s =
+pub stops_further : (status : Status) (selection : Selection) (stream : List ℕ) (left first written : Option (List ℕ)) (some all : List Input) → IsFront some all
+    → StopsIn status selection stream left first written some → StopsIn status selection stream left first written all
+stops_further status selection stream left first written some all front s =
     record { inputs = s.inputs; front = front_of_front s.inputs some all s.front front; receiver = s.receiver; given = s.given; stands = s.stands; leaves = s.leaves }
 
 -- in those of the items and one more
-pub stops_pushed : (status : Status) (pid : ℕ) (stream : List ℕ) (left first written : Option (List ℕ)) (items : List Item) (item : Item)
-    → StopsIn status pid stream left first written (inputs_of (packets_of stream) items ++ handed item (packets_left (packets_of stream) items))
-    → StopsIn status pid stream left first written (inputs_of (packets_of stream) (items ++ item ∷ []))
-stops_pushed status pid stream left first written items item s =
-    subst (λ l. StopsIn status pid stream left first written l) (sym (inputs_of-push (packets_of stream) items item)) s
+pub stops_pushed : (status : Status) (selection : Selection) (stream : List ℕ) (left first written : Option (List ℕ)) (items : List Item) (item : Item)
+    → StopsIn status selection stream left first written (inputs_of (packets_of stream) items ++ handed item (packets_left (packets_of stream) items))
+    → StopsIn status selection stream left first written (inputs_of (packets_of stream) (items ++ item ∷ []))
+stops_pushed status selection stream left first written items item s =
+    subst (λ l. StopsIn status selection stream left first written l) (sym (inputs_of-push (packets_of stream) items item)) s
 
 -- in those of some packets, and then one more
-pub stops_more : (status : Status) (pid : ℕ) (stream : List ℕ) (left first written : Option (List ℕ)) (inputs : List Input) (ahead : List (List ℕ)) (count : ℕ)
-    → StopsIn status pid stream left first written (with_packets (with_packets inputs count ahead) 1 (drop count ahead))
-    → StopsIn status pid stream left first written (with_packets inputs (count + 1) ahead)
-stops_more status pid stream left first written inputs ahead count s =
-    subst (λ l. StopsIn status pid stream left first written l) (with_more inputs count 1 ahead) s
+pub stops_more : (status : Status) (selection : Selection) (stream : List ℕ) (left first written : Option (List ℕ)) (inputs : List Input) (ahead : List (List ℕ)) (count : ℕ)
+    → StopsIn status selection stream left first written (with_packets (with_packets inputs count ahead) 1 (drop count ahead))
+    → StopsIn status selection stream left first written (with_packets inputs (count + 1) ahead)
+stops_more status selection stream left first written inputs ahead count s =
+    subst (λ l. StopsIn status selection stream left first written l) (with_more inputs count 1 ahead) s
 
 -- whole texts
-stops_whole : (pid : ℕ) (stream : List ℕ) (first left written : Option (List ℕ)) (player : PlayerState) (inputs : List Input) (ahead : List (List ℕ))
-    → (m : IsMidway pid stream first left written player inputs ahead) → WritesPieces first written m.given
-stops_whole pid stream first left written player inputs ahead m =
+stops_whole : (selection : Selection) (stream : List ℕ) (first left written : Option (List ℕ)) (player : PlayerState) (inputs : List Input) (ahead : List (List ℕ))
+    → (m : IsMidway selection stream first left written player inputs ahead) → WritesPieces first written m.given
+stops_whole selection stream first left written player inputs ahead m =
     record { written = m.given; front = front_of_self m.given; appended = m.wrote }
 
 -- the stream gave no more than it may
-pub midway_within : (pid : ℕ) (stream : List ℕ) (first left written : Option (List ℕ)) (player : PlayerState) (inputs : List Input) (ahead : List (List ℕ)) (limit : ℕ)
-    → player.bytes ≤ limit → IsMidway pid stream first left written player inputs ahead → GaveAtMost limit stream left
-midway_within pid stream first left written player inputs ahead limit within m =
+pub midway_within : (selection : Selection) (stream : List ℕ) (first left written : Option (List ℕ)) (player : PlayerState) (inputs : List Input) (ahead : List (List ℕ)) (limit : ℕ)
+    → player.bytes ≤ limit → IsMidway selection stream first left written player inputs ahead → GaveAtMost limit stream left
+midway_within selection stream first left written player inputs ahead limit within m =
     let whole = m.counted in
     record { rest = m.rest; left_is = m.left_is; most = omega arith }
 
 -- memory was wanting
-pub stops_within : (pid : ℕ) (stream : List ℕ) (first left written : Option (List ℕ)) (player : PlayerState) (inputs : List Input) (ahead : List (List ℕ))
-    → player.bytes ≤ stream_limit → IsMidway pid stream first left written player inputs ahead
-    → StopsIn NoMemory pid stream left first written inputs
-stops_within pid stream first left written player inputs ahead within m = record {
+pub stops_within : (selection : Selection) (stream : List ℕ) (first left written : Option (List ℕ)) (player : PlayerState) (inputs : List Input) (ahead : List (List ℕ))
+    → player.bytes ≤ stream_limit → IsMidway selection stream first left written player inputs ahead
+    → StopsIn NoMemory selection stream left first written inputs
+stops_within selection stream first left written player inputs ahead within m = record {
   inputs = inputs;
   front = front_of_self inputs;
   receiver = player.receiver;
   given = m.given;
   stands = m.stands;
-  leaves = (midway_within pid stream first left written player inputs ahead stream_limit within m, stops_whole pid stream first left written player inputs ahead m);
+  leaves = (midway_within selection stream first left written player inputs ahead stream_limit within m, stops_whole selection stream first left written player inputs ahead m);
 }
 
 -- a failed read took nothing
@@ -87,27 +88,27 @@ within_kept limit bytes None new kept g = let clash : None ≡ Some g.rest = g.l
 within_kept limit bytes (Some x) None kept g = absurd kept
 within_kept limit bytes (Some x) (Some y) kept g = record { rest = g.rest; left_is = ap Some kept ∙ g.left_is; most = g.most }
 
-pub stops_unread : (pid : ℕ) (stream : List ℕ) (first old new written : Option (List ℕ)) (player : PlayerState) (inputs : List Input) (ahead : List (List ℕ))
-    → player.bytes ≤ stream_limit → Keeps old new → IsMidway pid stream first old written player inputs ahead
-    → StopsIn ReadFault pid stream new first written inputs
-stops_unread pid stream first old new written player inputs ahead within kept m = record {
+pub stops_unread : (selection : Selection) (stream : List ℕ) (first old new written : Option (List ℕ)) (player : PlayerState) (inputs : List Input) (ahead : List (List ℕ))
+    → player.bytes ≤ stream_limit → Keeps old new → IsMidway selection stream first old written player inputs ahead
+    → StopsIn ReadFault selection stream new first written inputs
+stops_unread selection stream first old new written player inputs ahead within kept m = record {
   inputs = inputs;
   front = front_of_self inputs;
   receiver = player.receiver;
   given = m.given;
   stands = m.stands;
   leaves = (
-    within_kept stream_limit stream old new kept (midway_within pid stream first old written player inputs ahead stream_limit within m),
-    stops_whole pid stream first old written player inputs ahead m,
+    within_kept stream_limit stream old new kept (midway_within selection stream first old written player inputs ahead stream_limit within m),
+    stops_whole selection stream first old written player inputs ahead m,
   );
 }
 
 -- the stream gave too much
-pub stops_long : (pid : ℕ) (stream : List ℕ) (first old new written : Option (List ℕ)) (player : PlayerState) (inputs : List Input) (ahead : List (List ℕ)) (bytes : List ℕ) (count : ℕ)
+pub stops_long : (selection : Selection) (stream : List ℕ) (first old new written : Option (List ℕ)) (player : PlayerState) (inputs : List Input) (ahead : List (List ℕ)) (bytes : List ℕ) (count : ℕ)
     → length bytes ≡ count → stream_limit < player.bytes + count → Consumes old new bytes
-    → IsMidway pid stream first old written player inputs ahead
-    → StopsIn TooLong pid stream new first written inputs
-stops_long pid stream first old new written player inputs ahead bytes count size above consumed m =
+    → IsMidway selection stream first old written player inputs ahead
+    → StopsIn TooLong selection stream new first written inputs
+stops_long selection stream first old new written player inputs ahead bytes count size above consumed m =
     let g = consumed_some bytes old new consumed m.rest m.left_is in
     let split : length m.rest ≡ length bytes + length g.0 = ap length g.2 ∙ length-append bytes g.0 in
     let whole = m.counted in
@@ -117,7 +118,7 @@ stops_long pid stream first old new written player inputs ahead bytes count size
       receiver = player.receiver;
       given = m.given;
       stands = m.stands;
-      leaves = (record { rest = g.0; left_is = g.1; more = omega arith }, stops_whole pid stream first old written player inputs ahead m);
+      leaves = (record { rest = g.0; left_is = g.1; more = omega arith }, stops_whole selection stream first old written player inputs ahead m);
     }
 
 -- the bytes of texts, of which the last ones were cut short
@@ -134,19 +135,19 @@ short_bytes (Some start) (Some told) new given texts cut a =
     }
 
 -- texts were cut short that the receiver gave
-pub stops_short : (pid : ℕ) (stream : List ℕ) (first left old new : Option (List ℕ)) (player : PlayerState) (inputs more : List Input) (ahead : List (List ℕ)) (receiver : ReceiverState) (texts : List (List ℕ))
-    → ((given : List (List ℕ)) → StandsFor pid player.receiver inputs given → StandsFor pid receiver more (given ++ texts))
+pub stops_short : (selection : Selection) (stream : List ℕ) (first left old new : Option (List ℕ)) (player : PlayerState) (inputs more : List Input) (ahead : List (List ℕ)) (receiver : ReceiverState) (texts : List (List ℕ))
+    → ((given : List (List ℕ)) → StandsFor selection player.receiver inputs given → StandsFor selection receiver more (given ++ texts))
     → ((start : List ℕ) → old ≡ Some start → CutShort start new (concat texts))
     → player.bytes ≤ stream_limit
-    → IsMidway pid stream first left old player inputs ahead
-    → StopsIn WriteFault pid stream left first new more
-stops_short pid stream first left old new player inputs more ahead receiver texts gave cut within m = record {
+    → IsMidway selection stream first left old player inputs ahead
+    → StopsIn WriteFault selection stream left first new more
+stops_short selection stream first left old new player inputs more ahead receiver texts gave cut within m = record {
   inputs = more;
   front = front_of_self more;
   receiver = receiver;
   given = m.given ++ texts;
   stands = gave m.given m.stands;
-  leaves = (midway_within pid stream first left old player inputs ahead stream_limit within m, short_bytes first old new m.given texts cut m.wrote);
+  leaves = (midway_within selection stream first left old player inputs ahead stream_limit within m, short_bytes first old new m.given texts cut m.wrote);
 }
 
 -- a piece that wasn't written whole

@@ -4,4 +4,4 @@ use Rattle.replay_run.specs.Words.{CommandWords}
 
 -- the command with the names themselves
 abbrev pub command_seen : Command → CommandWords
-command_seen command = record { data_pid = command.data_pid; stream = command.stream.now; notes = command.notes.now }
+command_seen command = record { selection = command.selection; stream = command.stream.now; notes = command.notes.now }

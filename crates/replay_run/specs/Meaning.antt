@@ -2,6 +2,7 @@
 -- each, and how it ends. (Own definitions.)
 use Rattle.std.specs.Prelude.{ℕ, List, [], ◌∷◌, ◌++◌, map, replicate, Option, Some, None}
 use Rattle.ts_packets.specs.Packets.{packets_of}
+use Rattle.psi_tables.specs.declared.services.Selection.{Selection}
 use Rattle.receiver_core.specs.Outputs.{outputs}
 use Rattle.receiver_core.specs.State.{Input}
 use Rattle.replay_run.specs.declared.status.Status.{Status}
@@ -42,18 +43,18 @@ abbrev pub replay_inputs : List ℕ → List ℕ → List Input
 replay_inputs stream notes = inputs_of (packets_of stream) (items_before_bad notes)
 
 -- the texts of the pieces: what a receiver prints for that, and the last one
-unfoldable pub replay_texts : ℕ → List ℕ → List ℕ → List (List ℕ)
-replay_texts pid stream notes =
-    let inputs = replay_inputs stream notes in outputs pid inputs ++ last_texts (first_bad notes) inputs
+unfoldable pub replay_texts : Selection → List ℕ → List ℕ → List (List ℕ)
+replay_texts selection stream notes =
+    let inputs = replay_inputs stream notes in outputs selection inputs ++ last_texts (first_bad notes) inputs
 
--- the meaning of a replay of the data on this PID
-abbrev pub replay_meaning : ℕ → List ℕ → List ℕ → Meaning
-replay_meaning pid stream notes =
-    record { pieces = map piece_of (replay_texts pid stream notes); status = status_behind (first_bad notes) }
+-- the meaning of a replay of the service or data that is asked for
+abbrev pub replay_meaning : Selection → List ℕ → List ℕ → Meaning
+replay_meaning selection stream notes =
+    record { pieces = map piece_of (replay_texts selection stream notes); status = status_behind (first_bad notes) }
 
 abbrev pub meaning_of : Option CommandWords → List ℕ → List ℕ → Meaning
 meaning_of None stream notes = record { pieces = []; status = Usage }
-meaning_of (Some request) stream notes = replay_meaning request.data_pid stream notes
+meaning_of (Some request) stream notes = replay_meaning request.selection stream notes
 
 -- the meaning of words, a stream and a record
 abbrev pub meaning : List (List ℕ) → List ℕ → List ℕ → Meaning

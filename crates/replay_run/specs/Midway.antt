@@ -2,6 +2,7 @@
 use Rattle.std.specs.Prelude.{◌≡◌, ℕ, ◌+◌, ◌-◌, ◌*◌, ◌^◌, Bool, true, false, IsTrue, length, List, ◌++◌, Option, Some, None}
 use Rattle.ts_packets.specs.Cutter.{CutterState}
 use Rattle.bml_ports.specs.Worlds.{WorldState}
+use Rattle.psi_tables.specs.declared.services.Selection.{Selection}
 use Rattle.receiver_core.specs.Fronts.{IsFront}
 use Rattle.receiver_core.specs.Receiving.{ReceiverState, StandsFor}
 use Rattle.receiver_core.specs.State.{Input}
@@ -37,37 +38,37 @@ taking (Some count) = Packets count
 -- whatever stream and record it is, the replay stands where it stood
 abbrev pub Goes : Option (List ℕ) → Option (List ℕ) → Option (List ℕ) → Option (List ℕ) → PlayerState → PlayerState → Type 0
 Goes left_old left_new written_old written_new old new =
-    (pid : ℕ) (stream : List ℕ) (first : Option (List ℕ)) (inputs : List Input) (ahead : List (List ℕ))
-    → IsMidway pid stream first left_old written_old old inputs ahead
-    → IsMidway pid stream first left_new written_new new inputs ahead
+    (selection : Selection) (stream : List ℕ) (first : Option (List ℕ)) (inputs : List Input) (ahead : List (List ℕ))
+    → IsMidway selection stream first left_old written_old old inputs ahead
+    → IsMidway selection stream first left_new written_new new inputs ahead
 
 -- and with what this item hands over more
 abbrev pub Handles : Item → Option (List ℕ) → Option (List ℕ) → Option (List ℕ) → Option (List ℕ) → PlayerState → PlayerState → Type 0
 Handles item left_old left_new written_old written_new old new =
-    (pid : ℕ) (stream : List ℕ) (first : Option (List ℕ)) (inputs : List Input) (ahead : List (List ℕ))
-    → IsMidway pid stream first left_old written_old old inputs ahead
-    → IsMidway pid stream first left_new written_new new (inputs ++ handed item ahead) (left_by item ahead)
+    (selection : Selection) (stream : List ℕ) (first : Option (List ℕ)) (inputs : List Input) (ahead : List (List ℕ))
+    → IsMidway selection stream first left_old written_old old inputs ahead
+    → IsMidway selection stream first left_new written_new new (inputs ++ handed item ahead) (left_by item ahead)
 
 -- The replay stopped somewhere in these inputs: a front of the texts is written that a receiver gave for the first of
 -- them.
-pub record StopsIn (status : Status) (pid : ℕ) (stream : List ℕ) (left first written : Option (List ℕ)) (all : List Input) : Type 0 where
+pub record StopsIn (status : Status) (selection : Selection) (stream : List ℕ) (left first written : Option (List ℕ)) (all : List Input) : Type 0 where
   pub inputs : List Input
   pub front : IsFront inputs all
   pub receiver : ReceiverState
   pub given : List (List ℕ)
-  pub stands : StandsFor pid receiver inputs given
+  pub stands : StandsFor selection receiver inputs given
   pub leaves : LeavesPackets status stream left first written given
 
 -- whatever stream and record it is, the replay stops in the inputs that came
 abbrev pub Stops : Status → Option (List ℕ) → Option (List ℕ) → Option (List ℕ) → Option (List ℕ) → PlayerState → Type 0
 Stops status left_old left_new written_old written_new old =
-    (pid : ℕ) (stream : List ℕ) (first : Option (List ℕ)) (inputs : List Input) (ahead : List (List ℕ))
-    → IsMidway pid stream first left_old written_old old inputs ahead
-    → StopsIn status pid stream left_new first written_new inputs
+    (selection : Selection) (stream : List ℕ) (first : Option (List ℕ)) (inputs : List Input) (ahead : List (List ℕ))
+    → IsMidway selection stream first left_old written_old old inputs ahead
+    → StopsIn status selection stream left_new first written_new inputs
 
 -- or in those that this item hands over
 abbrev pub StopsHandling : Item → Status → Option (List ℕ) → Option (List ℕ) → Option (List ℕ) → Option (List ℕ) → PlayerState → Type 0
 StopsHandling item status left_old left_new written_old written_new old =
-    (pid : ℕ) (stream : List ℕ) (first : Option (List ℕ)) (inputs : List Input) (ahead : List (List ℕ))
-    → IsMidway pid stream first left_old written_old old inputs ahead
-    → StopsIn status pid stream left_new first written_new (inputs ++ handed item ahead)
+    (selection : Selection) (stream : List ℕ) (first : Option (List ℕ)) (inputs : List Input) (ahead : List (List ℕ))
+    → IsMidway selection stream first left_old written_old old inputs ahead
+    → StopsIn status selection stream left_new first written_new (inputs ++ handed item ahead)

@@ -5,6 +5,7 @@ use Rattle.std.specs.List.{concat}
 use Rattle.std.specs.Io.KnownBytes.{Appends}
 use Rattle.ts_packets.specs.Cutter.{CutterState}
 use Rattle.ts_packets.specs.Packets.{packets_of}
+use Rattle.psi_tables.specs.declared.services.Selection.{Selection}
 use Rattle.receiver_core.specs.Receiving.{ReceiverState, StandsFor}
 use Rattle.receiver_core.specs.State.{Input}
 use Rattle.replay_run.specs.declared.record.Item.{Item}
@@ -21,7 +22,7 @@ pub record PlayerState : Type 0 where
 
 -- These inputs came to the receiver, all texts that it gave for them so far are written, and these packets are ahead.
 -- The stream has `left` to give, and the sink told `first` when the run began, if it tells anything.
-pub record IsMidway (pid : ℕ) (stream : List ℕ) (first left written : Option (List ℕ)) (player : PlayerState) (inputs : List Input) (ahead : List (List ℕ)) : Type 0 where
+pub record IsMidway (selection : Selection) (stream : List ℕ) (first left written : Option (List ℕ)) (player : PlayerState) (inputs : List Input) (ahead : List (List ℕ)) : Type 0 where
   pub rest : List ℕ
   pub given : List (List ℕ)
   pub left_is : left ≡ Some rest
@@ -29,10 +30,10 @@ pub record IsMidway (pid : ℕ) (stream : List ℕ) (first left written : Option
   pub ended : player.cutter.ended ≡ true → rest ≡ []
   pub ahead_is : packets_of (player.cutter.held ++ rest) ≡ ahead
   pub packets : player.packets ≡ packets_in inputs
-  pub stands : StandsFor pid player.receiver inputs given
+  pub stands : StandsFor selection player.receiver inputs given
   pub wrote : Appends first written (concat given)
 
 -- Between two items: the inputs and the packets ahead are those of the items so far.
-abbrev pub IsBetween : ℕ → List ℕ → Option (List ℕ) → Option (List ℕ) → Option (List ℕ) → PlayerState → List Item → Type 0
-IsBetween pid stream first left written player items =
-    IsMidway pid stream first left written player (inputs_of (packets_of stream) items) (packets_left (packets_of stream) items)
+abbrev pub IsBetween : Selection → List ℕ → Option (List ℕ) → Option (List ℕ) → Option (List ℕ) → PlayerState → List Item → Type 0
+IsBetween selection stream first left written player items =
+    IsMidway selection stream first left written player (inputs_of (packets_of stream) items) (packets_left (packets_of stream) items)

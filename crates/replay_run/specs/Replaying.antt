@@ -3,6 +3,7 @@ use Rattle.bml_ports.specs.Counters.{FaultedSince}
 use Rattle.std.specs.Prelude.{◌≡◌, ℕ, ◌≤◌, List, [], Option, Some, Result, Ok, Err, ◌⊎◌}
 use Rattle.bml_ports.specs.Sinks.{SinkState}
 use Rattle.bml_ports.specs.Worlds.{WorldState}
+use Rattle.psi_tables.specs.declared.services.Selection.{Selection}
 use Rattle.replay_run.specs.declared.status.Status.{Status}
 use Rattle.replay_run.specs.declared.status.Status.TheVariants.{Done, Usage, BadRecord, OpenFault, ReadFault, WriteFault, KeepFault, BadArea, TooLong, NoMemory}
 use Rattle.replay_run.specs.Ending.{EndsAs}
@@ -52,17 +53,17 @@ StopsLine (BadArea length) old new line = ⊥
 StopsLine TooLong old new line = ⊥
 
 -- Where the files are told, the replay ends as its meaning says.
-abbrev pub ReplayEnds : ℕ → WorldState → WorldState → Option (List ℕ) → Option (List ℕ) → Status → Type 0
-ReplayEnds pid world_old world_new old new status =
+abbrev pub ReplayEnds : Selection → WorldState → WorldState → Option (List ℕ) → Option (List ℕ) → Status → Type 0
+ReplayEnds selection world_old world_new old new status =
     (stream notes : List ℕ) → world_old.stream.left ≡ Some stream → world_old.notes.left ≡ Some notes
-    → EndsAs (replay_meaning pid stream notes)
+    → EndsAs (replay_meaning selection stream notes)
     (record { stream = stream; notes = notes; stream_left = world_new.stream.left; notes_left = world_new.notes.left })
     old new status
 
 -- The same of a replay of two files under their names.
-abbrev pub RunEnds : ℕ → List ℕ → List ℕ → WorldState → WorldState → Option (List ℕ) → Option (List ℕ) → Status → Type 0
-RunEnds pid stream_name notes_name world_old world_new old new status =
+abbrev pub RunEnds : Selection → List ℕ → List ℕ → WorldState → WorldState → Option (List ℕ) → Option (List ℕ) → Status → Type 0
+RunEnds selection stream_name notes_name world_old world_new old new status =
     (stream notes : List ℕ) → bytes_under world_old stream_name ≡ Some stream → bytes_under world_old notes_name ≡ Some notes
-    → EndsAs (replay_meaning pid stream notes)
+    → EndsAs (replay_meaning selection stream notes)
     (record { stream = stream; notes = notes; stream_left = world_new.stream.left; notes_left = world_new.notes.left })
     old new status

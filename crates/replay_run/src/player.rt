@@ -1,13 +1,15 @@
 //! Handles the items of a record over the packets of a stream.
 
-ghost use Rattle.std.specs.Prelude.{◌≡◌, ℕ, ◌+◌, ◌*◌, ◌^◌, ◌<◌, ◌≤◌, ◌++◌, ◌∷◌, [], List, length, true, false, IsTrue, OnOk, OnErr, IfErr, Option, Some, option_map};
+ghost use Rattle.std.specs.Prelude.{◌≡◌, ℕ, ◌+◌, ◌*◌, ◌^◌, ◌<◌, ◌≤◌, ◌++◌, ◌∷◌, [], List, length, true, false, IsTrue, OnOk, OnErr, IfOk, IfErr, Option, Some, option_map};
 ghost use Rattle.bml_ports.specs.Worlds.{WorldState};
 ghost use Rattle.ts_packets.specs.Cutter.{IsCertainAt};
 
 use crate::output::write_piece;
 use crate::record::Item;
 use crate::status::Status;
+use bml_bytes::{AreaBytes, NoMemory};
 use bml_ports::{Port, Sink, World};
+use psi_tables::Selection;
 use receiver_core::Receiver;
 use std::alloc::Global;
 use ts_packets::{Ahead, Cutter};
@@ -41,22 +43,22 @@ impl Player {
     ghost use Rattle.replay_run.specs.Limits.{stream_limit};
     ghost use Rattle.replay_run.specs.Stopping.{OnlyReads, StopsPackets, StopsTurns, StopsReading};
 
-    /// A replay at the start of its stream.
-    pub fn new(alloc: Global, pid: u16) -> Player
-        ensures start { (stream : List ℕ) (first : Option (List ℕ))
-            → IsBetween pid stream first (Some stream) first (state_of result) [] }
-        ensures idle { IsIdle result.receiver }
-        ensures within { result.bytes ≤ stream_limit }
-        ensures readable { (world : WorldState)
-            → IsTrue world.stream.readable → IsReadable result.cutter world }
+    /// A replay at the start of its stream, with an area of zeros.
+    pub fn new(alloc: Global, selection: Selection) -> Result<Player, NoMemory>
+        ensures start { IfOk result (λ player. (stream : List ℕ) (first : Option (List ℕ))
+            → IsBetween selection stream first (Some stream) first (state_of player) []) }
+        ensures idle { IfOk result (λ player. IsIdle player.receiver) }
+        ensures within { IfOk result (λ player. player.bytes ≤ stream_limit) }
+        ensures readable { IfOk result (λ player. (world : WorldState)
+            → IsTrue world.stream.readable → IsReadable player.cutter world) }
     {
-        Player {
+        Ok(Player {
             cutter: Cutter::new(),
-            receiver: Receiver::new(alloc, pid),
+            receiver: Receiver::new(alloc, selection, AreaBytes::zeros())?,
             piece: Vec::new(alloc),
             bytes: 0,
             packets: 0,
-        }
+        })
     }
 
     /// The packets that were taken.

@@ -15,6 +15,7 @@ use crate::output::write_piece;
 use crate::player::Player;
 use crate::status::Status;
 use bml_ports::{Port, Sink, Text, World};
+use psi_tables::Selection;
 use receiver_core::{law_of_outputs, law_of_receivers};
 use std::alloc::Global;
 
@@ -37,7 +38,7 @@ pub fn open<W: World>(world: &mut W, port: Port, name: &Text) -> Result<(), Stat
 /// Handles the items of the record over the stream, both open and unread, and writes the last line.
 pub fn play_record<W: World, S: Sink>(
     alloc: Global,
-    pid: u16,
+    selection: Selection,
     world: &mut W,
     out: &mut S,
 ) -> Result<(), Status>
@@ -46,12 +47,12 @@ pub fn play_record<W: World, S: Sink>(
     ensures reads { OnlyReadsBoth (W.told world.old) (W.told world.new) }
     ensures cause { IfErr result (λ status. StopsReplay status
         (W.told world.old) (W.told world.new) (S.told out.old) (S.told out.new)) }
-    ensures ends { ReplayEnds pid (W.told world.old) (W.told world.new)
+    ensures ends { ReplayEnds selection (W.told world.old) (W.told world.new)
         (S.told out.old).written (S.told out.new).written (outcome_of result) }
 {
     law_of_outputs();
     law_of_receivers();
-    let mut player = Player::new(alloc, pid);
+    let mut player = Player::new(alloc, selection)?;
     let mut notes = Notes::new();
     'items: loop {
         match notes.next_item(world)? {
@@ -80,7 +81,7 @@ fn write_end<S: Sink>(alloc: Global, packets: u64, out: &mut S) -> Result<(), St
 /// Opens both files and replays the record over the stream.
 pub fn replay<W: World, S: Sink>(
     alloc: Global,
-    pid: u16,
+    selection: Selection,
     stream: &Text,
     notes: &Text,
     world: &mut W,
@@ -93,10 +94,10 @@ pub fn replay<W: World, S: Sink>(
     ensures cause { IfErr result (λ status. IsCaused status
         (W.told world.old) (W.told world.new) (S.told out.old) (S.told out.new)) }
     ensures obeyed { IfErr result (λ status. status ≢ Status.Usage) }
-    ensures ends { RunEnds pid stream.now notes.now (W.told world.old) (W.told world.new)
+    ensures ends { RunEnds selection stream.now notes.now (W.told world.old) (W.told world.new)
         (S.told out.old).written (S.told out.new).written (outcome_of result) }
 {
     open(world, Port::Stream, stream)?;
     open(world, Port::Notes, notes)?;
-    play_record(alloc, pid, world, out)
+    play_record(alloc, selection, world, out)
 }

@@ -17,11 +17,12 @@ use std::alloc::Global;
 
 /// Runs the command that the words behind the program's name are, and answers how it ended.
 ///
-/// `replay --data-pid N STREAM RECORD` replays a recorded transport stream (ISO/IEC 13818-1) as a receiver
-/// would see it that acquires the data carousel on PID N, 16 to 8,190: the record says line by line which packets
-/// to take and when to show the display list, and what the receiver prints is written, piece by piece, and `end P`
-/// at the end for the P packets that were taken. It holds neither the stream nor the record in memory, and reads a
-/// port again only where the last read gave at least one byte.
+/// `replay STREAM RECORD` replays a recorded transport stream (ISO/IEC 13818-1) as a receiver of data broadcasting would
+/// see it: of the first service, with `--service N` in front of the names of the service with that program_number, 1 to
+/// 65,535, and with `--data-pid N` of the data carousel on that PID, 16 to 8,190. The record says line by line which
+/// packets to take and when to show the display list, and what the receiver prints is written, piece by piece, and
+/// `end P` at the end for the P packets that were taken. It holds neither the stream nor the record in memory, and reads
+/// a port again only where the last read gave at least one byte.
 pub fn run<W: World, K: Keeper, S: Sink>(
     alloc: Global,
     words: &[Text],
@@ -75,7 +76,7 @@ fn obey<W: World, S: Sink>(
 {
     let answer = replay(
         alloc,
-        command.data_pid,
+        command.selection,
         command.stream,
         command.notes,
         world,

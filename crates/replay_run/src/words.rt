@@ -1,12 +1,13 @@
 //! The words of the command line.
 
 ghost use Rattle.std.specs.Prelude.{◌≡◌, None, option_map, MatchOption};
-ghost use Rattle.replay_run.specs.Words.{command, data_pid as data_pid_of, is_file_name as is_file_name_of, is_same};
+ghost use Rattle.replay_run.specs.Words.{command, data_pid, is_file_name as is_file_name_of, is_same, optional as optional_of, replay_of as replay_by, service};
 ghost use Rattle.bml_bytes.specs.Numerals.{decimal_field};
 ghost use Rattle.replay_run.specs.CommandSeen.{command_seen};
 
 use arrayvec::ArrayVec;
 use bml_bytes::{Text, read_decimal};
+use psi_tables::Selection;
 
 // The most digits of a number.
 const MOST_DIGITS: usize = 10;
@@ -14,8 +15,8 @@ const MOST_DIGITS: usize = 10;
 /// What the words of the command line ask for: to replay a recorded stream.
 #[derive(Drop)]
 pub struct Command<'a> {
-    /// The PID of the packets that carry the data, 16 to 8,190.
-    pub data_pid: u16,
+    /// The service that is received, or the PID of the packets that carry the data.
+    pub selection: Selection,
     /// The name of the stream's file.
     pub stream: &'a Text,
     /// The name of the record's file.
@@ -27,13 +28,25 @@ pub struct Command<'a> {
 pub fn read_command(words: &[Text]) -> Option<Command<'_>>
     ensures { option_map command_seen result ≡ command words.now }
 {
-    let [name, option, number, stream, notes] = words else {
-        return None;
-    };
-    if !is_word(name.codes(), b"replay") {
-        return None;
+    match words {
+        [name, stream, notes] => replay_of(name, Some(Selection::First), stream, notes),
+        [name, option, number, stream, notes] => {
+            replay_of(name, optional(option, number), stream, notes)
+        }
+        _ => None,
     }
-    if !is_word(option.codes(), b"--data-pid") {
+}
+
+// The replay of these files, where the first word says so and something is asked for.
+fn replay_of<'a>(
+    name: &Text,
+    selection: Option<Selection>,
+    stream: &'a Text,
+    notes: &'a Text,
+) -> Option<Command<'a>>
+    ensures { option_map command_seen result ≡ replay_by name.now selection stream.now notes.now }
+{
+    if !is_word(name.codes(), b"replay") {
         return None;
     }
     if !is_file_name(stream) {
@@ -42,12 +55,24 @@ pub fn read_command(words: &[Text]) -> Option<Command<'_>>
     if !is_file_name(notes) {
         return None;
     }
-    let data_pid = read_data_pid(number)?;
     Some(Command {
-        data_pid,
+        selection: selection?,
         stream,
         notes,
     })
+}
+
+// What an option and its number ask for.
+fn optional(option: &Text, number: &Text) -> Option<Selection>
+    ensures { result ≡ optional_of option.now number.now }
+{
+    if is_word(option.codes(), b"--service") {
+        return read_service(number);
+    }
+    if is_word(option.codes(), b"--data-pid") {
+        return read_data_pid(number);
+    }
+    None
 }
 
 fn is_word(codes: &[u16], expected: &[u8]) -> bool
@@ -73,11 +98,20 @@ fn is_file_name(word: &Text) -> bool
     }
 }
 
-fn read_data_pid(word: &Text) -> Option<u16>
-    ensures { result ≡ data_pid_of word.now }
+fn read_service(word: &Text) -> Option<Selection>
+    ensures { result ≡ service word.now }
 {
     match read_number(word)? {
-        pid @ 16..=8190 => Some(pid as u16),
+        number @ 1..=65535 => Some(Selection::Service(number as u16)),
+        _ => None,
+    }
+}
+
+fn read_data_pid(word: &Text) -> Option<Selection>
+    ensures { result ≡ data_pid word.now }
+{
+    match read_number(word)? {
+        pid @ 16..=8190 => Some(Selection::Pid(pid as u16)),
         _ => None,
     }
 }
@@ -116,15 +150,15 @@ mod tests {
     use std::alloc::Global;
     use std::test::Fail;
 
-    // The PID and the two names of the command that the words between the bars are.
-    fn read(alloc: Global, line: &str) -> Result<Option<(u16, Text, Text)>, NoMemory> {
+    // What is asked for, and the two names, of the command that the words between the bars are.
+    fn read(alloc: Global, line: &str) -> Result<Option<(Selection, Text, Text)>, NoMemory> {
         let mut words = Vec::new(alloc);
         for word in line.split('|') {
             words.push(Text::of_bytes(alloc, word.as_bytes())?)?;
         }
         match read_command(&words) {
             Some(request) => Ok(Some((
-                request.data_pid,
+                request.selection,
                 request.stream.share()?,
                 request.notes.share()?,
             ))),
@@ -136,9 +170,21 @@ mod tests {
     fn commands(rt: HostRuntime) -> Result<(), Fail> {
         let alloc = rt.alloc();
         for (line, expected) in [
-            ("replay|--data-pid|16|s|r", Some(16)),
-            ("replay|--data-pid|8190|s|r", Some(8190)),
-            ("replay|--data-pid|0000000300|s|r", Some(300)),
+            ("replay|s|r", Some(Selection::First)),
+            ("replay|--service|1|s|r", Some(Selection::Service(1))),
+            (
+                "replay|--service|65535|s|r",
+                Some(Selection::Service(65535)),
+            ),
+            ("replay|--service|0|s|r", None),
+            ("replay|--service|65536|s|r", None),
+            ("replay|--service||s|r", None),
+            ("replay|--data-pid|16|s|r", Some(Selection::Pid(16))),
+            ("replay|--data-pid|8190|s|r", Some(Selection::Pid(8190))),
+            (
+                "replay|--data-pid|0000000300|s|r",
+                Some(Selection::Pid(300)),
+            ),
             ("replay|--data-pid|15|s|r", None),
             ("replay|--data-pid|8191|s|r", None),
             ("replay|--data-pid|00000000300|s|r", None),
@@ -151,11 +197,15 @@ mod tests {
             ("replay|--data-pid|300|s|-", None),
             ("replay|--data-pid|300|s", None),
             ("replay|--data-pid|300|s|r|r", None),
+            ("replay|--service|1|--data-pid|300|s|r", None),
+            ("replay|--pid|300|s|r", None),
             ("--data-pid|300|replay|s|r", None),
             ("replay|s|r|--data-pid|300", None),
-            ("replay|--service|300|s|r", None),
-            ("replay|s|r", None),
-            ("Replay|--data-pid|300|s|r", None),
+            ("replay|s", None),
+            ("replay|s|", None),
+            ("replay|-s|r", None),
+            ("replay|s|r|r", None),
+            ("Replay|s|r", None),
             ("gen|1|2", None),
             ("--help", None),
             ("", None),

@@ -9,27 +9,27 @@ use Rattle.replay_run.proofs.replay.play_record.Goals as goal
 
 pub items-init : goal.items-init
 items-init g c = record {
-  idle = c.new-player.ensures.idle;
-  stream_within = c.new-player.ensures.within;
-  stream_readable = c.new-player.ensures.readable (g.W.World.told c.args.world.now) c.requires.stream;
+  idle = c.in_ok-player.ensures.idle;
+  stream_within = c.in_ok-player.ensures.within;
+  stream_readable = c.in_ok-player.ensures.readable (g.W.World.told c.args.world.now) c.requires.stream;
   notes_within = c.new-notes.ensures.within;
   notes_readable = c.new-notes.ensures.readable (g.W.World.told c.args.world.now) c.requires.notes;
   reads = reads_none (g.W.World.told c.args.world.now);
   later = omega arith;
   goes = λ stream notes l n. let first = (g.S.Sink.told c.args.out.now).written in
-      ([], between_told c.args.pid stream first _ _ _ [] l refl (c.new-player.ensures.start stream first), at_told notes _ _ [] n (c.new-notes.ensures.start notes));
+      ([], between_told c.args.selection stream first _ _ _ [] l refl (c.in_ok-player.ensures.start stream first), at_told notes _ _ [] n (c.new-notes.ensures.start notes));
 }
 
 pub returns-in_err-item-clause-ends : goal.returns-in_err-item-clause-ends
 returns-in_err-item-clause-ends g c =
-    let p = err_from_is_err_and c.from_residual.result c.from_residual.ensures.1 in
+    let p = err_from_is_err_and c.from_residual-in_err-item.result c.from_residual-in_err-item.ensures.1 in
     let stopped = c.in_err-item.ensures in
     let laws : ReceiverLaws = record { more = c.law_of_outputs.ensures.more; given = c.law_of_receivers.ensures } in
     rw (p.1, p.2) (λ stream notes l n. let first = (g.S.Sink.told c.args.out.now).written in
     let before = c.items.invariant.goes stream notes l n in
-    let b = between_same c.args.pid stream first _ _ _ _ before.0 stopped.reads.other before.1 in
-    ends_in_items laws _ c.args.pid stream notes first _ _ _ _ before.0 (at_front notes _ _ before.0 before.2)
-    (between_within c.args.pid stream first _ _ _ before.0 _ c.items.invariant.stream_within b) c.items.invariant.idle b (stopped.stopped notes before.0 before.2))
+    let b = between_same c.args.selection stream first _ _ _ _ before.0 stopped.reads.other before.1 in
+    ends_in_items laws _ c.args.selection stream notes first _ _ _ _ before.0 (at_front notes _ _ before.0 before.2)
+    (between_within c.args.selection stream first _ _ _ before.0 _ c.items.invariant.stream_within b) c.items.invariant.idle b (stopped.stopped notes before.0 before.2))
 
 pub items-preserved : goal.items-preserved
 items-preserved g c =
@@ -47,9 +47,9 @@ items-preserved g c =
       goes = λ stream notes l n. let first = (g.S.Sink.told c.args.out.now).written in
           let item = c.in-Some.item in
           let was = before.goes stream notes l n in
-          let b = between_same c.args.pid stream first _ _ _ _ was.0 next.reads.other was.1 in
+          let b = between_same c.args.selection stream first _ _ _ _ was.0 next.reads.other was.1 in
           let a = next.item item (ap Ok c.in-Some.is) notes was.0 was.2 in
-          (was.0 ++ item ∷ [], between_push c.args.pid stream first _ _ _ was.0 item (done.handled c.args.pid stream first _ _ b), at_same notes _ _ _ (was.0 ++ item ∷ []) done.reads.other a);
+          (was.0 ++ item ∷ [], between_push c.args.selection stream first _ _ _ was.0 item (done.handled c.args.selection stream first _ _ b), at_same notes _ _ _ (was.0 ++ item ∷ []) done.reads.other a);
     }
 
 pub returns-in_err-handle-in-Some-clause-ends : goal.returns-in_err-handle-in-Some-clause-ends
@@ -61,18 +61,18 @@ returns-in_err-handle-in-Some-clause-ends g c =
     rw (p.1, p.2) (λ stream notes l n. let first = (g.S.Sink.told c.args.out.now).written in
     let item = c.in-Some.item in
     let was = c.items.invariant.goes stream notes l n in
-    let b = between_same c.args.pid stream first _ _ _ _ was.0 next.reads.other was.1 in
+    let b = between_same c.args.selection stream first _ _ _ _ was.0 next.reads.other was.1 in
     let after = at_same notes _ _ _ (was.0 ++ item ∷ []) stopped.reads.other (next.item item (ap Ok c.in-Some.is) notes was.0 was.2) in
-    ends_in_item laws _ c.args.pid stream notes first _ _ _ (was.0 ++ item ∷ []) (at_front notes _ _ (was.0 ++ item ∷ []) after)
+    ends_in_item laws _ c.args.selection stream notes first _ _ _ (was.0 ++ item ∷ []) (at_front notes _ _ (was.0 ++ item ∷ []) after)
     (at_within notes _ _ (was.0 ++ item ∷ []) _ next.within after)
-    (stops_pushed _ c.args.pid stream _ first _ was.0 item (stopped.stopped c.args.pid stream first _ _ b)))
+    (stops_pushed _ c.args.selection stream _ first _ was.0 item (stopped.stopped c.args.selection stream first _ _ b)))
 
 pub returns-in-None-clause-ends : goal.returns-in-None-clause-ends
 returns-in-None-clause-ends g c = λ stream notes l n. let first = (g.S.Sink.told c.args.out.now).written in
     let next = c.in_ok-item.ensures in
     let laws : ReceiverLaws = record { more = c.law_of_outputs.ensures.more; given = c.law_of_receivers.ensures } in
     let was = c.items.invariant.goes stream notes l n in
-    let b = between_same c.args.pid stream first _ _ _ _ was.0 next.reads.other was.1 in
+    let b = between_same c.args.selection stream first _ _ _ _ was.0 next.reads.other was.1 in
     let whole = next.end (ap Ok c.in-None.is) notes was.0 was.2 in
-    ends_with_line laws c.write_end.result _ c.args.pid stream notes first _ _ _ _ _ was.0 c.packets.ensures.packets c.write_end.ensures.whole c.write_end.ensures.stops whole
-    (between_within c.args.pid stream first _ _ _ was.0 _ c.items.invariant.stream_within b) whole.within c.items.invariant.idle b
+    ends_with_line laws c.write_end.result _ c.args.selection stream notes first _ _ _ _ _ was.0 c.packets.ensures.packets c.write_end.ensures.whole c.write_end.ensures.stops whole
+    (between_within c.args.selection stream first _ _ _ was.0 _ c.items.invariant.stream_within b) whole.within c.items.invariant.idle b

@@ -22,7 +22,7 @@ invariant-items g l = record {
       → (g.W.World.told l.initial.world).stream.left ≡ Some stream
       → (g.W.World.told l.initial.world).notes.left ≡ Some notes
       → (items : List Item)
-      × IsBetween l.pid stream (g.S.Sink.told l.initial.out).written (g.W.World.told l.world).stream.left (g.S.Sink.told l.out).written (midway.state_of l.player) items
+      × IsBetween l.fn.selection stream (g.S.Sink.told l.initial.out).written (g.W.World.told l.world).stream.left (g.S.Sink.told l.out).written (midway.state_of l.player) items
       × noting.IsAt notes (g.W.World.told l.world).notes.left (noting.state_of l.notes) items;
 }
 

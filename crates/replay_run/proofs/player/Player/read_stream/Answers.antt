@@ -8,11 +8,11 @@ use Rattle.replay_run.proofs.player.Player.read_stream.Goals as goal
 pub returns-then-self-gt-STREAM_LIMIT-clause-stops :
     goal.returns-then-self-gt-STREAM_LIMIT-clause-stops
 returns-then-self-gt-STREAM_LIMIT-clause-stops g c =
-    λ written pid stream first inputs ahead m. stops_long pid stream first _ _ written _ inputs ahead _ c.in-Ok.count (sym c.in-Ok.ensures.count.1) c.if-self-gt-STREAM_LIMIT.true c.in-Ok.ensures.bytes.0 m
+    λ written selection stream first inputs ahead m. stops_long selection stream first _ _ written _ inputs ahead _ c.in-Ok.count (sym c.in-Ok.ensures.count.1) c.if-self-gt-STREAM_LIMIT.true c.in-Ok.ensures.bytes.0 m
 
 pub returns-in-Err-clause-stops : goal.returns-in-Err-clause-stops
-returns-in-Err-clause-stops g c = λ written pid stream first inputs ahead m.
-    stops_unread pid stream first _ _ written _ inputs ahead c.requires.within c.in-Err.ensures.bytes m
+returns-in-Err-clause-stops g c = λ written selection stream first inputs ahead m.
+    stops_unread selection stream first _ _ written _ inputs ahead c.requires.within c.in-Err.ensures.bytes m
 
 pub returns-else-self-gt-STREAM_LIMIT-clause-goes :
     goal.returns-else-self-gt-STREAM_LIMIT-clause-goes
@@ -22,6 +22,6 @@ returns-else-self-gt-STREAM_LIMIT-clause-goes g c =
     let room : c.feed.result ≡ length bytes = omega (arith, c.feed.ensures.count, c.requires.waiting, size, c.in-Ok.ensures.count.0) in
     let held : c.feed.new.self.held ≡ c.args.self.now.cutter.held ++ bytes =
     c.feed.ensures.held ∙ ap (λ n. c.args.self.now.cutter.held ++ take n bytes) room ∙ ap (λ l. c.args.self.now.cutter.held ++ l) (take_all (length bytes) bytes (omega arith)) in
-    λ written pid stream first inputs ahead m.
-    subst (λ n. IsMidway pid stream first (g.W.World.told c.read_port.new.self).stream.left written (record { cutter = c.feed.new.self; receiver = c.args.self.now.receiver; bytes = c.args.self.now.bytes + n; packets = c.args.self.now.packets }) inputs ahead) size
-    (midway_read pid stream first _ _ written _ inputs ahead _ bytes (consumed_some bytes _ _ c.in-Ok.ensures.bytes.0) c.requires.open_end held c.feed.ensures.ended m)
+    λ written selection stream first inputs ahead m.
+    subst (λ n. IsMidway selection stream first (g.W.World.told c.read_port.new.self).stream.left written (record { cutter = c.feed.new.self; receiver = c.args.self.now.receiver; bytes = c.args.self.now.bytes + n; packets = c.args.self.now.packets }) inputs ahead) size
+    (midway_read selection stream first _ _ written _ inputs ahead _ bytes (consumed_some bytes _ _ c.in-Ok.ensures.bytes.0) c.requires.open_end held c.feed.ensures.ended m)

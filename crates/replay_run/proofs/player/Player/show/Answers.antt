@@ -14,8 +14,8 @@ returns-clause-handled g c =
     let shown = c.in_ok-show.ensures.shown in
     let same : c.deref.result.now ≡ concat (shown.0 ∷ []) = piece_of_text _ _ _ shown.0 c.deref.ensures.value shown.1 c.clear.ensures.items in
     on_ok_weaker c.write_piece.result
-    (λ whole left pid stream first inputs ahead m. midway_texts pid stream first left _ _ _ inputs (inputs ++ Display ∷ []) ahead _ (shown.0 ∷ [])
-    (shown.2 pid inputs) (packets_in-show inputs) (λ start e. whole start e ∙ ap (λ l. Some (start ++ l)) same) m)
+    (λ whole left selection stream first inputs ahead m. midway_texts selection stream first left _ _ _ inputs (inputs ++ Display ∷ []) ahead _ (shown.0 ∷ [])
+    (shown.2 selection inputs) (packets_in-show inputs) (λ start e. whole start e ∙ ap (λ l. Some (start ++ l)) same) m)
     c.write_piece.ensures.whole
 
 pub returns-clause-stopped : goal.returns-clause-stopped
@@ -23,5 +23,5 @@ returns-clause-stopped g c =
     let shown = c.in_ok-show.ensures.shown in
     let same : c.deref.result.now ≡ concat (shown.0 ∷ []) = piece_of_text _ _ _ shown.0 c.deref.ensures.value shown.1 c.clear.ensures.items in
     piece_stops c.write_piece.result _ _ c.write_piece.ensures.short c.write_piece.ensures.fault
-    (λ short left pid stream first inputs ahead m. stops_short pid stream first left _ _ _ inputs (inputs ++ Display ∷ []) ahead _ (shown.0 ∷ [])
-    (shown.2 pid inputs) (λ start e. subst (λ l. CutShort start (g.S.Sink.told c.write_piece.new.out).written l) same (short start e)) c.requires.within m)
+    (λ short left selection stream first inputs ahead m. stops_short selection stream first left _ _ _ inputs (inputs ++ Display ∷ []) ahead _ (shown.0 ∷ [])
+    (shown.2 selection inputs) (λ start e. subst (λ l. CutShort start (g.S.Sink.told c.write_piece.new.out).written l) same (short start e)) c.requires.within m)
