@@ -1,5 +1,5 @@
 -- Laws of what a function gives at the numbers of a list.
-use Rattle.std.proofs.Common.{◌≡◌, ◌≢◌, ℕ, zero, suc, ◌+◌, ◌<◌, ◌≤◌, nat_eq, Bool, true, false, List, [], ◌∷◌, ◌++◌, take, get_or, refl, sym, ap, ◌∙◌, subst, arith, eqb-true, ◌⊎◌, inl, inr}
+use Rattle.std.proofs.Common.{◌≡◌, ◌≢◌, ℕ, zero, suc, ◌+◌, ◌<◌, ◌≤◌, nat_eq, Bool, true, false, List, [], ◌∷◌, ◌++◌, map, take, get_or, refl, sym, ap, ◌∙◌, subst, arith, eqb-true, ◌⊎◌, inl, inr}
 use Rattle.std.specs.Prelude.{Option, Some, None, Contains, IsSome, length, slice_index_or, option_to_list}
 use Rattle.std.specs.Ordering.{nat_cmp}
 use Rattle.std.specs.declared.cmp.Ordering.TheVariants.{Less}
@@ -7,7 +7,7 @@ use Rattle.std.specs.List.{filter_map, cons_option, range_with_len, AllByRecursi
 use Rattle.std.specs.List.Sorted.{IsStrictlyIncreasing, IsStrictlySortedBy}
 use Rattle.std.proofs.lemmas.List.{take_more}
 use Rattle.std.proofs.lemmas.List.Elements.{Contains-append_cases, filter_map-append}
-use Rattle.std.proofs.lemmas.Map.Keys.{sorted_from_strictly_increasing, sorted_head, sorted_tail}
+use Rattle.std.proofs.lemmas.Map.Keys.{sorted_from_strictly_increasing, IsStrictlyIncreasing-from_sorted, sorted_head, sorted_tail}
 
 module _ {X : Type 0} where
   -- one number more
@@ -133,3 +133,36 @@ module _ {X : Type 0} where
         absent : (n : ℕ) (x : Option X) → f n ≡ x → (Contains ns n → ⊥) → x ≡ None
         absent n None e c = refl
         absent n (Some x) e c = absurd (c (has n (subst (λ (o : Option X). IsSome o) (sym e) refl)))
+
+-- ---- what stands at ascending numbers
+
+lower : (low bound : ℕ) (ns : List ℕ) → Ascend (low + 1) bound ns → Ascend low bound ns
+lower low bound [] a = tt
+lower low bound (n ∷ ns) a = (let l = a.0 in omega arith, a.1)
+
+sorted_from_ascend : (low bound : ℕ) (ns : List ℕ) → Ascend low bound ns → IsStrictlySortedBy nat_cmp ns
+unfolding IsStrictlySortedBy
+sorted_from_ascend low bound [] a = tt
+sorted_from_ascend low bound (n ∷ ns) a = (above (n + 1) ns a.1.1 (omega arith), sorted_from_ascend (n + 1) bound ns a.1.1) where
+  is_less : (m : ℕ) → n < m → nat_cmp n m ≡ Less
+  is_less m h = grind arith
+
+  above : (from : ℕ) (ms : List ℕ) → Ascend from bound ms → n < from → AllByRecursion (λ m. nat_cmp n m ≡ Less) ms
+  above from [] b h = tt
+  above from (m ∷ ms) b h = (is_less m (let l = b.0 in omega arith), above (m + 1) ms b.1.1 (let l = b.0 in omega arith))
+
+module _ {X : Type 0} where
+  ascend_by : (f : ℕ → Option X) (number : X → ℕ) → ((n : ℕ) (x : X) → f n ≡ Some x → number x ≡ n) → (start count bound : ℕ) → start + count ≡ bound → Ascend start bound (map number (filter_map f (range_with_len start count)))
+  ascend_by f number named start zero bound e = tt
+  ascend_by f number named start (suc count) bound e = by (f start) refl (ascend_by f number named (start + 1) count bound (omega arith)) where
+    by : (x : Option X) → f start ≡ x → Ascend (start + 1) bound (map number (filter_map f (range_with_len (start + 1) count))) → Ascend start bound (map number (cons_option x (filter_map f (range_with_len (start + 1) count))))
+    by None h rest = lower start bound (map number (filter_map f (range_with_len (start + 1) count))) rest
+    by (Some x) h rest =
+        let n = named start x h in
+        (omega arith, (omega arith, subst (λ k. Ascend (k + 1) bound (map number (filter_map f (range_with_len (start + 1) count)))) (sym n) rest))
+
+  -- where what stands at a number names the number, all that stands at numbers from 0 on names them in order
+  pub increasing-filter_map : (f : ℕ → Option X) (number : X → ℕ) → ((n : ℕ) (x : X) → f n ≡ Some x → number x ≡ n) → (bound : ℕ) → IsStrictlyIncreasing (map number (filter_map f (range_with_len 0 bound)))
+  increasing-filter_map f number named bound =
+      let ns = map number (filter_map f (range_with_len 0 bound)) in
+      IsStrictlyIncreasing-from_sorted ns (sorted_from_ascend 0 bound ns (ascend_by f number named 0 bound bound (omega arith)))

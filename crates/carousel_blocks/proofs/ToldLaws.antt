@@ -1,7 +1,8 @@
 -- Laws of the changes behind a list of messages.
-use Rattle.std.proofs.Common.{◌≡◌, ◌≢◌, ℕ, zero, suc, ◌<◌, nat_eq, Bool, true, false, not, ◌&&◌, List, [], ◌∷◌, ◌++◌, find, replicate, refl, sym, ap, ap₂, ◌∙◌, arith, eqb-true, if◌then◌else◌}
+use Rattle.std.proofs.Common.{◌≡◌, ◌≢◌, ℕ, zero, suc, ◌<◌, nat_eq, Bool, true, false, not, ◌&&◌, List, [], ◌∷◌, ◌++◌, map, find, replicate, refl, sym, ap, ap₂, ◌∙◌, arith, eqb-true, if◌then◌else◌}
 use Rattle.std.specs.Prelude.{Option, Some, None, is_some, option_map, option_and_then, option_to_list, slice_get, slice_set}
 use Rattle.std.specs.List.{range_with_len}
+use Rattle.std.specs.List.Sorted.{IsStrictlyIncreasing}
 use Rattle.std.specs.Map.{lookup}
 use Rattle.std.specs.HashMap.{HashMap, get as value_at}
 use Rattle.dsmcc_messages.specs.declared.dii.Dii.{Dii}
@@ -17,7 +18,7 @@ use Rattle.carousel_blocks.specs.InForce.{later, in_force, standings, standing_o
 use Rattle.carousel_blocks.specs.Held.{Kept, kept, kept_with, counting, asked_count, count_of, is_asked, same_standing, unchanged, bytes_by, bytes_kept, held}
 use Rattle.carousel_blocks.specs.Buffers.{is_missing, all_came}
 use Rattle.carousel_blocks.specs.Modules.{Buffers, KeepModules, module_kept, kept_at, entries_kept, kept_for, blocks_kept, standing_kept}
-use Rattle.carousel_blocks.specs.Changes.{change_of, change_at, changes, departures, number_bound, completed, line_of, changed}
+use Rattle.carousel_blocks.specs.Changes.{change_of, gone, appeared, change_at, changes, departures, number_bound, completed, line_of, changed}
 use Rattle.carousel_blocks.specs.Steps.{TakesBlock, is_wanted, with_block, answer_to, is_in_force, entry_change, entry_change_at, entry_changes, block_change}
 use Rattle.carousel_blocks.specs.Carousel.{CarouselState, kept_in, StandsFor, put_after}
 use Rattle.carousel_blocks.proofs.BufferLaws.{is_some-joined}
@@ -25,7 +26,7 @@ use Rattle.carousel_blocks.proofs.StandingLaws.{same_is_equal, same_standing_yes
 use Rattle.carousel_blocks.proofs.PutLaws.{asks, with_block_not}
 use Rattle.carousel_blocks.proofs.HistoryLaws.{in_force-append, later_data, found_number, kept-data, kept-same, kept-other, answer-put}
 use Rattle.carousel_blocks.proofs.StandingFor.{stands_block, answers_block, kept_in-view, standing-by, later_same, later_other}
-use Rattle.carousel_blocks.proofs.NumberLaws.{filter_map-same, filter_map-none, filter_map-one}
+use Rattle.carousel_blocks.proofs.NumberLaws.{increasing-filter_map, filter_map-same, filter_map-none, filter_map-one}
 
 -- ---- a change, by what is kept
 
@@ -66,6 +67,23 @@ changes-none before now e = nothing_changes before now (λ n. same_kept before n
 
 pub changes-still : (h : List Message) → [] ≡ changes h h
 changes-still h = sym (changes-none h h (λ n. refl))
+
+-- a change names its module
+change_number : (n : ℕ) (old new : Option Standing) (was now : Option (List ℕ)) (change : Change) → change_of n old new was now ≡ Some change → change.«module» ≡ n
+change_number n None None was now change e = cc
+change_number n (Some old) None was now change e = let q : gone n ≡ change = cc in sym (ap (λ x. x.«module») q)
+change_number n None (Some new) was now change e = let q : appeared n (line_of new now) ≡ change = cc in sym (ap (λ x. x.«module») q)
+change_number n (Some old) (Some new) was now change e = by (same_standing old new) (not (is_some was) && is_some now) e where
+  by : (t u : Bool) → (if t then (if u then Some (completed n new.entry) else None) else Some (changed n (line_of new now))) ≡ Some change → change.«module» ≡ n
+  by true true h = let q : completed n new.entry ≡ change = cc in sym (ap (λ x. x.«module») q)
+  by true false h = cc
+  by false u h = let q : changed n (line_of new now) ≡ change = cc in sym (ap (λ x. x.«module») q)
+
+pub changes-increasing : (before now : List Message) → IsStrictlyIncreasing (map (λ (change : Change). change.«module») (changes before now))
+unfolding changes
+changes-increasing before now =
+    increasing-filter_map (change_at before now) (λ change. change.«module»)
+    (λ n change e. change_number n (standing_of (in_force before) n) (standing_of (in_force now) n) (held before n) (held now n) change e) number_bound
 
 -- the DII in force once more
 pub changes-repeated : (h : List Message) (dii : Dii) → later (in_force h) (Indication dii) ≡ in_force h → changes h (h ++ Indication dii ∷ []) ≡ []

@@ -105,8 +105,8 @@ impl Change {
         }
     }
 
-    /// What is told of a module that its last block completed.
-    pub fn completed(number: u16, entry: &Entry) -> Change
+    // What is told of a module that its last block completed.
+    pub(crate) fn completed(number: u16, entry: &Entry) -> Change
         ensures { result ≡ completed number entry.now }
     {
         Change {

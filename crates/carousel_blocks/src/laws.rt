@@ -1,7 +1,8 @@
 //! What the definitions say, as laws.
 
 ghost use Rattle.std.specs.Prelude.{◌≡◌, ◌↔◌, ◌<◌, ◌^◌, ℕ, List, [], ◌∷◌, ◌++◌, Contains};
-ghost use Rattle.std.specs.Prelude.{None, Some, option_to_list};
+ghost use Rattle.std.specs.Prelude.{None, Some, option_to_list, map};
+ghost use Rattle.std.specs.List.Sorted.{IsStrictlyIncreasing};
 ghost use Rattle.dsmcc_messages.specs.declared.dii.Dii.{Dii};
 ghost use Rattle.dsmcc_messages.specs.Ddb.{DataBlock};
 ghost use Rattle.carousel_blocks.specs.Message.{Message, Indication, Data};
@@ -42,4 +43,9 @@ pub fn law_of_block_change()
     ensures { (messages : List Message) (block : DataBlock) → block.«module» < 2 ^ 16
         → changes messages (messages ++ Data block ∷ [])
         ≡ option_to_list (change_at messages (messages ++ Data block ∷ []) block.«module») }
+{}
+
+/// Changes come in ascending module number, at most one a module.
+pub fn law_of_change_order()
+    ensures { (before now : List Message) → IsStrictlyIncreasing (map (λ change. change.«module») (changes before now)) }
 {}
