@@ -1,0 +1,6 @@
+pub mod FindLaws
+pub mod DeliveryLaws
+pub mod FeedLaws
+pub mod DeliveryNumber
+pub mod GoneLaws
+pub mod MapLaws

@@ -1,0 +1,5 @@
+pub mod Resource
+pub mod Store
+pub mod Standing
+pub mod Noted
+pub mod Slots

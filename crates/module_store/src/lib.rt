@@ -1,0 +1,19 @@
+//! The modules of a service: the carousel of each component of its map, followed from section to section and from one
+//! component map to the next.
+//!
+//! A [`Store`] stands for the components with the messages that came for each since it got its PID, and for all deliveries
+//! of modules so far, in order. What one more section or another map changes, which number the delivery of a module has,
+//! and which bytes the start document has, is said of these in `specs/`. Memory is taken for a component when it comes
+//! into the map, and given back when it leaves or gets another PID.
+#![tactic(auto)]
+
+mod numbers;
+mod resource;
+mod slot;
+mod store;
+
+pub use crate::store::Store;
+pub use carousel_blocks::{Change, ChangeLine, SkipCause};
+
+#[cfg(test)]
+mod tests;

@@ -1,0 +1,224 @@
+//! The components of a service with their carousels.
+
+ghost use Rattle.std.specs.Prelude.{◌≡◌, ◌≤◌, ◌++◌, [], ℕ, List, true, length, AllPairs, Some, position, IfOk, OnOk, OnErr, MatchOption, is_some, map, option_copied};
+ghost use Rattle.psi_tables.specs.Components.{AreApart, pid_in};
+ghost use Rattle.carousel_blocks.specs.Changes.{departures};
+ghost use Rattle.carousel_blocks.specs.Carousel as of_carousel;
+ghost use Rattle.module_store.specs.Store.{Followed, Stored, component_in, gone_with, at_start, changes_by, fed, with_map, gone_by, number_of, start_of, messages_of_component, is_kept as kept_by};
+ghost use Rattle.module_store.specs.Standing.{StandsFor, has_component, has_tag, slot_in};
+ghost use Rattle.module_store.specs.Slots.{AreAdded, kept_of, is_followed as followed_by};
+
+use crate::resource::is_resource;
+use crate::slot::Slot;
+use bml_bytes::NoMemory;
+use carousel_blocks::Change;
+use psi_tables::{Component, Services};
+use std::alloc::Global;
+use std::marker::Model;
+
+/// The component with the start document.
+const START_COMPONENT: u8 = 0x40;
+
+/// The module with the start document.
+const START_MODULE: u16 = 0x0000;
+
+/// The components of a service, each with its carousel, and the numbers of their deliveries.
+///
+/// It is told each component map by `set_components`, and each intact section of a component by `feed`.
+#[derive(Drop)]
+pub struct Store {
+    alloc: Global,
+    slots: Vec<Slot>,
+    /// The number of the last delivery, 0 before the first.
+    count: u64,
+}
+
+impl Model for Store {
+    ghost use Rattle.module_store.specs.Standing.{StoreState, AreDistinct};
+
+    ghost Value = { StoreState };
+
+    ghost view = { λ s. record { slots = s.slots.items; count = s.count } };
+
+    ghost invariant = { λ s. AreDistinct s.slots.items };
+}
+
+impl Store {
+    /// A store without components. This takes no memory.
+    pub fn new(alloc: Global) -> Store
+        ensures { StandsFor result at_start }
+    {
+        Store {
+            alloc,
+            slots: Vec::new(alloc),
+            count: 0,
+        }
+    }
+
+    /// Whether the component is one of those in the last component map.
+    pub fn has_component(&self, component: u8) -> bool
+        ensures has { result ≡ has_component self.now component }
+        ensures stands { (stored : Stored) → StandsFor self.now stored → result ≡ is_some (messages_of_component stored component) }
+    {
+        place_of(&self.slots, component).is_some()
+    }
+
+    /// Takes the next intact section of a component, and tells what it changed in the component's modules, in ascending
+    /// module number. Each module that it delivers gets the next number. After `NoMemory` the store is as before, and
+    /// may be told the section once more.
+    pub fn feed(&mut self, component: u8, section: &[u8]) -> Result<Vec<Change>, NoMemory>
+        requires section { 12 ≤ length section.now }
+        requires component { has_component self.old component ≡ true }
+        ensures stands { OnOk result ((stored : Stored) → StandsFor self.old stored → StandsFor self.new (fed component section.now stored)) }
+        ensures changes { IfOk result (λ found. (stored : Stored) → StandsFor self.old stored → found.items ≡ changes_by component section.now stored) }
+        ensures before { OnErr result ((stored : Stored) → StandsFor self.old stored → StandsFor self.new stored) }
+        ensures components { (tag : ℕ) → has_component self.new tag ≡ has_component self.old tag }
+    {
+        let Some(place) = place_of(&self.slots, component) else {
+            unreachable!()
+        };
+        let slot = &mut self.slots[place];
+        slot.take(&mut self.count, section)
+    }
+
+    /// Takes the component map of the service. A component that stays on its PID keeps its modules; every other begins
+    /// without. Tells each entry of a component that left the map or got another PID as gone, with the component, in
+    /// ascending component and then module number. After `NoMemory` the store is as before.
+    pub fn set_components(&mut self, services: &Services) -> Result<Vec<(u8, Change)>, NoMemory>
+        ensures stands { OnOk result ((stored : Stored) → StandsFor self.old stored → StandsFor self.new (with_map services.now.map stored)) }
+        ensures gone { IfOk result (λ found. (stored : Stored) → StandsFor self.old stored → found.items ≡ gone_by services.now.map stored) }
+        ensures same { OnErr result (self.new ≡ self.old) }
+        ensures components { OnOk result ((tag : ℕ) → has_component self.new tag ≡ is_some (pid_in services.now.map tag)) }
+    {
+        let components = services.components();
+        let gone = self.gone_by(components)?;
+        let mut added = added_to(self.alloc, &self.slots, components)?;
+        self.slots.append(&mut added)?;
+        keep(&mut self.slots, components);
+        Ok(gone)
+    }
+
+    /// The number of the delivery that brought a module which is held, counted from 1 over all components; None where
+    /// the module isn't held. The count stays at 2^64 - 1 once it is there. This takes no memory.
+    pub fn delivery_number(&self, component: u8, module: u16) -> Option<u64>
+        ensures { (stored : Stored) → StandsFor self.now stored → result ≡ number_of stored component «module» }
+    {
+        let slot = slot_of(&self.slots, component)?;
+        slot.carousel.bytes_of(module)?;
+        Some(slot.numbers.of(module))
+    }
+
+    /// The bytes of the start document, once its module is held. This takes no memory.
+    pub fn start_bytes(&self) -> Option<&[u8]>
+        ensures { (stored : Stored) → StandsFor self.now stored → option_copied result ≡ start_of stored }
+    {
+        let slot = slot_of(&self.slots, START_COMPONENT)?;
+        let entry = slot.carousel.entry(START_MODULE)?;
+        if !is_resource(entry.info.as_slice()) {
+            return None;
+        }
+        slot.carousel.bytes_of(START_MODULE)
+    }
+
+    // What goes with the components that leave, in ascending component.
+    fn gone_by(&self, components: &[Component]) -> Result<Vec<(u8, Change)>, NoMemory>
+        ensures { IfOk result (λ found. (stored : Stored) → StandsFor self.now stored → found.items ≡ gone_by components.now stored) }
+    {
+        let mut gone = Vec::new(self.alloc);
+        'tags: for tag in 0..=u8::MAX {
+            self.add_gone(&mut gone, components, tag)?;
+        }
+        Ok(gone)
+    }
+
+    // Adds what goes with the component of that tag, where there is one.
+    fn add_gone(
+        &self,
+        gone: &mut Vec<(u8, Change)>,
+        components: &[Component],
+        tag: u8,
+    ) -> Result<(), NoMemory>
+        ensures { OnOk result ((stored : Stored) → StandsFor self.now stored → gone.new.items ≡ gone.old.items ++ gone_with components.now (component_in stored.components tag)) }
+    {
+        match slot_of(&self.slots, tag) {
+            None => Ok(()),
+            Some(slot) => add_departures(gone, components, slot),
+        }
+    }
+}
+
+// Where the component with that tag is.
+fn place_of(slots: &[Slot], tag: u8) -> Option<usize>
+    ensures { result ≡ position (has_tag tag) slots.now }
+{
+    slots.iter().position(|slot| slot.tag == tag)
+}
+
+fn slot_of(slots: &[Slot], tag: u8) -> Option<&Slot>
+    ensures { option_copied result ≡ slot_in slots.now tag }
+{
+    slots.iter().find(|slot| slot.tag == tag)
+}
+
+// Whether the map has the component on the same PID.
+fn is_kept(components: &[Component], slot: &Slot) -> bool
+    ensures { result ≡ kept_by components.now slot.now.tag slot.now.pid }
+{
+    components.iter().any(|component| component.tag == slot.tag && component.pid == slot.pid)
+}
+
+// Gives back what is kept of components that the map doesn't have on the same PID.
+fn keep(slots: &mut Vec<Slot>, components: &[Component])
+    ensures { slots.new.items ≡ kept_of components.now slots.old.items }
+{
+    slots.retain(|slot| is_kept(components, slot));
+}
+
+// Whether the component is followed on the same PID.
+fn is_followed(slots: &[Slot], component: &Component) -> bool
+    ensures { result ≡ followed_by slots.now component.now }
+{
+    slots.iter().any(|slot| slot.tag == component.tag && slot.pid == component.pid)
+}
+
+// The components that aren't followed on the same PID, without sections.
+fn added_to(alloc: Global, slots: &[Slot], components: &[Component]) -> Result<Vec<Slot>, NoMemory>
+    ensures { IfOk result (λ added. AreAdded slots.now components.now added.items) }
+{
+    let mut added = Vec::new(alloc);
+    'components: for component in components {
+        if !is_followed(slots, component) {
+            added.push(Slot::new(alloc, *component)?)?;
+        }
+    }
+    Ok(added)
+}
+
+// Adds what goes with a component, where it isn't kept.
+fn add_departures(
+    gone: &mut Vec<(u8, Change)>,
+    components: &[Component],
+    slot: &Slot,
+) -> Result<(), NoMemory>
+    ensures { OnOk result ((component : Followed) → component.tag ≡ slot.now.tag → component.pid ≡ slot.now.pid → of_carousel.StandsFor slot.now.carousel component.messages → gone.new.items ≡ gone.old.items ++ gone_with components.now (Some component)) }
+{
+    if is_kept(components, slot) {
+        return Ok(());
+    }
+    let departures = slot.carousel.departures()?;
+    add_changes(gone, slot.tag, departures.as_slice())
+}
+
+// Adds changes of a component.
+fn add_changes(
+    changes: &mut Vec<(u8, Change)>,
+    component: u8,
+    more: &[Change],
+) -> Result<(), NoMemory>
+    ensures { OnOk result (changes.new.items ≡ changes.old.items ++ map (λ change. (component, change)) more.now) }
+{
+    'more: for change in more {
+        changes.push((component, *change))?;
+    }
+    Ok(())
+}

@@ -1,0 +1,227 @@
+//! Components with their carousels, section by section and map by map. Which bytes a section has is from ISO/IEC 13818-1,
+//! 2.4.4, and ISO/IEC 13818-6, 7.2, 7.3 and 9.2; what comes of it is from the rules.
+
+mod sections;
+
+use super::*;
+use bml_bytes::NoMemory;
+use psi_tables::{PAT_PID, Selection, Services};
+use sections::{Listed, PAT, PMT_PID, Sent, pmt, section_of};
+use std::alloc::Global;
+use std::test::Fail;
+
+// A change's module, status and line.
+#[derive(Clone, Copy)]
+struct Told(u16, Option<u8>, Option<ChangeLine>);
+
+// What comes next, and what is told of it: a PMT with the tags and PIDs of components, and the modules that go; or a
+// section of a component, and what it changes; or the number that a module's delivery has then.
+#[derive(Clone, Copy)]
+enum Step {
+    Map(&'static [(u8, u16)], &'static [(u8, u16)]),
+    Section(u8, Sent, &'static [Told]),
+    Number(u8, u16, Option<u64>),
+}
+
+const CHANGED: Option<u8> = Some(0);
+
+const APPEARED: Option<u8> = Some(2);
+
+const FOUR: Option<ChangeLine> = Some(ChangeLine::Delivered {
+    version: 1,
+    size: 4,
+});
+
+const EMPTY: Option<ChangeLine> = Some(ChangeLine::Delivered {
+    version: 1,
+    size: 0,
+});
+
+const EMPTY_AGAIN: Option<ChangeLine> = Some(ChangeLine::Delivered {
+    version: 2,
+    size: 0,
+});
+
+const COMPRESSED: Option<ChangeLine> = Some(ChangeLine::Skipped(SkipCause::Compressed));
+
+const INFO: &[u8] = &[0xC2, 0x05, 0x00, 0x00, 0x00, 0x00, 0x0A];
+
+// Unsorted on purpose.
+const BLOCKS: &[Listed] = &[Listed(2, 1, 4, &[]), Listed(1, 1, 4, &[])];
+
+const AT_ONCE: &[Listed] = &[Listed(1, 1, 0, &[]), Listed(7, 1, 4, INFO)];
+
+const LATER: &[Listed] = &[Listed(1, 2, 0, &[]), Listed(7, 1, 4, INFO)];
+
+const STEPS: &[Step] = &[
+    Step::Map(&[(0x41, 257), (0x40, 256)], &[]),
+    Step::Section(
+        0x40,
+        Sent::Dii(1, BLOCKS),
+        &[Told(1, APPEARED, None), Told(2, APPEARED, None)],
+    ),
+    Step::Number(0x40, 1, None),
+    Step::Section(
+        0x41,
+        Sent::Dii(1, AT_ONCE),
+        &[Told(1, APPEARED, EMPTY), Told(7, APPEARED, COMPRESSED)],
+    ),
+    Step::Section(0x40, Sent::Block(1, 1), &[Told(1, None, FOUR)]),
+    Step::Section(0x40, Sent::Block(1, 1), &[]),
+    Step::Number(0x41, 1, Some(1)),
+    Step::Number(0x40, 1, Some(2)),
+    Step::Number(0x40, 2, None),
+    Step::Number(0x41, 7, None),
+    Step::Number(0x42, 1, None),
+    Step::Section(0x40, Sent::Block(2, 1), &[Told(2, None, FOUR)]),
+    Step::Section(0x40, Sent::Other, &[]),
+    Step::Section(0x41, Sent::Dii(2, LATER), &[Told(1, CHANGED, EMPTY_AGAIN)]),
+    Step::Number(0x40, 2, Some(3)),
+    Step::Number(0x41, 1, Some(4)),
+    Step::Map(&[(0x41, 257), (0x40, 256)], &[]),
+    Step::Number(0x41, 1, Some(4)),
+    // Another PID: the component begins anew.
+    Step::Map(&[(0x41, 258), (0x40, 256)], &[(0x41, 1), (0x41, 7)]),
+    Step::Number(0x41, 1, None),
+    Step::Number(0x40, 1, Some(2)),
+    Step::Section(
+        0x41,
+        Sent::Dii(2, LATER),
+        &[
+            Told(1, APPEARED, EMPTY_AGAIN),
+            Told(7, APPEARED, COMPRESSED),
+        ],
+    ),
+    Step::Number(0x41, 1, Some(5)),
+    Step::Section(0x40, Sent::Block(1, 1), &[]),
+    Step::Map(
+        &[(0x42, 300)],
+        &[(0x40, 1), (0x40, 2), (0x41, 1), (0x41, 7)],
+    ),
+    Step::Number(0x40, 1, None),
+    Step::Map(&[], &[]),
+];
+
+// Takes a section of a component, once more where memory was wanting.
+fn fed(store: &mut Store, component: u8, section: &[u8]) -> Result<Vec<Change>, Fail> {
+    if section.len() < 12 || !store.has_component(component) {
+        return Err(Fail::from("short, or no such component"));
+    }
+    match store.feed(component, section) {
+        Ok(changes) => Ok(changes),
+        Err(NoMemory) => Ok(store.feed(component, section)?),
+    }
+}
+
+// Takes the component map, once more where memory was wanting.
+fn mapped(store: &mut Store, services: &Services) -> Result<Vec<(u8, Change)>, Fail> {
+    match store.set_components(services) {
+        Ok(gone) => Ok(gone),
+        Err(NoMemory) => Ok(store.set_components(services)?),
+    }
+}
+
+fn handed(services: &mut Services, pid: u16, section: &[u8]) -> Result<(), Fail> {
+    if section.len() < 12 {
+        return Err(Fail::from("short"));
+    }
+    let _changed = services.feed(pid, section)?;
+    Ok(())
+}
+
+fn are_told(changes: &[Change], told: &[Told]) -> bool {
+    changes.len() == told.len()
+        && changes.iter().zip(told).all(|(change, told)| {
+            change.module == told.0
+                && change.status == told.1
+                && change.line == told.2
+                && !change.locked
+        })
+}
+
+fn are_gone(changes: &[(u8, Change)], gone: &[(u8, u16)]) -> bool {
+    changes.len() == gone.len()
+        && changes.iter().zip(gone).all(|(told, gone)| {
+            told.0 == gone.0
+                && told.1.module == gone.1
+                && told.1.status == Some(1)
+                && told.1.line == Some(ChangeLine::Gone)
+        })
+}
+
+fn happens(
+    alloc: Global,
+    services: &mut Services,
+    store: &mut Store,
+    step: Step,
+) -> Result<bool, Fail> {
+    match step {
+        Step::Map(components, gone) => {
+            handed(services, PMT_PID, pmt(alloc, components)?.as_slice())?;
+            Ok(are_gone(mapped(store, services)?.as_slice(), gone))
+        }
+        Step::Section(component, sent, told) => {
+            let section = section_of(alloc, sent)?;
+            let changes = fed(store, component, section.as_slice())?;
+            Ok(are_told(changes.as_slice(), told))
+        }
+        Step::Number(component, module, number) => {
+            Ok(store.delivery_number(component, module) == number)
+        }
+    }
+}
+
+#[test]
+fn components_come_and_go(rt: HostRuntime) -> Result<(), Fail> {
+    let alloc = rt.alloc();
+    let mut services = Services::new(alloc, Selection::First);
+    handed(&mut services, PAT_PID, &PAT)?;
+    let mut store = Store::new(alloc);
+    for (place, step) in STEPS.iter().enumerate() {
+        let is_right = happens(alloc, &mut services, &mut store, *step)?;
+        assert!(rt; is_right, "step {place}");
+    }
+    assert!(rt; !store.has_component(0x40));
+    Ok(())
+}
+
+#[test]
+fn start_document(rt: HostRuntime) -> Result<(), Fail> {
+    let alloc = rt.alloc();
+    for (component, info, is_start) in [
+        (0x40, b"".as_slice(), false),
+        (0x40, b"\x01\x0Ftext/X-arib-bml", true),
+        (0x40, b"\x01\x0Etext/X-arib-bml", false),
+        (0x40, b"\x02\x0Ftext/X-arib-bml", false),
+        (0x40, b"\x01\x1BMultipart/Mixed; boundary=x", false),
+        (0x40, b"\x01\x0Fmultipart/mixee", true),
+        (0x41, b"\x01\x0Ftext/X-arib-bml", false),
+    ] {
+        let mut services = Services::new(alloc, Selection::First);
+        handed(&mut services, PAT_PID, &PAT)?;
+        let map = pmt(alloc, &[(0x40, 256), (0x41, 257)])?;
+        handed(&mut services, PMT_PID, map.as_slice())?;
+        let mut store = Store::new(alloc);
+        assert!(rt; mapped(&mut store, &services)?.is_empty());
+        let dii = sections::dii(alloc, 1, &[Listed(0, 1, 4, info)])?;
+        assert_eq!(rt; fed(&mut store, component, dii.as_slice())?.len(), 1);
+        assert!(rt; store.start_bytes().is_none());
+        let block = section_of(alloc, Sent::Block(0, 1))?;
+        assert_eq!(rt; fed(&mut store, component, block.as_slice())?.len(), 1);
+        let bytes = store.start_bytes();
+        assert_eq!(rt; bytes.is_some(), is_start);
+        assert!(rt; bytes.is_none_or(|bytes| bytes == b"abcd".as_slice()));
+    }
+    Ok(())
+}
+
+#[test]
+fn data_on_a_pid(rt: HostRuntime) -> Result<(), Fail> {
+    let services = Services::new(rt.alloc(), Selection::Pid(256));
+    let mut store = Store::new(rt.alloc());
+    assert!(rt; !store.has_component(0x40));
+    assert!(rt; mapped(&mut store, &services)?.is_empty());
+    assert!(rt; store.has_component(0x40));
+    assert!(rt; !store.has_component(0x41));
+    Ok(())
+}
