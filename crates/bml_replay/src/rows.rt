@@ -340,7 +340,10 @@ fn services(rt: HostRuntime) -> Result<(), Fail> {
                 Sent::BlockOn(257, 2, 3, 0, b"abcd"),
                 SECOND,
                 THIRD,
-                Sent::Map(1, &[Announced(0x0D, 257, 0x40), Announced(0x0D, DATA_PID, 0x41)]),
+                Sent::Map(
+                    1,
+                    &[Announced(0x0D, 257, 0x40), Announced(0x0D, DATA_PID, 0x41)],
+                ),
                 INDICATION,
             ],
             "module 41 0002 03 4\nmodule 40 0001 01 10\ngone 40 0001\ngone 41 0002\nend 10\n",

@@ -1,6 +1,6 @@
 -- The numbers of deliveries.
-use Rattle.std.proofs.Common.{◌≡◌, ◌≢◌, ◌∙◌, ℕ, zero, suc, ◌+◌, ◌-◌, ◌^◌, ◌<◌, ◌≤◌, min, Bool, true, false, cond, eqb, List, [], ◌∷◌, ◌++◌, length, Option, Some, None, refl, sym, ap, subst, arith}
-use Rattle.std.specs.Prelude.{◌&&◌, ◌||◌, ◌⊎◌, not, map, is_some, option_map, option_and_then}
+use Rattle.std.proofs.Common.{◌≡◌, ◌≢◌, ◌∙◌, ℕ, zero, suc, ◌+◌, ◌-◌, ◌^◌, ◌<◌, ◌≤◌, min, Bool, true, false, cond, eqb, List, [], ◌∷◌, ◌++◌, length, Option, Some, None, refl, sym, ap, arith}
+use Rattle.std.specs.Prelude.{◌&&◌, ◌||◌, ◌⊎◌, map, is_some, option_map, option_and_then}
 use Rattle.std.specs.Option.{option_or, option_map_or}
 use Rattle.std.specs.List.{filter_map, list_any, range_with_len, cons_option}
 use Rattle.std.proofs.lemmas.Bool.{eqb-false, eqb-true, eq-eqb, ne_eqb}
@@ -13,9 +13,9 @@ use Rattle.carousel_blocks.specs.declared.standing.Standing.{Standing}
 use Rattle.carousel_blocks.specs.declared.changes.Change.{Change}
 use Rattle.carousel_blocks.specs.Message.{Message}
 use Rattle.carousel_blocks.specs.InForce.{in_force, standing_of}
-use Rattle.carousel_blocks.specs.Held.{Kept, kept, kept_with, held, counting, bytes_by, bytes_kept, same_standing}
-use Rattle.carousel_blocks.specs.Changes.{change_of, change_at, changes, changes_within, number_bound, line_of, completed, changed, delivered}
-use Rattle.module_store.specs.Store.{delivered_by, deliveries_of, last_place_from, last_place, number_at}
+use Rattle.carousel_blocks.specs.Held.{kept_with, held, counting, bytes_by, bytes_kept}
+use Rattle.carousel_blocks.specs.Changes.{change_of, change_at, changes, changes_within, number_bound, completed, changed, delivered}
+use Rattle.module_store.specs.Store.{delivered_by, deliveries_of, last_place_from, number_at}
 use Rattle.module_store.specs.Noted.{noted, noted_count, with_number}
 
 -- ---- places

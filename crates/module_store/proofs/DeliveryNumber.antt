@@ -1,13 +1,13 @@
 -- The number of the delivery that brought a module.
-use Rattle.std.proofs.Common.{◌≡◌, ◌∙◌, ℕ, ◌<◌, ◌^◌, true, List, Option, Some, None, cond, refl, sym, ap, subst, arith}
+use Rattle.std.proofs.Common.{◌≡◌, ◌∙◌, ℕ, ◌<◌, ◌^◌, List, Option, Some, None, cond, sym, ap, arith}
 use Rattle.std.specs.Prelude.{slice_index, is_some, option_map, option_and_then}
 use Rattle.carousel_blocks.specs.Message.{Message}
 use Rattle.carousel_blocks.specs.Held.{held}
 use Rattle.carousel_blocks.specs.Changes.{number_bound}
 use Rattle.carousel_blocks.specs.Carousel as of_carousel
 use Rattle.module_store.specs.declared.slot.Slot.{Slot}
-use Rattle.module_store.specs.Store.{Followed, Stored, component_in, held_in, last_place, number_at, number_of}
-use Rattle.module_store.specs.Standing.{StoreState, StandsFor, Follows, slot_in}
+use Rattle.module_store.specs.Store.{Followed, Stored, held_in, last_place, number_at, number_of}
+use Rattle.module_store.specs.Standing.{StoreState, StandsFor, slot_in}
 use Rattle.module_store.proofs.FeedLaws.{has_followed}
 
 two_bytes : (number : ℕ) → number < 2 ^ 16 → number < number_bound

@@ -1,6 +1,6 @@
 -- One more section of a component.
-use Rattle.std.proofs.Common.{◌≡◌, ◌∙◌, ℕ, ◌+◌, ◌<◌, ◌≤◌, Bool, true, false, cond, eqb, List, [], ◌∷◌, ◌++◌, length, get_or, set, Option, Some, None, refl, sym, ap, subst, inl, inr, arith}
-use Rattle.std.specs.Prelude.{◌⊎◌, map, filter, find, position, slice_index, is_some, option_map}
+use Rattle.std.proofs.Common.{◌≡◌, ◌∙◌, ℕ, ◌+◌, ◌<◌, Bool, true, false, cond, eqb, List, [], ◌∷◌, ◌++◌, length, get_or, set, Option, Some, None, refl, sym, ap, subst, inl, inr, arith}
+use Rattle.std.specs.Prelude.{◌⊎◌, map, position, slice_index, is_some, option_map}
 use Rattle.std.specs.Prelude.{Vec, Result, Ok, Err, IfOk, OnErr}
 use Rattle.std.specs.declared.alloc.Global.{Global}
 use Rattle.std.specs.Option.{option_or, option_map_or}
@@ -14,12 +14,12 @@ use Rattle.carousel_blocks.specs.Message.{Message, messages_of}
 use Rattle.carousel_blocks.specs.Held.{held}
 use Rattle.carousel_blocks.specs.Changes.{changes, number_bound}
 use Rattle.module_store.specs.declared.slot.Slot.{Slot}
-use Rattle.module_store.specs.Store.{Followed, Stored, component_in, messages_of_component, changes_behind, changes_by, deliveries_of, with_section, fed, last_place_from, last_place, number_at}
-use Rattle.module_store.specs.Standing.{StoreState, has_tag, slot_in, has_component, Follows, StandsFor}
+use Rattle.module_store.specs.Store.{Followed, Stored, component_in, changes_behind, changes_by, deliveries_of, with_section, fed, last_place_from, last_place, number_at}
+use Rattle.module_store.specs.Standing.{has_tag, slot_in, Follows, StandsFor}
 use Rattle.module_store.specs.Slots.{TakesSection, KeepsSame}
 use Rattle.module_store.specs.Noted.{noted, noted_count}
 use Rattle.module_store.proofs.FindLaws.{find-ext, find-map, found_passes, found_at, found_set}
-use Rattle.module_store.proofs.DeliveryLaws.{of_component, Delivers, last_place-append, last_place-other, noted_is, noted_count_is, has_place, section_delivers}
+use Rattle.module_store.proofs.DeliveryLaws.{of_component, last_place-append, last_place-other, noted_is, noted_count_is, has_place, section_delivers}
 
 -- ---- what is looked up behind it
 

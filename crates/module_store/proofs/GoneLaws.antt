@@ -11,7 +11,7 @@ use Rattle.carousel_blocks.specs.Changes.{departures}
 use Rattle.carousel_blocks.specs.Carousel as of_carousel
 use Rattle.module_store.specs.declared.slot.Slot.{Slot}
 use Rattle.module_store.specs.Store.{Followed, Stored, component_in, is_kept, gone_with, tag_bound, gone_below, gone_by}
-use Rattle.module_store.specs.Standing.{StoreState, StandsFor, Follows, has_tag, slot_in}
+use Rattle.module_store.specs.Standing.{StoreState, StandsFor, has_tag, slot_in}
 use Rattle.module_store.proofs.FindLaws.{found_passes}
 use Rattle.module_store.proofs.FeedLaws.{has_followed}
 

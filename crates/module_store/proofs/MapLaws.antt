@@ -1,8 +1,8 @@
 -- Another component map.
 use Rattle.std.proofs.Common.{◌≡◌, ◌∙◌, ℕ, ◌+◌, ◌<◌, ◌≤◌, Bool, true, false, cond, eqb, List, [], ◌∷◌, ◌++◌, length, get_or, take, Option, Some, None, refl, sym, ap, subst, inl, inr, arith}
-use Rattle.std.specs.Prelude.{All, AllPairs, ◌&&◌, ◌⊎◌, not, map, filter, find, is_some, option_map, option_and_then}
+use Rattle.std.specs.Prelude.{AllPairs, ◌&&◌, ◌⊎◌, not, map, filter, find, is_some, option_map, option_and_then}
 use Rattle.std.specs.Option.{option_or}
-use Rattle.std.proofs.lemmas.Bool.{eqb-true, eqb-false, eq-eqb, ne_eqb}
+use Rattle.std.proofs.lemmas.Bool.{eqb-true, eq-eqb, ne_eqb}
 use Rattle.std.proofs.lemmas.List.{append-nil, take_more, map_push, length-append}
 use Rattle.std.proofs.lemmas.Option.{cond_some}
 use Rattle.std.proofs.lemmas.List.Elements.{All-push, filter-append}
@@ -13,9 +13,9 @@ use Rattle.psi_tables.specs.Components.{AreApart}
 use Rattle.carousel_blocks.specs.Held.{held}
 use Rattle.carousel_blocks.specs.Carousel as of_carousel
 use Rattle.module_store.specs.Store.{Followed, Stored, component_in, is_kept, messages_on, messages_kept, followed_from, with_map, last_place, number_at}
-use Rattle.module_store.specs.Standing.{StoreState, StandsFor, Follows, AreDistinct, has_tag, slot_in, has_component}
+use Rattle.module_store.specs.Standing.{StandsFor, Follows, AreDistinct, has_tag, slot_in}
 use Rattle.module_store.specs.Slots.{component_of, IsEmpty, IsFresh, is_followed, AreAdded, kept_of}
-use Rattle.module_store.proofs.FindLaws.{find-ext, filter-ext, is_some-find, found_passes, find-filter, filter-filter, fewer, none_pass, none_found, if_passes, find-and, find-map, length-filter-map, at_most_one, found_has}
+use Rattle.module_store.proofs.FindLaws.{find-ext, filter-ext, is_some-find, found_passes, find-filter, filter-filter, fewer, none_pass, if_passes, find-and, find-map, length-filter-map, at_most_one, found_has}
 use Rattle.module_store.proofs.DeliveryLaws.{eqb_sym}
 use Rattle.module_store.proofs.FeedLaws.{has_followed}
 

@@ -1,5 +1,5 @@
 -- Which modules hold one resource (after ARIB STD-B24, volume 3, and its Type descriptor).
-use Rattle.std.specs.Prelude.{ℕ, ◌==◌, Bool, false, not, ◌&&◌, List, [], ◌∷◌, length, take, codes}
+use Rattle.std.specs.Prelude.{ℕ, ◌==◌, Bool, false, not, ◌&&◌, List, ◌∷◌, length, take, codes}
 use Rattle.std.specs.Str.{str_eq_ignore_ascii_case}
 
 -- the media type begins with `multipart/mixed`, without ASCII case: the module holds an entity of several parts

@@ -1,13 +1,13 @@
 -- The components of a service with the messages of their carousels, the deliveries of their modules, and what one more
 -- section or another component map changes (this project's own, after ARIB STD-B24, volume 3).
-use Rattle.std.specs.Prelude.{ℕ, ◌+◌, ◌-◌, ◌^◌, ◌==◌, min, Bool, true, false, ◌&&◌, if◌then◌else◌, List, [], ◌∷◌, ◌++◌, map, find, Option, Some, None, is_some, option_map, option_and_then}
+use Rattle.std.specs.Prelude.{ℕ, ◌+◌, ◌-◌, ◌^◌, ◌==◌, min, Bool, false, ◌&&◌, if◌then◌else◌, List, [], ◌∷◌, ◌++◌, map, find, Option, Some, None, is_some, option_map, option_and_then}
 use Rattle.std.specs.List.{filter_map, flat_map, list_any, range_with_len}
 use Rattle.std.specs.Option.{option_or}
 use Rattle.dsmcc_messages.specs.declared.entry.Entry.{Entry}
 use Rattle.psi_tables.specs.declared.components.Component.{Component}
 use Rattle.carousel_blocks.specs.declared.changes.Change.{Change}
 use Rattle.carousel_blocks.specs.declared.changes.ChangeLine.{ChangeLine}
-use Rattle.carousel_blocks.specs.declared.changes.ChangeLine.TheVariants.{Delivered, Gone, Skipped}
+use Rattle.carousel_blocks.specs.declared.changes.ChangeLine.TheVariants.{Delivered}
 use Rattle.carousel_blocks.specs.Message.{Message, messages_of}
 use Rattle.carousel_blocks.specs.Held.{held}
 use Rattle.carousel_blocks.specs.Carousel.{entry_in_force}

@@ -1,6 +1,4 @@
-pub mod BufferLaws
-pub mod DistinctLaws
-pub mod FrontLaws
-pub mod KeepingLaws
 pub mod OutputLaws
+pub mod FrontLaws
+pub mod ProgramLaws
 pub mod ReceivingLaws

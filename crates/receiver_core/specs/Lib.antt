@@ -1,11 +1,8 @@
-pub mod Acquisition
-pub mod Buffers
 pub mod Fronts
-pub mod Keeping
 pub mod Lines
 pub mod Loading
 pub mod Outputs
+pub mod Programs
 pub mod Receiving
-pub mod Startup
 pub mod State
 pub mod Turns

@@ -1,19 +1,35 @@
 -- The lines that the turns of a receiver print, each with the line feed that ends it. This project's own. Numbers of a
 -- component and of a version have two hexadecimal digits, that of a module four, and other numbers are decimal.
-use Rattle.std.specs.Prelude.{ℕ, List, ◌++◌, codes, Result, Ok, Err}
+use Rattle.std.specs.Prelude.{ℕ, List, [], ◌++◌, codes, Result, Ok, Err}
+use Rattle.std.specs.Option.{option_map_or}
 use Rattle.bml_bytes.specs.Numerals.{decimal_digits, hex_digits}
 use Rattle.dom_tree.specs.Items.{Item}
 use Rattle.bml_reader.specs.declared.faults.DocFault.{DocFault}
 use Rattle.bml_reader.specs.declared.faults.DocFault.TheVariants.{Malformed, WrongRoot, TooDeep, TooManyNodes, NoMemory}
+use Rattle.carousel_blocks.specs.declared.standing.SkipCause.{SkipCause}
+use Rattle.carousel_blocks.specs.declared.standing.SkipCause.TheVariants.{Compressed, Large}
+use Rattle.carousel_blocks.specs.declared.changes.Change.{Change}
+use Rattle.carousel_blocks.specs.declared.changes.ChangeLine.{ChangeLine}
+use Rattle.carousel_blocks.specs.declared.changes.ChangeLine.TheVariants.{Delivered, Gone, Skipped}
 
--- a module was acquired: its component, its number, its version and its size in bytes
-abbrev pub module_line : ℕ → ℕ → ℕ → ℕ → List ℕ
-module_line component number version size =
-    codes "module " ++ hex_digits 2 component ++ codes " " ++ hex_digits 4 number ++ codes " " ++ hex_digits 2 version ++ codes " " ++ decimal_digits size ++ codes "\n"
+-- ` cc mmmm` of a component's module
+abbrev pub module_fields : ℕ → ℕ → List ℕ
+module_fields component number = codes " " ++ (hex_digits 2 component ++ (codes " " ++ hex_digits 4 number))
 
--- a component sent what isn't built yet
-abbrev pub unbuilt_line : ℕ → List ℕ
-unbuilt_line component = codes "skip " ++ hex_digits 2 component ++ codes " unbuilt\n"
+abbrev pub cause_name : SkipCause → List ℕ
+cause_name Compressed = codes "compressed"
+cause_name Large = codes "large"
+
+-- what is said of a module: `module cc mmmm vv size`, `gone cc mmmm`, `skip cc mmmm CAUSE`
+abbrev pub line_with : ℕ → ℕ → ChangeLine → List ℕ
+line_with component number (Delivered version size) =
+    codes "module" ++ (module_fields component number ++ (codes " " ++ (hex_digits 2 version ++ (codes " " ++ (decimal_digits size ++ codes "\n")))))
+line_with component number Gone = codes "gone" ++ (module_fields component number ++ codes "\n")
+line_with component number (Skipped cause) = codes "skip" ++ (module_fields component number ++ (codes " " ++ (cause_name cause ++ codes "\n")))
+
+-- the line of a change, where it has one
+abbrev pub line_of_change : ℕ → Change → List ℕ
+line_of_change component change = option_map_or (line_with component change.module) change.line []
 
 -- the fault's name
 abbrev pub fault_name : DocFault → List ℕ
@@ -23,15 +39,7 @@ fault_name TooDeep = codes "TooDeep"
 fault_name TooManyNodes = codes "TooManyNodes"
 fault_name NoMemory = codes "NoMemory"
 
--- the start document was loaded
-abbrev pub loaded_line : List ℕ
-loaded_line = codes "load /40/0000\n"
-
--- it was refused for this fault
-abbrev pub refused_line : DocFault → List ℕ
-refused_line fault = codes "refuse /40/0000 " ++ (fault_name fault ++ codes "\n")
-
--- what the start document was read as
+-- the start document was loaded, or refused for this fault
 abbrev pub load_line : Result (List Item) DocFault → List ℕ
-load_line (Ok items) = loaded_line
-load_line (Err fault) = refused_line fault
+load_line (Ok items) = codes "load /40/0000\n"
+load_line (Err fault) = codes "refuse /40/0000 " ++ (fault_name fault ++ codes "\n")

@@ -1,49 +1,57 @@
 -- What a receiver stands for: what came to it so far, and the texts that it gave for that. (This project's own.)
-use Rattle.std.specs.Prelude.{◌≡◌, ℕ, List, [], ◌∷◌, ◌++◌, length, filter, Option, option_map}
-use Rattle.dom_tree.specs.Items.{Item}
+use Rattle.std.specs.Prelude.{◌≡◌, ℕ, true, List, ◌++◌, length, filter}
 use Rattle.ts_sections.specs.Intact.{is_intact}
-use Rattle.ts_sections.specs.Assembly.{AssemblerState, waiting}
-use Rattle.ts_sections.specs.Assembly as assembly
-use Rattle.receiver_core.specs.Keeping.{Kept}
-use Rattle.receiver_core.specs.Keeping as keeping
-use Rattle.receiver_core.specs.Outputs.{outputs}
-use Rattle.receiver_core.specs.Startup.{startup, nodes_of}
-use Rattle.receiver_core.specs.State.{Input, State, opening, after}
-use Rattle.receiver_core.specs.Turns.{turn_texts}
+use Rattle.ts_sections.specs.Assembly.{waiting}
+use Rattle.psi_tables.specs.declared.services.Selection.{Selection}
+use Rattle.psi_tables.specs.Service.{wants}
+use Rattle.section_demultiplexer.specs.Demultiplexing.{DemultiplexerState, assembler_on, has_channel}
+use Rattle.section_demultiplexer.specs.Demultiplexing as demultiplexing
+use Rattle.receiver_core.specs.Outputs.{behind_turns, texts_of_turns, outputs, outputs_from}
+use Rattle.receiver_core.specs.Programs.{ProgramState}
+use Rattle.receiver_core.specs.Programs as programs
+use Rattle.receiver_core.specs.State.{Input, State}
 
 pub record ReceiverState : Type 0 where
-  -- the PID that is received
-  pub pid : ℕ
-  pub assembler : AssemblerState
-  -- what is kept of the intact sections handled so far
-  pub kept : Option Kept
-  -- the start document's nodes, or none of one that was refused, once its module was held
-  pub startup : Option (Option (List Item))
+  pub demultiplexer : DemultiplexerState
+  pub program : ProgramState
+  -- the persistent area
+  pub area : List ℕ
 
--- what these inputs come to
-abbrev pub behind : State → List Input → State
-behind s [] = s
-behind s (input ∷ inputs) = behind (after s input) inputs
+-- the sections that are whole and not handled yet: those of the PID of the packet pushed last
+abbrev pub waiting_in : DemultiplexerState → List (List ℕ)
+waiting_in d = waiting (assembler_on d.channels d.pid)
 
--- The inputs came, and these texts were given so far: some first sections of the packets on the PID were handled, and
--- what the intact ones of those that wait print is all that is still to be given.
-pub record StandsFor (pid : ℕ) (state : ReceiverState) (inputs : List Input) (given : List (List ℕ)) : Type 0 where
-  pub handled : List (List ℕ)
-  pub same_pid : state.pid ≡ pid
-  pub assembled : assembly.StandsFor state.assembler (behind (opening pid) inputs).packets handled
-  pub acquired : keeping.StandsFor state.kept (filter is_intact handled)
-  pub document : state.startup ≡ option_map nodes_of (startup (filter is_intact handled))
-  pub texts : outputs pid inputs ≡ given ++ turn_texts (filter is_intact handled) (filter is_intact (waiting state.assembler))
+-- what the turns still to come print, and what they leave
+abbrev pub texts_left : DemultiplexerState → State → List (List ℕ)
+texts_left d now = texts_of_turns d.pid (filter is_intact (waiting_in d)) now
+
+abbrev pub behind_those_left : DemultiplexerState → State → State
+behind_those_left d now = behind_turns d.pid (filter is_intact (waiting_in d)) now
+
+-- The inputs came, and these texts were given so far: whatever comes behind, all that is printed is what was given, then
+-- what the turns still to come print, and then what comes behind these.
+pub record StandsFor (selection : Selection) (state : ReceiverState) (inputs : List Input) (given : List (List ℕ)) : Type 0 where
+  -- what the turns so far made of the inputs
+  pub now : State
+  -- the sections of each PID that were handled
+  pub sections : ℕ → List (List ℕ)
+  pub program : programs.StandsFor state.program now
+  pub assembled : demultiplexing.StandsFor state.demultiplexer now.packets sections
+  pub ahead : (more : List Input) → outputs selection (inputs ++ more) ≡ given ++ (texts_left state.demultiplexer now ++ outputs_from (behind_those_left state.demultiplexer now) more)
+
+-- sections are put together only on PIDs that are wanted
+abbrev pub AreWanted : DemultiplexerState → ProgramState → Type 0
+AreWanted d program = (pid : ℕ) → has_channel d.channels pid ≡ true → wants program.services pid ≡ true
 
 -- the next packet may come
 abbrev pub IsDrained : ReceiverState → Type 0
-IsDrained state = assembly.IsDrained state.assembler
+IsDrained state = demultiplexing.IsDrained state.demultiplexer
 
 -- how many sections are whole and not handled yet
 abbrev pub sections_left : ReceiverState → ℕ
-sections_left state = length (waiting state.assembler)
+sections_left state = length (waiting_in state.demultiplexer)
 
 -- no section is waiting: whatever came, all that it prints was given
 pub record IsIdle (state : ReceiverState) : Type 0 where
   pub drained : IsDrained state
-  pub all : (pid : ℕ) (inputs : List Input) (given : List (List ℕ)) → StandsFor pid state inputs given → given ≡ outputs pid inputs
+  pub all : (selection : Selection) (inputs : List Input) (given : List (List ℕ)) → StandsFor selection state inputs given → given ≡ outputs selection inputs

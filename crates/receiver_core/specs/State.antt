@@ -1,41 +1,44 @@
 -- What comes to a receiver, and what it has made of it at a moment. (This project's own.)
-use Rattle.std.specs.Prelude.{ℕ, ◌==◌, Bool, if◌then◌else◌, List, [], ◌∷◌, ◌++◌, filter}
-use Rattle.ts_packets.specs.Packet.{pid_of}
-use Rattle.ts_sections.specs.Sections.{completed_by}
-use Rattle.ts_sections.specs.Intact.{is_intact}
+use Rattle.std.specs.Prelude.{ℕ, Bool, List, []}
+use Rattle.psi_tables.specs.declared.services.Selection.{Selection}
+use Rattle.psi_tables.specs.History.{Handled, service_of, map_of}
+use Rattle.psi_tables.specs.Service.{ServicesState}
+use Rattle.psi_tables.specs.Service as services_of
+use Rattle.module_store.specs.Store.{Stored}
+use Rattle.module_store.specs.Store as store
+use Rattle.receiver_core.specs.declared.startup.Startup.{Startup}
+use Rattle.receiver_core.specs.declared.startup.Startup.TheVariants.{Wanted}
 
 -- the next packet of the stream, of whatever PID, or the wish to see what is displayed
 pub data Input : Type 0 where
   Packet : List ℕ → Input
   Show : Input
 
--- the packets on the data PID so far, and the intact sections that they completed: all else follows from these
 pub record State : Type 0 where
-  pub pid : ℕ
-  pub packets : List (List ℕ)
-  pub sections : List (List ℕ)
+  -- which service is asked for
+  pub selection : Selection
+  -- the intact sections handled so far, each with the PID on which it came
+  pub handled : List Handled
+  -- for each PID the packets on it since it was wanted without a break; none of one that isn't wanted
+  pub packets : ℕ → List (List ℕ)
+  -- the components with their messages
+  pub store : Stored
+  -- the start document: still wanted, refused, or loaded with its nodes
+  pub startup : Startup
 
--- before the first input
-abbrev pub opening : ℕ → State
-opening pid = record { pid = pid; packets = []; sections = [] }
+-- the service and the component map at present
+abbrev pub services : State → ServicesState
+services s = record { selection = s.selection; service = service_of s.selection s.handled; map = map_of s.selection s.handled }
 
--- the packet is one of the data PID
-abbrev pub is_received : State → List ℕ → Bool
-is_received s packet = pid_of packet == s.pid
+abbrev pub wants : State → ℕ → Bool
+wants s pid = services_of.wants (services s) pid
 
--- the intact sections that the next packet completes
-abbrev pub completed : State → List ℕ → List (List ℕ)
-completed s packet = if is_received s packet then filter is_intact (completed_by s.packets packet) else []
-
--- behind the next packet
-abbrev pub with_packet : State → List ℕ → State
-with_packet s packet = record {
-  pid = s.pid;
-  packets = if is_received s packet then s.packets ++ packet ∷ [] else s.packets;
-  sections = s.sections ++ completed s packet;
+-- before the first input: with a data PID its component is there at once
+abbrev pub opening : Selection → State
+opening selection = record {
+  selection = selection;
+  handled = [];
+  packets = λ pid. [];
+  store = store.with_map (map_of selection []) store.at_start;
+  startup = Wanted;
 }
-
--- behind the next input; to show what is displayed changes nothing
-abbrev pub after : State → Input → State
-after s (Packet packet) = with_packet s packet
-after s Show = s

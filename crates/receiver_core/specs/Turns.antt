@@ -1,14 +1,70 @@
--- The turns of intact sections: each is one turn, handled behind all before it. (This project's own.)
-use Rattle.std.specs.Prelude.{ℕ, List, [], ◌∷◌, ◌++◌}
-use Rattle.receiver_core.specs.Acquisition.{modules_text}
-use Rattle.receiver_core.specs.Startup.{startup_text}
+-- The turns of intact sections. (This project's own.)
+use Rattle.std.specs.Prelude.{ℕ, if◌then◌else◌, List, [], ◌∷◌, ◌++◌, Option, Some, None, Result, Ok, Err}
+use Rattle.std.specs.List.{flat_map}
+use Rattle.dom_tree.specs.Items.{Item}
+use Rattle.bml_reader.specs.declared.faults.DocFault.{DocFault}
+use Rattle.bml_reader.specs.Readings.{reading_of}
+use Rattle.psi_tables.specs.Components.{tag_in}
+use Rattle.psi_tables.specs.Service.{reads_table}
+use Rattle.module_store.specs.Store as store
+use Rattle.receiver_core.specs.Lines.{line_of_change, load_line}
+use Rattle.receiver_core.specs.State.{State, services, wants}
+use Rattle.receiver_core.specs.declared.startup.Startup.{Startup}
+use Rattle.receiver_core.specs.declared.startup.Startup.TheVariants.{Wanted, Refused, Loaded}
 
--- what the turn of an intact section prints, behind the intact sections before it: the lines of modules, and then that
--- of the start document, where it is loaded in this turn
-unfoldable pub turn_text : List (List ℕ) → List ℕ → List ℕ
-turn_text earlier section = modules_text earlier section ++ startup_text earlier (earlier ++ section ∷ [])
+-- what a section makes of the state, and what its turn prints
+pub record Turned : Type 0 where
+  pub state : State
+  pub text : List ℕ
 
--- what is printed in the turns of the later sections, each handled behind all before it
-unfoldable pub turn_texts : List (List ℕ) → List (List ℕ) → List (List ℕ)
-turn_texts earlier [] = []
-turn_texts earlier (section ∷ later) = turn_text earlier section ∷ turn_texts (earlier ++ section ∷ []) later
+-- behind one more section handled: a PID that isn't wanted any more loses its packets
+abbrev pub with_handled : ℕ → List ℕ → State → State
+with_handled pid section s =
+    let now = record s { handled = s.handled ++ record { pid = pid; section = section } ∷ [] } in
+    record now { packets = λ other. if wants now other then s.packets other else [] }
+
+-- A table: the components are those of the map that it leaves; what left is gone.
+abbrev pub turned_by_table : State → Turned
+turned_by_table now = record {
+  state = record now { store = store.with_map (services now).map now.store };
+  text = flat_map (λ gone. line_of_change gone.0 gone.1) (store.gone_by (services now).map now.store);
+}
+
+-- A section of a component: its changes
+abbrev pub turned_by_component : ℕ → List ℕ → State → Turned
+turned_by_component component section now = record {
+  state = record now { store = store.fed component section now.store };
+  text = flat_map (line_of_change component) (store.changes_by component section now.store);
+}
+
+abbrev pub turned_by_tag : Option ℕ → List ℕ → State → Turned
+turned_by_tag None section now = record { state = now; text = [] }
+turned_by_tag (Some component) section now = turned_by_component component section now
+
+-- A section is read as a table, or as one of the component on its PID, by the service and the map before it.
+abbrev pub turned_by : ℕ → List ℕ → State → Turned
+turned_by pid section s =
+    if reads_table s.selection (services s).service pid
+    then turned_by_table (with_handled pid section s)
+    else turned_by_tag (tag_in (services s).map pid) section (with_handled pid section s)
+
+-- Then the start document is loaded, where it is wanted and its module is held.
+abbrev pub loaded_as : Result (List Item) DocFault → Startup
+loaded_as (Ok items) = Loaded items
+loaded_as (Err fault) = Refused
+
+abbrev pub with_document : Option (List ℕ) → Turned → Turned
+with_document None t = t
+with_document (Some bytes) t = record {
+  state = record t.state { startup = loaded_as (reading_of bytes) };
+  text = t.text ++ load_line (reading_of bytes);
+}
+
+abbrev pub wanted_bytes : Startup → Option (List ℕ) → Option (List ℕ)
+wanted_bytes Wanted bytes = bytes
+wanted_bytes Refused bytes = None
+wanted_bytes (Loaded items) bytes = None
+
+-- the turn of an intact section on a PID
+unfoldable pub turn : ℕ → List ℕ → State → Turned
+turn pid section s = let t = turned_by pid section s in with_document (wanted_bytes t.state.startup (store.start_of t.state.store)) t

@@ -3,8 +3,9 @@
 ghost use Rattle.std.specs.Prelude.{◌≡◌, ◌++◌, Some, OnOk, OnErr, IfOk, option_copied};
 ghost use Rattle.bml_reader.specs.Readings.{reading_of};
 ghost use Rattle.receiver_core.specs.Lines.{load_line};
-ghost use Rattle.receiver_core.specs.Loading.{displayed, kept_in, kept_with, text_with};
-ghost use Rattle.receiver_core.specs.Startup.{nodes_of};
+ghost use Rattle.receiver_core.specs.Loading.{kept_with, text_with};
+ghost use Rattle.receiver_core.specs.Outputs.{display_of};
+ghost use Rattle.receiver_core.specs.Turns.{loaded_as, wanted_bytes};
 
 use crate::lines::{push_load_line, push_refuse_line};
 use bml_bytes::NoMemory;
@@ -35,8 +36,8 @@ impl Startup {
         bytes: Option<&[u8]>,
         out: &mut Vec<u8>,
     ) -> Result<(), NoMemory>
-        ensures kept { OnOk result (kept_in self.new ≡ kept_with (kept_in self.old) (option_copied bytes.entry)) }
-        ensures printed { OnOk result (out.new.items ≡ out.old.items ++ text_with (kept_in self.old) (option_copied bytes.entry)) }
+        ensures kept { OnOk result (self.new ≡ kept_with (wanted_bytes self.old (option_copied bytes.entry)) self.old) }
+        ensures printed { OnOk result (out.new.items ≡ out.old.items ++ text_with (wanted_bytes self.old (option_copied bytes.entry))) }
         ensures err { OnErr result (out.new.items ≡ out.old.items) }
         ensures stays { OnErr result (self.new ≡ self.old) }
     {
@@ -52,7 +53,7 @@ impl Startup {
 
     // Reads the document, and appends the line that tells what it was read as.
     fn of(alloc: Global, bytes: &[u8], out: &mut Vec<u8>) -> Result<Startup, NoMemory>
-        ensures kept { IfOk result (λ startup. kept_in startup ≡ Some (nodes_of (reading_of bytes.now))) }
+        ensures kept { IfOk result (λ startup. startup ≡ loaded_as (reading_of bytes.now)) }
         ensures printed { OnOk result (out.new.items ≡ out.old.items ++ load_line (reading_of bytes.now)) }
         ensures err { OnErr result (out.new.items ≡ out.old.items) }
     {
@@ -71,7 +72,7 @@ impl Startup {
 
     /// Appends the display list: its first line, and the boxes and texts of the document, where one is loaded.
     pub fn show(&self, out: &mut Vec<u8>) -> Result<(), NoMemory>
-        ensures ok { OnOk result (out.new.items ≡ out.old.items ++ displayed (kept_in self.now)) }
+        ensures ok { OnOk result (out.new.items ≡ out.old.items ++ display_of self.now) }
         ensures err { OnErr result (out.new.items ≡ out.old.items) }
     {
         match self {

@@ -1,4 +1,4 @@
-use Rattle.std.proofs.Common.{◌≡◌, ◌∙◌, sym}
+use Rattle.std.proofs.Common.{◌∙◌, sym}
 use Rattle.std.proofs.lemmas.Result.{on_ok_weaker}
 use Rattle.module_store.proofs.GoneLaws.{nothing_goes, modules_go}
 use Rattle.module_store.proofs.store.add_departures.Goals as goal

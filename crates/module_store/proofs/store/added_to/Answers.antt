@@ -1,4 +1,4 @@
-use Rattle.std.proofs.Common.{◌≡◌, ◌∙◌, ◌+◌, ◌++◌, ◌∷◌, [], List, Vec, Global, take, ap, sym, subst}
+use Rattle.std.proofs.Common.{◌∙◌, ◌+◌, List, Vec, Global, take, ap, sym, subst}
 use Rattle.module_store.specs.declared.slot.Slot.{Slot}
 use Rattle.module_store.specs.Slots.{AreAdded}
 use Rattle.module_store.proofs.MapLaws.{added_one, added_none}

@@ -1,4 +1,4 @@
-use Rattle.std.proofs.Common.{◌≡◌, take}
+use Rattle.std.proofs.Common.{take}
 use Rattle.module_store.specs.Slots.{AreAdded}
 use Rattle.module_store.proofs.store.added_to.Given as goal
 

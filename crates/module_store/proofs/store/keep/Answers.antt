@@ -1,4 +1,4 @@
-use Rattle.std.proofs.Common.{◌≡◌, rules}
+use Rattle.std.proofs.Common.{rules}
 use Rattle.std.proofs.lemmas.Fn.{filter_same}
 use Rattle.module_store.specs.Store.{is_kept}
 use Rattle.module_store.proofs.store.keep.Goals as goal

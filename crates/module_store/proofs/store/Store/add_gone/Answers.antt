@@ -1,6 +1,6 @@
-use Rattle.std.proofs.Common.{◌≡◌, ◌∙◌, None, Some, ap}
+use Rattle.std.proofs.Common.{◌∙◌, ap}
 use Rattle.std.proofs.lemmas.Result.{on_ok_weaker}
-use Rattle.module_store.specs.Standing.{StandsFor, slot_in}
+use Rattle.module_store.specs.Standing.{slot_in}
 use Rattle.module_store.proofs.GoneLaws.{no_component, its_modules}
 use Rattle.module_store.proofs.store.Store.add_gone.Goals as goal
 

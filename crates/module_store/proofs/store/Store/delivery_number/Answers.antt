@@ -1,5 +1,4 @@
-use Rattle.std.proofs.Common.{◌≡◌, ◌∙◌, ◌<◌, ◌^◌, List, Option, Some, ap, sym, arith}
-use Rattle.module_store.specs.declared.slot.Slot.{Slot}
+use Rattle.std.proofs.Common.{◌∙◌, ◌<◌, ◌^◌, ap, sym, arith}
 use Rattle.module_store.specs.Standing.{slot_in}
 use Rattle.module_store.proofs.DeliveryNumber.{number_is}
 use Rattle.module_store.proofs.store.Store.delivery_number.Goals as goal

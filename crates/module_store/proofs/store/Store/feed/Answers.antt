@@ -1,10 +1,8 @@
-use Rattle.std.proofs.Common.{◌≡◌, ◌∙◌, ◌≤◌, ℕ, eqb, List, false, true, length, position, set, Option, Some, None, ap, sym, subst}
-use Rattle.std.specs.Prelude.{filter, is_some}
+use Rattle.std.proofs.Common.{◌≡◌, ◌∙◌, ℕ, eqb, false, true, position, Option, Some, ap, sym, subst}
+use Rattle.std.specs.Prelude.{is_some}
 use Rattle.std.proofs.lemmas.Result.{IfOk-weaker, IfErr-weaker}
 use Rattle.module_store.specs.declared.slot.Slot.{Slot}
-use Rattle.module_store.specs.Standing.{StoreState, StandsFor, has_tag, has_component, slot_in}
-use Rattle.module_store.specs.Store.{Stored, fed, changes_by}
-use Rattle.module_store.specs.Slots.{TakesSection, KeepsSame}
+use Rattle.module_store.specs.Standing.{StoreState, has_tag, has_component, slot_in}
 use Rattle.module_store.proofs.FindLaws.{is_some-position, length-filter-set}
 use Rattle.module_store.proofs.FeedLaws.{same_components, stands_taken, stands_kept, changes_taken, keeps_tag}
 use Rattle.module_store.proofs.store.Store.feed.Goals as goal

@@ -1,7 +1,5 @@
 use Rattle.std.proofs.Common.{◌≡◌, ◌∙◌, ℕ, ◌+◌, Vec, Global, ap, arith}
 use Rattle.carousel_blocks.specs.declared.changes.Change.{Change}
-use Rattle.module_store.specs.Store.{Stored, gone_below, gone_by}
-use Rattle.module_store.specs.Standing.{StandsFor}
 use Rattle.module_store.proofs.GoneLaws.{gone_below_more, gone_below_all}
 use Rattle.module_store.proofs.store.Store.gone_by.Goals as goal
 use Rattle.module_store.proofs.store.Store.gone_by.Goals.{else-tags-test, then-tags-test+in_ok-add_gone+else-tag-lt255}

@@ -1,4 +1,4 @@
-use Rattle.std.proofs.Common.{◌≡◌, ◌∙◌, ℕ, position, Option, Some, None, refl, ap, sym}
+use Rattle.std.proofs.Common.{◌≡◌, ◌∙◌, ℕ, position, Option, Some, None, refl, ap}
 use Rattle.std.specs.Prelude.{is_some, option_map}
 use Rattle.module_store.specs.Standing.{StoreState, has_tag, has_component}
 use Rattle.module_store.specs.Store.{Followed, component_in}

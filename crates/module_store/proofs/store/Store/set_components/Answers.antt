@@ -1,10 +1,9 @@
-use Rattle.std.proofs.Common.{◌≡◌, ◌∙◌, ℕ, ◌≤◌, ◌++◌, List, Option, Some, None, length, refl, ap, sym, subst}
+use Rattle.std.proofs.Common.{◌≡◌, ◌∙◌, ℕ, ◌≤◌, ◌++◌, Option, Some, None, length, refl, ap, sym, subst}
 use Rattle.std.specs.Prelude.{AllPairs, is_some, filter, option_map, find}
 use Rattle.psi_tables.specs.declared.components.Component.{Component}
-use Rattle.psi_tables.specs.Components.{AreApart, pid_in}
-use Rattle.module_store.specs.declared.slot.Slot.{Slot}
-use Rattle.module_store.specs.Store.{Stored, with_map, gone_by}
-use Rattle.module_store.specs.Standing.{StoreState, StandsFor, AreDistinct, has_tag, has_component, slot_in}
+use Rattle.psi_tables.specs.Components.{AreApart}
+use Rattle.module_store.specs.Store.{with_map, gone_by}
+use Rattle.module_store.specs.Standing.{StoreState, StandsFor, AreDistinct, slot_in}
 use Rattle.module_store.specs.Slots.{AreAdded, kept_of}
 use Rattle.module_store.proofs.MapLaws.{is_tagged, one_of_each, stands_mapped, still_distinct, has_components}
 use Rattle.module_store.proofs.store.Store.set_components.Goals as goal

@@ -1,0 +1,125 @@
+//! The program that is played: its tables, its modules, and its start document.
+
+ghost use Rattle.std.specs.Prelude.{◌≡◌, ◌≤◌, ◌++◌, ℕ, List, true, false, length, take, Some, IfOk, OnOk, OnErr};
+ghost use Rattle.psi_tables.specs.Components.{tag_in};
+ghost use Rattle.psi_tables.specs.Service.{reads_table};
+ghost use Rattle.receiver_core.specs.Outputs.{display_of};
+ghost use Rattle.receiver_core.specs.Programs.{StandsFor, Turns};
+ghost use Rattle.receiver_core.specs.State.{opening};
+ghost use Rattle.receiver_core.specs.Turns.{turn, turned_by, turned_by_component, turned_by_table, with_handled};
+
+use crate::lines::{push_change_lines, push_gone_lines};
+use crate::startup::Startup;
+use bml_bytes::NoMemory;
+use module_store::Store;
+use psi_tables::{Selection, Services};
+use std::alloc::Global;
+use std::marker::Model;
+
+/// Makes the turns of intact sections.
+#[derive(Drop)]
+pub struct Program {
+    alloc: Global,
+    services: Services,
+    store: Store,
+    startup: Startup,
+}
+
+impl Model for Program {
+    ghost use Rattle.receiver_core.specs.Programs.{ProgramState};
+
+    ghost Value = { ProgramState };
+
+    ghost view = { λ p. record { services = p.services; store = p.store; startup = p.startup } };
+}
+
+impl Program {
+    /// The program that is asked for, before the first section. It keeps the allocator; with a data PID it takes memory
+    /// for its component.
+    pub fn new(alloc: Global, selection: Selection) -> Result<Program, NoMemory>
+        ensures { IfOk result (λ program. StandsFor program (opening selection)) }
+    {
+        let services = Services::new(alloc, selection);
+        let mut store = Store::new(alloc);
+        store.set_components(&services)?;
+        Ok(Program {
+            alloc,
+            services,
+            store,
+            startup: Startup::Wanted,
+        })
+    }
+
+    /// The tables: which PIDs are wanted.
+    pub fn services(&self) -> &Services
+        ensures { result.now ≡ self.now.services }
+    {
+        &self.services
+    }
+
+    /// Makes the turn of the next intact section, which came on that PID, and appends what it prints. After `NoMemory`
+    /// nothing is said of the program, and what was appended stops anywhere.
+    pub fn turn(&mut self, pid: u16, section: &[u8], out: &mut Vec<u8>) -> Result<(), NoMemory>
+        requires { 12 ≤ length section.now }
+        ensures turned { OnOk result (Turns self.old self.new out.old.items out.new.items (turn pid section.now)) }
+        ensures grows { take (length out.old.items) out.new.items ≡ out.old.items }
+    {
+        self.take(pid, section, out)?;
+        self.startup.load(self.alloc, self.store.start_bytes(), out)
+    }
+
+    /// Appends the display list of the start document, or its first line alone.
+    pub fn show(&self, out: &mut Vec<u8>) -> Result<(), NoMemory>
+        ensures ok { OnOk result (out.new.items ≡ out.old.items ++ display_of self.now.startup) }
+        ensures err { OnErr result (out.new.items ≡ out.old.items) }
+    {
+        self.startup.show(out)
+    }
+
+    // Takes a section as a table, or as one of the component on its PID.
+    fn take(&mut self, pid: u16, section: &[u8], out: &mut Vec<u8>) -> Result<(), NoMemory>
+        requires { 12 ≤ length section.now }
+        ensures turned { OnOk result (Turns self.old self.new out.old.items out.new.items (turned_by pid section.now)) }
+        ensures grows { take (length out.old.items) out.new.items ≡ out.old.items }
+    {
+        if self.services.reads_table(pid) {
+            return self.take_table(pid, section, out);
+        }
+        match self.services.component_of(pid) {
+            Some(component) => self.take_data(pid, component, section, out),
+            None => Ok(()),
+        }
+    }
+
+    // Takes a section as a table: the components become those of the map, and what left with others is told.
+    fn take_table(&mut self, pid: u16, section: &[u8], out: &mut Vec<u8>) -> Result<(), NoMemory>
+        requires { 12 ≤ length section.now }
+        ensures turned { OnOk result (Turns self.old self.new out.old.items out.new.items (λ s. turned_by_table (with_handled pid section.now s))) }
+        ensures grows { take (length out.old.items) out.new.items ≡ out.old.items }
+    {
+        self.services.feed(pid, section)?;
+        let gone = self.store.set_components(&self.services)?;
+        push_gone_lines(gone.as_slice(), out)
+    }
+
+    // Takes a section of the component on its PID.
+    fn take_data(
+        &mut self,
+        pid: u16,
+        component: u8,
+        section: &[u8],
+        out: &mut Vec<u8>,
+    ) -> Result<(), NoMemory>
+        requires section { 12 ≤ length section.now }
+        requires unread { reads_table self.old.services.selection self.old.services.service pid ≡ false }
+        requires component { tag_in self.old.services.map pid ≡ Some component }
+        ensures turned { OnOk result (Turns self.old self.new out.old.items out.new.items (λ s. turned_by_component component section.now (with_handled pid section.now s))) }
+        ensures grows { take (length out.old.items) out.new.items ≡ out.old.items }
+    {
+        if !self.store.has_component(component) {
+            return Ok(());
+        }
+        let changes = self.store.feed(component, section)?;
+        push_change_lines(component, changes.as_slice(), out)
+    }
+}
