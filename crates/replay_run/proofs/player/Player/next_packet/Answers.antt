@@ -5,7 +5,7 @@ use Rattle.replay_run.proofs.player.Player.next_packet.Goals as goal
 
 pub returns-then-not-wants-clause-handled : goal.returns-then-not-wants-clause-handled
 returns-then-not-wants-clause-handled g c = λ left selection stream first inputs ahead m. midway_packet selection stream first left _ _ inputs ahead _ _ _ c.skip_packet.ensures.gives c.skip_packet.ensures.ended
-    (λ before given s. c.wants.ensures.passes (search rules) selection before given _ (sym c.front_pid.ensures) s) m
+    (λ before given s. c.wants.ensures.passes (search rules) c.requires.idle.drained selection before given _ (sym c.front_pid.ensures) s) m
 
 pub returns-clause-handled : goal.returns-clause-handled
 returns-clause-handled g c = on_ok_weaker c.turns.result
