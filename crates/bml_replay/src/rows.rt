@@ -5,6 +5,7 @@ ghost use Rattle.std.specs.Prelude.{IfOk};
 ghost use Rattle.bml_ports.specs.MemoryWorlds.{told_by_world};
 ghost use Rattle.replay_run.specs.Opening.{IsUnasked};
 
+mod shuffled;
 mod streams;
 
 use crate::rows::streams::{Announced, DATA_PID, Entry, Sent, Stream};
