@@ -1,16 +1,13 @@
--- The laws of the CRC: the register holds the remainder, a byte comes in by the table, and a message with
--- its own CRC leaves nothing.
-use Rattle.std.proofs.Common.{◌≡◌, ℕ, ◌+◌, ◌*◌, ◌/◌, ◌%◌, ◌^◌, ◌<◌, ◌≤◌, ◌-◌, Bool, true, false, List, [], ◌∷◌, ◌++◌, length, get_or, drop, replicate, refl, sym, ap, ◌∙◌, arith, add-one, append-nil, length-append, drop-cons}
-use Rattle.std.specs.Int.{w32, to_be_bytes}
-use Rattle.std.specs.Prelude.{bit_xor}
-use Rattle.std.proofs.lemmas.List.{drop_all}
+-- The laws of the CRC: the register holds the remainder, a message with its own CRC leaves nothing, and the
+-- register takes in some bytes and then the rest.
+use Rattle.std.proofs.Common.{◌≡◌, ℕ, ◌+◌, ◌/◌, ◌^◌, ◌<◌, ◌≤◌, ◌-◌, Bool, true, false, List, [], ◌∷◌, ◌++◌, length, get_or, take, drop, replicate, refl, sym, ap, ◌∙◌, arith, add-one, append-nil, drop-cons}
+use Rattle.std.specs.Int.{w32, w64, to_be_bytes}
+use Rattle.std.proofs.lemmas.List.{drop_all, take-append-drop}
 use Rattle.std.proofs.lemmas.List.Concat.{flat_map-append}
-use Rattle.ts_sections.specs.declared.crc.TheConstants.{TABLE}
 use Rattle.ts_sections.specs.Crc.{add_at_front, bits_of_number, bits_of, number_of, dividend_of, remainder_of, register_behind}
 use Rattle.ts_sections.proofs.Adding.{add_comm, add_zeros, length-add}
-use Rattle.ts_sections.proofs.Register.{division, length-behind, behind-append, cancelled, left_behind, byte_in, behind-linear, added_twice, none_behind}
-use Rattle.ts_sections.proofs.Digits.{length-bits, bits-mod, bits-append, bits-xor, bits-shl, number-bits, bits-number}
-use Rattle.ts_sections.proofs.TableEntries.{table_entry}
+use Rattle.ts_sections.proofs.Register.{division, length-behind, behind-append, cancelled, behind-linear, added_twice, none_behind}
+use Rattle.ts_sections.proofs.Digits.{length-bits, bits-mod, bits-append, bits-zero, number-bits, bits-number}
 
 -- the register when the bits of bytes came in
 abbrev pub register_of : List ℕ → List Bool
@@ -29,24 +26,6 @@ bits-remainder bytes =
     ap (bits_of_number 32) (remainder_is_register bytes)
     ∙ ap (λ n. bits_of_number n (number_of (register_of bytes))) (sym (length-register_of bytes))
     ∙ bits-number (register_of bytes)
-
--- ---- one byte by the table
-pub by_table : (register byte : ℕ) → bit_xor (register / 2 ^ 24) byte < 256 → bits_of_number 32 (bit_xor (register * 2 ^ 8 % 2 ^ 32) (get_or TABLE (bit_xor (register / 2 ^ 24) byte) 0)) ≡ register_behind (bits_of_number 32 register) (bits_of_number 8 byte)
-by_table register byte h =
-    let i = bit_xor (register / 2 ^ 24) byte in
-    let high = bits_of_number 8 (register / 2 ^ 24) in
-    let low = bits_of_number 24 register in
-    let index : bits_of_number 8 i ≡ add_at_front high (bits_of_number 8 byte) = bits-xor 8 (register / 2 ^ 24) byte in
-    let size : length (left_behind (bits_of_number 8 i)) ≡ 32 =
-    length-behind (replicate 8 false) (bits_of_number 8 i ++ replicate 24 false) (omega (arith, length-append (bits_of_number 8 i) (replicate 24 false), length-bits 8 i)) in
-    let entry : bits_of_number 32 (get_or TABLE i 0) ≡ left_behind (bits_of_number 8 i) =
-    ap (bits_of_number 32) (table_entry i h) ∙ ap (λ n. bits_of_number n (number_of (left_behind (bits_of_number 8 i)))) (sym size) ∙ bits-number (left_behind (bits_of_number 8 i)) in
-    bits-xor 32 (register * 2 ^ 8 % 2 ^ 32) (get_or TABLE i 0)
-    ∙ ap (λ v. add_at_front v (bits_of_number 32 (get_or TABLE i 0))) (bits-shl register)
-    ∙ ap (add_at_front (low ++ replicate 8 false)) (entry ∙ ap left_behind index)
-    ∙ add_comm (low ++ replicate 8 false) (left_behind (add_at_front high (bits_of_number 8 byte)))
-    ∙ sym (byte_in high low (bits_of_number 8 byte) (length-bits 8 (register / 2 ^ 24)) (length-bits 24 register) (length-bits 8 byte))
-    ∙ ap (λ v. register_behind v (bits_of_number 8 byte)) (sym (bits-append 8 24 register))
 
 -- ---- a message with its own CRC
 pub bits_of-append : (a b : List ℕ) → bits_of (a ++ b) ≡ bits_of a ++ bits_of b
@@ -69,6 +48,22 @@ bits_of-four n =
     ∙ ap (λ v. bits_of_number 8 (n / 2 ^ 24) ++ v) (bits-append 8 16 n
     ∙ ap (λ v. bits_of_number 8 (n / 2 ^ 16) ++ v) (bits-append 8 8 n)))
 
+eight : {a b c d e f g h a' b' c' d' e' f' g' h' : List Bool} → a ≡ a' → b ≡ b' → c ≡ c' → d ≡ d' → e ≡ e' → f ≡ f' → g ≡ g' → h ≡ h' → a ++ (b ++ (c ++ (d ++ (e ++ (f ++ (g ++ (h ++ []))))))) ≡ a' ++ (b' ++ (c' ++ (d' ++ (e' ++ (f' ++ (g' ++ h'))))))
+eight {h = h} p q r t u v w x = cc (append-nil h)
+
+-- 64 bits are those of eight bytes
+pub bits_of-eight : (n : ℕ) → bits_of (to_be_bytes w64 n) ≡ bits_of_number 64 n
+unfolding bits_of
+bits_of-eight n =
+    eight (bits-mod 8 (n / 2 ^ 56)) (bits-mod 8 (n / 2 ^ 48)) (bits-mod 8 (n / 2 ^ 40)) (bits-mod 8 (n / 2 ^ 32)) (bits-mod 8 (n / 2 ^ 24)) (bits-mod 8 (n / 2 ^ 16)) (bits-mod 8 (n / 2 ^ 8)) (bits-mod 8 n)
+    ∙ sym (bits-append 8 56 n
+    ∙ ap (λ v. bits_of_number 8 (n / 2 ^ 56) ++ v) (bits-append 8 48 n
+    ∙ ap (λ v. bits_of_number 8 (n / 2 ^ 48) ++ v) (bits-append 8 40 n
+    ∙ ap (λ v. bits_of_number 8 (n / 2 ^ 40) ++ v) (bits-append 8 32 n
+    ∙ ap (λ v. bits_of_number 8 (n / 2 ^ 32) ++ v) (bits-append 8 24 n
+    ∙ ap (λ v. bits_of_number 8 (n / 2 ^ 24) ++ v) (bits-append 8 16 n
+    ∙ ap (λ v. bits_of_number 8 (n / 2 ^ 16) ++ v) (bits-append 8 8 n)))))))
+
 no_value : number_of (replicate 32 false) ≡ 0
 unfolding number_of
 no_value = refl
@@ -87,12 +82,8 @@ own_crc bytes =
     ∙ ap (λ n. replicate n false) (length-register_of bytes))
     ∙ no_value
 
-no_bits : bits_of_number 32 0 ≡ replicate 32 false
-unfolding bits_of_number
-no_bits = refl
-
 -- what a message and 32 bits more leave is what the sum of the register and these bits leads to
-behind_sum : (r c : List Bool) → length r ≡ 32 → length c ≡ 32 → register_behind r c ≡ register_behind (add_at_front r c) (replicate 32 false)
+pub behind_sum : (r c : List Bool) → length r ≡ 32 → length c ≡ 32 → register_behind r c ≡ register_behind (add_at_front r c) (replicate 32 false)
 behind_sum r c h k =
     let sum = add_at_front r c in
     let none : List Bool = replicate 32 false in
@@ -115,7 +106,7 @@ only_own_crc bytes crc fits e =
     let bits = bits_of_number 32 crc in
     let whole = bytes ++ to_be_bytes w32 crc in
     let start : List Bool = replicate 32 true in
-    let none : register_of whole ≡ replicate 32 false = sym (bits-remainder whole) ∙ ap (bits_of_number 32) e ∙ no_bits in
+    let none : register_of whole ≡ replicate 32 false = sym (bits-remainder whole) ∙ ap (bits_of_number 32) e ∙ bits-zero 32 in
     let parts : register_of whole ≡ register_behind register bits =
     ap (register_behind start) (bits_of-append bytes (to_be_bytes w32 crc))
     ∙ behind-append (bits_of bytes) (bits_of (to_be_bytes w32 crc)) start
@@ -125,7 +116,7 @@ only_own_crc bytes crc fits e =
     (sym (behind_sum register bits (length-register_of bytes) (length-bits 32 crc)) ∙ sym parts ∙ none) in
     sym (number-bits 32 crc fits) ∙ ap number_of (same_from_sum register bits (length-register_of bytes) (length-bits 32 crc) sum) ∙ sym (remainder_is_register bytes)
 
--- ---- the loop over bytes
+-- ---- the loops over bytes
 pub all_ones : bits_of_number 32 (2 ^ 32 - 1) ≡ replicate 32 true
 unfolding bits_of_number
 all_ones = refl
@@ -138,18 +129,25 @@ behind_more bytes i register after h e =
     ∙ sym (behind-append (bits_of_number 8 (get_or bytes i 0)) (bits_of (drop (i + 1) bytes)) (bits_of_number 32 register))
     ∙ ap (register_behind (bits_of_number 32 register)) (sym (bits_of-push (get_or bytes i 0) (drop (i + 1) bytes)) ∙ ap bits_of (sym next))
 
-no_bytes : bits_of [] ≡ []
-unfolding bits_of
-no_bytes = refl
-
-behind_none : (r : List Bool) → register_behind r [] ≡ r
-unfolding register_behind
-behind_none r = refl
+pub behind_nothing : (r : List Bool) → register_behind r (bits_of []) ≡ r
+unfolding register_behind bits_of
+behind_nothing r = refl
 
 -- all bytes came in
-pub behind_all : (bytes : List ℕ) (i register : ℕ) → length bytes ≤ i → register < 2 ^ 32 → register_behind (bits_of_number 32 register) (bits_of (drop i bytes)) ≡ register_of bytes → register ≡ remainder_of bytes
-behind_all bytes i register h fits e =
-    let all : drop i bytes ≡ [] = drop_all i bytes h in
-    let bits : bits_of_number 32 register ≡ register_of bytes =
-    sym (behind_none (bits_of_number 32 register)) ∙ ap (register_behind (bits_of_number 32 register)) (sym (ap bits_of all ∙ no_bytes)) ∙ e in
-    sym (number-bits 32 register fits) ∙ ap number_of bits ∙ sym (remainder_is_register bytes)
+pub behind_all : (bytes : List ℕ) (i : ℕ) (r : List Bool) → length bytes ≤ i → register_behind r (bits_of (drop i bytes)) ≡ r
+behind_all bytes i r h = ap (λ v. register_behind r (bits_of v)) (drop_all i bytes h) ∙ behind_nothing r
+
+-- some bytes came in, and then the rest
+pub behind_both : (bytes first rest : List ℕ) (count register after : ℕ) → first ≡ take count bytes → rest ≡ drop count bytes → bits_of_number 32 after ≡ register_behind (bits_of_number 32 register) (bits_of first) → register_behind (bits_of_number 32 after) (bits_of rest) ≡ register_behind (bits_of_number 32 register) (bits_of bytes)
+behind_both bytes first rest count register after p q e =
+    let own = bits_of_number 32 register in
+    let whole : first ++ rest ≡ bytes =
+    ap (λ v. v ++ rest) p ∙ ap (λ v. take count bytes ++ v) q ∙ take-append-drop count bytes in
+    ap (λ v. register_behind v (bits_of rest)) e
+    ∙ sym (behind-append (bits_of first) (bits_of rest) own)
+    ∙ ap (register_behind own) (sym (bits_of-append first rest) ∙ ap bits_of whole)
+
+-- the register is the remainder when all bytes came in
+pub register_is_remainder : (bytes : List ℕ) (register : ℕ) → register < 2 ^ 32 → bits_of_number 32 register ≡ register_of bytes → register ≡ remainder_of bytes
+register_is_remainder bytes register fits e =
+    sym (number-bits 32 register fits) ∙ ap number_of e ∙ sym (remainder_is_register bytes)

@@ -1,10 +1,10 @@
 -- Numbers and their bits.
-use Rattle.std.proofs.Common.{◌≡◌, ℕ, zero, suc, ◌+◌, ◌*◌, ◌/◌, ◌%◌, ◌^◌, ◌<◌, ◌==◌, Bool, true, false, cond, List, [], ◌∷◌, ◌++◌, length, replicate, fold, refl, sym, ap, ◌∙◌, arith, zero-add}
+use Rattle.std.proofs.Common.{◌≡◌, ℕ, zero, suc, ◌+◌, ◌*◌, ◌/◌, ◌%◌, ◌^◌, ◌<◌, ◌==◌, Bool, true, false, cond, List, [], ◌∷◌, ◌++◌, length, replicate, fold, refl, sym, ap, ◌∙◌, subst, arith, zero-add}
 use Rattle.std.specs.Int.{bit_at}
 use Rattle.std.specs.Prelude.{bit_xor}
-use Rattle.std.proofs.lemmas.Nat.{shr-shr, mod-pow-add, shr_split, shr_high, field_of, shl-shr}
-use Rattle.std.proofs.lemmas.Nat.Bits.{bit_at_xor, bit_at-lt, bit_at_cat_low}
-use Rattle.std.proofs.Math.Nat.{pow-suc, mod-eq_of_lt}
+use Rattle.std.proofs.lemmas.Nat.{shr-shr, mod-pow-add, shr_split, shr_high, shl-shr}
+use Rattle.std.proofs.lemmas.Nat.Bits.{bit_at_xor, bit_at-lt, bit_at_cat_low, bit_at-zero}
+use Rattle.std.proofs.Math.Nat.{pow-suc, mod-eq_of_lt, mul-mod_left}
 use Rattle.ts_sections.specs.Crc.{bit_sum, add_at_front, bits_of_number, number_of}
 use Rattle.ts_sections.proofs.Adding.{both}
 
@@ -45,19 +45,20 @@ unfolding bits_of_number add_at_front
 bits-xor zero m n = refl
 bits-xor (suc k) m n = both (ap (λ v. v == 1) (bit_at_xor m n k) ∙ bit_sum_test (bit_at m k) (bit_at n k) (bit_at-lt m k) (bit_at-lt n k)) (bits-xor k m n)
 
-no_bits : bits_of_number 8 0 ≡ replicate 8 false
+pub bits-zero : (k : ℕ) → bits_of_number k 0 ≡ replicate k false
 unfolding bits_of_number
-no_bits = refl
+bits-zero zero = refl
+bits-zero (suc k) = both (ap (λ v. v == 1) (bit_at-zero k)) (bits-zero k)
 
--- a shift by a byte at 32 bits
-pub bits-shl : (n : ℕ) → bits_of_number 32 (n * 2 ^ 8 % 2 ^ 32) ≡ bits_of_number 24 n ++ replicate 8 false
-bits-shl n =
-    let none : n * 2 ^ 8 % 2 ^ 32 % 2 ^ 8 ≡ 0 = omega arith in
-    let low : bits_of_number 8 (n * 2 ^ 8 % 2 ^ 32) ≡ replicate 8 false =
-    sym (bits-mod 8 (n * 2 ^ 8 % 2 ^ 32)) ∙ ap (bits_of_number 8) none ∙ no_bits in
-    let high : bits_of_number 24 (n * 2 ^ 8 % 2 ^ 32 / 2 ^ 8) ≡ bits_of_number 24 n =
-    ap (bits_of_number 24) (field_of (n * 2 ^ 8) 24 8 ∙ ap (λ v. v % 2 ^ 24) (shl-shr n 8)) ∙ bits-mod 24 n in
-    bits-append 24 8 (n * 2 ^ 8 % 2 ^ 32) ∙ ap (λ v. v ++ bits_of_number 8 (n * 2 ^ 8 % 2 ^ 32)) high ∙ ap (λ v. bits_of_number 24 n ++ v) low
+-- a shift within the width
+pub bits-shl : (high low n : ℕ) → bits_of_number (high + low) (n * 2 ^ low % 2 ^ (high + low)) ≡ bits_of_number high n ++ replicate low false
+bits-shl high low n =
+    let none : bits_of_number low (n * 2 ^ low) ≡ replicate low false =
+    sym (bits-mod low (n * 2 ^ low)) ∙ ap (bits_of_number low) (mul-mod_left n (2 ^ low)) ∙ bits-zero low in
+    bits-mod (high + low) (n * 2 ^ low)
+    ∙ bits-append high low (n * 2 ^ low)
+    ∙ ap (λ v. bits_of_number high v ++ bits_of_number low (n * 2 ^ low)) (shl-shr n low)
+    ∙ ap (λ v. bits_of_number high n ++ v) none
 
 -- ---- the number that bits make
 abbrev pub value : Bool → ℕ
@@ -76,6 +77,10 @@ number-lt : (bits : List Bool) → number_after 0 bits < 2 ^ length bits
 number-lt [] = omega arith
 number-lt (true ∷ bits) = omega (arith, number_after-low bits (0 + 1), number-lt bits, pow-suc 2 (length bits))
 number-lt (false ∷ bits) = omega (arith, number_after-low bits (0 + 0), number-lt bits, pow-suc 2 (length bits))
+
+pub number_of-lt : (bits : List Bool) (k : ℕ) → length bits ≡ k → number_of bits < 2 ^ k
+unfolding number_of
+number_of-lt bits k h = subst (λ n. number_after 0 bits < 2 ^ n) h (number-lt bits)
 
 digit : (b : Bool) → (value b == 1) ≡ b
 digit true = refl

@@ -1,8 +1,10 @@
 pub mod Adding
 pub mod Digits
 pub mod Register
-pub mod TableEntries
 pub mod CrcLaws
+pub mod Tables
+pub mod EightBytes
+pub mod TableEntries
 pub mod PieceLemmas
 pub mod TokenLemmas
 pub mod RunLemmas
