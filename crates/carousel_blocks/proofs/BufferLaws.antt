@@ -156,6 +156,18 @@ view_with shape bytes marks number block room unmarked =
     ap (λ (l : List (Option (List ℕ))). let k : BufferState = record { shape = shape; blocks = l } in k)
     (blocks_in-written shape.block_size marks bytes block number (number * shape.block_size) unmarked refl room.start room.size)
 
+-- what the fields say
+abbrev pub viewed : Shape → List Bool → List ℕ → BufferState
+viewed shape marks bytes = record { shape = shape; blocks = blocks_in shape.block_size marks bytes }
+
+pub unmarked_by : (shape : Shape) (marks : List Bool) (bytes : List ℕ) (n : ℕ) (v : BufferState) → viewed shape marks bytes ≡ v → is_missing (slice_get v.blocks n) ≡ true → is_unmarked (slice_get marks n) ≡ true
+unmarked_by shape marks bytes n v e h = sym (is_missing-blocks_in shape.block_size marks bytes n) ∙ ap (λ (w : BufferState). is_missing (slice_get w.blocks n)) e ∙ h
+
+pub room_by : (shape : Shape) (marks : List Bool) (bytes : List ℕ) (missing n : ℕ) (block : List ℕ) (v : BufferState) → viewed shape marks bytes ≡ v → IsSound shape.block_size shape.size bytes marks missing
+    → is_missing (slice_get v.blocks n) ≡ true → length block ≡ shape_length v.shape n → HasRoom shape bytes n block
+room_by shape marks bytes missing n block v e sound h l =
+    has_room shape bytes marks missing n block sound (l ∙ ap (λ (w : BufferState). shape_length w.shape n) (sym e)) (unmarked_by shape marks bytes n v e h)
+
 -- ---- all blocks
 
 pub is_some-joined : (blocks : List (Option (List ℕ))) → is_some (joined blocks) ≡ all_came blocks
@@ -187,6 +199,75 @@ joined_all size (true ∷ marks) bytes h l =
 
     shorter : (count : ℕ) → length (drop size bytes) ≤ length marks * size
     shorter count = let e = suc_times (length marks) size in let d = length-drop size bytes in omega arith
+
+-- ---- a block is written, but not marked
+
+pub blocks_in-staged : (size : ℕ) (marks : List Bool) (bytes block : List ℕ) (place start : ℕ) → is_unmarked (slice_get marks place) ≡ true → start ≡ place * size → start ≤ length bytes → length block ≡ min size (length bytes - start) → blocks_in size marks (overwritten start block bytes) ≡ blocks_in size marks bytes
+blocks_in-staged size [] bytes block place start h s within l = refl
+blocks_in-staged size (true ∷ marks) bytes block zero start h s within l = cc
+blocks_in-staged size (false ∷ marks) bytes block zero start h s within l =
+    let z : start ≡ 0 = omega arith in
+    let w = written_first size block bytes (let e : length block ≡ min size (length bytes) = omega arith in e) in
+    let o : overwritten start block bytes ≡ block ++ drop (length block) bytes = ap (λ k. overwritten k block bytes) z ∙ ap (λ k. block ++ drop k bytes) (let e : 0 + length block ≡ length block = omega arith in e) in
+    ap (λ (x : List ℕ). None ∷ blocks_in size marks (drop size x)) o ∙ ap (λ x. None ∷ blocks_in size marks x) w.1
+blocks_in-staged size (true ∷ marks) bytes block (suc place) start h s within l =
+    let e : start ≡ size + place * size = s ∙ suc_times place size in
+    let a = take-overwritten size start block bytes (omega arith) within in
+    let b = drop-overwritten size (place * size) start block bytes e within in
+    let again = blocks_in-staged size marks (drop size bytes) block place (place * size) h refl (omega (arith, length-drop size bytes)) (let m : length block ≡ min size (length (drop size bytes) - place * size) = omega (arith, length-drop size bytes) in m) in
+    ap₂ (λ x y. Some x ∷ blocks_in size marks y) a b ∙ ap (λ (x : List (Option (List ℕ))). Some (take size bytes) ∷ x) again
+  where
+    suc_times : (p n : ℕ) → suc p * n ≡ n + p * n
+    suc_times p n = grind arith
+blocks_in-staged size (false ∷ marks) bytes block (suc place) start h s within l =
+    let e : start ≡ size + place * size = s ∙ suc_times place size in
+    let b = drop-overwritten size (place * size) start block bytes e within in
+    let again = blocks_in-staged size marks (drop size bytes) block place (place * size) h refl (omega (arith, length-drop size bytes)) (let m : length block ≡ min size (length (drop size bytes) - place * size) = omega (arith, length-drop size bytes) in m) in
+    ap (λ y. None ∷ blocks_in size marks y) b ∙ ap (λ (x : List (Option (List ℕ))). None ∷ x) again
+  where
+    suc_times : (p n : ℕ) → suc p * n ≡ n + p * n
+    suc_times p n = grind arith
+
+pub sound_staged : (shape : Shape) (bytes : List ℕ) (marks : List Bool) (missing number : ℕ) (block : List ℕ) → IsSound shape.block_size shape.size bytes marks missing → HasRoom shape bytes number block → IsSound shape.block_size shape.size (overwritten (number * shape.block_size) block bytes) marks missing
+sound_staged shape bytes marks missing number block sound room =
+    record {
+      size_is = length-overwritten (number * shape.block_size) block bytes (ends_within shape bytes number block room) ∙ sound.size_is;
+      count = sound.count;
+      missing_is = sound.missing_is;
+      covers = sound.covers;
+    }
+
+pub view_staged : (shape : Shape) (bytes : List ℕ) (marks : List Bool) (number : ℕ) (block : List ℕ) → HasRoom shape bytes number block → is_unmarked (slice_get marks number) ≡ true
+    → ◌≡◌ {A = BufferState} (record { shape = shape; blocks = blocks_in shape.block_size marks (overwritten (number * shape.block_size) block bytes) })
+    (record { shape = shape; blocks = blocks_in shape.block_size marks bytes })
+view_staged shape bytes marks number block room unmarked =
+    ap (λ (l : List (Option (List ℕ))). let k : BufferState = record { shape = shape; blocks = l } in k)
+    (blocks_in-staged shape.block_size marks bytes block number (number * shape.block_size) unmarked refl room.start room.size)
+
+-- the bytes, where no block is missing
+pub joined_sound : (size total : ℕ) (bytes : List ℕ) (marks : List Bool) (missing : ℕ) → IsSound size total bytes marks missing → missing ≡ 0 → joined (blocks_in size marks bytes) ≡ Some bytes
+joined_sound size total bytes marks missing sound none =
+    joined_all size marks bytes (let m = sound.missing_is in omega arith) (let s = sound.size_is in let k = sound.covers in rw sound.count (omega arith))
+
+-- no bytes, where one is
+pub joined_unsound : (size total : ℕ) (bytes : List ℕ) (marks : List Bool) (missing : ℕ) → IsSound size total bytes marks missing → 0 < missing → None ≡ joined (blocks_in size marks bytes)
+joined_unsound size total bytes marks missing sound some =
+    joined_none (blocks_in size marks bytes) (sym (complete_by_missing size marks bytes) ∙ more (missing_in marks) (let m = sound.missing_is in omega arith)) where
+      more : (n : ℕ) → 0 < n → (n == 0) ≡ false
+      more n h = grind arith
+
+-- the bytes with the block, where it is the only one that is missing
+pub whole_staged : (shape : Shape) (bytes : List ℕ) (marks : List Bool) (missing number : ℕ) (block : List ℕ) → IsSound shape.block_size shape.size bytes marks missing → HasRoom shape bytes number block → is_unmarked (slice_get marks number) ≡ true → missing ≤ 1
+    → Some (overwritten (number * shape.block_size) block bytes) ≡ joined (slice_set (blocks_in shape.block_size marks bytes) number (Some block))
+whole_staged shape bytes marks missing number block sound room unmarked last =
+    sym (joined_sound shape.block_size shape.size (overwritten (number * shape.block_size) block bytes) (slice_set marks number true) (missing - 1) (sound_with shape bytes marks missing number block sound room unmarked) (omega arith))
+    ∙ ap (λ b. joined b.blocks) (view_with shape bytes marks number block room unmarked)
+
+pub part_staged : (shape : Shape) (bytes : List ℕ) (marks : List Bool) (missing number : ℕ) (block : List ℕ) → IsSound shape.block_size shape.size bytes marks missing → HasRoom shape bytes number block → is_unmarked (slice_get marks number) ≡ true → 1 < missing
+    → None ≡ joined (slice_set (blocks_in shape.block_size marks bytes) number (Some block))
+part_staged shape bytes marks missing number block sound room unmarked more =
+    joined_unsound shape.block_size shape.size (overwritten (number * shape.block_size) block bytes) (slice_set marks number true) (missing - 1) (sound_with shape bytes marks missing number block sound room unmarked) (omega arith)
+    ∙ ap (λ b. joined b.blocks) (view_with shape bytes marks number block room unmarked)
 
 -- so many blocks of that size are at least as many bytes
 pub covered : (block_size size : ℕ) → size ≤ block_count (suc block_size) size * suc block_size

@@ -11,3 +11,6 @@ pub mod NumberLaws
 pub mod ChangeLaws
 pub mod ToldLaws
 pub mod SectionLaws
+pub mod StageLaws
+pub mod EntryLaws
+pub mod SizeLaws

@@ -31,7 +31,7 @@ use Rattle.carousel_blocks.proofs.NumberLaws.{increasing-filter_map, filter_map-
 -- ---- a change, by what is kept
 
 -- the change of a module by what is kept of it before and now
-abbrev change_between : ℕ → Option Kept → Option Kept → Option Change
+abbrev pub change_between : ℕ → Option Kept → Option Kept → Option Change
 change_between n old new = change_of n (standing_kept old) (standing_kept new) (option_and_then bytes_kept old) (option_and_then bytes_kept new)
 
 pub standing_of-kept : (h : List Message) (n : ℕ) → standing_of (in_force h) n ≡ standing_kept (kept h n)
@@ -40,7 +40,7 @@ standing_of-kept h n = by (standing_of (in_force h) n) where
   by None = refl
   by (Some s) = refl
 
-change_at-kept : (before now : List Message) (n : ℕ) → change_at before now n ≡ change_between n (kept before n) (kept now n)
+pub change_at-kept : (before now : List Message) (n : ℕ) → change_at before now n ≡ change_between n (kept before n) (kept now n)
 unfolding held
 change_at-kept before now n =
     ap₂ (λ (x y : Option Standing). change_of n x y (option_and_then bytes_kept (kept before n)) (option_and_then bytes_kept (kept now n))) (standing_of-kept before n) (standing_of-kept now n)
@@ -91,7 +91,7 @@ changes-repeated h dii e = changes-none h (h ++ Indication dii ∷ []) (λ n. ke
 
 -- ---- a block
 
-not_true : (b : Bool) → (b ≡ true → b ≡ false) → b ≡ false
+pub not_true : (b : Bool) → (b ≡ true → b ≡ false) → b ≡ false
 not_true true h = h refl
 not_true false h = refl
 
@@ -100,7 +100,7 @@ standing_number None n s h = cc
 standing_number (Some dii) n s h = found_number n (standings dii) s h
 
 -- a block changes nothing of other modules
-kept-others : (h : List Message) (block : DataBlock) (n : ℕ) → n ≢ block.«module» → kept (h ++ Data block ∷ []) n ≡ kept h n
+pub kept-others : (h : List Message) (block : DataBlock) (n : ℕ) → n ≢ block.«module» → kept (h ++ Data block ∷ []) n ≡ kept h n
 kept-others h block n other = kept-data h block n ∙ by (standing_of (in_force h) n) (counting None n h) refl where
   by : (x : Option Standing) (c : List DataBlock) → standing_of (in_force h) n ≡ x → option_map (with_block block) (option_map (kept_with c) x) ≡ option_map (kept_with c) x
   by None c e = refl
@@ -113,7 +113,7 @@ unfolding changes
 changes-block h block fits =
     filter_map-one (change_at h (h ++ Data block ∷ [])) block.«module» 0 number_bound (omega arith) (omega arith) (λ n other. same_kept h (h ++ Data block ∷ []) n (kept-others h block n other))
 
-missing_one : (blocks : List (Option (List ℕ))) (n : ℕ) → is_missing (slice_get blocks n) ≡ true → all_came blocks ≡ false
+pub missing_one : (blocks : List (Option (List ℕ))) (n : ℕ) → is_missing (slice_get blocks n) ≡ true → all_came blocks ≡ false
 missing_one [] n h = cc
 missing_one (None ∷ blocks) n h = refl
 missing_one (Some b ∷ blocks) zero h = cc
@@ -127,7 +127,7 @@ second : (a b : Bool) → (a && b) ≡ true → b ≡ true
 second true b h = h
 second false b h = cc
 
-unskipped : (s : Standing) (skip : Option SkipCause) (n : ℕ) → n < asked_count s skip → skip ≡ None
+pub unskipped : (s : Standing) (skip : Option SkipCause) (n : ℕ) → n < asked_count s skip → skip ≡ None
 unskipped s None n p = refl
 unskipped s (Some cause) n p = absurd (omega arith)
 
@@ -180,7 +180,7 @@ changes-ignored h block ignored = nothing_changes h (h ++ Data block ∷ []) (λ
 -- ---- another DII
 
 -- a module whose entry is unchanged keeps its bytes
-bytes_stay : (old : ℕ → Option Kept) (n : ℕ) (k l : Kept) (f : Option Standing) → old n ≡ Some k → ((s : Standing) → f ≡ Some s → s.entry.id ≡ n) → Some l ≡ option_map (kept_for old) f
+pub bytes_stay : (old : ℕ → Option Kept) (n : ℕ) (k l : Kept) (f : Option Standing) → old n ≡ Some k → ((s : Standing) → f ≡ Some s → s.entry.id ≡ n) → Some l ≡ option_map (kept_for old) f
     → same_standing k.standing l.standing ≡ true → bytes_kept l ≡ bytes_kept k
 bytes_stay old n k l None there number is same = cc
 bytes_stay old n k l (Some s) there number is same =
@@ -266,10 +266,10 @@ changes-left c none absent h s =
 -- ---- what the fields say
 
 module _ {S : Type 0} where
-  abbrev viewed : Option ℕ → HashMap ℕ Module S → Buffers → CarouselState
+  abbrev pub viewed : Option ℕ → HashMap ℕ Module S → Buffers → CarouselState
   viewed transaction modules buffers = record { transaction = transaction; modules = entries_kept modules buffers }
 
-  kept_at-known : (transaction : Option ℕ) (modules : HashMap ℕ Module S) (buffers : Buffers) (v : CarouselState) → viewed transaction modules buffers ≡ v → (n : ℕ) → kept_at modules buffers n ≡ kept_in v n
+  pub kept_at-known : (transaction : Option ℕ) (modules : HashMap ℕ Module S) (buffers : Buffers) (v : CarouselState) → viewed transaction modules buffers ≡ v → (n : ℕ) → kept_at modules buffers n ≡ kept_in v n
   kept_at-known transaction modules buffers v e n = sym (kept_in-view transaction modules buffers n) ∙ ap (λ x. kept_in x n) e
 
   -- the changes between the modules are those between what is kept

@@ -8,3 +8,4 @@ pub mod Drafts
 pub mod Changes
 pub mod Steps
 pub mod Order
+pub mod Staging

@@ -1,6 +1,8 @@
 //! The bytes of one module, as its blocks come.
 
-ghost use Rattle.std.specs.Prelude.{◌≡◌, ◌≤◌, ◌+◌, ◌*◌, true, IfOk, length, slice_get, option_copied};
+ghost use Rattle.std.specs.Prelude.{◌≡◌, ◌≤◌, ◌+◌, ◌*◌, true, IfOk, length, slice_get, slice_set, Some, option_copied};
+ghost use Rattle.std.specs.Borrow.{sem};
+ghost use Rattle.std.specs.Io.BufRead.{Rests};
 ghost use Rattle.carousel_blocks.specs.Buffers.{is_unmarked, overwritten};
 
 use crate::standing::block_count;
@@ -50,6 +52,7 @@ impl Model for Buffer {
 }
 
 impl Buffer {
+    ghost use Rattle.carousel_blocks.specs.contracts.buffer.Buffer.{the_row};
     ghost use Rattle.carousel_blocks.specs.Held.{joined};
     ghost use Rattle.carousel_blocks.specs.Buffers.{shape_count, shape_length, without_blocks, with_block_at, is_missing, all_came};
 
@@ -99,6 +102,22 @@ impl Buffer {
         write_block(&mut self.bytes, start, block);
         self.marks[place] = true;
         self.missing -= 1;
+    }
+
+    /// Writes a block that didn't come yet into its place, where it counts for nothing until `put` is told it. The
+    /// module's bytes, where it is the only one that didn't come.
+    pub fn stage(&mut self, number: u16, block: &[u8]) -> Option<&[u8]>
+        requires missing { is_missing (slice_get self.old.blocks number) ≡ true }
+        requires length { length block.now ≡ shape_length self.old.shape number }
+        ensures* same { sem 𝓛 (Rests the_row self.entry (λ new. new ≡ self.old)) }
+        ensures whole { option_copied result ≡ joined (slice_set self.old.blocks number (Some block.now)) }
+    {
+        let start = self.shape.start_of(number);
+        write_block(&mut self.bytes, start, block);
+        if self.missing > 1 {
+            return None;
+        }
+        Some(self.bytes.as_slice())
     }
 
     /// The module's bytes, once each block came.

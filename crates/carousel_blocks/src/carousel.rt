@@ -1,12 +1,16 @@
 //! The carousel of one component.
 
-ghost use Rattle.std.specs.Prelude.{◌≡◌, ◌≤◌, ◌++◌, [], ◌∷◌, List, length, Option, option_copied};
+ghost use Rattle.std.specs.Prelude.{◌≡◌, ◌≤◌, ◌++◌, [], ◌∷◌, List, length, Option, option_copied, option_map};
 ghost use Rattle.std.specs.Prelude.{Ok, IsOk, IfOk, OnOk, OnErr};
+ghost use Rattle.std.specs.Borrow.{sem};
+ghost use Rattle.std.specs.Io.BufRead.{Rests};
 ghost use Rattle.dsmcc_messages.specs.Ddb.{fields_of};
 
 use crate::buffer::Buffer;
 use crate::changes::{Change, changes_between, next_modules};
-use crate::modules::{Module, Modules, give_back_unused, put_block, standing_at, whole_of};
+use crate::modules::{
+    Module, Modules, asked_key, give_back_unused, put_block, stage_in, standing_at, whole_of,
+};
 use crate::put::Put;
 use crate::standing::SkipCause;
 use bml_bytes::{NoMemory, TableRefusal};
@@ -48,7 +52,9 @@ impl Carousel {
     ghost use Rattle.carousel_blocks.specs.Carousel.{StandsFor, KeepsSame, kept_in};
     ghost use Rattle.carousel_blocks.specs.Carousel.{entry_in_force, skip_in_force, put_after};
     ghost use Rattle.carousel_blocks.specs.Changes.{changes, departures};
-    ghost use Rattle.carousel_blocks.specs.Steps.{TakesDii, TakesBlock, is_in_force, entry_changes, block_change};
+    ghost use Rattle.carousel_blocks.specs.Steps.{TakesDii, TakesBlock, is_in_force, entry_changes, block_change, whole_to};
+    ghost use Rattle.carousel_blocks.specs.Staging.{made_whole};
+    ghost use Rattle.carousel_blocks.specs.contracts.carousel.Carousel.{the_row};
 
     /// A carousel of which no message came.
     pub fn new(alloc: Global) -> Carousel
@@ -84,6 +90,21 @@ impl Carousel {
         }
     }
 
+    /// Readies the next section: where its block is the last that is missing of a module, tells the module, and the
+    /// bytes that it has once [`take`](Carousel::take) was told the section. Nothing is kept by it, and this takes no
+    /// memory.
+    pub fn stage(&mut self, section: &[u8]) -> Option<(u16, &[u8])>
+        requires { 12 ≤ length section.now }
+        ensures* same { sem 𝓛 (Rests the_row self.entry (λ new. new ≡ self.old)) }
+        ensures whole { (messages : List Message) → StandsFor self.old messages
+            → option_map (λ found. (found.0, found.1.now)) result ≡ made_whole messages section.now }
+    {
+        match read_ddb(section) {
+            Ok(ddb) => self.stage_block(&ddb),
+            Err(_) => None,
+        }
+    }
+
     /// What goes where the component leaves: each module of the DII in force, in ascending number.
     pub fn departures(&self) -> Result<Vec<Change>, NoMemory>
         ensures { IfOk result (λ found. (messages : List Message) → StandsFor self.now messages
@@ -115,6 +136,13 @@ impl Carousel {
         ensures answer { (messages : List Message) → StandsFor self.old messages → result ≡ Ok (put_after messages (fields_of ddb.now)) }
     {
         Ok(self.put_block(ddb))
+    }
+
+    /// The transactionId of the DII in force; None where no DII came.
+    pub fn transaction(&self) -> Option<u32>
+        ensures { (messages : List Message) → StandsFor self.now messages → result ≡ option_map (λ dii. dii.transaction) (in_force messages) }
+    {
+        self.transaction
     }
 
     /// The entry of a module in the DII in force; None where there is none.
@@ -221,6 +249,18 @@ impl Carousel {
                 Ok(changes)
             }
         }
+    }
+
+    // Writes a block into the buffer of the module that asks for it, and marks it not. The module and its bytes, where
+    // each other block came.
+    fn stage_block(&mut self, ddb: &Ddb<'_>) -> Option<(u16, &[u8])>
+        ensures* same { sem 𝓛 (Rests the_row self.entry (λ new. new ≡ self.old)) }
+        ensures whole { option_map (λ found. (found.0, found.1.now)) result ≡ whole_to (kept_in self.old ddb.now.«module») (fields_of ddb.now) }
+    {
+        let key = asked_key(&self.modules, ddb)?;
+        let buffer = self.buffers.get_mut(key)?;
+        let bytes = stage_in(buffer, ddb.number, ddb.block)?;
+        Some((ddb.module, bytes))
     }
 
     fn put_block(&mut self, ddb: &Ddb<'_>) -> Put

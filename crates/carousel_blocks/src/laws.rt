@@ -1,16 +1,18 @@
 //! What the definitions say, as laws.
 
-ghost use Rattle.std.specs.Prelude.{◌≡◌, ◌↔◌, ◌<◌, ◌^◌, ℕ, List, [], ◌∷◌, ◌++◌, Contains};
-ghost use Rattle.std.specs.Prelude.{None, Some, option_to_list, map};
+ghost use Rattle.std.specs.Prelude.{◌≡◌, ◌↔◌, ◌<◌, ◌≤◌, ◌^◌, ℕ, true, List, [], ◌∷◌, ◌++◌, length, Contains};
+ghost use Rattle.std.specs.Prelude.{None, Some, is_some, option_map, option_to_list, map};
 ghost use Rattle.std.specs.List.Sorted.{IsStrictlyIncreasing};
 ghost use Rattle.dsmcc_messages.specs.declared.dii.Dii.{Dii};
 ghost use Rattle.dsmcc_messages.specs.Ddb.{DataBlock};
 ghost use Rattle.carousel_blocks.specs.Message.{Message, Indication, Data};
 ghost use Rattle.carousel_blocks.specs.InForce.{in_force, standing_of};
 ghost use Rattle.carousel_blocks.specs.Held.{CountsAt, counting, held};
-ghost use Rattle.carousel_blocks.specs.Carousel.{put_after};
+ghost use Rattle.carousel_blocks.specs.declared.changes.Change.{Change};
+ghost use Rattle.carousel_blocks.specs.Carousel.{put_after, entry_in_force};
 ghost use Rattle.carousel_blocks.specs.Changes.{change_at, changes};
 ghost use Rattle.carousel_blocks.specs.Order.{AreConsistent, OnlyRepeats, SameBlocks};
+ghost use Rattle.carousel_blocks.specs.Staging.{IsSameModule, whole_with};
 
 use crate::put::Put;
 
@@ -48,4 +50,53 @@ pub fn law_of_block_change()
 /// Changes come in ascending module number, at most one a module.
 pub fn law_of_change_order()
     ensures { (before now : List Message) → IsStrictlyIncreasing (map (λ change. change.«module») (changes before now)) }
+{}
+
+/// A module of which no change is told when a message comes is the same as before.
+pub fn law_of_same_modules()
+    ensures { (messages : List Message) (message : Message) (number : ℕ) → change_at messages (messages ++ message ∷ []) number ≡ None
+        → IsSameModule messages (messages ++ message ∷ []) number }
+{}
+
+/// A module whose entry is new or another one, and that is held at once, has no bytes.
+pub fn law_of_new_entries()
+    ensures { (messages : List Message) (message : Message) (number : ℕ) (change : Change) (bytes : List ℕ)
+        → change_at messages (messages ++ message ∷ []) number ≡ Some change → is_some change.status ≡ true
+        → held (messages ++ message ∷ []) number ≡ Some bytes → bytes ≡ [] }
+{}
+
+/// A module of which a change without status is told is the one that the message's block makes whole: it was announced
+/// with the same info, and wasn't held.
+pub fn law_of_completed_modules()
+    ensures whole { (messages : List Message) (message : Message) (number : ℕ) (change : Change)
+        → change_at messages (messages ++ message ∷ []) number ≡ Some change → change.status ≡ None
+        → (bytes : List ℕ) × (held (messages ++ message ∷ []) number ≡ Some bytes)
+        × (whole_with messages (Some message) ≡ Some (number, bytes)) }
+    ensures info { (messages : List Message) (message : Message) (number : ℕ) (change : Change)
+        → change_at messages (messages ++ message ∷ []) number ≡ Some change → change.status ≡ None
+        → option_map (λ entry. entry.info) (entry_in_force (messages ++ message ∷ []) number)
+        ≡ option_map (λ entry. entry.info) (entry_in_force messages number) }
+    ensures before { (messages : List Message) (message : Message) (number : ℕ) (change : Change)
+        → change_at messages (messages ++ message ∷ []) number ≡ Some change → change.status ≡ None
+        → held messages number ≡ None }
+    ensures change { (messages : List Message) (message : Message) (number : ℕ) (bytes : List ℕ)
+        → whole_with messages (Some message) ≡ Some (number, bytes)
+        → (change : Change) × (change_at messages (messages ++ message ∷ []) number ≡ Some change)
+        × (change.status ≡ None) }
+{}
+
+/// The bytes of a module that is held are as many as its entry says, and at most 1,048,576.
+pub fn law_of_held_sizes()
+    ensures size { (messages : List Message) (number : ℕ) (bytes : List ℕ) → held messages number ≡ Some bytes
+        → option_map (λ entry. entry.size) (entry_in_force messages number) ≡ Some (length bytes) }
+    ensures limit { (messages : List Message) (number : ℕ) (bytes : List ℕ) → held messages number ≡ Some bytes
+        → length bytes ≤ 1048576 }
+{}
+
+/// The DII in force stays the same DII as long as its transactionId does.
+pub fn law_of_transactions()
+    ensures { (messages : List Message) (message : Message)
+        → option_map (λ dii. dii.transaction) (in_force (messages ++ message ∷ []))
+        ≡ option_map (λ dii. dii.transaction) (in_force messages)
+        → in_force (messages ++ message ∷ []) ≡ in_force messages }
 {}

@@ -5,7 +5,8 @@
 //! changes a carousel says that it then stands for the list with the new message behind it, and each answer is that
 //! of the list. Memory is taken for a module when its entry comes, and given back when its entry changes or goes; a
 //! block costs its copy and a look-up. `Carousel::take` also tells what each section changed: which modules came, went
-//! or changed, and which are held or skipped from then on.
+//! or changed, and which are held or skipped from then on. `Carousel::stage` tells beforehand which module a section
+//! makes whole, and with which bytes.
 #![tactic(auto)]
 
 mod buffer;
@@ -19,7 +20,9 @@ mod standing;
 pub use crate::carousel::Carousel;
 pub use crate::changes::{Change, ChangeLine};
 pub use crate::laws::{
-    law_of_block_change, law_of_block_order, law_of_change_order, law_of_counting, law_of_no_change,
+    law_of_block_change, law_of_block_order, law_of_change_order, law_of_completed_modules,
+    law_of_counting, law_of_held_sizes, law_of_new_entries, law_of_no_change, law_of_same_modules,
+    law_of_transactions,
 };
 pub use crate::put::Put;
 pub use crate::standing::{SkipCause, Standing};

@@ -2,6 +2,9 @@
 
 ghost use Rattle.std.specs.Prelude.{◌≡◌, ◌≤◌, ◌<◌, ℕ, List, Some, None, Option, IfOk, OnOk, nat_eq, option_copied, option_map, option_and_then, if◌then◌else◌, ◌==◌, length};
 ghost use Rattle.std.specs.HashMap.{get as value_at};
+ghost use Rattle.std.specs.Borrow.{sem};
+ghost use Rattle.std.specs.Io.BufRead.{Rests};
+ghost use Rattle.carousel_blocks.specs.contracts.buffer.Buffer.{the_row};
 ghost use Rattle.carousel_blocks.specs.Held.{Kept, unchanged};
 ghost use Rattle.carousel_blocks.specs.InForce.{with_entry, standings};
 ghost use Rattle.carousel_blocks.specs.Modules.{AreModules, Covers, Grows, KeepModules, IsBacked, blocks_at, blocks_for, kept_at, shape_of};
@@ -11,7 +14,7 @@ ghost use Rattle.dsmcc_messages.specs.Ddb.{fields_of};
 ghost use Rattle.carousel_blocks.specs.Drafts.{asked_key_of};
 ghost use Rattle.carousel_blocks.specs.Held.{bytes_kept};
 ghost use Rattle.carousel_blocks.specs.Buffers.{shape_length};
-ghost use Rattle.carousel_blocks.specs.Steps.{answer_in, answer_to, with_block, with_block_in};
+ghost use Rattle.carousel_blocks.specs.Steps.{answer_in, answer_to, whole_in, with_block, with_block_in};
 
 use crate::buffer::{Buffer, Shape};
 use crate::put::Put;
@@ -192,8 +195,8 @@ pub fn put_block(modules: &Modules, buffers: &mut Slab<Buffer>, ddb: &Ddb<'_>) -
     }
 }
 
-// The key of the buffer of the module that asks for a block, where one does.
-fn asked_key(modules: &Modules, ddb: &Ddb<'_>) -> Option<usize>
+/// The key of the buffer of the module that asks for a block, where one does.
+pub fn asked_key(modules: &Modules, ddb: &Ddb<'_>) -> Option<usize>
     ensures { result ≡ asked_key_of (value_at nat_eq modules.now ddb.now.«module») (fields_of ddb.now) }
 {
     let module = modules.get(&ddb.module)?;
@@ -218,6 +221,19 @@ fn put_in(buffer: &mut Buffer, number: u16, block: &[u8]) -> Put
     } else {
         Put::Kept
     }
+}
+
+/// Writes a block into the buffer, where none came for its number, and marks it not. The module's bytes, where each
+/// other block came.
+pub fn stage_in<'a>(buffer: &'a mut Buffer, number: u16, block: &[u8]) -> Option<&'a [u8]>
+    requires { length block.now ≡ shape_length buffer.old.shape number }
+    ensures* same { sem 𝓛 (Rests the_row buffer.entry (λ new. new ≡ buffer.old)) }
+    ensures whole { option_copied result ≡ whole_in number block.now buffer.old }
+{
+    if buffer.lacks(number) {
+        return buffer.stage(number, block);
+    }
+    None
 }
 
 /// What the DII says of a module, where it has it.

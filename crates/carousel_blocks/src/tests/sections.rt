@@ -134,10 +134,17 @@ fn dii(alloc: Global, transaction: u32, listed: &[Listed]) -> Result<Vec<u8>, Fa
     section(alloc, 0x3B, 0x1002, transaction, payload.as_slice())
 }
 
-fn block(alloc: Global, module: u16, version: u8, bytes: &[u8]) -> Result<Vec<u8>, Fail> {
+fn block(
+    alloc: Global,
+    module: u16,
+    version: u8,
+    number: u16,
+    bytes: &[u8],
+) -> Result<Vec<u8>, Fail> {
     let mut payload = Vec::new(alloc);
     payload.extend_from_slice(&module.to_be_bytes())?;
-    payload.extend_from_slice(&[version, 0, 0, 0])?;
+    payload.extend_from_slice(&[version, 0])?;
+    payload.extend_from_slice(&number.to_be_bytes())?;
     payload.extend_from_slice(bytes)?;
     section(alloc, 0x3C, 0x1003, 1, payload.as_slice())
 }
@@ -164,7 +171,7 @@ fn section(
 fn section_of(alloc: Global, sent: Sent) -> Result<Vec<u8>, Fail> {
     match sent {
         Sent::Dii(transaction, listed) => dii(alloc, transaction, listed),
-        Sent::Block(module, version, bytes) => block(alloc, module, version, bytes),
+        Sent::Block(module, version, bytes) => block(alloc, module, version, 0, bytes),
         Sent::Other => section(alloc, 0x42, 0, 0, &[]),
     }
 }
@@ -201,5 +208,56 @@ fn sections_change_modules(rt: HostRuntime) -> Result<(), Fail> {
     }
     let left = carousel.departures()?;
     assert!(rt; are_told(left.as_slice(), LEFT));
+    Ok(())
+}
+
+const TWO_BLOCKS: &[Listed] = &[Listed(1, 1, 6, &[])];
+
+// Whether the section makes this module whole with these bytes, or none.
+fn makes_whole(carousel: &mut Carousel, section: &[u8], whole: Option<(u16, &[u8])>) -> bool {
+    section.len() >= 12 && carousel.stage(section) == whole
+}
+
+#[test]
+fn the_last_block_is_told_beforehand(rt: HostRuntime) -> Result<(), Fail> {
+    let alloc = rt.alloc();
+    let mut carousel = Carousel::new(alloc);
+    let indication = dii(alloc, 7, TWO_BLOCKS)?;
+    let front = block(alloc, 1, 1, 0, b"abcd")?;
+    let end = block(alloc, 1, 1, 1, b"ef")?;
+    let other_end = block(alloc, 1, 1, 1, b"EF")?;
+    let other_version = block(alloc, 1, 2, 1, b"ef")?;
+    assert!(rt; makes_whole(&mut carousel, end.as_slice(), None));
+    assert!(rt; carousel.transaction().is_none());
+    let _told = taken(&mut carousel, indication.as_slice())?;
+    assert_eq!(rt; carousel.transaction(), Some(7));
+    assert!(rt; makes_whole(&mut carousel, indication.as_slice(), None));
+    assert!(rt; makes_whole(&mut carousel, end.as_slice(), None));
+    assert!(rt; makes_whole(&mut carousel, front.as_slice(), None));
+    let _told = taken(&mut carousel, front.as_slice())?;
+    assert!(rt; makes_whole(&mut carousel, other_version.as_slice(), None));
+    assert!(rt;
+        makes_whole(
+            &mut carousel,
+            end.as_slice(),
+            Some((1, b"abcdef".as_slice()))
+        )
+    );
+    assert!(rt;
+        makes_whole(
+            &mut carousel,
+            other_end.as_slice(),
+            Some((1, b"abcdEF".as_slice()))
+        )
+    );
+    assert!(rt; carousel.bytes_of(1).is_none());
+    let told = taken(&mut carousel, end.as_slice())?;
+    assert_eq!(rt; told.len(), 1);
+    assert!(rt;
+        carousel
+            .bytes_of(1)
+            .is_some_and(|bytes| bytes == b"abcdef".as_slice())
+    );
+    assert!(rt; makes_whole(&mut carousel, other_end.as_slice(), None));
     Ok(())
 }

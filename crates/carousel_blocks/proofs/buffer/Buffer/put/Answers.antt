@@ -1,20 +1,8 @@
-use Rattle.std.proofs.Common.{◌∙◌, ◌≡◌, ℕ, List, Bool, ap, ap₂, sym, true, arith, length}
+use Rattle.std.proofs.Common.{◌∙◌, ◌≡◌, ℕ, List, ap, ap₂, true, arith}
 use Rattle.std.specs.Prelude.{slice_get, slice_set}
-use Rattle.carousel_blocks.specs.declared.buffer.Shape.{Shape}
-use Rattle.carousel_blocks.specs.Buffers.{BufferState, IsSound, is_missing, is_unmarked, overwritten, blocks_in, shape_length, with_block_at}
-use Rattle.carousel_blocks.proofs.BufferLaws.{HasRoom, has_room, ends_within, missing_in-marked, sound_with, view_with, is_missing-blocks_in, within_marks}
+use Rattle.carousel_blocks.specs.Buffers.{is_unmarked, overwritten, with_block_at}
+use Rattle.carousel_blocks.proofs.BufferLaws.{viewed, unmarked_by, room_by, ends_within, missing_in-marked, sound_with, view_with, within_marks}
 use Rattle.carousel_blocks.proofs.buffer.Buffer.put.Goals as goal
-
-abbrev viewed : Shape → List Bool → List ℕ → BufferState
-viewed shape marks bytes = record { shape = shape; blocks = blocks_in shape.block_size marks bytes }
-
-unmarked_by : (shape : Shape) (marks : List Bool) (bytes : List ℕ) (n : ℕ) (v : BufferState) → viewed shape marks bytes ≡ v → is_missing (slice_get v.blocks n) ≡ true → is_unmarked (slice_get marks n) ≡ true
-unmarked_by shape marks bytes n v e h = sym (is_missing-blocks_in shape.block_size marks bytes n) ∙ ap (λ (w : BufferState). is_missing (slice_get w.blocks n)) e ∙ h
-
-room_by : (shape : Shape) (marks : List Bool) (bytes : List ℕ) (missing n : ℕ) (block : List ℕ) (v : BufferState) → viewed shape marks bytes ≡ v → IsSound shape.block_size shape.size bytes marks missing
-    → is_missing (slice_get v.blocks n) ≡ true → length block ≡ shape_length v.shape n → HasRoom shape bytes n block
-room_by shape marks bytes missing n block v e sound h l =
-    has_room shape bytes marks missing n block sound (l ∙ ap (λ (w : BufferState). shape_length w.shape n) (sym e)) (unmarked_by shape marks bytes n v e h)
 
 pub write_block-requires : goal.write_block-requires
 write_block-requires c =
