@@ -1,0 +1,16 @@
+pub mod DelimiterLemmas
+pub mod EntityLemmas
+pub mod FrontLemmas
+pub mod HeadLemmas
+pub mod LineLaws
+pub mod LineLemmas
+pub mod NameLemmas
+pub mod PieceLemmas
+pub mod PlaceLemmas
+pub mod BackLemmas
+pub mod FormLemmas
+pub mod HexLemmas
+pub mod PrintLemmas
+pub mod RootLemmas
+pub mod SplitLemmas
+pub mod TextLemmas

@@ -1,0 +1,12 @@
+pub mod Lines
+pub mod Heads
+pub mod Boundaries
+pub mod Entities
+pub mod Parts
+pub mod Places
+pub mod HeadViews
+pub mod BoundaryViews
+pub mod PartViews
+pub mod Paths
+pub mod PathForms
+pub mod PathTexts
