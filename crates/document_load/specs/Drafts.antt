@@ -1,0 +1,19 @@
+-- A document that was read, and what was given for its needs so far. (This project's own.)
+use Rattle.std.specs.Prelude.{ℕ, List, Option, Some, None, length, replicate, slice_set}
+use Rattle.dom_tree.specs.Items.{Item}
+use Rattle.multipart_entities.specs.declared.paths.Path.{Path}
+use Rattle.document_load.specs.Needs.{needs_of}
+
+pub record DraftState : Type 0 where
+  pub items : List Item
+  pub needs : List Path
+  -- for each need its text, where it was given
+  pub given : List (Option (List ℕ))
+
+-- nothing is given yet
+abbrev pub opened : Path → List Item → DraftState
+opened path items = record { items = items; needs = needs_of path items; given = replicate (length (needs_of path items)) None }
+
+-- the text of this need is this one, whatever it was before
+abbrev pub given_with : ℕ → List ℕ → DraftState → DraftState
+given_with number text draft = record { items = draft.items; needs = draft.needs; given = slice_set draft.given number (Some text) }

@@ -1,0 +1,107 @@
+//! Documents that were read, and what is given for their needs.
+
+ghost use Rattle.std.specs.Prelude.{◌≡◌, ◌≢◌, ◌<◌, ◌↔◌, List, None, Ok, Err, IfOk, IsSome, MatchResult, OnErr, OnOk, length, option_copied, replicate, slice_get};
+ghost use Rattle.bml_bytes.specs.Codes.{codes};
+ghost use Rattle.bml_reader.specs.Readings.{reading_of};
+ghost use Rattle.dom_tree.specs.Items.{Item};
+ghost use Rattle.document_load.specs.Drafts.{given_with, opened};
+
+use crate::needs::needs_of;
+use bml_bytes::{NoMemory, Text};
+use bml_reader::{DocFault, read_document};
+use dom_tree::Tree;
+use multipart_entities::Path;
+use std::alloc::Global;
+use std::marker::Model;
+
+/// A document: the tree of its nodes.
+#[derive(Drop)]
+pub struct Document {
+    pub tree: Tree,
+}
+
+/// A document that was read, whose needs are waited for.
+#[derive(Drop)]
+pub struct Draft {
+    tree: Tree,
+    needs: Vec<Path>,
+
+    // for each need its text, where it was given
+    given: Vec<Option<Text>>,
+}
+
+impl Model for Draft {
+    ghost use Rattle.std.specs.Prelude.{◌≡◌, length};
+    ghost use Rattle.document_load.specs.Drafts.{DraftState};
+
+    ghost Value = { DraftState };
+
+    ghost view = { λ draft. record { items = draft.tree; needs = draft.needs.items; given = draft.given.items } };
+
+    ghost invariant = { λ draft. length draft.given.items ≡ length draft.needs.items };
+}
+
+/// Reads a document that lies at a path, and finds its needs. The faults are those of `read_document`, in its order.
+pub fn read_draft(alloc: Global, bytes: &[u8], path: &Path) -> Result<Draft, DocFault>
+    ensures reading { MatchResult result (λ draft. (items : List Item) × (reading_of bytes.now ≡ Ok items) × (draft ≡ opened path.now items)) (λ fault. fault ≢ DocFault.NoMemory → reading_of bytes.now ≡ Err fault) }
+{
+    let tree = read_document(alloc, bytes)?;
+    let draft = Draft::open(alloc, tree, path)?;
+    Ok(draft)
+}
+
+impl Draft {
+    // The draft of a document at a path.
+    fn open(alloc: Global, tree: Tree, path: &Path) -> Result<Draft, NoMemory>
+        ensures { IfOk result (λ draft. draft ≡ opened path.now tree) }
+    {
+        let needs = needs_of(alloc, &tree, path)?;
+        let given = nothing_given(alloc, needs.len())?;
+        Ok(Draft { tree, needs, given })
+    }
+
+    /// The path of a need, counted from 0 in document order, and None exactly past the last. This takes no memory.
+    pub fn need(&self, number: usize) -> Option<&Path>
+        ensures path { option_copied result ≡ slice_get self.now.needs number }
+        ensures known { IsSome result ↔ (number < length self.now.needs) }
+    {
+        self.needs.as_slice().get(number)
+    }
+
+    /// The paths of all needs, in document order. This takes no memory.
+    pub fn needs(&self) -> &[Path]
+        ensures { result.now ≡ self.now.needs }
+    {
+        self.needs.as_slice()
+    }
+
+    /// Gives the bytes of a need, which are kept as text. A second gift of one number replaces the first. After `NoMemory` the
+    /// draft is as before.
+    pub fn give(&mut self, number: usize, bytes: &[u8]) -> Result<(), NoMemory>
+        requires need { number < length self.old.needs }
+        ensures ok { OnOk result (self.new ≡ given_with number (codes bytes.now) self.old) }
+        ensures err { OnErr result (self.new ≡ self.old) }
+    {
+        let text = Text::of_bytes(*self.given.allocator(), bytes)?;
+        self.given[number] = Some(text);
+        Ok(())
+    }
+
+    /// The document of what was read and given. A need that wasn't given reads as empty.
+    pub fn finish(self) -> Result<Document, NoMemory>
+        ensures { IfOk result (λ document. document.tree ≡ self.items) }
+    {
+        Ok(Document { tree: self.tree })
+    }
+}
+
+// That many needs of which nothing is given.
+fn nothing_given(alloc: Global, count: usize) -> Result<Vec<Option<Text>>, NoMemory>
+    ensures { IfOk result (λ given. given.items ≡ replicate count None) }
+{
+    let mut given = Vec::with_capacity(alloc, count)?;
+    'needs: for _need in 0..count {
+        given.push(None)?;
+    }
+    Ok(given)
+}
