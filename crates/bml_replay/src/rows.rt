@@ -427,6 +427,60 @@ fn documents(rt: HostRuntime) -> Result<(), Fail> {
     Ok(())
 }
 
+// An entity whose document needs a part of module 0001.
+const NEEDY: &[u8] =
+    b"Content-Type: multipart/mixed; boundary=b\r\n\r\n--b\r\nContent-Location: startup.bml\r\n\r\n<bml><head><link href=\"../0001/a.css\"/></head></bml>\r\n--b--";
+
+// Entities with that part, and with another one.
+const NEEDED: &[u8] =
+    b"Content-Type: multipart/mixed; boundary=b\r\n\r\n--b\r\nContent-Location: a.css\r\n\r\np{}\r\n--b--";
+
+const OTHER: &[u8] =
+    b"Content-Type: multipart/mixed; boundary=b\r\n\r\n--b\r\nContent-Location: b.css\r\n\r\np{}\r\n--b--";
+
+const REFUSED: &[u8] =
+    b"Content-Type: multipart/mixed; boundary=b\r\n\r\n--b\r\nContent-Location: startup.bml\r\n\r\n<bml>\r\n--b--";
+
+// Start documents in entities: loaded once what they need is there, or can't come.
+#[test]
+fn start_documents_in_entities(rt: HostRuntime) -> Result<(), Fail> {
+    let alloc = rt.alloc();
+    for (modules, lines) in [
+        (
+            [(0, NEEDY), (1, NEEDED)].as_slice(),
+            "module 40 0000 01 142\nmodule 40 0001 01 87\nload /40/0000/startup.bml\nend 4\n",
+        ),
+        (
+            &[(0, NEEDY), (1, OTHER)],
+            "module 40 0000 01 142\nmodule 40 0001 01 87\nload /40/0000/startup.bml\nend 4\n",
+        ),
+        (
+            &[(0, NEEDY)],
+            "module 40 0000 01 142\nload /40/0000/startup.bml\nend 3\n",
+        ),
+        (
+            &[(1, NEEDED), (0, NEEDY)],
+            "module 40 0001 01 87\nmodule 40 0000 01 142\nload /40/0000/startup.bml\nend 4\n",
+        ),
+        (
+            &[(0, REFUSED)],
+            "module 40 0000 01 95\nrefuse /40/0000/startup.bml Malformed\nend 2\n",
+        ),
+        (
+            &[(0, b"Content-Location: x/startup.bml\r\n\r\n<bml/>")],
+            "module 40 0000 01 41\nload /40/0000/startup.bml\nend 2\n",
+        ),
+        (&[(0, b"<bml/>")], "module 40 0000 01 6\nend 2\n"),
+        (&[(0, NEEDED)], "module 40 0000 01 87\nend 2\n"),
+    ] {
+        let stream = Stream::of_modules(alloc, modules)?;
+        let run = replayed(alloc, REPLAY, stream.bytes(), b"all\n", SOUND)?;
+        assert_eq!(rt; run.status, DONE, "for {lines}");
+        assert_eq!(rt; run.sink.written(), lines.as_bytes(), "for {lines}");
+    }
+    Ok(())
+}
+
 // The items of a record, and lines that are none.
 #[test]
 fn records(rt: HostRuntime) -> Result<(), Fail> {

@@ -10,7 +10,7 @@ use Rattle.module_store.specs.Store.{Followed, Stored, held_in, last_place, numb
 use Rattle.module_store.specs.Standing.{StoreState, StandsFor, slot_in}
 use Rattle.module_store.proofs.FeedLaws.{has_followed}
 
-two_bytes : (number : ℕ) → number < 2 ^ 16 → number < number_bound
+pub two_bytes : (number : ℕ) → number < 2 ^ 16 → number < number_bound
 unfolding number_bound
 two_bytes number low = omega arith
 
@@ -18,7 +18,7 @@ pub number_is : (state : StoreState) (tag number : ℕ) (slot : Slot) (bytes : L
     → ((messages : List Message) → of_carousel.StandsFor slot.carousel messages → Some bytes ≡ held messages number)
     → (stored : Stored) → StandsFor state stored → Some (slice_index slot.numbers number) ≡ number_of stored tag number
 number_is state tag number slot bytes looked low holds stored stands =
-    let f = has_followed state.slots state.count stored stands tag slot looked in
+    let f = has_followed state.slots state.count state.changed stored stands tag slot looked in
     let here = holds f.0.messages f.3.carousel in
     let in_store : held_in stored tag number ≡ Some bytes = ap (λ (o : Option Followed). option_and_then (λ messages. held messages number) (option_map (λ c. c.messages) o)) f.1 ∙ sym here in
     let found = f.3.numbers number (two_bytes number low) (ap (λ (o : Option (List ℕ)). is_some o) (sym here)) in

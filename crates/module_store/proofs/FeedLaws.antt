@@ -60,14 +60,14 @@ module _ (slots : List Slot) (place tag : ℕ) (slot new : Slot) (at : position 
 section_tag : (tag t : ℕ) (section : List ℕ) (component : Followed) → eqb (with_section tag section component).tag t ≡ eqb component.tag t
 section_tag tag t section component = ap (λ u. eqb u t) (elim (eqb component.tag tag) as (λ b. (cond b (record { tag = component.tag; pid = component.pid; messages = component.messages ++ messages_of (section ∷ []) }) component).tag ≡ component.tag) [ true ↦ refl | false ↦ refl ])
 
-component_behind : (tag t : ℕ) (section : List ℕ) (components : List Followed) → component_in (map (with_section tag section) components) t ≡ option_map (with_section tag section) (component_in components t)
+pub component_behind : (tag t : ℕ) (section : List ℕ) (components : List Followed) → component_in (map (with_section tag section) components) t ≡ option_map (with_section tag section) (component_in components t)
 component_behind tag t section components =
     find-map (λ c. eqb c.tag t) (with_section tag section) components
     ∙ ap (λ (o : Option Followed). option_map (with_section tag section) o) (find-ext (λ c. eqb (with_section tag section c).tag t) (λ c. eqb c.tag t) (section_tag tag t section) components)
 
 -- ---- the component of the section
 
-abbrev extended : List ℕ → Followed → Followed
+abbrev pub extended : List ℕ → Followed → Followed
 extended section component = record { tag = component.tag; pid = component.pid; messages = component.messages ++ messages_of (section ∷ []) }
 
 -- a number behind more deliveries, where it stays if none of these is the module's
@@ -92,7 +92,7 @@ follows_taken : (slot new : Slot) (component : Followed) (deliveries : List (ℕ
     → component.tag ≡ tag → count ≡ number_at (length deliveries) → Follows slot component deliveries → TakesSection slot new count new_count section found
     → Follows new (extended section component) (deliveries ++ of_component tag (deliveries_of found))
 follows_taken slot new component deliveries count new_count tag section found tagged counted f t =
-    record { pid = t.pid ∙ f.pid; carousel = t.carousel component.messages f.carousel; numbers = numbers }
+    record { pid = t.pid ∙ f.pid; carousel = t.carousel component.messages f.carousel; numbers = numbers; parts = t.parts component.messages f.carousel f.parts }
   where
     now : List Message
     now = component.messages ++ messages_of (section ∷ [])
@@ -124,11 +124,12 @@ follows_other slot component deliveries tag numbers differ f = record {
       ap (λ o. option_map number_at o) (last_place_behind component.tag number deliveries (of_component tag numbers)
       ∙ ap (λ o. option_or o (last_place component.tag number deliveries)) (last_place-other (length deliveries + 1) component.tag tag number numbers differ))
       ∙ f.numbers number low is;
+  parts = f.parts;
 }
 
 -- ---- the store
 
-module _ (slots : List Slot) (count : ℕ) (stored : Stored) (stands : StandsFor (record { slots = slots; count = count }) stored) where
+module _ (slots : List Slot) (count : ℕ) (changed : Bool) (stored : Stored) (stands : StandsFor (record { slots = slots; count = count; changed = changed }) stored) where
   -- the component is followed
   pub has_followed : (tag : ℕ) (slot : Slot) → slot_in slots tag ≡ Some slot → (component : Followed) × (component_in stored.components tag ≡ Some component) × (component.tag ≡ tag) × Follows slot component stored.deliveries
   has_followed tag slot e = by_component (component_in stored.components tag) refl (sym (stands.tags tag) ∙ ap (λ (o : Option Slot). is_some o) e)
@@ -138,11 +139,11 @@ module _ (slots : List Slot) (count : ℕ) (stored : Stored) (stands : StandsFor
       by_component None same h = absurd cc
       by_component (Some component) same h = (component, same, eqb-true component.tag tag (found_passes (λ c. eqb c.tag tag) stored.components component same), stands.components tag slot component e same)
 
-module _ (slots : List Slot) (count new_count place tag : ℕ) (slot new : Slot) (section : List ℕ) (found : List Change) (stored : Stored)
+module _ (slots : List Slot) (count new_count place tag : ℕ) (changed now_changed : Bool) (slot new : Slot) (section : List ℕ) (found : List Change) (stored : Stored)
     (at : position (has_tag tag) slots ≡ Some place) (is : slot ≡ get_or slots place slot) (taken : TakesSection slot new count new_count section found)
-    (stands : StandsFor (record { slots = slots; count = count }) stored) where
-  its_component : (component : Followed) × (component_in stored.components tag ≡ Some component) × (component.tag ≡ tag) × Follows slot component stored.deliveries
-  its_component = has_followed slots count stored stands tag slot (found_at (has_tag tag) slots place slot at is)
+    (stands : StandsFor (record { slots = slots; count = count; changed = changed }) stored) where
+  pub its_component : (component : Followed) × (component_in stored.components tag ≡ Some component) × (component.tag ≡ tag) × Follows slot component stored.deliveries
+  its_component = has_followed slots count changed stored stands tag slot (found_at (has_tag tag) slots place slot at is)
 
   pub changes_taken : found ≡ changes_by tag section stored
   changes_taken =
@@ -170,7 +171,7 @@ module _ (slots : List Slot) (count new_count place tag : ℕ) (slot new : Slot)
           let other : eqb tag c.tag ≡ false = ap (λ u. eqb tag u) tagged ∙ l.0 in
           subst (λ f. Follows now f deliveries_now) stays (follows_other now c stored.deliveries tag (deliveries_of found) other (stands.components t now c (sym l.1 ∙ e) same))
 
-  stands_now : StandsFor (record { slots = set slots place new; count = new_count }) (record { components = map (with_section tag section) stored.components; deliveries = deliveries_now })
+  stands_now : StandsFor (record { slots = set slots place new; count = new_count; changed = now_changed }) (record { components = map (with_section tag section) stored.components; deliveries = deliveries_now })
   stands_now = record {
     count = taken.count_is ∙ ap (λ k. noted_count k (deliveries_of found)) stands.count ∙ noted_count_is (length stored.deliveries) (deliveries_of found)
         ∙ ap number_at (sym (length-append stored.deliveries (of_component tag (deliveries_of found)) ∙ ap (λ n. length stored.deliveries + n) (length-map (deliveries_of found) (λ number. (tag, number)))));
@@ -182,20 +183,21 @@ module _ (slots : List Slot) (count new_count place tag : ℕ) (slot new : Slot)
       is_some_map None = refl
       is_some_map (Some c) = refl
 
-  pub stands_taken : StandsFor (record { slots = set slots place new; count = new_count }) (fed tag section stored)
+  pub stands_taken : StandsFor (record { slots = set slots place new; count = new_count; changed = now_changed }) (fed tag section stored)
   stands_taken =
-      subst (λ l. StandsFor (record { slots = set slots place new; count = new_count }) (record { components = map (with_section tag section) stored.components; deliveries = stored.deliveries ++ of_component tag (deliveries_of l) }))
+      subst (λ l. StandsFor (record { slots = set slots place new; count = new_count; changed = now_changed }) (record { components = map (with_section tag section) stored.components; deliveries = stored.deliveries ++ of_component tag (deliveries_of l) }))
       changes_taken stands_now
 
 -- where no memory was found for the section, everything stays
-module _ (slots : List Slot) (count new_count place tag : ℕ) (slot new : Slot) (stored : Stored)
+module _ (slots : List Slot) (count new_count place tag : ℕ) (changed now_changed : Bool) (slot new : Slot) (stored : Stored)
     (at : position (has_tag tag) slots ≡ Some place) (is : slot ≡ get_or slots place slot) (kept : KeepsSame slot new count new_count)
-    (stands : StandsFor (record { slots = slots; count = count }) stored) where
+    (stands : StandsFor (record { slots = slots; count = count; changed = changed }) stored) where
   follows_kept : (component : Followed) → Follows slot component stored.deliveries → Follows new component stored.deliveries
   follows_kept component f = record {
     pid = kept.pid ∙ f.pid;
     carousel = kept.carousel component.messages f.carousel;
     numbers = λ number low is. f.numbers number low is ∙ ap (λ l. Some (slice_index l number)) (sym kept.numbers);
+    parts = kept.parts component.messages f.carousel f.parts;
   }
 
   still_follows : (t : ℕ) (now : Slot) (component : Followed) → slot_in (set slots place new) t ≡ Some now → component_in stored.components t ≡ Some component → Follows now component stored.deliveries
@@ -207,7 +209,7 @@ module _ (slots : List Slot) (count new_count place tag : ℕ) (slot new : Slot)
           subst (λ (s : Slot). Follows s component stored.deliveries) slot_is (follows_kept component (stands.components t slot component l.1 h))
       by_cases (inr l) = stands.components t now component (sym l.1 ∙ e) h
 
-  pub stands_kept : StandsFor (record { slots = set slots place new; count = new_count }) stored
+  pub stands_kept : StandsFor (record { slots = set slots place new; count = new_count; changed = now_changed }) stored
   stands_kept = record {
     count = kept.count_is ∙ stands.count;
     tags = λ t. same_components slots place tag slot new at is kept.tag t ∙ stands.tags t;

@@ -1,6 +1,6 @@
 -- The first element that passes a test, and how many pass.
 use Rattle.std.proofs.Common.{◌≡◌, ◌∙◌, ℕ, zero, suc, ◌<◌, ◌≤◌, ltb, get_or, set, Bool, true, false, cond, List, [], ◌∷◌, length, Option, Some, None, refl, sym, ap, subst, inl, inr, arith}
-use Rattle.std.specs.Prelude.{All, AllPairs, ◌&&◌, ◌||◌, ◌⊎◌, slice_get, position, map, filter, find, is_some, option_map, option_and_then}
+use Rattle.std.specs.Prelude.{All, AllPairs, not, ◌&&◌, ◌||◌, ◌⊎◌, slice_get, position, map, filter, find, is_some, option_map, option_and_then}
 use Rattle.std.specs.List.{list_any, position_or_len}
 use Rattle.std.proofs.lemmas.Option.{cond_some, slice_get-get_or, slice_get_cases}
 use Rattle.std.proofs.lemmas.Bool.{lt-ltb, le-ltb}
@@ -77,6 +77,43 @@ module _ {X : Type 0} where
             elim (k x) as (λ a. cond (a && true) (Some x) (find (λ y. k y && p y) xs) ≡ cond a (Some x) None) [ true ↦ refl | false ↦ none_found (λ y. k y && p y) xs none ]
         | false ↦ λ few. elim (k x) as (λ a. cond (a && false) (Some x) (find (λ y. k y && p y) xs) ≡ option_and_then (if_passes k) (find p xs)) [ true ↦ find-and p k xs few | false ↦ find-and p k xs few ]
       ] few
+
+module _ {X : Type 0} where
+  not_longer : (p : X → Bool) (xs : List X) → length (filter p xs) ≤ length xs
+  not_longer p [] = omega arith
+  not_longer p (x ∷ xs) =
+      let h = not_longer p xs in
+      elim (p x) as (λ b. length (cond b (x ∷ filter p xs) (filter p xs)) ≤ suc (length xs)) [ true ↦ omega arith | false ↦ omega arith ]
+
+  -- what is found by a test is found by both, where it passes the other too
+  pub found_by_both : (p k : X → Bool) (xs : List X) (x : X) → find k xs ≡ Some x → p x ≡ true → is_some (find (λ y. k y && p y) xs) ≡ true
+  found_by_both p k [] x e passes = absurd cc
+  found_by_both p k (y ∷ xs) x e passes = by_test (k y) e (λ e. found_by_both p k xs x e passes)
+    where
+      by_test : (b : Bool) → cond b (Some y) (find k xs) ≡ Some x → (find k xs ≡ Some x → is_some (find (λ y. k y && p y) xs) ≡ true)
+          → is_some (cond (b && p y) (Some y) (find (λ y. k y && p y) xs)) ≡ true
+      by_test true e behind = let same : y ≡ x = cc in ap (λ b. is_some (cond b (Some y) (find (λ y. k y && p y) xs))) (ap p same ∙ passes)
+      by_test false e behind = behind e
+
+  pub none_left : (k : X → Bool) (xs : List X) → find k xs ≡ None → filter k xs ≡ []
+  none_left k [] e = refl
+  none_left k (x ∷ xs) e =
+      elim (k x) as (λ b. cond b (Some x) (find k xs) ≡ None → cond b (x ∷ filter k xs) (filter k xs) ≡ [])
+      [ true ↦ λ e. absurd cc | false ↦ λ e. none_left k xs e ] e
+
+  pub all_left : (k : X → Bool) (xs : List X) → find (λ x. not (k x)) xs ≡ None → filter k xs ≡ xs
+  all_left k [] e = refl
+  all_left k (x ∷ xs) e =
+      elim (k x) as (λ b. cond (not b) (Some x) (find (λ x. not (k x)) xs) ≡ None → cond b (x ∷ filter k xs) (filter k xs) ≡ x ∷ xs)
+      [ true ↦ λ e. ap (λ (l : List X). x ∷ l) (all_left k xs e) | false ↦ λ e. absurd cc ] e
+
+  -- where none is left out, all pass
+  pub all_pass : (p : X → Bool) (xs : List X) → length xs ≤ length (filter p xs) → filter p xs ≡ xs
+  all_pass p [] h = refl
+  all_pass p (x ∷ xs) h =
+      let shorter = not_longer p xs in
+      elim (p x) as (λ b. suc (length xs) ≤ length (cond b (x ∷ filter p xs) (filter p xs)) → cond b (x ∷ filter p xs) (filter p xs) ≡ x ∷ xs)
+      [ true ↦ λ h. ap (λ (l : List X). x ∷ l) (all_pass p xs (omega arith)) | false ↦ λ h. absurd (omega arith) ] h
 
 module _ {X Y : Type 0} where
   pub find-map : (p : Y → Bool) (f : X → Y) (xs : List X) → find p (map f xs) ≡ option_map f (find (λ x. p (f x)) xs)

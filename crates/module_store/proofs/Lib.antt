@@ -1,6 +1,12 @@
 pub mod FindLaws
+pub mod StandsLaws
+pub mod ResourceLaws
+pub mod WholeLaws
+pub mod SectionLaws
 pub mod DeliveryLaws
 pub mod FeedLaws
 pub mod DeliveryNumber
 pub mod GoneLaws
 pub mod MapLaws
+pub mod AlikeLaws
+pub mod SameMapLaws

@@ -13,6 +13,7 @@ use Rattle.psi_tables.specs.Components.{AreApart}
 use Rattle.carousel_blocks.specs.Held.{held}
 use Rattle.carousel_blocks.specs.Carousel as of_carousel
 use Rattle.module_store.specs.Store.{Followed, Stored, component_in, is_kept, messages_on, messages_kept, followed_from, with_map, last_place, number_at}
+use Rattle.module_store.specs.Entities.{KeepsParts}
 use Rattle.module_store.specs.Standing.{StandsFor, Follows, AreDistinct, has_tag, slot_in}
 use Rattle.module_store.specs.Slots.{component_of, IsEmpty, IsFresh, is_followed, AreAdded, kept_of}
 use Rattle.module_store.proofs.FindLaws.{find-ext, filter-ext, is_some-find, found_passes, find-filter, filter-filter, fewer, none_pass, if_passes, find-and, find-map, length-filter-map, at_most_one, found_has}
@@ -76,7 +77,7 @@ unfolding held
 nothing_held number = refl
 
 module _ (components : List Component) (each : (tag : ℕ) → length (filter (is_tagged tag) components) ≤ 1) where
-  kept_by_pid : (tag pid : ℕ) → is_kept components tag pid ≡ is_some (option_and_then (if_passes (λ (c : Component). eqb c.pid pid)) (find (is_tagged tag) components))
+  pub kept_by_pid : (tag pid : ℕ) → is_kept components tag pid ≡ is_some (option_and_then (if_passes (λ (c : Component). eqb c.pid pid)) (find (is_tagged tag) components))
   kept_by_pid tag pid =
       sym (is_some-find (λ c. is_tagged tag c && eqb c.pid pid) components)
       ∙ ap (λ (o : Option Component). is_some o) (find-ext (λ c. is_tagged tag c && eqb c.pid pid) (λ c. eqb c.pid pid && is_tagged tag c) (λ c. and_sym (is_tagged tag c) (eqb c.pid pid)) components
@@ -116,7 +117,7 @@ module _ (components : List Component) (each : (tag : ℕ) → length (filter (i
       ∙ find-ext (λ slot. is_kept components slot.tag slot.pid && has_tag tag slot) (λ slot. false) (lost_slot tag e) l ∙ find_never l
 
   -- what is kept of one of its components
-  kept_at_tag : (tag : ℕ) (c : Component) (l : List Slot) → find (is_tagged tag) components ≡ Some c → length (filter (has_tag tag) l) ≤ 1
+  pub kept_at_tag : (tag : ℕ) (c : Component) (l : List Slot) → find (is_tagged tag) components ≡ Some c → length (filter (has_tag tag) l) ≤ 1
       → slot_in (kept_of components l) tag ≡ option_and_then (if_passes (is_on c.pid)) (slot_in l tag)
   kept_at_tag tag c l e few =
       find-filter (has_tag tag) (λ slot. is_kept components slot.tag slot.pid) l
@@ -137,7 +138,7 @@ module _ (components : List Component) (each : (tag : ℕ) → length (filter (i
         sym (find-map (is_tagged tag) component_of added) ∙ ap (λ l. find (is_tagged tag) l) a.are ∙ find-filter (is_tagged tag) (is_new slots) components
         ∙ find-and (is_tagged tag) (is_new slots) components (each tag) ∙ ap (λ (o : Option Component). option_and_then (if_passes (is_new slots)) o) e
 
-    followed_there : (c : Component) → is_followed slots c ≡ is_some (option_and_then (if_passes (is_on c.pid)) (slot_in slots c.tag))
+    pub followed_there : (c : Component) → is_followed slots c ≡ is_some (option_and_then (if_passes (is_on c.pid)) (slot_in slots c.tag))
     followed_there c =
         sym (is_some-find (λ slot. has_tag c.tag slot && is_on c.pid slot) slots)
         ∙ ap (λ (o : Option Slot). is_some o) (find-ext (λ slot. has_tag c.tag slot && is_on c.pid slot) (λ slot. is_on c.pid slot && has_tag c.tag slot) (λ slot. and_sym (has_tag c.tag slot) (is_on c.pid slot)) slots
@@ -160,7 +161,7 @@ module _ (components : List Component) (each : (tag : ℕ) → length (filter (i
         ∙ ap (λ o. option_or o (slot_in (kept_of components added) tag)) (kept_at_tag tag c slots e (distinct tag))
         ∙ ap (λ o. option_or (option_and_then (if_passes (is_on c.pid)) (slot_in slots tag)) o) (kept_at_tag tag c added e (few_added tag))
 
-    tag_of : (tag : ℕ) (c : Component) → find (is_tagged tag) components ≡ Some c → c.tag ≡ tag
+    pub tag_of : (tag : ℕ) (c : Component) → find (is_tagged tag) components ≡ Some c → c.tag ≡ tag
     tag_of tag c e = eqb-true c.tag tag (found_passes (is_tagged tag) components c e)
 
     -- what was kept on the same PID
@@ -238,17 +239,18 @@ module _ (components : List Component) (each : (tag : ℕ) → length (filter (i
             by_kept (inl k) same = ap (λ t. is_some (slot_in all_kept t)) (sym same) ∙ ap (λ (o : Option Slot). is_some o) k.1
             by_kept (inr k) same = ap (λ t. is_some (slot_in all_kept t)) (sym same) ∙ ap (λ (o : Option Slot). is_some o) k.1
 
-    module _ (count : ℕ) (stored : Stored) (stands : StandsFor (record { slots = slots; count = count }) stored) where
+    module _ (count : ℕ) (changed now_changed : Bool) (stored : Stored) (stands : StandsFor (record { slots = slots; count = count; changed = changed }) stored) where
       -- a component that stays on its PID keeps its messages
       stays : (c : Component) (slot : Slot) → slot_in slots c.tag ≡ Some slot → slot.pid ≡ c.pid → Follows slot (followed_from stored.components c) stored.deliveries
       stays c slot looked placed =
-          let f = has_followed slots count stored stands c.tag slot looked in
+          let f = has_followed slots count changed stored stands c.tag slot looked in
           let on : eqb f.0.pid c.pid ≡ true = eq-eqb f.0.pid c.pid (sym f.3.pid ∙ placed) in
           let kept : f.0.messages ≡ messages_kept stored.components c = sym (ap (λ o. messages_on c.pid o) f.1 ∙ ap (λ b. cond b f.0.messages []) on) in
           record {
             pid = placed;
             carousel = subst (λ m. of_carousel.StandsFor slot.carousel m) kept f.3.carousel;
             numbers = λ number low is. ap (λ t. option_map number_at (last_place t number stored.deliveries)) (sym f.2) ∙ f.3.numbers number low (ap (λ m. is_some (held m number)) kept ∙ is);
+            parts = subst (λ m. KeepsParts slot.entities m) kept f.3.parts;
           }
 
       -- every other begins with none
@@ -280,6 +282,7 @@ module _ (components : List Component) (each : (tag : ℕ) → length (filter (i
         pid = ap (λ (x : Component). x.pid) is;
         carousel = subst (λ m. of_carousel.StandsFor slot.carousel m) (sym none) empty;
         numbers = λ number low held_now. let not_held = ap (λ m. is_some (held m number)) none ∙ ap (λ (o : Option (List ℕ)). is_some o) (nothing_held number) in absurd cc;
+        parts = λ number info bytes low told holds held_now. let not_held = ap (λ m. held m number) none ∙ nothing_held number in absurd cc;
       }
 
       follows_mapped : (tag : ℕ) (slot : Slot) (component : Followed) → slot_in all_kept tag ≡ Some slot → component_in (map (followed_from stored.components) components) tag ≡ Some component → Follows slot component stored.deliveries
@@ -296,7 +299,7 @@ module _ (components : List Component) (each : (tag : ℕ) → length (filter (i
               by_kept (inl k) at = let slot_is : k.0 ≡ slot = cc in subst (λ (x : Slot). Follows x (followed_from stored.components c) stored.deliveries) slot_is (stays c k.0 k.2 k.3)
               by_kept (inr k) at = let slot_is : k.0 ≡ slot = cc in subst (λ (x : Slot). Follows x (followed_from stored.components c) stored.deliveries) slot_is (begins c k.0 k.2 k.3 (no_messages c k.4))
 
-      pub stands_mapped : StandsFor (record { slots = all_kept; count = count }) (with_map components stored)
+      pub stands_mapped : StandsFor (record { slots = all_kept; count = count; changed = now_changed }) (with_map components stored)
       stands_mapped = record {
         count = stands.count;
         tags = λ tag. has_components tag ∙ sym (ap (λ (o : Option Followed). is_some o) (find-map (λ f. eqb f.tag tag) (followed_from stored.components) components) ∙ is_some_map (find (is_tagged tag) components));

@@ -5,11 +5,14 @@ use Rattle.carousel_blocks.specs.Held.{held}
 use Rattle.carousel_blocks.specs.Carousel as of_carousel
 use Rattle.module_store.specs.declared.slot.Slot.{Slot}
 use Rattle.module_store.specs.Store.{Followed, Stored, component_in, last_place, number_at}
+use Rattle.module_store.specs.Entities.{KeepsParts}
 
--- what is kept of each component, and the number of the last delivery
+-- what is kept of each component, the number of the last delivery, and whether the last call may have changed what is
+-- found
 pub record StoreState : Type 0 where
   pub slots : List Slot
   pub count : ℕ
+  pub changed : Bool
 
 abbrev pub has_tag : ℕ → Slot → Bool
 has_tag tag slot = slot.tag == tag
@@ -25,12 +28,14 @@ AreDistinct slots = (tag : ℕ) → length (filter (has_tag tag) slots) ≤ 1
 abbrev pub has_component : StoreState → ℕ → Bool
 has_component state tag = is_some (slot_in state.slots tag)
 
--- What is kept of a component stands for its messages, and has the number of each module that is held.
+-- What is kept of a component stands for its messages, has the number of each module that is held, and has the parts of
+-- each entity that is held.
 pub record Follows (slot : Slot) (component : Followed) (deliveries : List (ℕ × ℕ)) : Type 0 where
   pub pid : slot.pid ≡ component.pid
   pub carousel : of_carousel.StandsFor slot.carousel component.messages
   pub numbers : (number : ℕ) → number < number_bound → is_some (held component.messages number) ≡ true
       → option_map number_at (last_place component.tag number deliveries) ≡ Some (slice_index slot.numbers number)
+  pub parts : KeepsParts slot.entities component.messages
 
 -- a store stands for components and deliveries where it keeps what is to be kept of them
 pub record StandsFor (state : StoreState) (stored : Stored) : Type 0 where

@@ -1,18 +1,15 @@
 -- The components of a service with the messages of their carousels, the deliveries of their modules, and what one more
 -- section or another component map changes (this project's own, after ARIB STD-B24, volume 3).
-use Rattle.std.specs.Prelude.{ℕ, ◌+◌, ◌-◌, ◌^◌, ◌==◌, min, Bool, false, ◌&&◌, if◌then◌else◌, List, [], ◌∷◌, ◌++◌, map, find, Option, Some, None, is_some, option_map, option_and_then}
+use Rattle.std.specs.Prelude.{ℕ, ◌+◌, ◌-◌, ◌^◌, ◌==◌, min, Bool, ◌&&◌, if◌then◌else◌, List, [], ◌∷◌, ◌++◌, map, find, Option, Some, None, is_some, option_map, option_and_then}
 use Rattle.std.specs.List.{filter_map, flat_map, list_any, range_with_len}
 use Rattle.std.specs.Option.{option_or}
-use Rattle.dsmcc_messages.specs.declared.entry.Entry.{Entry}
 use Rattle.psi_tables.specs.declared.components.Component.{Component}
 use Rattle.carousel_blocks.specs.declared.changes.Change.{Change}
 use Rattle.carousel_blocks.specs.declared.changes.ChangeLine.{ChangeLine}
 use Rattle.carousel_blocks.specs.declared.changes.ChangeLine.TheVariants.{Delivered}
 use Rattle.carousel_blocks.specs.Message.{Message, messages_of}
 use Rattle.carousel_blocks.specs.Held.{held}
-use Rattle.carousel_blocks.specs.Carousel.{entry_in_force}
 use Rattle.carousel_blocks.specs.Changes.{changes, departures}
-use Rattle.module_store.specs.Resource.{is_resource}
 
 -- a component of the map, with the messages that came since it got its PID
 pub record Followed : Type 0 where
@@ -35,6 +32,10 @@ component_in components tag = find (λ component. component.tag == tag) componen
 
 abbrev pub messages_of_component : Stored → ℕ → Option (List Message)
 messages_of_component stored tag = option_map (λ component. component.messages) (component_in stored.components tag)
+
+-- the PID of the component with that tag
+abbrev pub pid_of : Stored → ℕ → Option ℕ
+pid_of stored tag = option_map (λ component. component.pid) (component_in stored.components tag)
 
 -- the bytes of a module of a component, where it is held
 abbrev pub held_in : Stored → ℕ → ℕ → Option (List ℕ)
@@ -129,17 +130,3 @@ number_at place = min place (2 ^ 64 - 1)
 abbrev pub number_of : Stored → ℕ → ℕ → Option ℕ
 number_of stored tag number =
     if is_some (held_in stored tag number) then option_map number_at (last_place tag number stored.deliveries) else None
-
--- ---- the start document
-
--- the module with that entry is one resource
-abbrev pub is_start_entry : Option Entry → Bool
-is_start_entry None = false
-is_start_entry (Some entry) = is_resource entry.info
-
--- at this stage the start document is module 0000 of component 0x40, once it is held, where it is one resource
-abbrev pub start_in : List Message → Option (List ℕ)
-start_in messages = if is_start_entry (entry_in_force messages 0) then held messages 0 else None
-
-abbrev pub start_of : Stored → Option (List ℕ)
-start_of stored = option_and_then start_in (messages_of_component stored 0x40)

@@ -3,15 +3,20 @@
 //!
 //! A [`Store`] stands for the components with the messages that came for each since it got its PID, and for all deliveries
 //! of modules so far, in order. What one more section or another map changes, which number the delivery of a module has,
-//! and which bytes the start document has, is said of these in `specs/`. Memory is taken for a component when it comes
-//! into the map, and given back when it leaves or gets another PID.
+//! what is there under a path, and where the start document is, is said of these in `specs/`. Memory is taken for a
+//! component when it comes into the map, and given back when it leaves or gets another PID; it is taken for the parts of
+//! an entity when its module is held. A look-up takes none and copies nothing.
 #![tactic(auto)]
 
+mod entities;
+mod laws;
 mod numbers;
-mod resource;
+mod resources;
 mod slot;
+mod staging;
 mod store;
 
+pub use crate::resources::Look;
 pub use crate::store::Store;
 pub use carousel_blocks::{Change, ChangeLine, SkipCause};
 

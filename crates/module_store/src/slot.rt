@@ -1,8 +1,14 @@
 //! What is kept of one component.
 
+ghost use Rattle.module_store.specs.Carousels.{StandsForSome};
+
+use crate::entities::{Entities, named};
+use crate::laws::law_of_messages;
 use crate::numbers::Numbers;
-use bml_bytes::NoMemory;
-use carousel_blocks::{Carousel, Change};
+use crate::resources::Look;
+use crate::staging::stage;
+use bml_bytes::{NoMemory, Text};
+use carousel_blocks::{Carousel, Change, law_of_held_sizes};
 use psi_tables::Component;
 use std::alloc::Global;
 
@@ -14,10 +20,18 @@ pub struct Slot {
     pub carousel: Carousel,
     /// The number of the last delivery of each module that is held.
     pub numbers: Numbers,
+    /// The parts of each module that is held and holds an entity.
+    pub entities: Entities,
+    // The carousel stands for messages that came.
+    ghost stands: { StandsForSome carousel },
 }
 
 impl Slot {
-    ghost use Rattle.std.specs.Prelude.{◌≤◌, length, IfOk, OnErr};
+    ghost use Rattle.std.specs.Prelude.{◌≡◌, ◌≤◌, List, Some, length, IfOk, OnErr};
+    ghost use Rattle.carousel_blocks.specs.Message.{Message};
+    ghost use Rattle.carousel_blocks.specs.Carousel as of_carousel;
+    ghost use Rattle.module_store.specs.Resources.{HasAtMost, look_in, seen};
+    ghost use Rattle.module_store.specs.Entities.{KeepsParts};
     ghost use Rattle.module_store.specs.Slots.{IsFresh, TakesSection, KeepsSame};
 
     /// A component of which no section came. Memory is taken for its modules' numbers.
@@ -30,18 +44,50 @@ impl Slot {
             pid: component.pid,
             carousel: Carousel::new(alloc),
             numbers,
+            entities: Entities::new(alloc),
         })
     }
 
     /// Takes the next intact section of the component, and tells what it changed. The modules that it delivers get
-    /// numbers behind the count of deliveries.
-    pub fn take(&mut self, count: &mut u64, section: &[u8]) -> Result<Vec<Change>, NoMemory>
+    /// numbers behind the count of deliveries. After `NoMemory` the slot stands for what it stood for, and may be told
+    /// the section once more.
+    pub fn take(
+        &mut self,
+        alloc: Global,
+        count: &mut u64,
+        section: &[u8],
+    ) -> Result<Vec<Change>, NoMemory>
         requires { 12 ≤ length section.now }
         ensures taken { IfOk result (λ found. TakesSection self.old self.new count.old count.new section.now found.items) }
         ensures same { OnErr result (KeepsSame self.old self.new count.old count.new) }
     {
+        law_of_messages();
+        stage(alloc, &mut self.carousel, &mut self.entities, section)?;
         let changes = self.carousel.take(section)?;
         *count = self.numbers.note(*count, changes.as_slice());
+        self.entities.drop_reset(changes.as_slice());
         Ok(changes)
+    }
+
+    /// What is there under a name of a module. This takes no memory.
+    pub fn resource(&self, module: u16, name: &Text) -> Look<'_>
+        ensures look { (messages : List Message) → of_carousel.StandsFor self.now.carousel messages → KeepsParts self.now.entities messages → seen result ≡ look_in (Some messages) «module» name.now }
+        ensures bound { HasAtMost 1048576 (seen result) }
+    {
+        law_of_held_sizes();
+        if self.carousel.transaction().is_none() {
+            return Look::Waiting;
+        }
+        let Some(entry) = self.carousel.entry(module) else {
+            return Look::Missing;
+        };
+        if self.carousel.skip_of(module).is_some() {
+            return Look::Missing;
+        }
+        let Some(bytes) = self.carousel.bytes_of(module) else {
+            return Look::Waiting;
+        };
+        let parts = self.entities.of(module);
+        Look::found_or_missing(named(parts, entry.info.as_slice(), bytes, name))
     }
 }

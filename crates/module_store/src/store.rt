@@ -1,17 +1,20 @@
 //! The components of a service with their carousels.
 
-ghost use Rattle.std.specs.Prelude.{◌≡◌, ◌≤◌, ◌++◌, [], ℕ, List, true, length, AllPairs, Some, position, IfOk, OnOk, OnErr, MatchOption, is_some, map, option_copied};
+ghost use Rattle.std.specs.Prelude.{◌≡◌, ◌≤◌, ◌++◌, [], ℕ, List, true, false, length, AllPairs, Some, position, IfOk, OnOk, OnErr, MatchOption, is_some, map, option_copied};
 ghost use Rattle.psi_tables.specs.Components.{AreApart, pid_in};
 ghost use Rattle.carousel_blocks.specs.Changes.{departures};
 ghost use Rattle.carousel_blocks.specs.Carousel as of_carousel;
-ghost use Rattle.module_store.specs.Store.{Followed, Stored, component_in, gone_with, at_start, changes_by, fed, with_map, gone_by, number_of, start_of, messages_of_component, is_kept as kept_by};
+ghost use Rattle.module_store.specs.Store.{Followed, Stored, component_in, gone_with, at_start, changes_by, fed, with_map, gone_by, number_of, messages_of_component, pid_of, is_kept as kept_by};
+ghost use Rattle.module_store.specs.Resources.{HasAtMost, LooksAlike, look, seen, start_info, start_path, transaction_in};
+ghost use Rattle.module_store.specs.Resources as resources;
 ghost use Rattle.module_store.specs.Standing.{StandsFor, has_component, has_tag, slot_in};
 ghost use Rattle.module_store.specs.Slots.{AreAdded, kept_of, is_followed as followed_by};
 
-use crate::resource::is_resource;
+use crate::resources::{Look, holds_entity};
 use crate::slot::Slot;
-use bml_bytes::NoMemory;
+use bml_bytes::{NoMemory, Text};
 use carousel_blocks::Change;
+use multipart_entities::Path;
 use psi_tables::{Component, Services};
 use std::alloc::Global;
 use std::marker::Model;
@@ -22,6 +25,9 @@ const START_COMPONENT: u8 = 0x40;
 /// The module with the start document.
 const START_MODULE: u16 = 0x0000;
 
+/// The name of the start document in its module, where this holds an entity.
+const START_NAME: &[u8] = b"startup.bml";
+
 /// The components of a service, each with its carousel, and the numbers of their deliveries.
 ///
 /// It is told each component map by `set_components`, and each intact section of a component by `feed`.
@@ -31,6 +37,8 @@ pub struct Store {
     slots: Vec<Slot>,
     /// The number of the last delivery, 0 before the first.
     count: u64,
+    /// Whether the last call may have changed what is found.
+    changed: bool,
 }
 
 impl Model for Store {
@@ -38,7 +46,7 @@ impl Model for Store {
 
     ghost Value = { StoreState };
 
-    ghost view = { λ s. record { slots = s.slots.items; count = s.count } };
+    ghost view = { λ s. record { slots = s.slots.items; count = s.count; changed = s.changed } };
 
     ghost invariant = { λ s. AreDistinct s.slots.items };
 }
@@ -52,6 +60,7 @@ impl Store {
             alloc,
             slots: Vec::new(alloc),
             count: 0,
+            changed: false,
         }
     }
 
@@ -73,12 +82,18 @@ impl Store {
         ensures changes { IfOk result (λ found. (stored : Stored) → StandsFor self.old stored → found.items ≡ changes_by component section.now stored) }
         ensures before { OnErr result ((stored : Stored) → StandsFor self.old stored → StandsFor self.new stored) }
         ensures components { (tag : ℕ) → has_component self.new tag ≡ has_component self.old tag }
+        ensures untold { OnErr result (self.new.changed ≡ self.old.changed) }
+        ensures alike { OnOk result (self.new.changed ≡ false → (stored : Stored) → StandsFor self.old stored → LooksAlike stored (fed component section.now stored)) }
+        ensures quiet { OnOk result ((stored : Stored) → StandsFor self.old stored → changes_by component section.now stored ≡ [] → transaction_in (fed component section.now stored) component ≡ transaction_in stored component → self.new.changed ≡ false) }
     {
         let Some(place) = place_of(&self.slots, component) else {
             unreachable!()
         };
         let slot = &mut self.slots[place];
-        slot.take(&mut self.count, section)
+        let before = slot.carousel.transaction();
+        let changes = slot.take(self.alloc, &mut self.count, section)?;
+        self.changed = may_differ(changes.as_slice(), before, slot.carousel.transaction());
+        Ok(changes)
     }
 
     /// Takes the component map of the service. A component that stays on its PID keeps its modules; every other begins
@@ -89,12 +104,16 @@ impl Store {
         ensures gone { IfOk result (λ found. (stored : Stored) → StandsFor self.old stored → found.items ≡ gone_by services.now.map stored) }
         ensures same { OnErr result (self.new ≡ self.old) }
         ensures components { OnOk result ((tag : ℕ) → has_component self.new tag ≡ is_some (pid_in services.now.map tag)) }
+        ensures alike { OnOk result (self.new.changed ≡ false → (stored : Stored) → StandsFor self.old stored → LooksAlike stored (with_map services.now.map stored)) }
+        ensures quiet { OnOk result ((stored : Stored) → StandsFor self.old stored → ((tag : ℕ) → pid_in services.now.map tag ≡ pid_of stored tag) → self.new.changed ≡ false) }
     {
         let components = services.components();
         let gone = self.gone_by(components)?;
         let mut added = added_to(self.alloc, &self.slots, components)?;
+        let is_wider = !added.is_empty();
         self.slots.append(&mut added)?;
-        keep(&mut self.slots, components);
+        let is_narrower = keep(&mut self.slots, components);
+        self.changed = is_wider || is_narrower;
         Ok(gone)
     }
 
@@ -108,16 +127,48 @@ impl Store {
         Some(slot.numbers.of(module))
     }
 
-    /// The bytes of the start document, once its module is held. This takes no memory.
-    pub fn start_bytes(&self) -> Option<&[u8]>
-        ensures { (stored : Stored) → StandsFor self.now stored → option_copied result ≡ start_of stored }
+    /// What is there under a path: `Found` with the resource's very bytes, at most 1,048,576; `Waiting` exactly where the
+    /// component is in the map and has no DII in force, or has an entry for the module that is neither skipped nor held;
+    /// `Missing` exactly where the path is neither found nor waited for. The cost is that of a few look-ups by hash, and
+    /// this takes no memory.
+    pub fn resource(&self, path: &Path) -> Look<'_>
+        ensures look { (stored : Stored) → StandsFor self.now stored → seen result ≡ look stored path.now }
+        ensures bound { HasAtMost 1048576 (seen result) }
+    {
+        match slot_of(&self.slots, path.component) {
+            None => Look::Missing,
+            Some(slot) => slot.resource(path.module, &path.name),
+        }
+    }
+
+    /// The path of the start document: module 0000 of component 0x40 as a whole, where its entry in force says that it
+    /// holds no entity, and else its part `startup.bml`. Memory is taken for the name.
+    pub fn start_path(&self) -> Result<Path, NoMemory>
+        ensures { IfOk result (λ path. (stored : Stored) → StandsFor self.now stored → path ≡ start_path stored) }
+    {
+        let name = Text::of_bytes(self.alloc, start_name(self.start_info()))?;
+        Ok(Path {
+            component: START_COMPONENT,
+            module: START_MODULE,
+            name,
+        })
+    }
+
+    /// Whether the last `feed` or `set_components` that found memory may have changed what `resource` or `start_path`
+    /// answer: a change was told, another DII came into force, or a component came into the map or left it.
+    pub fn has_changed(&self) -> bool
+        ensures { result ≡ self.now.changed }
+    {
+        self.changed
+    }
+
+    // The info of the start document's module, where it has an entry.
+    fn start_info(&self) -> Option<&[u8]>
+        ensures { (stored : Stored) → StandsFor self.now stored → option_copied result ≡ start_info stored }
     {
         let slot = slot_of(&self.slots, START_COMPONENT)?;
         let entry = slot.carousel.entry(START_MODULE)?;
-        if !is_resource(entry.info.as_slice()) {
-            return None;
-        }
-        slot.carousel.bytes_of(START_MODULE)
+        Some(entry.info.as_slice())
     }
 
     // What goes with the components that leave, in ascending component.
@@ -147,6 +198,24 @@ impl Store {
     }
 }
 
+// The name of the start document, in a module with this info.
+fn start_name(info: Option<&[u8]>) -> &'static [u8]
+    ensures { result.now ≡ resources.start_name (option_copied info.entry) }
+{
+    match info {
+        Some(info) if !holds_entity(info) => b"",
+        _ => START_NAME,
+    }
+}
+
+// Whether a section with these changes, which came between these DIIs in force, may have changed what is found.
+fn may_differ(changes: &[Change], before: Option<u32>, now: Option<u32>) -> bool
+    ensures alike { result ≡ false → (changes.now ≡ []) × (now ≡ before) }
+    ensures quiet { changes.now ≡ [] → now ≡ before → result ≡ false }
+{
+    !changes.is_empty() || now != before
+}
+
 // Where the component with that tag is.
 fn place_of(slots: &[Slot], tag: u8) -> Option<usize>
     ensures { result ≡ position (has_tag tag) slots.now }
@@ -167,11 +236,15 @@ fn is_kept(components: &[Component], slot: &Slot) -> bool
     components.iter().any(|component| component.tag == slot.tag && component.pid == slot.pid)
 }
 
-// Gives back what is kept of components that the map doesn't have on the same PID.
-fn keep(slots: &mut Vec<Slot>, components: &[Component])
-    ensures { slots.new.items ≡ kept_of components.now slots.old.items }
+// Gives back what is kept of components that the map doesn't have on the same PID, and answers whether there were any.
+fn keep(slots: &mut Vec<Slot>, components: &[Component]) -> bool
+    ensures kept { slots.new.items ≡ kept_of components.now slots.old.items }
+    ensures same { result ≡ false → slots.new.items ≡ slots.old.items }
+    ensures fewer { slots.new.items ≡ slots.old.items → result ≡ false }
 {
+    let before = slots.len();
     slots.retain(|slot| is_kept(components, slot));
+    slots.len() < before
 }
 
 // Whether the component is followed on the same PID.

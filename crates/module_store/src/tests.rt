@@ -4,7 +4,8 @@
 mod sections;
 
 use super::*;
-use bml_bytes::NoMemory;
+use bml_bytes::{NoMemory, Text};
+use multipart_entities::Path;
 use psi_tables::{PAT_PID, Selection, Services};
 use sections::{Listed, PAT, PMT_PID, Sent, pmt, section_of};
 use std::alloc::Global;
@@ -185,32 +186,184 @@ fn components_come_and_go(rt: HostRuntime) -> Result<(), Fail> {
     Ok(())
 }
 
+// The bytes of an entity with the parts `startup.bml` and one without a name, in two blocks.
+const FIRST: &[u8] = b"Content-Type: multipart/mixed; boundary=b\r\n\r\n--b\r\nContent-Locati";
+
+const LAST: &[u8] = b"on: a/startup.bml\r\n\r\nabcd\r\n--b\r\n\r\nefgh\r\n--b--\r\n";
+
+const CSS: &[u8] = b"\x01\x08text/css";
+
+// An entity, a resource, a compressed module, a resource that never comes, and a malformed entity.
+const ENTRIES: &[Listed] = &[
+    Listed(0, 1, 111, &[]),
+    Listed(1, 1, 4, CSS),
+    Listed(2, 1, 4, INFO),
+    Listed(3, 1, 4, CSS),
+    Listed(4, 1, 4, &[]),
+];
+
+// What is looked up: a component, a module, a name, and what is there.
+#[derive(Clone, Copy)]
+struct Sought(u8, u16, &'static [u8], Look<'static>);
+
+// A section of component 0x40, whether what is found may have changed by it, and what is there behind it.
+#[derive(Clone, Copy)]
+struct Found(Sent, bool, &'static [Sought]);
+
+const BEFORE: &[Sought] = &[
+    Sought(0x40, 0, b"startup.bml", Look::Waiting),
+    Sought(0x40, 9, b"", Look::Waiting),
+    Sought(0x42, 0, b"", Look::Missing),
+];
+
+const FOUND: &[Found] = &[
+    Found(Sent::Other, false, BEFORE),
+    Found(
+        Sent::Dii(1, ENTRIES),
+        true,
+        &[
+            Sought(0x40, 0, b"startup.bml", Look::Waiting),
+            Sought(0x40, 2, b"", Look::Missing),
+            Sought(0x40, 9, b"", Look::Missing),
+            Sought(0x41, 0, b"", Look::Waiting),
+        ],
+    ),
+    Found(
+        Sent::BlockOf(0, 1, LAST),
+        false,
+        &[Sought(0x40, 0, b"startup.bml", Look::Waiting)],
+    ),
+    Found(
+        Sent::Dii(1, ENTRIES),
+        false,
+        &[Sought(0x40, 0, b"startup.bml", Look::Waiting)],
+    ),
+    Found(
+        Sent::BlockOf(0, 0, FIRST),
+        true,
+        &[
+            Sought(0x40, 0, b"startup.bml", Look::Found(b"abcd")),
+            Sought(0x40, 0, b"", Look::Found(b"efgh")),
+            Sought(0x40, 0, b"Startup.bml", Look::Missing),
+            Sought(0x40, 1, b"", Look::Waiting),
+        ],
+    ),
+    Found(Sent::BlockOf(0, 0, FIRST), false, &[]),
+    Found(
+        Sent::Block(1, 1),
+        true,
+        &[
+            Sought(0x40, 1, b"", Look::Found(b"abcd")),
+            Sought(0x40, 1, b"abcd", Look::Missing),
+        ],
+    ),
+    Found(
+        Sent::Block(4, 1),
+        true,
+        &[
+            Sought(0x40, 4, b"", Look::Missing),
+            Sought(0x40, 3, b"", Look::Waiting),
+        ],
+    ),
+    // Another DII with the same entries: what is held stays.
+    Found(
+        Sent::Dii(2, ENTRIES),
+        true,
+        &[
+            Sought(0x40, 0, b"startup.bml", Look::Found(b"abcd")),
+            Sought(0x40, 1, b"", Look::Found(b"abcd")),
+        ],
+    ),
+    // Module 0 is announced anew, and the others aren't any more.
+    Found(
+        Sent::Dii(3, &[Listed(0, 2, 111, &[])]),
+        true,
+        &[
+            Sought(0x40, 0, b"startup.bml", Look::Waiting),
+            Sought(0x40, 1, b"", Look::Missing),
+        ],
+    ),
+];
+
+fn path(alloc: Global, component: u8, module: u16, name: &[u8]) -> Result<Path, Fail> {
+    let name = Text::of_bytes(alloc, name)?;
+    Ok(Path {
+        component,
+        module,
+        name,
+    })
+}
+
+// The components 0x40 and 0x41 on two PIDs.
+fn two_components(alloc: Global) -> Result<(Services, Store), Fail> {
+    let mut services = Services::new(alloc, Selection::First);
+    handed(&mut services, PAT_PID, &PAT)?;
+    let map = pmt(alloc, &[(0x40, 256), (0x41, 257)])?;
+    handed(&mut services, PMT_PID, map.as_slice())?;
+    let mut store = Store::new(alloc);
+    let _gone = mapped(&mut store, &services)?;
+    Ok((services, store))
+}
+
+#[test]
+fn resources(rt: HostRuntime) -> Result<(), Fail> {
+    let alloc = rt.alloc();
+    let (_services, mut store) = two_components(alloc)?;
+    for (place, found) in FOUND.iter().enumerate() {
+        let section = section_of(alloc, found.0)?;
+        let _changes = fed(&mut store, 0x40, section.as_slice())?;
+        assert_eq!(rt; store.has_changed(), found.1, "section {place}");
+        for sought in found.2 {
+            let path = path(alloc, sought.0, sought.1, sought.2)?;
+            assert!(rt;
+                store.resource(&path) == sought.3,
+                "section {place}, module {}",
+                sought.1
+            );
+        }
+    }
+    Ok(())
+}
+
 #[test]
 fn start_document(rt: HostRuntime) -> Result<(), Fail> {
     let alloc = rt.alloc();
-    for (component, info, is_start) in [
-        (0x40, b"".as_slice(), false),
-        (0x40, b"\x01\x0Ftext/X-arib-bml", true),
-        (0x40, b"\x01\x0Etext/X-arib-bml", false),
-        (0x40, b"\x02\x0Ftext/X-arib-bml", false),
-        (0x40, b"\x01\x1BMultipart/Mixed; boundary=x", false),
-        (0x40, b"\x01\x0Fmultipart/mixee", true),
-        (0x41, b"\x01\x0Ftext/X-arib-bml", false),
+    for (component, info, name) in [
+        (0x40, b"".as_slice(), b"startup.bml".as_slice()),
+        (0x40, b"\x01\x0Ftext/X-arib-bml", b""),
+        (0x40, b"\x01\x0Etext/X-arib-bml", b"startup.bml"),
+        (0x40, b"\x02\x0Ftext/X-arib-bml", b"startup.bml"),
+        (0x40, b"\x02\x00\x01\x0Ftext/X-arib-bml", b""),
+        (0x40, b"\x01\x1BMultipart/Mixed; boundary=x", b"startup.bml"),
+        (0x40, b"\x01\x0Fmultipart/mixee", b""),
+        (0x41, b"\x01\x0Ftext/X-arib-bml", b"startup.bml"),
     ] {
-        let mut services = Services::new(alloc, Selection::First);
-        handed(&mut services, PAT_PID, &PAT)?;
-        let map = pmt(alloc, &[(0x40, 256), (0x41, 257)])?;
-        handed(&mut services, PMT_PID, map.as_slice())?;
-        let mut store = Store::new(alloc);
-        assert!(rt; mapped(&mut store, &services)?.is_empty());
+        let (_services, mut store) = two_components(alloc)?;
         let dii = sections::dii(alloc, 1, &[Listed(0, 1, 4, info)])?;
         assert_eq!(rt; fed(&mut store, component, dii.as_slice())?.len(), 1);
-        assert!(rt; store.start_bytes().is_none());
-        let block = section_of(alloc, Sent::Block(0, 1))?;
-        assert_eq!(rt; fed(&mut store, component, block.as_slice())?.len(), 1);
-        let bytes = store.start_bytes();
-        assert_eq!(rt; bytes.is_some(), is_start);
-        assert!(rt; bytes.is_none_or(|bytes| bytes == b"abcd".as_slice()));
+        let start = store.start_path()?;
+        assert_eq!(rt; start.component, 0x40);
+        assert_eq!(rt; start.module, 0);
+        assert!(rt; start.name == Text::of_bytes(alloc, name)?);
+    }
+    Ok(())
+}
+
+#[test]
+fn maps_change_what_is_found(rt: HostRuntime) -> Result<(), Fail> {
+    let alloc = rt.alloc();
+    let (mut services, mut store) = two_components(alloc)?;
+    assert!(rt; store.has_changed());
+    let one = pmt(alloc, &[(0x40, 256)])?;
+    let moved = pmt(alloc, &[(0x40, 258)])?;
+    for (map, has_changed) in [
+        (one.as_slice(), true),
+        (one.as_slice(), false),
+        (moved.as_slice(), true),
+    ] {
+        handed(&mut services, PMT_PID, map)?;
+        let _gone = mapped(&mut store, &services)?;
+        assert_eq!(rt; store.has_changed(), has_changed);
     }
     Ok(())
 }

@@ -1,4 +1,5 @@
 pub mod OutputLaws
 pub mod FrontLaws
+pub mod DispatchLaws
 pub mod ProgramLaws
 pub mod ReceivingLaws

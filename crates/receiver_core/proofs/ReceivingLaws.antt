@@ -1,5 +1,5 @@
 -- What a receiver stands for, behind one input or one section more.
-use Rattle.std.proofs.Common.{◌≡◌, ◌≢◌, ◌≤◌, ◌<◌, ◌+◌, ℕ, suc, Bool, true, false, cond, eqb, List, [], ◌∷◌, ◌++◌, refl, sym, ap, ap₂, ◌∙◌, subst, append_assoc, append-nil, arith, length, drop, filter, map, ⊎_elim, true≢false}
+use Rattle.std.proofs.Common.{◌≡◌, ◌≢◌, ◌≤◌, ◌+◌, ℕ, suc, Bool, true, false, cond, eqb, List, [], ◌∷◌, ◌++◌, refl, sym, ap, ap₂, ◌∙◌, subst, append_assoc, append-nil, arith, length, drop, filter, map, ⊎_elim, true≢false}
 use Rattle.std.specs.Prelude.{◌||◌, ◌&&◌, ◌==◌, Option, Some, None, find, is_some, option_map, unwrap_or, if◌then◌else◌}
 use Rattle.std.specs.List.{list_any}
 use Rattle.std.proofs.lemmas.Bool.{eqb-true, ne_eqb, eq-eqb, cases_eq}
@@ -15,7 +15,7 @@ use Rattle.psi_tables.specs.declared.pmt.Pmt.{Pmt}
 use Rattle.psi_tables.specs.declared.services.Selection.{Selection}
 use Rattle.psi_tables.specs.declared.services.Selection.TheVariants.{First, Service, Pid}
 use Rattle.psi_tables.specs.Components.{components_of, tag_in}
-use Rattle.psi_tables.specs.History.{Handled, last_of, map_at_first, map_of, is_on as is_on_service}
+use Rattle.psi_tables.specs.History.{Handled, map_at_first, map_of, is_on as is_on_service}
 use Rattle.psi_tables.specs.Service.{ServicesState, wants, reads_table}
 use Rattle.psi_tables.proofs.DistinctLemmas.{components_few}
 use Rattle.section_demultiplexer.specs.Demultiplexing.{Advances, DemultiplexerState, HasRoom, IsPushed, IsSpent, assembler_of, assembler_on, fresh, has_channel, is_on, with_next}
@@ -23,14 +23,15 @@ use Rattle.section_demultiplexer.specs.declared.demultiplexer.Channel.{Channel}
 use Rattle.section_demultiplexer.specs.Demultiplexing as demultiplexing
 use Rattle.section_demultiplexer.proofs.ChannelLaws.{fresh_stands, fresh_spent, kept_assemblers, kept_channels, no_channel}
 use Rattle.receiver_core.specs.Fronts.{IsFront}
-use Rattle.receiver_core.specs.Outputs.{after, behind_turns, completed, display_of, outputs, outputs_from, texts_of, texts_of_turns, with_packet}
+use Rattle.receiver_core.specs.Outputs.{after, behind_turns, display_of, outputs, outputs_from, texts_of, texts_of_turns, with_packet}
 use Rattle.receiver_core.specs.Programs.{HasTurned, ProgramState}
 use Rattle.receiver_core.specs.Programs as programs
-use Rattle.receiver_core.specs.Receiving.{AreWanted, IsDrained, IsIdle, ReceiverState, StandsFor, behind_those_left, sections_left, texts_left, waiting_in}
+use Rattle.receiver_core.specs.Receiving.{AreWanted, IsDrained, IsIdle, ReceiverState, StandsFor, behind_those_left, texts_left, waiting_in}
 use Rattle.receiver_core.specs.State.{Input, Packet, Show, State, opening, services}
 use Rattle.receiver_core.specs.State as state_of
-use Rattle.receiver_core.specs.Turns.{Turned, turn}
+use Rattle.receiver_core.specs.Dispatches.{turn}
 use Rattle.receiver_core.proofs.OutputLaws.{outputs_are}
+use Rattle.receiver_core.proofs.DispatchLaws.{same_dispatch}
 use Rattle.receiver_core.proofs.ProgramLaws.{services_are, turn_packets}
 
 -- ---- at the start, and where nothing waits
@@ -87,14 +88,17 @@ shows state drained selection inputs given s = record {
   assembled = s.assembled;
   ahead = λ more.
       next_ahead selection state inputs given s Show more drained
-      ∙ ap (λ (t : List ℕ). given ++ (t ∷ outputs_from s.now more)) (ap display_of (sym s.program.startup))
+      ∙ ap (λ (t : List ℕ). given ++ (t ∷ outputs_from s.now more)) (ap display_of (sym s.program.keeps.startup))
       ∙ sym (append_assoc given (display_of state.program.startup ∷ []) (outputs_from s.now more))
       ∙ ap (λ (l : List (List ℕ)). (given ++ display_of state.program.startup ∷ []) ++ l) (sym (quiet state.demultiplexer s.now more drained.none));
 }
 
 -- the state with one packet more is one for the same program
 same_program : (program : ProgramState) (s : State) (packet : List ℕ) → programs.StandsFor program s → programs.StandsFor program (with_packet packet s)
-same_program program s packet p = record { selection = p.selection; services = p.services; store = p.store; components = p.components; startup = p.startup }
+same_program program s packet p = record {
+  keeps = record { selection = p.keeps.selection; services = p.keeps.services; store = p.keeps.store; components = p.keeps.components; startup = p.keeps.startup };
+  done = same_dispatch s packet p.done;
+}
 
 wanted_by : (state : ReceiverState) (now : State) (pid : ℕ) (b : Bool) → programs.StandsFor state.program now → wants state.program.services pid ≡ b → state_of.wants now pid ≡ b
 wanted_by state now pid b stands e = subst (λ (x : ServicesState). wants x pid ≡ b) (services_are state.program now stands) e
@@ -202,7 +206,7 @@ has_room : (state : ReceiverState) (pid : ℕ) (now : State) → AreWanted state
 has_room state pid now are w stands = record {
   pids = pids_of state.program.services;
   few = few_pids state.program.services.service state.program.services.map
-      (subst (λ (l : List Component). length l ≤ 16) (sym stands.services.map) (few_mapped state.program.services.selection now.handled));
+      (subst (λ (l : List Component). length l ≤ 16) (sym stands.keeps.services.map) (few_mapped state.program.services.selection now.handled));
   among = λ other h. wanted_among state.program.services other (all_wanted state.demultiplexer state.program pid other (has_channel state.demultiplexer.channels other) are w refl h);
 }
 

@@ -1,3 +1,4 @@
+pub mod Dispatches
 pub mod Fronts
 pub mod Lines
 pub mod Loading

@@ -6,6 +6,8 @@ use Rattle.bml_bytes.specs.Numerals.{decimal_digits, hex_digits}
 use Rattle.dom_tree.specs.Items.{Item}
 use Rattle.bml_reader.specs.declared.faults.DocFault.{DocFault}
 use Rattle.bml_reader.specs.declared.faults.DocFault.TheVariants.{Malformed, WrongRoot, TooDeep, TooManyNodes, NoMemory}
+use Rattle.multipart_entities.specs.declared.paths.Path.{Path}
+use Rattle.multipart_entities.specs.Paths.{printed}
 use Rattle.carousel_blocks.specs.declared.standing.SkipCause.{SkipCause}
 use Rattle.carousel_blocks.specs.declared.standing.SkipCause.TheVariants.{Compressed, Large}
 use Rattle.carousel_blocks.specs.declared.changes.Change.{Change}
@@ -39,7 +41,7 @@ fault_name TooDeep = codes "TooDeep"
 fault_name TooManyNodes = codes "TooManyNodes"
 fault_name NoMemory = codes "NoMemory"
 
--- the start document was loaded, or refused for this fault
-abbrev pub load_line : Result (List Item) DocFault → List ℕ
-load_line (Ok items) = codes "load /40/0000\n"
-load_line (Err fault) = codes "refuse /40/0000 " ++ (fault_name fault ++ codes "\n")
+-- the document at this path was loaded, or refused for this fault
+abbrev pub load_line : Path → Result (List Item) DocFault → List ℕ
+load_line path (Ok items) = codes "load " ++ (printed path ++ codes "\n")
+load_line path (Err fault) = codes "refuse " ++ (printed path ++ (codes " " ++ (fault_name fault ++ codes "\n")))

@@ -9,7 +9,7 @@ use Rattle.psi_tables.specs.declared.services.Selection.{Selection}
 use Rattle.receiver_core.specs.declared.startup.Startup.{Startup}
 use Rattle.receiver_core.specs.declared.startup.Startup.TheVariants.{Wanted, Refused, Loaded}
 use Rattle.receiver_core.specs.State.{Input, Packet, Show, State, opening, wants}
-use Rattle.receiver_core.specs.Turns.{turn}
+use Rattle.receiver_core.specs.Dispatches.{turn}
 
 -- the turns of intact sections on a PID, one behind the other, as long as the PID is wanted: what they leave, and what
 -- each prints
@@ -33,7 +33,7 @@ completed packet s = if wants s (pid_of packet) then filter is_intact (completed
 abbrev pub display_of : Startup → List ℕ
 display_of Wanted = clock_line 0
 display_of Refused = clock_line 0
-display_of (Loaded items) = shown items 0
+display_of (Loaded document) = shown document.tree 0
 
 -- what one input prints, and what it leaves: a packet the turns of the intact sections that it completes
 abbrev pub texts_of : Input → State → List (List ℕ)

@@ -1,16 +1,11 @@
--- The turns of intact sections. (This project's own.)
-use Rattle.std.specs.Prelude.{ℕ, if◌then◌else◌, List, [], ◌∷◌, ◌++◌, Option, Some, None, Result, Ok, Err}
+-- What intact sections change, before the dispatches of their turns. (This project's own.)
+use Rattle.std.specs.Prelude.{ℕ, if◌then◌else◌, List, [], ◌∷◌, ◌++◌, Option, Some, None}
 use Rattle.std.specs.List.{flat_map}
-use Rattle.dom_tree.specs.Items.{Item}
-use Rattle.bml_reader.specs.declared.faults.DocFault.{DocFault}
-use Rattle.bml_reader.specs.Readings.{reading_of}
 use Rattle.psi_tables.specs.Components.{tag_in}
 use Rattle.psi_tables.specs.Service.{reads_table}
 use Rattle.module_store.specs.Store as store
-use Rattle.receiver_core.specs.Lines.{line_of_change, load_line}
+use Rattle.receiver_core.specs.Lines.{line_of_change}
 use Rattle.receiver_core.specs.State.{State, services, wants}
-use Rattle.receiver_core.specs.declared.startup.Startup.{Startup}
-use Rattle.receiver_core.specs.declared.startup.Startup.TheVariants.{Wanted, Refused, Loaded}
 
 -- what a section makes of the state, and what its turn prints
 pub record Turned : Type 0 where
@@ -47,24 +42,3 @@ turned_by pid section s =
     if reads_table s.selection (services s).service pid
     then turned_by_table (with_handled pid section s)
     else turned_by_tag (tag_in (services s).map pid) section (with_handled pid section s)
-
--- Then the start document is loaded, where it is wanted and its module is held.
-abbrev pub loaded_as : Result (List Item) DocFault → Startup
-loaded_as (Ok items) = Loaded items
-loaded_as (Err fault) = Refused
-
-abbrev pub with_document : Option (List ℕ) → Turned → Turned
-with_document None t = t
-with_document (Some bytes) t = record {
-  state = record t.state { startup = loaded_as (reading_of bytes) };
-  text = t.text ++ load_line (reading_of bytes);
-}
-
-abbrev pub wanted_bytes : Startup → Option (List ℕ) → Option (List ℕ)
-wanted_bytes Wanted bytes = bytes
-wanted_bytes Refused bytes = None
-wanted_bytes (Loaded items) bytes = None
-
--- the turn of an intact section on a PID
-unfoldable pub turn : ℕ → List ℕ → State → Turned
-turn pid section s = let t = turned_by pid section s in with_document (wanted_bytes t.state.startup (store.start_of t.state.store)) t

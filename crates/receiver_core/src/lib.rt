@@ -9,6 +9,7 @@
 
 mod laws;
 mod lines;
+mod loading;
 mod program;
 mod receiver;
 mod startup;

@@ -3,11 +3,13 @@
 ghost use Rattle.std.specs.Prelude.{◌≡◌, ◌<◌, ◌^◌, ◌++◌, codes, length, take, Err, OnOk, OnErr};
 ghost use Rattle.std.specs.List.{flat_map};
 ghost use Rattle.bml_bytes.specs.Numerals.{decimal_digits, hex_digits};
+ghost use Rattle.multipart_entities.specs.Paths.{printed};
 ghost use Rattle.receiver_core.specs.Lines.{cause_name, fault_name, line_of_change, line_with, load_line, module_fields};
 
 use bml_bytes::{NoMemory, push_decimal, push_hex};
 use bml_reader::DocFault;
 use module_store::{Change, ChangeLine, SkipCause};
+use multipart_entities::Path;
 
 /// Appends the line of a change in a module of a component, where it has one: the module was delivered, went, or is
 /// skipped.
@@ -54,21 +56,28 @@ pub fn push_gone_lines(gone: &[(u8, Change)], out: &mut Vec<u8>) -> Result<(), N
     Ok(())
 }
 
-/// Appends the line of the start document that was loaded.
-pub fn push_load_line(out: &mut Vec<u8>) -> Result<(), NoMemory>
-    ensures ok { OnOk result (out.new.items ≡ out.old.items ++ codes "load /40/0000\n") }
-    ensures err { OnErr result (out.new.items ≡ out.old.items) }
-{
-    push_text(b"load /40/0000\n", out)
-}
-
-/// Appends the line of the start document that was refused.
-pub fn push_refuse_line(fault: DocFault, out: &mut Vec<u8>) -> Result<(), NoMemory>
-    ensures ok { OnOk result (out.new.items ≡ out.old.items ++ load_line (Err fault)) }
+/// Appends the line of the document at a path that was loaded.
+pub fn push_load_line(path: &Path, out: &mut Vec<u8>) -> Result<(), NoMemory>
+    ensures ok { OnOk result (out.new.items ≡ out.old.items ++ (codes "load " ++ (printed path.now ++ codes "\n"))) }
     ensures err { OnErr result (out.new.items ≡ out.old.items) }
 {
     let before = out.len();
-    match push_refuse_fields(fault, out) {
+    match push_load_fields(path, out) {
+        Ok(()) => Ok(()),
+        Err(error) => {
+            out.truncate(before);
+            Err(error)
+        }
+    }
+}
+
+/// Appends the line of the document at a path that was refused.
+pub fn push_refuse_line(path: &Path, fault: DocFault, out: &mut Vec<u8>) -> Result<(), NoMemory>
+    ensures ok { OnOk result (out.new.items ≡ out.old.items ++ load_line path.now (Err fault)) }
+    ensures err { OnErr result (out.new.items ≡ out.old.items) }
+{
+    let before = out.len();
+    match push_refuse_fields(path, fault, out) {
         Ok(()) => Ok(()),
         Err(error) => {
             out.truncate(before);
@@ -160,11 +169,22 @@ fn push_module_fields(component: u8, number: u16, out: &mut Vec<u8>) -> Result<(
     push_hex(u32::from(number), 4, out)
 }
 
-fn push_refuse_fields(fault: DocFault, out: &mut Vec<u8>) -> Result<(), NoMemory>
-    ensures ok { OnOk result (out.new.items ≡ out.old.items ++ load_line (Err fault)) }
+fn push_load_fields(path: &Path, out: &mut Vec<u8>) -> Result<(), NoMemory>
+    ensures ok { OnOk result (out.new.items ≡ out.old.items ++ (codes "load " ++ (printed path.now ++ codes "\n"))) }
     ensures grows { take (length out.old.items) out.new.items ≡ out.old.items }
 {
-    push_text(b"refuse /40/0000 ", out)?;
+    push_text(b"load ", out)?;
+    path.push(out)?;
+    push_text(b"\n", out)
+}
+
+fn push_refuse_fields(path: &Path, fault: DocFault, out: &mut Vec<u8>) -> Result<(), NoMemory>
+    ensures ok { OnOk result (out.new.items ≡ out.old.items ++ load_line path.now (Err fault)) }
+    ensures grows { take (length out.old.items) out.new.items ≡ out.old.items }
+{
+    push_text(b"refuse ", out)?;
+    path.push(out)?;
+    push_text(b" ", out)?;
     push_text(name_of_fault(fault), out)?;
     push_text(b"\n", out)
 }
@@ -209,6 +229,7 @@ fn push_number(number: u64, out: &mut Vec<u8>) -> Result<(), NoMemory>
 #[cfg(test)]
 mod tests {
     use super::*;
+    use bml_bytes::Text;
     use std::test::Fail;
 
     // The change of that module with that line.
@@ -258,11 +279,16 @@ mod tests {
         ] {
             push_change_line(component, &change, &mut out)?;
         }
-        push_load_line(&mut out)?;
-        push_refuse_line(DocFault::WrongRoot, &mut out)?;
+        let path = Path {
+            component: 0x40,
+            module: 0,
+            name: Text::of_bytes(rt.alloc(), b"a b")?,
+        };
+        push_load_line(&path, &mut out)?;
+        push_refuse_line(&path, DocFault::WrongRoot, &mut out)?;
         let expected: &[u8] = b"module 40 0001 01 10\nmodule ab fffe ff 4294967295\n\
             gone 0c 0203\nskip 41 0000 compressed\nskip 41 00ff large\n\
-            load /40/0000\nrefuse /40/0000 WrongRoot\n";
+            load /40/0000/a%20b\nrefuse /40/0000/a%20b WrongRoot\n";
         assert_eq!(rt; out.as_slice(), expected);
         Ok(())
     }

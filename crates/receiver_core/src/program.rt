@@ -4,11 +4,13 @@ ghost use Rattle.std.specs.Prelude.{◌≡◌, ◌≤◌, ◌++◌, ℕ, List, t
 ghost use Rattle.psi_tables.specs.Components.{tag_in};
 ghost use Rattle.psi_tables.specs.Service.{reads_table};
 ghost use Rattle.receiver_core.specs.Outputs.{display_of};
-ghost use Rattle.receiver_core.specs.Programs.{StandsFor, Turns};
+ghost use Rattle.receiver_core.specs.Dispatches.{turn};
+ghost use Rattle.receiver_core.specs.Programs.{Dispatches, LeavesLooks, StandsFor, Takes, Turns};
 ghost use Rattle.receiver_core.specs.State.{opening};
-ghost use Rattle.receiver_core.specs.Turns.{turn, turned_by, turned_by_component, turned_by_table, with_handled};
+ghost use Rattle.receiver_core.specs.Turns.{turned_by, turned_by_component, turned_by_table, with_handled};
 
 use crate::lines::{push_change_lines, push_gone_lines};
+use crate::loading::load;
 use crate::startup::Startup;
 use bml_bytes::NoMemory;
 use module_store::Store;
@@ -64,8 +66,24 @@ impl Program {
         ensures turned { OnOk result (Turns self.old self.new out.old.items out.new.items (turn pid section.now)) }
         ensures grows { take (length out.old.items) out.new.items ≡ out.old.items }
     {
-        self.take(pid, section, out)?;
-        self.startup.load(self.alloc, self.store.start_bytes(), out)
+        if self.take(pid, section, out)? {
+            self.dispatch(out)?;
+        }
+        Ok(())
+    }
+
+    // Makes the dispatches of a turn: loads the document that is wanted, where it can be loaded.
+    fn dispatch(&mut self, out: &mut Vec<u8>) -> Result<(), NoMemory>
+        ensures made { OnOk result (Dispatches self.old self.new out.old.items out.new.items) }
+        ensures grows { take (length out.old.items) out.new.items ≡ out.old.items }
+    {
+        let Startup::Wanted = self.startup else {
+            return Ok(());
+        };
+        let path = self.store.start_path()?;
+        let loaded = load(self.alloc, &self.store, &path, out)?;
+        self.startup = loaded.unwrap_or(Startup::Wanted);
+        Ok(())
     }
 
     /// Appends the display list of the start document, or its first line alone.
@@ -76,10 +94,12 @@ impl Program {
         self.startup.show(out)
     }
 
-    // Takes a section as a table, or as one of the component on its PID.
-    fn take(&mut self, pid: u16, section: &[u8], out: &mut Vec<u8>) -> Result<(), NoMemory>
+    // Takes a section as a table, or as one of the component on its PID, and tells whether there may be something to
+    // dispatch now.
+    fn take(&mut self, pid: u16, section: &[u8], out: &mut Vec<u8>) -> Result<bool, NoMemory>
         requires { 12 ≤ length section.now }
-        ensures turned { OnOk result (Turns self.old self.new out.old.items out.new.items (turned_by pid section.now)) }
+        ensures taken { OnOk result (Takes self.old self.new out.old.items out.new.items (turned_by pid section.now)) }
+        ensures looks { IfOk result (λ changed. changed ≡ false → LeavesLooks self.old (turned_by pid section.now)) }
         ensures grows { take (length out.old.items) out.new.items ≡ out.old.items }
     {
         if self.services.reads_table(pid) {
@@ -87,19 +107,21 @@ impl Program {
         }
         match self.services.component_of(pid) {
             Some(component) => self.take_data(pid, component, section, out),
-            None => Ok(()),
+            None => Ok(false),
         }
     }
 
     // Takes a section as a table: the components become those of the map, and what left with others is told.
-    fn take_table(&mut self, pid: u16, section: &[u8], out: &mut Vec<u8>) -> Result<(), NoMemory>
+    fn take_table(&mut self, pid: u16, section: &[u8], out: &mut Vec<u8>) -> Result<bool, NoMemory>
         requires { 12 ≤ length section.now }
-        ensures turned { OnOk result (Turns self.old self.new out.old.items out.new.items (λ s. turned_by_table (with_handled pid section.now s))) }
+        ensures taken { OnOk result (Takes self.old self.new out.old.items out.new.items (λ s. turned_by_table (with_handled pid section.now s))) }
+        ensures looks { IfOk result (λ changed. changed ≡ false → LeavesLooks self.old (λ s. turned_by_table (with_handled pid section.now s))) }
         ensures grows { take (length out.old.items) out.new.items ≡ out.old.items }
     {
         self.services.feed(pid, section)?;
         let gone = self.store.set_components(&self.services)?;
-        push_gone_lines(gone.as_slice(), out)
+        push_gone_lines(gone.as_slice(), out)?;
+        Ok(self.store.has_changed())
     }
 
     // Takes a section of the component on its PID.
@@ -109,17 +131,19 @@ impl Program {
         component: u8,
         section: &[u8],
         out: &mut Vec<u8>,
-    ) -> Result<(), NoMemory>
+    ) -> Result<bool, NoMemory>
         requires section { 12 ≤ length section.now }
         requires unread { reads_table self.old.services.selection self.old.services.service pid ≡ false }
         requires component { tag_in self.old.services.map pid ≡ Some component }
-        ensures turned { OnOk result (Turns self.old self.new out.old.items out.new.items (λ s. turned_by_component component section.now (with_handled pid section.now s))) }
+        ensures taken { OnOk result (Takes self.old self.new out.old.items out.new.items (λ s. turned_by_component component section.now (with_handled pid section.now s))) }
+        ensures looks { IfOk result (λ changed. changed ≡ false → LeavesLooks self.old (λ s. turned_by_component component section.now (with_handled pid section.now s))) }
         ensures grows { take (length out.old.items) out.new.items ≡ out.old.items }
     {
         if !self.store.has_component(component) {
-            return Ok(());
+            return Ok(false);
         }
         let changes = self.store.feed(component, section)?;
-        push_change_lines(component, changes.as_slice(), out)
+        push_change_lines(component, changes.as_slice(), out)?;
+        Ok(self.store.has_changed())
     }
 }

@@ -133,6 +133,24 @@ impl Stream {
         Ok(stream)
     }
 
+    /// Modules with these numbers and bytes, without info, in blocks of 100, one behind the other.
+    pub fn of_modules(alloc: Global, modules: &[(u16, &[u8])]) -> Result<Stream, Fail> {
+        let mut stream = Stream::new(alloc);
+        let mut entries = Vec::new(alloc);
+        for (number, bytes) in modules {
+            entries.push(Entry(*number, 1, u32::try_from(bytes.len())?, &[]))?;
+        }
+        let indication = indication_of(alloc, 1, 100, entries.as_slice())?;
+        stream.push_section(DATA_PID, indication.as_slice())?;
+        for (number, bytes) in modules {
+            for (place, block) in bytes.chunks(100).enumerate() {
+                let section = block_of(alloc, *number, 1, u16::try_from(place)?, block)?;
+                stream.push_section(DATA_PID, section.as_slice())?;
+            }
+        }
+        Ok(stream)
+    }
+
     // Appends a section of at most 183 bytes in a packet of its own.
     fn push_section(&mut self, pid: u16, section: &[u8]) -> Result<(), NoMemory> {
         self.push_packet(pid, true, &[0], section)

@@ -7,11 +7,13 @@ use std::test::Fail;
 #[derive(Clone, Copy)]
 pub struct Listed(pub u16, pub u8, pub u32, pub &'static [u8]);
 
-// A DII with its transactionId and entries, the one block of a module with its version, or a section of another table.
+// A DII with its transactionId and entries, the one block of a module with its version, a block of a module by its number
+// and bytes, or a section of another table.
 #[derive(Clone, Copy)]
 pub enum Sent {
     Dii(u32, &'static [Listed]),
     Block(u16, u8),
+    BlockOf(u16, u16, &'static [u8]),
     Other,
 }
 
@@ -49,15 +51,16 @@ pub fn pmt(alloc: Global, components: &[(u8, u16)]) -> Result<Vec<u8>, Fail> {
 pub fn section_of(alloc: Global, sent: Sent) -> Result<Vec<u8>, Fail> {
     match sent {
         Sent::Dii(transaction, listed) => dii(alloc, transaction, listed),
-        Sent::Block(module, version) => block(alloc, module, version),
+        Sent::Block(module, version) => block(alloc, module, version, 0, b"abcd"),
+        Sent::BlockOf(module, number, bytes) => block(alloc, module, 1, number, bytes),
         Sent::Other => section(alloc, 0x42, 0, 0, &[]),
     }
 }
 
-// A DII with blocks of four bytes.
+// A DII with blocks of 64 bytes.
 pub fn dii(alloc: Global, transaction: u32, listed: &[Listed]) -> Result<Vec<u8>, Fail> {
     let mut payload = Vec::new(alloc);
-    payload.extend_from_slice(&[0, 0, 0, 1, 0, 4])?;
+    payload.extend_from_slice(&[0, 0, 0, 1, 0, 64])?;
     payload.extend_from_slice(&[0; 12])?;
     payload.extend_from_slice(&u16::try_from(listed.len())?.to_be_bytes())?;
     for entry in listed {
@@ -70,12 +73,18 @@ pub fn dii(alloc: Global, transaction: u32, listed: &[Listed]) -> Result<Vec<u8>
     section(alloc, 0x3B, 0x1002, transaction, payload.as_slice())
 }
 
-// A module's first block.
-fn block(alloc: Global, module: u16, version: u8) -> Result<Vec<u8>, Fail> {
+fn block(
+    alloc: Global,
+    module: u16,
+    version: u8,
+    number: u16,
+    bytes: &[u8],
+) -> Result<Vec<u8>, Fail> {
     let mut payload = Vec::new(alloc);
     payload.extend_from_slice(&module.to_be_bytes())?;
-    payload.extend_from_slice(&[version, 0, 0, 0])?;
-    payload.extend_from_slice(b"abcd")?;
+    payload.extend_from_slice(&[version, 0])?;
+    payload.extend_from_slice(&number.to_be_bytes())?;
+    payload.extend_from_slice(bytes)?;
     section(alloc, 0x3C, 0x1003, 1, payload.as_slice())
 }
 

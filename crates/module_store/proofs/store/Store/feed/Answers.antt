@@ -1,10 +1,10 @@
-use Rattle.std.proofs.Common.{◌≡◌, ◌∙◌, ℕ, eqb, false, true, position, Option, Some, ap, sym, subst}
-use Rattle.std.specs.Prelude.{is_some}
-use Rattle.std.proofs.lemmas.Result.{IfOk-weaker, IfErr-weaker}
+use Rattle.std.proofs.Common.{◌≡◌, ◌∙◌, ℕ, eqb, false, true, position, Option, Result, List, Ok, Err, get_or, set, ap, sym, subst}
+use Rattle.std.specs.Prelude.{is_some, OnErr}
 use Rattle.module_store.specs.declared.slot.Slot.{Slot}
-use Rattle.module_store.specs.Standing.{StoreState, has_tag, has_component, slot_in}
+use Rattle.module_store.specs.Standing.{StoreState, AreDistinct, has_tag, has_component, slot_in}
 use Rattle.module_store.proofs.FindLaws.{is_some-position, length-filter-set}
-use Rattle.module_store.proofs.FeedLaws.{same_components, stands_taken, stands_kept, changes_taken, keeps_tag}
+use Rattle.module_store.proofs.FeedLaws.{same_components, stands_taken, stands_kept, changes_taken}
+use Rattle.module_store.proofs.AlikeLaws.{alike_taken, quiet_taken}
 use Rattle.module_store.proofs.store.Store.feed.Goals as goal
 
 pub unreachable-requires : goal.unreachable-requires
@@ -15,36 +15,66 @@ unreachable-requires c =
     let same = is_some-position (has_tag c.args.component) slots in
     cc
 
--- where the component is
-at_place : (c : goal.After-self-1) → position (has_tag c.args.component) c.self.inside.slots.items ≡ Some c.in-Some.place
-at_place c = sym (c.place_of.ensures ∙ ap (λ l. position (has_tag c.args.component) l) c.deref.ensures.value) ∙ c.in-Some.is
+-- a slot in place of one with the same tag
+still_distinct : (slots : List Slot) (place : ℕ) (slot new : Slot) → AreDistinct slots → new.tag ≡ slot.tag → slot ≡ get_or slots place slot → AreDistinct (set slots place new)
+still_distinct slots place slot new distinct tagged is tag =
+    let same = ap (λ u. eqb u tag) tagged ∙ ap (λ (s : Slot). has_tag tag s) is in
+    rw (length-filter-set (has_tag tag) slots place new slot same) (distinct tag)
 
-tag_stays : (c : goal.After-self-1) → c.take.new.self.tag ≡ c.index_mut-slot.result.now.tag
-tag_stays c = keeps_tag c.take.result c.index_mut-slot.result.now c.take.new.self c.self.inside.count c.take.new.count c.args.section.now c.take.ensures.taken c.take.ensures.same
+on_err : {A E : Type 0} (result : Result A E) (P : Type 0) → P → OnErr result P
+on_err (Ok a) P h = tt
+on_err (Err e) P h = h
 
 pub invariant_of-self : goal.invariant_of-self
-invariant_of-self c = λ tag.
-    let same = ap (λ u. eqb u tag) (tag_stays c) ∙ ap (λ (s : Slot). has_tag tag s) c.index_mut-slot.ensures.value in
-    rw (length-filter-set (has_tag tag) c.self.inside.slots.items c.in-Some.place c.take.new.self c.index_mut-slot.result.now same) (c.self.invariant tag)
+invariant_of-self c =
+    still_distinct c.self.inside.slots.items c.in-Some.place c.index_mut-slot.result.now c.take.new.self c.self.invariant c.in_err-changes.ensures.same.tag c.index_mut-slot.ensures.value
+
+pub invariant_of-self-2 : goal.invariant_of-self-2
+invariant_of-self-2 c =
+    still_distinct c.self.inside.slots.items c.in-Some.place c.index_mut-slot.result.now c.take.new.self c.self.invariant c.in_ok-changes.ensures.taken.tag c.index_mut-slot.ensures.value
+
+pub returns-in_err-changes-clause-before : goal.returns-in_err-changes-clause-before
+returns-in_err-changes-clause-before c =
+    let place_is = sym (c.place_of.ensures ∙ ap (λ l. position (has_tag c.args.component) l) c.deref.ensures.value) ∙ c.in-Some.is in
+    on_err c.from_residual.result _
+    (rw (← c.self.view_is) (λ stored stands. stands_kept c.self.inside.slots.items c.self.inside.count c.take.new.count c.in-Some.place c.args.component c.self.inside.changed c.self.inside.changed
+    c.index_mut-slot.result.now c.take.new.self stored place_is c.index_mut-slot.ensures.value c.in_err-changes.ensures.same stands))
+
+pub returns-in_err-changes-clause-components : goal.returns-in_err-changes-clause-components
+returns-in_err-changes-clause-components c = λ tag.
+    let place_is = sym (c.place_of.ensures ∙ ap (λ l. position (has_tag c.args.component) l) c.deref.ensures.value) ∙ c.in-Some.is in
+    rw (← c.self.view_is) (same_components c.self.inside.slots.items c.in-Some.place c.args.component c.index_mut-slot.result.now c.take.new.self place_is c.index_mut-slot.ensures.value c.in_err-changes.ensures.same.tag tag)
 
 pub returns-clause-stands : goal.returns-clause-stands
 returns-clause-stands c =
-    rw (← c.self.view_is) (IfOk-weaker c.take.result _ _
-    (λ found taken stored stands. stands_taken c.self.inside.slots.items c.self.inside.count c.take.new.count c.in-Some.place c.args.component c.index_mut-slot.result.now c.take.new.self c.args.section.now found.items stored
-    (at_place c) c.index_mut-slot.ensures.value taken stands) c.take.ensures.taken)
+    let place_is = sym (c.place_of.ensures ∙ ap (λ l. position (has_tag c.args.component) l) c.deref.ensures.value) ∙ c.in-Some.is in
+    rw (← c.self.view_is) (λ stored stands. stands_taken c.self.inside.slots.items c.self.inside.count c.take.new.count c.in-Some.place c.args.component c.self.inside.changed c.may_differ-self-inside.result
+    c.index_mut-slot.result.now c.take.new.self c.args.section.now c.in_ok-changes.changes.items stored place_is c.index_mut-slot.ensures.value c.in_ok-changes.ensures.taken stands)
 
 pub returns-clause-changes : goal.returns-clause-changes
 returns-clause-changes c =
-    rw (← c.self.view_is) (IfOk-weaker c.take.result _ _
-    (λ found taken stored stands. changes_taken c.self.inside.slots.items c.self.inside.count c.take.new.count c.in-Some.place c.args.component c.index_mut-slot.result.now c.take.new.self c.args.section.now found.items stored
-    (at_place c) c.index_mut-slot.ensures.value taken stands) c.take.ensures.taken)
-
-pub returns-clause-before : goal.returns-clause-before
-returns-clause-before c =
-    rw (← c.self.view_is) (IfErr-weaker c.take.result _ _
-    (λ e kept stored stands. stands_kept c.self.inside.slots.items c.self.inside.count c.take.new.count c.in-Some.place c.args.component c.index_mut-slot.result.now c.take.new.self stored
-    (at_place c) c.index_mut-slot.ensures.value kept stands) c.take.ensures.same)
+    let place_is = sym (c.place_of.ensures ∙ ap (λ l. position (has_tag c.args.component) l) c.deref.ensures.value) ∙ c.in-Some.is in
+    rw (← c.self.view_is) (λ stored stands. changes_taken c.self.inside.slots.items c.self.inside.count c.take.new.count c.in-Some.place c.args.component c.self.inside.changed c.may_differ-self-inside.result
+    c.index_mut-slot.result.now c.take.new.self c.args.section.now c.in_ok-changes.changes.items stored place_is c.index_mut-slot.ensures.value c.in_ok-changes.ensures.taken stands)
 
 pub returns-clause-components : goal.returns-clause-components
 returns-clause-components c = λ tag.
-    rw (← c.self.view_is) (same_components c.self.inside.slots.items c.in-Some.place c.args.component c.index_mut-slot.result.now c.take.new.self (at_place c) c.index_mut-slot.ensures.value (tag_stays c) tag)
+    let place_is = sym (c.place_of.ensures ∙ ap (λ l. position (has_tag c.args.component) l) c.deref.ensures.value) ∙ c.in-Some.is in
+    rw (← c.self.view_is) (same_components c.self.inside.slots.items c.in-Some.place c.args.component c.index_mut-slot.result.now c.take.new.self place_is c.index_mut-slot.ensures.value c.in_ok-changes.ensures.taken.tag tag)
+
+pub returns-clause-alike : goal.returns-clause-alike
+returns-clause-alike c = λ unchanged.
+    let place_is = sym (c.place_of.ensures ∙ ap (λ l. position (has_tag c.args.component) l) c.deref.ensures.value) ∙ c.in-Some.is in
+    let same = c.may_differ-self-inside.ensures.alike unchanged in
+    rw (← c.self.view_is) (λ stored stands. alike_taken c.self.inside.slots.items c.self.inside.count c.take.new.count c.in-Some.place c.args.component c.self.inside.changed c.may_differ-self-inside.result
+    c.index_mut-slot.result.now c.take.new.self c.args.section.now c.in_ok-changes.changes.items stored place_is c.index_mut-slot.ensures.value c.in_ok-changes.ensures.taken stands
+    (sym c.as_slice.ensures.value ∙ same.0) (λ messages now was will. sym (c.transaction.ensures now will) ∙ same.1 ∙ c.transaction-before.ensures messages was))
+
+pub returns-clause-quiet : goal.returns-clause-quiet
+returns-clause-quiet c =
+    let place_is = sym (c.place_of.ensures ∙ ap (λ l. position (has_tag c.args.component) l) c.deref.ensures.value) ∙ c.in-Some.is in
+    rw (← c.self.view_is) (λ stored stands none same.
+    let both = quiet_taken c.self.inside.slots.items c.self.inside.count c.take.new.count c.in-Some.place c.args.component c.self.inside.changed c.may_differ-self-inside.result
+    c.index_mut-slot.result.now c.take.new.self c.args.section.now c.in_ok-changes.changes.items stored place_is c.index_mut-slot.ensures.value c.in_ok-changes.ensures.taken stands
+    c.transaction-before.result c.transaction.result c.transaction-before.ensures c.transaction.ensures none same in
+    c.may_differ-self-inside.ensures.quiet (c.as_slice.ensures.value ∙ both.0) both.1)

@@ -1,9 +1,11 @@
-use Rattle.std.proofs.Common.{◌≡◌, sym, ap, subst, ◌∙◌}
-use Rattle.receiver_core.specs.Programs.{ProgramState, Turns}
-use Rattle.receiver_core.specs.Turns.{turned_by}
-use Rattle.receiver_core.proofs.ProgramLaws.{passes}
+use Rattle.std.proofs.Common.{sym, ◌∙◌}
+use Rattle.receiver_core.proofs.ProgramLaws.{passes, passes_looks}
 use Rattle.receiver_core.proofs.program.Program.take.Goals as goal
 
-pub returns-in-None-clause-turned : goal.returns-in-None-clause-turned
-returns-in-None-clause-turned c =
+pub returns-in-None-clause-taken : goal.returns-in-None-clause-taken
+returns-in-None-clause-taken c =
     rw (← c.self.view_is) (passes _ c.args.pid c.args.section.now c.args.out.now.items (sym c.reads_table.ensures ∙ c.if-reads_table.false) (sym c.component_of.ensures ∙ c.in-None.is))
+
+pub returns-in-None-clause-looks : goal.returns-in-None-clause-looks
+returns-in-None-clause-looks c = λ _.
+    rw (← c.self.view_is) (passes_looks _ c.args.pid c.args.section.now (sym c.reads_table.ensures ∙ c.if-reads_table.false) (sym c.component_of.ensures ∙ c.in-None.is))

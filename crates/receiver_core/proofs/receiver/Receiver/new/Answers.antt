@@ -1,4 +1,4 @@
-use Rattle.receiver_core.proofs.ReceivingLaws.{stands_first, idle_first, none_wanted}
+use Rattle.receiver_core.proofs.ReceivingLaws.{stands_first, idle_first}
 use Rattle.receiver_core.proofs.receiver.Receiver.new.Goals as goal
 
 pub returns-clause-stands : goal.returns-clause-stands

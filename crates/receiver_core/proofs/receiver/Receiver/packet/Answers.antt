@@ -1,7 +1,7 @@
-use Rattle.std.proofs.Common.{◌≡◌, ◌∙◌, sym, ap, subst, true}
+use Rattle.std.proofs.Common.{◌∙◌, sym, ap, subst}
 use Rattle.psi_tables.specs.Service.{wants}
 use Rattle.receiver_core.specs.Receiving.{ReceiverState, StandsFor, IsDrained}
-use Rattle.receiver_core.proofs.ReceivingLaws.{takes_packet, still_wanted}
+use Rattle.receiver_core.proofs.ReceivingLaws.{takes_packet}
 use Rattle.receiver_core.proofs.receiver.Receiver.packet.Goals as goal
 
 pub returns-then-wants-clause-pushed : goal.returns-then-wants-clause-pushed

@@ -1,9 +1,9 @@
 use Rattle.std.proofs.Common.{◌≡◌, ◌≤◌, ◌∙◌, ℕ, ap, sym, subst, arith, append-nil, ◌++◌, ◌∷◌, [], length, true}
 use Rattle.psi_tables.specs.Service.{ServicesState, wants}
 use Rattle.section_demultiplexer.specs.Demultiplexing.{DemultiplexerState, has_channel}
-use Rattle.receiver_core.specs.Programs.{HasTurned, ProgramState}
-use Rattle.receiver_core.specs.Receiving.{AreWanted, ReceiverState, StandsFor, sections_left, waiting_in}
-use Rattle.receiver_core.specs.Turns.{turn}
+use Rattle.receiver_core.specs.Programs.{HasTurned}
+use Rattle.receiver_core.specs.Receiving.{ReceiverState, StandsFor, sections_left, waiting_in}
+use Rattle.receiver_core.specs.Dispatches.{turn}
 use Rattle.receiver_core.proofs.ReceivingLaws.{drained_after, followed, is_idle, no_more, no_turn, one_less, turn_of_damaged, turn_of_intact, wanted_after}
 use Rattle.receiver_core.proofs.receiver.Receiver.section_turn.Goals as goal
 

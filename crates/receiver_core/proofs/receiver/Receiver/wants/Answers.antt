@@ -1,4 +1,4 @@
-use Rattle.std.proofs.Common.{◌≡◌, ◌∙◌, sym, ap, subst, false}
+use Rattle.std.proofs.Common.{◌∙◌, sym, ap}
 use Rattle.psi_tables.specs.Service.{wants}
 use Rattle.receiver_core.specs.Receiving.{ReceiverState}
 use Rattle.receiver_core.proofs.ReceivingLaws.{passes_packet}

@@ -1,0 +1,126 @@
+-- What dispatches come to.
+use Rattle.std.proofs.Common.{◌≡◌, ◌≢◌, ◌∙◌, ℕ, suc, Bool, true, false, cond, eqb, List, [], ◌∷◌, ◌++◌, refl, sym, ap, ap₂, subst, ◌&&◌}
+use Rattle.std.specs.Prelude.{zero, Option, Some, None, map, option_map, Result, Ok, Err}
+use Rattle.dom_tree.specs.Items.{Item}
+use Rattle.bml_reader.specs.declared.faults.DocFault.{DocFault}
+use Rattle.bml_reader.specs.Readings.{reading_of}
+use Rattle.multipart_entities.specs.declared.paths.Path.{Path}
+use Rattle.psi_tables.specs.declared.components.Component.{Component}
+use Rattle.psi_tables.specs.declared.services.Selection.{Selection}
+use Rattle.psi_tables.specs.History.{map_of}
+use Rattle.carousel_blocks.specs.Message.{Message}
+use Rattle.module_store.specs.Resources.{LooksAlike, Resource, look, look_in, start_path}
+use Rattle.module_store.specs.Resources.Resource.{Found, Waiting, Missing}
+use Rattle.module_store.specs.Store.{Followed, Stored, component_in, followed_from, messages_of_component}
+use Rattle.document_load.specs.Needs.{needs_of}
+use Rattle.receiver_core.specs.declared.startup.Startup.{Startup}
+use Rattle.receiver_core.specs.declared.startup.Startup.TheVariants.{Wanted, Refused, Loaded}
+use Rattle.receiver_core.specs.Dispatches.{are_settled, behind, dispatch, dispatch_of, dispatches, is_settled, load, loadable, loadable_as, most_dispatches, next_and, once_settled, wanted_path}
+use Rattle.receiver_core.specs.Outputs.{with_packet}
+use Rattle.receiver_core.specs.State.{State, opening}
+use Rattle.receiver_core.specs.Turns.{Turned}
+
+-- ---- states that look alike
+
+settled_alike : (one other : Stored) (needs : List Path) → ((path : Path) → look one path ≡ look other path) → are_settled one needs ≡ are_settled other needs
+settled_alike one other [] same = refl
+settled_alike one other (need ∷ needs) same = ap₂ (λ a b. a && b) (ap is_settled (same need)) (settled_alike one other needs same)
+
+once_alike : (one other : Stored) (path : Path) (reading : Result (List Item) DocFault) → ((path : Path) → look one path ≡ look other path) → once_settled one path reading ≡ once_settled other path reading
+once_alike one other path (Ok items) same = ap (λ (b : Bool). cond b (Some (Ok items)) None) (settled_alike one other (needs_of path items) same)
+once_alike one other path (Err fault) same = refl
+
+as_alike : (one other : Stored) (path : Path) (resource : Resource) → ((path : Path) → look one path ≡ look other path) → loadable_as one path resource ≡ loadable_as other path resource
+as_alike one other path (Found bytes) same = once_alike one other path (reading_of bytes) same
+as_alike one other path Waiting same = refl
+as_alike one other path Missing same = refl
+
+loadable_alike : (one other : Stored) (path : Path) → LooksAlike one other → loadable one path ≡ loadable other path
+loadable_alike one other path alike = ap (loadable_as one path) (alike.looks path) ∙ as_alike one other path (look other path) alike.looks
+
+wanted_alike : (startup : Startup) (one other : Stored) → LooksAlike one other → wanted_path startup one ≡ wanted_path startup other
+wanted_alike Wanted one other alike = ap (λ (path : Path). Some path) alike.start
+wanted_alike Refused one other alike = refl
+wanted_alike (Loaded document) one other alike = refl
+
+none_of : {A B : Type 0} (f : A → B) (o : Option A) → option_map f o ≡ None → o ≡ None
+none_of f None e = refl
+none_of f (Some x) e = absurd cc
+
+none_for : (s t : State) (path : Option Path) → LooksAlike s.store t.store → dispatch_of s path ≡ None → dispatch_of t path ≡ None
+none_for s t None alike e = refl
+none_for s t (Some path) alike e = ap (option_map (load t path)) (sym (loadable_alike s.store t.store path alike) ∙ none_of (load s path) (loadable s.store path) e)
+
+-- where nothing was left to dispatch, and look-ups are the same, nothing is
+pub still_done : (s t : State) → t.startup ≡ s.startup → LooksAlike s.store t.store → dispatch s ≡ None → dispatch t ≡ None
+unfolding dispatch
+still_done s t startup alike e =
+    let same : wanted_path t.startup t.store ≡ wanted_path s.startup s.store = ap (λ (x : Startup). wanted_path x t.store) startup ∙ sym (wanted_alike s.startup s.store t.store alike) in
+    subst (λ (path : Option Path). dispatch_of t path ≡ None) (sym same) (none_for s t (wanted_path s.startup s.store) alike e)
+
+-- ---- dispatches one behind the other
+
+pub next_made : (more : ℕ) (s : State) → dispatches (suc more) s ≡ next_and (dispatches more) s (dispatch s)
+unfolding dispatches
+next_made more s = refl
+
+none_made : (bound : ℕ) (s : State) → dispatch s ≡ None → dispatches bound s ≡ record { state = s; text = [] }
+unfolding dispatches
+none_made zero s e = refl
+none_made (suc more) s e = next_made more s ∙ ap (next_and (dispatches more) s) e
+
+one_made : (more : ℕ) (s : State) (t : Turned) → dispatch s ≡ Some t → dispatch t.state ≡ None → dispatches (suc more) s ≡ record { state = t.state; text = t.text ++ [] }
+one_made more s t e done = next_made more s ∙ ap (next_and (dispatches more) s) e ∙ ap (behind t.text) (none_made more t.state done)
+
+-- a turn makes at least one, where there is one
+pub none_of_most : (s : State) → dispatch s ≡ None → dispatches most_dispatches s ≡ record { state = s; text = [] }
+none_of_most s e = none_made most_dispatches s e
+
+pub one_of_most : (s : State) (t : Turned) → dispatch s ≡ Some t → dispatch t.state ≡ None → dispatches most_dispatches s ≡ record { state = t.state; text = t.text ++ [] }
+unfolding most_dispatches
+one_of_most s t e done = one_made 255 s t e done
+
+-- ---- one dispatch
+
+pub none_wanted : (s : State) → s.startup ≢ Wanted → dispatch s ≡ None
+unfolding dispatch
+none_wanted s other = by s.startup other
+  where
+    by : (startup : Startup) → startup ≢ Wanted → dispatch_of s (wanted_path startup s.store) ≡ None
+    by Wanted not = absurd (not refl)
+    by Refused not = refl
+    by (Loaded document) not = refl
+
+pub dispatch_wanted : (s : State) → s.startup ≡ Wanted → dispatch s ≡ option_map (load s (start_path s.store)) (loadable s.store (start_path s.store))
+unfolding dispatch
+dispatch_wanted s e = rw e refl
+
+-- behind a load nothing is wanted
+pub done_behind : (s : State) (path : Path) (reading : Result (List Item) DocFault) → dispatch (load s path reading).state ≡ None
+unfolding dispatch
+done_behind s path (Ok items) = refl
+done_behind s path (Err fault) = refl
+
+-- a packet changes nothing that a dispatch looks at
+pub same_dispatch : (s : State) (packet : List ℕ) → dispatch s ≡ None → dispatch (with_packet packet s) ≡ None
+same_dispatch s packet done = still_done s (with_packet packet s) refl (record { looks = λ path. refl; start = refl }) done
+
+-- before the first section nothing is there: the component of a data PID has no DII yet
+no_messages : (components : List Component) (tag : ℕ) (messages : List Message) → option_map (λ (c : Followed). c.messages) (component_in (map (followed_from []) components) tag) ≡ Some messages → messages ≡ []
+no_messages [] tag messages e = absurd cc
+no_messages (c ∷ components) tag messages e = by (eqb c.tag tag) e (no_messages components tag messages)
+  where
+    by : (is : Bool) → option_map (λ (c : Followed). c.messages) (cond is (Some (followed_from [] c)) (component_in (map (followed_from []) components) tag)) ≡ Some messages
+        → (option_map (λ (c : Followed). c.messages) (component_in (map (followed_from []) components) tag) ≡ Some messages → messages ≡ []) → messages ≡ []
+    by true h later = let same : [] ≡ messages = cc in sym same
+    by false h later = later h
+
+nothing_in : (stored : Stored) (path : Path) (found : Option (List Message)) → ((messages : List Message) → found ≡ Some messages → messages ≡ []) → loadable_as stored path (look_in found path.«module» path.name) ≡ None
+nothing_in stored path None empty = refl
+nothing_in stored path (Some messages) empty = rw (empty messages refl) refl
+
+pub nothing_at_first : (selection : Selection) → dispatch (opening selection) ≡ None
+nothing_at_first selection =
+    let s = opening selection in
+    let path = start_path s.store in
+    dispatch_wanted s refl ∙ ap (option_map (load s path)) (nothing_in s.store path (messages_of_component s.store path.component) (no_messages (map_of selection []) path.component))

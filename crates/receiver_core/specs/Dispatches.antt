@@ -1,0 +1,93 @@
+-- Dispatches: what a receiver does once a section has made its changes. At this stage one dispatch is the load of a document.
+-- (This project's own, after ARIB STD-B24, volume 2.)
+use Rattle.std.specs.Prelude.{ℕ, zero, suc, Bool, true, false, if◌then◌else◌, List, [], ◌++◌, Option, Some, None, option_map, Result, Ok, Err}
+use Rattle.std.specs.List.{list_all}
+use Rattle.dom_tree.specs.Items.{Item}
+use Rattle.bml_reader.specs.declared.faults.DocFault.{DocFault}
+use Rattle.bml_reader.specs.Readings.{reading_of}
+use Rattle.multipart_entities.specs.declared.paths.Path.{Path}
+use Rattle.module_store.specs.Resources.{Resource, look, start_path}
+use Rattle.module_store.specs.Resources.Resource.{Found, Waiting, Missing}
+use Rattle.module_store.specs.Store.{Stored}
+use Rattle.document_load.specs.Needs.{needs_of}
+use Rattle.receiver_core.specs.declared.startup.Startup.{Startup}
+use Rattle.receiver_core.specs.declared.startup.Startup.TheVariants.{Wanted, Refused, Loaded}
+use Rattle.receiver_core.specs.Lines.{load_line}
+use Rattle.receiver_core.specs.State.{State}
+use Rattle.receiver_core.specs.Turns.{Turned, turned_by}
+
+-- ---- which documents can be loaded
+
+-- it is found or missing, and so isn't waited for
+abbrev pub is_settled : Resource → Bool
+is_settled (Found bytes) = true
+is_settled Waiting = false
+is_settled Missing = true
+
+abbrev pub are_settled : Stored → List Path → Bool
+are_settled stored needs = list_all (λ need. is_settled (look stored need)) needs
+
+-- A document is loaded once none of its needs is waited for, and one that is refused has no needs.
+abbrev pub once_settled : Stored → Path → Result (List Item) DocFault → Option (Result (List Item) DocFault)
+once_settled stored path (Ok items) = if are_settled stored (needs_of path items) then Some (Ok items) else None
+once_settled stored path (Err fault) = Some (Err fault)
+
+abbrev pub loadable_as : Stored → Path → Resource → Option (Result (List Item) DocFault)
+loadable_as stored path (Found bytes) = once_settled stored path (reading_of bytes)
+loadable_as stored path Waiting = None
+loadable_as stored path Missing = None
+
+-- what is there under a path to be loaded: a document, or why it is refused
+abbrev pub loadable : Stored → Path → Option (Result (List Item) DocFault)
+loadable stored path = loadable_as stored path (look stored path)
+
+-- ---- one dispatch
+
+-- the path of the document that is wanted; that of the start document is found anew each time
+abbrev pub wanted_path : Startup → Stored → Option Path
+wanted_path Wanted stored = Some (start_path stored)
+wanted_path Refused stored = None
+wanted_path (Loaded document) stored = None
+
+-- the load of a document
+abbrev pub loaded_as : Result (List Item) DocFault → Startup
+loaded_as (Ok items) = Loaded (record { tree = items })
+loaded_as (Err fault) = Refused
+
+abbrev pub load : State → Path → Result (List Item) DocFault → Turned
+load s path reading = record { state = record s { startup = loaded_as reading }; text = load_line path reading }
+
+abbrev pub dispatch_of : State → Option Path → Option Turned
+dispatch_of s None = None
+dispatch_of s (Some path) = option_map (load s path) (loadable s.store path)
+
+-- The next dispatch loads the document that is wanted, where it can be loaded. Else there is none.
+unfoldable pub dispatch : State → Option Turned
+dispatch s = dispatch_of s (wanted_path s.startup s.store)
+
+-- ---- turns
+
+-- what a turn prints before and behind
+abbrev pub behind : List ℕ → Turned → Turned
+behind text t = record { state = t.state; text = text ++ t.text }
+
+-- the next dispatch, where there is one, and what comes behind it
+abbrev pub next_and : (State → Turned) → State → Option Turned → Turned
+next_and more s None = record { state = s; text = [] }
+next_and more s (Some t) = behind t.text (more t.state)
+
+-- at most so many dispatches, one behind the other, as long as there is one
+unfoldable pub dispatches : ℕ → State → Turned
+dispatches zero s = record { state = s; text = [] }
+dispatches (suc more) s = next_and (dispatches more) s (dispatch s)
+
+-- a turn makes at most 256
+unfoldable pub most_dispatches : ℕ
+most_dispatches = 256
+
+abbrev pub with_dispatches : Turned → Turned
+with_dispatches t = behind t.text (dispatches most_dispatches t.state)
+
+-- the turn of an intact section on a PID: what it changes, and the dispatches
+unfoldable pub turn : ℕ → List ℕ → State → Turned
+turn pid section s = with_dispatches (turned_by pid section s)
