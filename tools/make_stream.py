@@ -110,6 +110,7 @@ class Stream:
 
     def __init__(self, folder):
         self.folder = folder
+        self.made = {}  # the files that statements make, by their names
         self.data = bytearray()
         self.pid = None
         self.next_counters = {}
@@ -130,6 +131,8 @@ class Stream:
         self.data += b"".join(section_packets(self.pid, counters, section))
 
     def file(self, name):
+        if name in self.made:
+            return self.made[name]
         try:
             with open(os.path.join(self.folder, name), "rb") as file:
                 return file.read()
@@ -140,6 +143,20 @@ class Stream:
         module, version, size = parted("module", text, "/", "NUMBER/VERSION/SIZE")
         length = len(self.file(size[1:])) if size.startswith("@") else number(size, 32)
         return Module(number(module, 16), number(version, 8), length, infos.get(number(module, 16), b""))
+
+    def entity(self, words):
+        """Makes a file: an entity of several parts, whose lines end with CR LF, and whose parts are files."""
+        fields = Fields(words)
+        name, boundary = fields.optional("file"), fields.optional("boundary")
+        parts = [parted("part", text, ":", "NAME:TYPE:FILE") for text in fields.all_of("part")]
+        fields.end()
+        if not name or not boundary:
+            raise Fault("entity takes a file= and a boundary=")
+        lines = [f'Content-Type: multipart/mixed; boundary="{boundary}"'.encode("ascii"), b""]
+        for part, media, file in parts:
+            head = [f"--{boundary}", f"Content-Type: {media}", f"Content-Location: {part}", ""]
+            lines += [line.encode("ascii") for line in head] + [self.file(file)]
+        self.made[name] = b"\r\n".join([*lines, f"--{boundary}--".encode("ascii"), b""])
 
     def pat(self, words):
         fields = Fields(words)
@@ -220,6 +237,7 @@ class Stream:
             "pid": self.select_pid,
             "pat": self.pat,
             "pmt": self.pmt,
+            "entity": self.entity,
             "dii": self.dii,
             "ddb": self.ddb,
             "blocks": self.blocks,

@@ -3,11 +3,14 @@
 
 usage: measure.py PROGRAM [--megabytes N] [--rounds N] [--stream FILE] [KIND..]
 
-It makes a stream of at least N million bytes (320) of each kind that is named, or of all three:
+It makes a stream of at least N million bytes (320) of each kind that is named, or of all four:
 
     module      one packet in 20 is on the data PID, with a carousel of one module of 1 MiB that repeats
     service     PAT, PMT and 16 components, on whose PIDs every fifth packet is, with 2 modules of 1 MiB each
     data        every packet is on the data PID, with the carousel of `module`
+    broadcast   PAT and PMT that repeat, and 4 components, on whose PIDs every fifth packet is: a start document in an entity
+                with its style sheet in another one, and modules of 300,000 bytes; DIIs repeat, some sections
+                come damaged and some with a packet lost before they come whole
 
 The other packets have random payloads. The program replays each with the record `all`, and what it writes is compared with
 what is due. Each command runs once to warm the cache, then N rounds (3), of which the best counts, and then once more for
@@ -54,11 +57,12 @@ class WentWrong(Exception):
 
 
 class Payload(NamedTuple):
-    """What a packet carries: its PID, whether it starts a unit, and its payload."""
+    """What a packet carries: its PID, whether it starts a unit, its payload, and whether it is lost on its way."""
 
     pid: int
     starts_unit: bool
     payload: bytes
+    lost: bool = False
 
 
 class Kind(NamedTuple):
@@ -106,10 +110,60 @@ def whole_service(noise):
     return Kind(tables, data, 5, [], lines)
 
 
+def entity_of(parts):
+    """Returns an entity with these parts, each a name and its bytes."""
+    lines = [b"Content-Type: multipart/mixed; boundary=b", b""]
+    for name, data in parts:
+        lines += [b"--b", b"Content-Location: " + name, b"", data]
+    return b"\r\n".join([*lines, b"--b--", b""])
+
+
+def damaged(section):
+    """Returns the section with a bit flipped."""
+    return section[:-9] + bytes([section[-9] ^ 1]) + section[-8:]
+
+
+def sections_of(modules):
+    """Returns one round of a carousel of modules, each a number and its bytes: for each block what is sent, where the DII
+    stands before every fortieth."""
+    dii = dii_section(1, 1, BLOCK_SIZE, [Module(number, 1, len(content)) for number, content in modules])
+    blocks = []
+    for number, content in modules:
+        for block, at in enumerate(range(0, len(content), BLOCK_SIZE)):
+            blocks.append(ddb_section(1, number, 1, block, content[at : at + BLOCK_SIZE]))
+    return [[dii, block] if at % 40 == 0 else [block] for at, block in enumerate(blocks)]
+
+
+def broadcast(noise):
+    page = b'<bml><head><link href="../0001/a.css"/></head><body>' + b"<p>text</p>" * 1000 + b"</body></bml>"
+    start = [(0, entity_of([(b"startup.bml", page)])), (1, entity_of([(b"a.css", b"p { color-index: 1 }"), (b"b.png", noise.randbytes(200_000))]))]
+    others = [[(number, noise.randbytes(300_000)) for number in (1, 2)] for _ in range(3)]
+    streams = [ElementaryStream(0x0D, DATA_PID + at, 0x40 + at) for at in range(4)]
+    tables = payloads_of(0, [pat_section([(1, MAP_PID)])]) + payloads_of(MAP_PID, [pmt_section(1, streams)])
+    data, lines, count = [], "", 0
+    for stream, modules in zip(streams, [start, *others]):
+        for group in sections_of(modules):
+            data += tables if len(group) > 1 else []
+            for section in group:
+                count += 1
+                if count % 20 == 0:
+                    data += payloads_of(stream.pid, [damaged(section)])
+                if count % 31 == 0 and packets_taken(section) > 2:
+                    cut = payloads_of(stream.pid, [section])
+                    data += [cut[0], cut[1]._replace(lost=True), *cut[2:]]
+                data += payloads_of(stream.pid, [section])
+        for number, content in modules:
+            lines += f"module {stream.component:02x} {number:04x} 01 {len(content)}\n"
+        if stream is streams[0]:
+            lines += "load /40/0000/startup.bml\n"
+    return Kind([], data, 5, [], lines)
+
+
 KINDS = {
     "module": lambda noise: one_module(noise, 20),
     "service": whole_service,
     "data": lambda noise: one_module(noise, 1),
+    "broadcast": broadcast,
 }
 
 
@@ -123,10 +177,11 @@ class Sender:
 
     def send(self, payloads):
         sent = []
-        for pid, starts_unit, payload in payloads:
+        for pid, starts_unit, payload, lost in payloads:
             counter = self.counters.get(pid, 0)
             self.counters[pid] = (counter + 1) % 16
-            sent.append(packet(pid, counter, starts_unit, payload))
+            if not lost:
+                sent.append(packet(pid, counter, starts_unit, payload))
         self.file.write(b"".join(sent))
         self.packets += len(sent)
 

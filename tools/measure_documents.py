@@ -1,9 +1,10 @@
 #!/usr/bin/env python3
-"""Measures how long a release build takes over start documents that are as hard as the limits let them be.
+"""Measures how long a release build takes over start documents, and entities with one, that are as hard as the limits let
+them be.
 
 usage: measure_documents.py PROGRAM [--rounds N]
 
-Each document fills module 0000 of a carousel on PID 256; the record is `all`, `show`. What the program writes is compared
+Each document or entity fills module 0000 of a carousel on PID 256; the record is `all`, `show`. What the program writes is compared
 with what is due. Each is run N times (3), of which the best counts. `processor` is in seconds too, and says more than
 `seconds` where other work shares the machine. Status: 0 where all was as due, 1 where a run went wrong.
 """
@@ -27,11 +28,12 @@ PLAIN_BOX = "box 0 0 0 0 8 0 7\n"
 
 
 class Document(NamedTuple):
-    """A document, and the lines that are due behind its module's line."""
+    """A document, or an entity, and the lines that are due behind its module's line."""
 
     name: str
     text: str
     lines: str
+    info: bytes = descriptor(TYPE_DESCRIPTOR, b"text/X-arib-bml")
 
 
 def body(inside):
@@ -87,11 +89,57 @@ def documents():
     yield Document("1 MB of <", text, refused("Malformed"))
 
 
-def stream_of(text):
+def entity(name, text, lines):
+    return Document(name, text, lines, b"")
+
+
+NOTHING_LOADED = "show 0\n"
+EMPTY_PAGE = "load /40/0000/startup.bml\nshow 0\n"
+
+
+def several(parts, boundary="b"):
+    """Returns an entity of parts, each its header lines with the empty one and its bytes."""
+    lines = [f'Content-Type: multipart/mixed; boundary="{boundary}"', ""]
+    for part in parts:
+        lines += [f"--{boundary}", part]
+    return "\r\n".join([*lines, f"--{boundary}--", ""])
+
+
+def entities():
+    page = "Content-Location: startup.bml\r\n\r\n<bml/>"
+    parts = [f"Content-Location: {number}\r\n\r\n{'x' * 2000}" for number in range(511)]
+    yield entity("512 parts of 2,000 bytes", several([*parts, page]), EMPTY_PAGE)
+    yield entity("513 parts", several(["\r\n"] * 512 + [page]), NOTHING_LOADED)
+    yield entity("parts of one name", several([page] * 512), EMPTY_PAGE)
+    front = several(["\r\n"])[:-9]
+    back = several([page])
+    back = back[back.index("--b") :]
+    for name, item in [
+        ("1 MB of delimiters in lines", "x--b\r\n"),
+        ("1 MB of delimiters, not ended", "--b-\r\n"),
+        ("1 MB of line ends", "\r\n"),
+        ("1 MB of CR", "\r"),
+    ]:
+        text, _ = filled(front + "--b\r\n\r\n", item, "\r\n" + back)
+        yield entity(name, text, EMPTY_PAGE)
+    text, _ = filled(front, "--b\r\n", back)
+    yield entity("1 MB of delimiter lines", text, NOTHING_LOADED)
+    text, _ = filled("", "a:b\r\n", "\r\n")
+    yield entity("1 MB of header lines", text, NOTHING_LOADED)
+    text, _ = filled("Content-Location: startup.bml\r\n\r\n<bml><body><p>", "a", "</p></body></bml>")
+    shown = text[text.index("<p>") + 3 : text.index("</p>")]
+    yield entity("one part of 1 MB", text, EMPTY_PAGE + PLAIN_BOX * 2 + f"text 0 0 0 0 7 24 {shown}\n")
+    long = "b" * 10_000
+    near = f"--{long[:-1]}c\r\n" * 90
+    yield entity("lines nearly a boundary of 10,000", several(["\r\n" + near, page], long), EMPTY_PAGE)
+    links = "Content-Location: startup.bml\r\n\r\n<bml>" + '<link href="/41/0000/x"/>' * 16_000 + "</bml>"
+    yield entity("16,000 needs", several([links]), EMPTY_PAGE)
+
+
+def stream_of(document):
     """Returns the stream of a document and how many packets it has."""
-    data = text.encode("ascii")
-    module = Module(0, 1, len(data), descriptor(TYPE_DESCRIPTOR, b"text/X-arib-bml"))
-    sections = [dii_section(1, 1, BLOCK_SIZE, [module])]
+    data = document.text.encode("ascii")
+    sections = [dii_section(1, 1, BLOCK_SIZE, [Module(0, 1, len(data), document.info)])]
     blocks = range(0, len(data), BLOCK_SIZE)
     sections += [ddb_section(1, 0, 1, at // BLOCK_SIZE, data[at : at + BLOCK_SIZE]) for at in blocks]
     packets, counter = [], 0
@@ -129,8 +177,8 @@ def main():
         stream, record = f"{room}/stream.ts", f"{room}/record.txt"
         with open(record, "wb") as file:
             file.write(b"all\nshow\n")
-        for document in documents():
-            data, packets = stream_of(document.text)
+        for document in [*documents(), *entities()]:
+            data, packets = stream_of(document)
             with open(stream, "wb") as file:
                 file.write(data)
             due = f"module 40 0000 01 {len(document.text)}\n{document.lines}end {packets}\n".encode("ascii")
