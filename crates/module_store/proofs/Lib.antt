@@ -10,3 +10,4 @@ pub mod GoneLaws
 pub mod MapLaws
 pub mod AlikeLaws
 pub mod SameMapLaws
+pub mod StayingLaws

@@ -5,3 +5,4 @@ pub mod Standing
 pub mod Noted
 pub mod Slots
 pub mod Carousels
+pub mod Staying

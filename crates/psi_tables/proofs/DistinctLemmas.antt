@@ -1,14 +1,18 @@
 -- The components of some streams are apart, and few.
 use Rattle.std.proofs.Common.{◌≡◌, ℕ, zero, suc, ◌≤◌, Bool, true, false, cond, eqb, List, [], ◌∷◌, ◌++◌, length, take, refl, sym, subst, append_assoc, arith}
-use Rattle.std.specs.Prelude.{AllPairs, ◌||◌}
+use Rattle.std.specs.Prelude.{AllPairs, ◌||◌, Option, Some, None, option_map, unwrap_or}
 use Rattle.std.specs.List.{AllByRecursion, filter_map}
 use Rattle.std.proofs.lemmas.Bool.{eqb-false}
 use Rattle.std.proofs.lemmas.List.{append-nil, length-take}
 use Rattle.std.proofs.lemmas.List.Elements.{All-from_recursion}
 use Rattle.std.proofs.lemmas.List.Kept.{AllPairs-cons}
 use Rattle.psi_tables.specs.declared.components.Component.{Component}
+use Rattle.psi_tables.specs.declared.pmt.Pmt.{Pmt}
 use Rattle.psi_tables.specs.declared.pmt.PmtStream.{PmtStream}
+use Rattle.psi_tables.specs.declared.services.Selection.{Selection}
+use Rattle.psi_tables.specs.declared.services.Selection.TheVariants.{First, Service, Pid}
 use Rattle.psi_tables.specs.Components.{AreApart, component_of_stream, is_taken, distinct_behind, components_of}
+use Rattle.psi_tables.specs.History.{Handled, last_of, map_at_first, map_of, moments, pmt_counting}
 
 -- any two of them are apart
 abbrev Apart : List Component → Type 0
@@ -72,3 +76,16 @@ components_apart streams = apart_pairs (take 16 (distinct_behind [] (filter_map 
 pub components_few : (streams : List PmtStream) → length (components_of streams) ≤ 16
 unfolding components_of
 components_few streams = omega (arith, length-take 16 (distinct_behind [] (filter_map component_of_stream streams)))
+
+-- the components of a map, whatever came
+first_apart : (selection : Selection) → AllPairs AreApart (map_at_first selection)
+first_apart First = apart_pairs [] tt
+first_apart (Service program) = apart_pairs [] tt
+first_apart (Pid pid) = apart_pairs (record { tag = 0x40; pid = pid } ∷ []) (tt, tt)
+
+pub map_apart : (selection : Selection) (history : List Handled) → AllPairs AreApart (map_of selection history)
+map_apart selection history = by (last_of (filter_map (pmt_counting selection) (moments [] history)))
+  where
+    by : (pmt : Option Pmt) → AllPairs AreApart (unwrap_or (option_map (λ pmt. components_of pmt.streams) pmt) (map_at_first selection))
+    by None = first_apart selection
+    by (Some pmt) = components_apart pmt.streams

@@ -41,13 +41,15 @@ pub fn law_of_pmt()
 }
 
 /// The service is the one that the PAT names at the last place of the history where one counts, and the component
-/// map is the components of the PMT at the last place where one counts. With a data PID no PMT counts.
+/// map is the components of the PMT at the last place where one counts. With a data PID no PMT counts. Its components
+/// have distinct tags and distinct PIDs.
 pub fn law_of_component_map()
     ensures service { (selection : Selection) (history : List Handled) (place : ℕ) (service : PatEntry) → IsLast (NamesAt selection history) place service → service_of selection history ≡ Some service }
     ensures no_service { (selection : Selection) (history : List Handled) → ((place : ℕ) (service : PatEntry) → ¬ NamesAt selection history place service) → service_of selection history ≡ None }
     ensures map { (selection : Selection) (history : List Handled) (place : ℕ) (pmt : Pmt) → IsLast (CountsAt selection history) place pmt → map_of selection history ≡ components_of pmt.streams }
     ensures no_map { (selection : Selection) (history : List Handled) → ((place : ℕ) (pmt : Pmt) → ¬ CountsAt selection history place pmt) → map_of selection history ≡ map_at_first selection }
     ensures data_pid { (pid : ℕ) (history : List Handled) → map_of (Selection.Pid pid) history ≡ record { tag = 0x40; pid = pid } ∷ [] }
+    ensures apart { (selection : Selection) (history : List Handled) → AllPairs AreApart (map_of selection history) }
 {}
 
 /// The components of some streams have distinct tags and distinct PIDs, and there are at most 16.
