@@ -13,11 +13,10 @@ use Rattle.module_store.specs.Resources.{LooksAlike, Resource, look, look_in, st
 use Rattle.module_store.specs.Resources.Resource.{Found, Waiting, Missing}
 use Rattle.module_store.specs.Store.{Followed, Stored, component_in, followed_from, messages_of_component}
 use Rattle.document_load.specs.Needs.{needs_of}
-use Rattle.receiver_core.specs.declared.startup.Startup.{Startup}
-use Rattle.receiver_core.specs.declared.startup.Startup.TheVariants.{Wanted, Refused, Loaded}
 use Rattle.receiver_core.specs.Dispatches.{are_settled, behind, dispatch, dispatch_of, dispatches, is_settled, load, loadable, loadable_as, most_dispatches, next_and, once_settled, wanted_path}
 use Rattle.receiver_core.specs.Outputs.{with_packet}
-use Rattle.receiver_core.specs.State.{State, opening}
+use Rattle.receiver_core.specs.State.{Start, State, opening}
+use Rattle.receiver_core.specs.State.Start.{Wanted, Refused, Loaded}
 use Rattle.receiver_core.specs.Turns.{Turned}
 
 -- ---- states that look alike
@@ -38,10 +37,10 @@ as_alike one other path Missing same = refl
 loadable_alike : (one other : Stored) (path : Path) → LooksAlike one other → loadable one path ≡ loadable other path
 loadable_alike one other path alike = ap (loadable_as one path) (alike.looks path) ∙ as_alike one other path (look other path) alike.looks
 
-wanted_alike : (startup : Startup) (one other : Stored) → LooksAlike one other → wanted_path startup one ≡ wanted_path startup other
+wanted_alike : (start : Start) (one other : Stored) → LooksAlike one other → wanted_path start one ≡ wanted_path start other
 wanted_alike Wanted one other alike = ap (λ (path : Path). Some path) alike.start
 wanted_alike Refused one other alike = refl
-wanted_alike (Loaded document) one other alike = refl
+wanted_alike (Loaded items) one other alike = refl
 
 none_of : {A B : Type 0} (f : A → B) (o : Option A) → option_map f o ≡ None → o ≡ None
 none_of f None e = refl
@@ -52,11 +51,11 @@ none_for s t None alike e = refl
 none_for s t (Some path) alike e = ap (option_map (load t path)) (sym (loadable_alike s.store t.store path alike) ∙ none_of (load s path) (loadable s.store path) e)
 
 -- where nothing was left to dispatch, and look-ups are the same, nothing is
-pub still_done : (s t : State) → t.startup ≡ s.startup → LooksAlike s.store t.store → dispatch s ≡ None → dispatch t ≡ None
+pub still_done : (s t : State) → t.start ≡ s.start → LooksAlike s.store t.store → dispatch s ≡ None → dispatch t ≡ None
 unfolding dispatch
-still_done s t startup alike e =
-    let same : wanted_path t.startup t.store ≡ wanted_path s.startup s.store = ap (λ (x : Startup). wanted_path x t.store) startup ∙ sym (wanted_alike s.startup s.store t.store alike) in
-    subst (λ (path : Option Path). dispatch_of t path ≡ None) (sym same) (none_for s t (wanted_path s.startup s.store) alike e)
+still_done s t start alike e =
+    let same : wanted_path t.start t.store ≡ wanted_path s.start s.store = ap (λ (x : Start). wanted_path x t.store) start ∙ sym (wanted_alike s.start s.store t.store alike) in
+    subst (λ (path : Option Path). dispatch_of t path ≡ None) (sym same) (none_for s t (wanted_path s.start s.store) alike e)
 
 -- ---- dispatches one behind the other
 
@@ -82,16 +81,16 @@ one_of_most s t e done = one_made 255 s t e done
 
 -- ---- one dispatch
 
-pub none_wanted : (s : State) → s.startup ≢ Wanted → dispatch s ≡ None
+pub none_wanted : (s : State) → s.start ≢ Wanted → dispatch s ≡ None
 unfolding dispatch
-none_wanted s other = by s.startup other
+none_wanted s other = by s.start other
   where
-    by : (startup : Startup) → startup ≢ Wanted → dispatch_of s (wanted_path startup s.store) ≡ None
+    by : (start : Start) → start ≢ Wanted → dispatch_of s (wanted_path start s.store) ≡ None
     by Wanted not = absurd (not refl)
     by Refused not = refl
-    by (Loaded document) not = refl
+    by (Loaded items) not = refl
 
-pub dispatch_wanted : (s : State) → s.startup ≡ Wanted → dispatch s ≡ option_map (load s (start_path s.store)) (loadable s.store (start_path s.store))
+pub dispatch_wanted : (s : State) → s.start ≡ Wanted → dispatch s ≡ option_map (load s (start_path s.store)) (loadable s.store (start_path s.store))
 unfolding dispatch
 dispatch_wanted s e = rw e refl
 

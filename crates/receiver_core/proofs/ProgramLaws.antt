@@ -1,6 +1,6 @@
 -- What is kept of a program, behind one section more.
-use Rattle.std.proofs.Common.{◌≡◌, ◌≢◌, ℕ, suc, Bool, true, false, cond, eqb, List, [], ◌∷◌, ◌++◌, refl, sym, ap, ap₂, ◌∙◌, subst, append-nil, append_assoc}
-use Rattle.std.specs.Prelude.{zero, Option, Some, None, Result, find, is_some, option_map, unwrap_or}
+use Rattle.std.proofs.Common.{◌≡◌, ◌≢◌, ℕ, suc, Bool, true, false, cond, eqb, List, [], ◌∷◌, ◌++◌, refl, sym, ap, ap₂, ◌∙◌, subst, append-nil, append_assoc, inl, inr}
+use Rattle.std.specs.Prelude.{zero, ◌⊎◌, AllPairs, Option, Some, None, Result, find, is_some, option_map}
 use Rattle.std.specs.List.{flat_map}
 use Rattle.std.proofs.lemmas.Bool.{eq-eqb}
 use Rattle.dom_tree.specs.Items.{Item}
@@ -8,25 +8,27 @@ use Rattle.bml_reader.specs.declared.faults.DocFault.{DocFault}
 use Rattle.psi_tables.specs.declared.components.Component.{Component}
 use Rattle.psi_tables.specs.declared.pat.PatEntry.{PatEntry}
 use Rattle.psi_tables.specs.declared.services.Selection.{Selection}
-use Rattle.psi_tables.specs.Components.{pid_in, tag_in}
-use Rattle.psi_tables.specs.History.{service_of, map_of}
+use Rattle.psi_tables.specs.Components.{AreApart, pid_in, tag_in}
+use Rattle.psi_tables.specs.History.{Handled, service_of, map_of}
 use Rattle.psi_tables.specs.Service.{ServicesState, reads_table}
 use Rattle.psi_tables.specs.Service as services_of
 use Rattle.psi_tables.proofs.HistoryLemmas.{stands_unread}
 use Rattle.carousel_blocks.specs.declared.changes.Change.{Change}
 use Rattle.multipart_entities.specs.declared.paths.Path.{Path}
 use Rattle.module_store.specs.Resources.{LooksAlike, start_path}
-use Rattle.module_store.specs.Store.{Stored, at_start, changes_by, fed, with_map}
+use Rattle.module_store.specs.Store.{Stored, at_start, changes_by, fed, gone_by, with_map}
 use Rattle.module_store.specs.Standing.{StoreState, has_component}
 use Rattle.module_store.specs.Standing as store
 use Rattle.receiver_core.specs.declared.startup.Startup.{Startup}
-use Rattle.receiver_core.specs.declared.startup.Startup.TheVariants.{Wanted}
-use Rattle.receiver_core.specs.Dispatches.{dispatch, dispatch_of, dispatches, load, loadable, loaded_as, most_dispatches, next_and, turn, wanted_path}
+use Rattle.receiver_core.specs.declared.startup.Startup.TheVariants as kept
+use Rattle.receiver_core.specs.Dispatches.{dispatch, dispatch_of, dispatches, load, loadable, most_dispatches, next_and, turn, wanted_path}
 use Rattle.receiver_core.specs.Lines.{line_of_change, load_line}
 use Rattle.receiver_core.specs.Loading.{Loads, LoadsAs}
 use Rattle.receiver_core.specs.Programs.{Dispatches, HasDispatched, HasTaken, HasTurned, Keeps, LeavesLooks, ProgramState, StandsFor, Takes, Turns}
 use Rattle.receiver_core.proofs.DispatchLaws.{dispatch_wanted, done_behind, next_made, none_of_most, none_wanted, nothing_at_first, one_of_most, still_done}
-use Rattle.receiver_core.specs.State.{State, opening, services, wants}
+use Rattle.receiver_core.specs.Startups.{IsCurrent, following, is_told_by, start_of, went_with}
+use Rattle.receiver_core.specs.State.{Start, State, opening, services, wants}
+use Rattle.receiver_core.specs.State.Start.{Wanted, Refused, Loaded}
 use Rattle.receiver_core.specs.Turns.{Turned, turned_by, turned_by_component, turned_by_table, turned_by_tag, with_handled}
 
 same_services : (a b : ServicesState) → a.selection ≡ b.selection → a.service ≡ b.service → a.map ≡ b.map → a ≡ b
@@ -48,14 +50,15 @@ services_are state s stands = services_kept state s stands.keeps
 
 pub stands_first : (services : ServicesState) (before new : StoreState) (selection : Selection) → services.selection ≡ selection → services_of.StandsFor services [] → store.StandsFor before at_start
     → ((stored : Stored) → store.StandsFor before stored → store.StandsFor new (with_map services.map stored)) → ((tag : ℕ) → has_component new tag ≡ is_some (pid_in services.map tag))
-    → StandsFor (record { services = services; store = new; startup = Wanted }) (opening selection)
+    → StandsFor (record { services = services; store = new; startup = kept.Wanted }) (opening selection)
 stands_first services before new selection same stands first sets has = record {
   keeps = record {
     selection = same;
     services = stands;
     store = subst (λ (map : List Component). store.StandsFor new (with_map map at_start)) (stands.map ∙ ap (λ (x : Selection). map_of x []) same) (sets at_start first);
     components = has;
-    startup = refl;
+    start = refl;
+    current = tt;
   };
   done = nothing_at_first selection;
 }
@@ -68,7 +71,8 @@ handled_unread state s pid section stands unread = record {
   services = stands_unread state.services s.handled pid section unread stands.services;
   store = stands.store;
   components = stands.components;
-  startup = stands.startup;
+  start = stands.start;
+  current = stands.current;
 }
 
 turned_unread : (s : State) (pid : ℕ) (section : List ℕ) (tag : Option ℕ) → reads_table s.selection (services s).service pid ≡ false → tag_in (services s).map pid ≡ tag
@@ -90,17 +94,17 @@ passes state pid section before unread none = record {
       (record { keeps = handled_unread state s pid section stands unread; text_is = refl });
 }
 
-startup_by_tag : (tag : Option ℕ) (section : List ℕ) (now : State) → (turned_by_tag tag section now).state.startup ≡ now.startup
-startup_by_tag None section now = refl
-startup_by_tag (Some component) section now = refl
+start_by_tag : (tag : Option ℕ) (section : List ℕ) (now : State) → (turned_by_tag tag section now).state.start ≡ now.start
+start_by_tag None section now = refl
+start_by_tag (Some component) section now = refl
 
 -- a section changes nothing of the document
-startup_kept : (pid : ℕ) (section : List ℕ) (s : State) → (turned_by pid section s).state.startup ≡ s.startup
-startup_kept pid section s = by (reads_table s.selection (services s).service pid)
+start_kept : (pid : ℕ) (section : List ℕ) (s : State) → (turned_by pid section s).state.start ≡ s.start
+start_kept pid section s = by (reads_table s.selection (services s).service pid)
   where
-    by : (table : Bool) → (cond table (turned_by_table (with_handled pid section s)) (turned_by_tag (tag_in (services s).map pid) section (with_handled pid section s))).state.startup ≡ s.startup
+    by : (table : Bool) → (cond table (turned_by_table (with_handled pid section s)) (turned_by_tag (tag_in (services s).map pid) section (with_handled pid section s))).state.start ≡ s.start
     by true = refl
-    by false = startup_by_tag (tag_in (services s).map pid) section (with_handled pid section s)
+    by false = start_by_tag (tag_in (services s).map pid) section (with_handled pid section s)
 
 same_looks : (stored : Stored) → LooksAlike stored stored
 same_looks stored = record { looks = λ path. refl; start = refl }
@@ -108,12 +112,75 @@ same_looks stored = record { looks = λ path. refl; start = refl }
 -- and where no component is on its PID, nothing of what look-ups answer
 pub passes_looks : (state : ProgramState) (pid : ℕ) (section : List ℕ) → reads_table state.services.selection state.services.service pid ≡ false → tag_in state.services.map pid ≡ None → LeavesLooks state (turned_by pid section)
 passes_looks state pid section unread none = record {
-  startup = startup_kept pid section;
+  start = start_kept pid section;
   looks = λ s keeps.
       subst (λ (t : Turned). LooksAlike s.store t.state.store)
       (sym (turned_unread s pid section None (unread_by state s pid keeps unread) (subst (λ (x : ServicesState). tag_in x.map pid ≡ None) (services_kept state s keeps) none)))
       (same_looks s.store);
 }
+
+-- ---- what is told of the start document
+
+-- what is told changes nothing of what became of the start document
+followed_at_start : (told : Bool) (startup : Startup) → (told ≡ true → start_of startup ≡ Wanted) → start_of (following told startup) ≡ start_of startup
+followed_at_start true startup wanted = sym (wanted refl)
+followed_at_start false startup wanted = refl
+
+told_wanted : (component : ℕ) (changes : List Change) (startup : Startup) → is_told_by component changes startup ≡ true → start_of startup ≡ Wanted
+told_wanted component changes kept.Wanted e = refl
+told_wanted component changes (kept.Pending pending) e = refl
+told_wanted component changes kept.Refused e = absurd cc
+told_wanted component changes (kept.Loaded document) e = absurd cc
+
+went_wanted : (gone : List (ℕ × Change)) (startup : Startup) → went_with gone startup ≡ true → start_of startup ≡ Wanted
+went_wanted gone kept.Wanted e = refl
+went_wanted gone (kept.Pending pending) e = refl
+went_wanted gone kept.Refused e = absurd cc
+went_wanted gone (kept.Loaded document) e = absurd cc
+
+pub start_told : (component : ℕ) (changes : List Change) (startup : Startup) → start_of (following (is_told_by component changes startup) startup) ≡ start_of startup
+start_told component changes startup = followed_at_start (is_told_by component changes startup) startup (told_wanted component changes startup)
+
+pub start_gone : (gone : List (ℕ × Change)) (startup : Startup) → start_of (following (went_with gone startup) startup) ≡ start_of startup
+start_gone gone startup = followed_at_start (went_with gone startup) startup (went_wanted gone startup)
+
+-- a document that was read stays the one that is there, until one of its module's changes is told
+abbrev pub StaysInSections : Type 0
+StaysInSections = (stored : Stored) (component : ℕ) (section : List ℕ) (startup : Startup) → IsCurrent stored startup
+    → IsCurrent (fed component section stored) (following (is_told_by component (changes_by component section stored) startup) startup)
+
+abbrev pub StaysInMaps : Type 0
+StaysInMaps = (stored : Stored) (components : List Component) (startup : Startup) → AllPairs AreApart components → IsCurrent stored startup
+    → IsCurrent (with_map components stored) (following (went_with (gone_by components stored) startup) startup)
+
+-- ---- a table
+
+pub table_taken : (old : ProgramState) (services : ServicesState) (new : StoreState) (startup : Startup) (went : List (ℕ × Change)) (pid : ℕ) (section : List ℕ) → services.selection ≡ old.services.selection
+    → ((handled : List Handled) → services_of.StandsFor old.services handled → services_of.StandsFor services (handled ++ record { pid = pid; section = section } ∷ []))
+    → ((stored : Stored) → store.StandsFor old.store stored → store.StandsFor new (with_map services.map stored))
+    → ((stored : Stored) → store.StandsFor old.store stored → went ≡ gone_by services.map stored)
+    → ((tag : ℕ) → has_component new tag ≡ is_some (pid_in services.map tag))
+    → ((selection : Selection) (handled : List Handled) → AllPairs AreApart (map_of selection handled)) → startup ≡ following (went_with went old.startup) old.startup → StaysInMaps
+    → (s : State) → Keeps old s → HasTaken (record { services = services; store = new; startup = startup }) (flat_map (λ gone. line_of_change gone.0 gone.1) went) (turned_by_table (with_handled pid section s))
+table_taken old tables new startup went pid section same feeds sets told has apart follows stays s stands =
+    let now = with_handled pid section s in
+    let fed_with = feeds s.handled stands.services in
+    let asked = same ∙ stands.selection in
+    let map_is : tables.map ≡ (services now).map = fed_with.map ∙ ap (λ (x : Selection). map_of x now.handled) asked in
+    record {
+      keeps = record {
+        selection = asked;
+        services = fed_with;
+        store = subst (λ (map : List Component). store.StandsFor new (with_map map s.store)) map_is (sets s.store stands.store);
+        components = has;
+        start = ap start_of follows ∙ start_gone went old.startup ∙ stands.start;
+        current =
+            subst (λ (map : List Component). IsCurrent (with_map map s.store) startup) map_is
+            (subst (λ (x : Startup). IsCurrent (with_map tables.map s.store) x) (sym (follows ∙ ap (λ (l : List (ℕ × Change)). following (went_with l old.startup) old.startup) (told s.store stands.store)))
+            (stays s.store tables.map old.startup (subst (λ (map : List Component). AllPairs AreApart map) (sym fed_with.map) (apart tables.selection now.handled)) stands.current));
+      };
+      text_is = ap (flat_map (λ gone. line_of_change gone.0 gone.1)) (told s.store stands.store ∙ ap (λ (map : List Component). gone_by map s.store) map_is);
+    }
 
 -- ---- a section of a component
 
@@ -134,12 +201,12 @@ tag_has_pid (c ∷ map) pid tag h = by (eqb c.pid pid) h (tag_has_pid map pid ta
 pub has_its_component : (state : ProgramState) (s : State) (pid component : ℕ) → Keeps state s → tag_in state.services.map pid ≡ Some component → has_component state.store component ≡ true
 has_its_component state s pid component stands is = stands.components component ∙ tag_has_pid state.services.map pid component is
 
-pub data_taken : (old : ProgramState) (new : StoreState) (changes : List Change) (pid component : ℕ) (section : List ℕ) → reads_table old.services.selection old.services.service pid ≡ false
+pub data_taken : (old : ProgramState) (new : StoreState) (startup : Startup) (changes : List Change) (pid component : ℕ) (section : List ℕ) → reads_table old.services.selection old.services.service pid ≡ false
     → ((stored : Stored) → store.StandsFor old.store stored → store.StandsFor new (fed component section stored))
     → ((stored : Stored) → store.StandsFor old.store stored → changes ≡ changes_by component section stored)
-    → ((tag : ℕ) → has_component new tag ≡ has_component old.store tag)
-    → (s : State) → Keeps old s → HasTaken (record { services = old.services; store = new; startup = old.startup }) (flat_map (line_of_change component) changes) (turned_by_component component section (with_handled pid section s))
-data_taken old new changes pid component section unread feeds told same s stands =
+    → ((tag : ℕ) → has_component new tag ≡ has_component old.store tag) → startup ≡ following (is_told_by component changes old.startup) old.startup → StaysInSections
+    → (s : State) → Keeps old s → HasTaken (record { services = old.services; store = new; startup = startup }) (flat_map (line_of_change component) changes) (turned_by_component component section (with_handled pid section s))
+data_taken old new startup changes pid component section unread feeds told same follows stays s stands =
     let handled = handled_unread old s pid section stands unread in
     record {
       keeps = record {
@@ -147,7 +214,10 @@ data_taken old new changes pid component section unread feeds told same s stands
         services = handled.services;
         store = feeds s.store stands.store;
         components = λ tag. same tag ∙ stands.components tag;
-        startup = stands.startup;
+        start = ap start_of follows ∙ start_told component changes old.startup ∙ stands.start;
+        current =
+            subst (λ (x : Startup). IsCurrent (fed component section s.store) x) (sym (follows ∙ ap (λ (l : List Change). following (is_told_by component l old.startup) old.startup) (told s.store stands.store)))
+            (stays s.store component section old.startup stands.current);
       };
       text_is = ap (flat_map (line_of_change component)) (told s.store stands.store);
     }
@@ -164,65 +234,70 @@ nothing_made : (state : ProgramState) (s : State) → Keeps state s → dispatch
 nothing_made state s keeps done = dispatched_to state [] s (record { state = s; text = [] }) (none_of_most s done) keeps done refl
 
 -- where nothing is wanted
-pub none_dispatched : (old : ProgramState) (before : List ℕ) → old.startup ≢ Wanted → Dispatches old old before before
+pub none_dispatched : (old : ProgramState) (before : List ℕ) → start_of old.startup ≢ Wanted → Dispatches old old before before
 none_dispatched old before other = record {
   text = [];
   printed = sym (append-nil before);
-  dispatches_made = λ s keeps. nothing_made old s keeps (none_wanted s (λ e. other (keeps.startup ∙ e)));
+  dispatches_made = λ s keeps. nothing_made old s keeps (none_wanted s (λ e. other (keeps.start ∙ e)));
 }
 
 abbrev pub with_startup : ProgramState → Startup → ProgramState
 with_startup state startup = record { services = state.services; store = state.store; startup = startup }
 
-loaded : (state : ProgramState) (s : State) (path : Path) (reading : Result (List Item) DocFault) → Keeps state s → Keeps (with_startup state (loaded_as reading)) (load s path reading).state
-loaded state s path reading keeps = record {
+-- what is kept of the same state, with another start document
+keeps_with : (state : ProgramState) (s t : State) (startup : Startup) → Keeps state s → t ≡ record s { start = t.start } → start_of startup ≡ t.start → IsCurrent s.store startup → Keeps (with_startup state startup) t
+keeps_with state s t startup keeps same start current = subst (λ (x : State). Keeps (with_startup state startup) x) (sym same) (record {
   selection = keeps.selection;
   services = keeps.services;
   store = keeps.store;
   components = keeps.components;
-  startup = refl;
-}
+  start = start;
+  current = current;
+})
 
--- nothing can be loaded yet
-none_loaded : (state : ProgramState) (s : State) (text : List ℕ) (reading : Option (Result (List Item) DocFault)) → Keeps state s → s.startup ≡ Wanted → loadable s.store (start_path s.store) ≡ reading
-    → LoadsAs (start_path s.store) reading None text → HasDispatched state text s
-none_loaded state s text None keeps wanted is loads =
-    subst (λ (l : List ℕ). HasDispatched state l s) (sym loads.text_is) (nothing_made state s keeps (dispatch_wanted s wanted ∙ ap (option_map (load s (start_path s.store))) is))
-none_loaded state s text (Some reading) keeps wanted is loads = absurd (none_is_not_some (loads.startup_is))
-  where
-    none_is_not_some : {A : Type 0} {x : A} → None ≡ Some x → ⊥
-    none_is_not_some e = cc
-
--- a document is loaded, or refused
-one_loaded : (state : ProgramState) (s : State) (startup : Startup) (text : List ℕ) (reading : Option (Result (List Item) DocFault)) → Keeps state s → s.startup ≡ Wanted → loadable s.store (start_path s.store) ≡ reading
-    → LoadsAs (start_path s.store) reading (Some startup) text → HasDispatched (with_startup state startup) text s
-one_loaded state s startup text None keeps wanted is loads = absurd (some_is_not_none loads.startup_is)
-  where
-    some_is_not_none : {A : Type 0} {x : A} → Some x ≡ None → ⊥
-    some_is_not_none e = cc
-one_loaded state s startup text (Some reading) keeps wanted is loads =
+-- what comes of what is there under the start path is what a dispatch makes of it
+dispatched_as : (old : ProgramState) (startup : Startup) (text : List ℕ) (s : State) (reading : Option (Result (List Item) DocFault)) → Keeps old s → s.start ≡ Wanted → loadable s.store (start_path s.store) ≡ reading
+    → LoadsAs s.store reading startup text → HasDispatched (with_startup old startup) text s
+dispatched_as old startup text s None keeps wanted is loads =
+    subst (λ (l : List ℕ). HasDispatched (with_startup old startup) l s) (sym loads.text_is)
+    (nothing_made (with_startup old startup) s (keeps_with old s s startup keeps refl (loads.start_is ∙ sym wanted) loads.current)
+    (dispatch_wanted s wanted ∙ ap (option_map (load s (start_path s.store))) is))
+dispatched_as old startup text s (Some reading) keeps wanted is loads =
     let path = start_path s.store in
-    let same : startup ≡ loaded_as reading = cc_some startup (loaded_as reading) loads.startup_is in
-    subst (λ (x : Startup). HasDispatched (with_startup state x) text s) (sym same)
-    (dispatched_to (with_startup state (loaded_as reading)) text s (record { state = (load s path reading).state; text = load_line path reading ++ [] })
+    dispatched_to (with_startup old startup) text s (record { state = (load s path reading).state; text = load_line path reading ++ [] })
     (one_of_most s (load s path reading) (dispatch_wanted s wanted ∙ ap (option_map (load s path)) is) (done_behind s path reading))
-    (loaded state s path reading keeps) (done_behind s path reading) (loads.text_is ∙ sym (append-nil (load_line path reading))))
-  where
-    cc_some : (x y : Startup) → Some x ≡ Some y → x ≡ y
-    cc_some x y e = cc
+    (keeps_with old s (load s path reading).state startup keeps refl loads.start_is loads.current) (done_behind s path reading) (loads.text_is ∙ sym (append-nil (load_line path reading)))
 
--- what the code finds under the start path is what a dispatch finds there
-pub dispatched_by : (old : ProgramState) (startup : Option Startup) (path : Path) (before after : List ℕ) → old.startup ≡ Wanted → ((stored : Stored) → store.StandsFor old.store stored → path ≡ start_path stored)
-    → Loads old.store path before after startup → Dispatches old (with_startup old (unwrap_or startup Wanted)) before after
-dispatched_by old startup path before after wanted is loads = record {
+pub dispatched_by : (old : ProgramState) (startup : Startup) (before after : List ℕ) → start_of old.startup ≡ Wanted → Loads old.store old.startup startup before after → Dispatches old (with_startup old startup) before after
+dispatched_by old startup before after wanted loads = record {
   text = loads.text;
   printed = loads.printed;
-  dispatches_made = λ s keeps. by startup s keeps (subst (λ (x : Path). LoadsAs x (loadable s.store x) startup loads.text) (is s.store keeps.store) (loads.loads s.store keeps.store));
+  dispatches_made = λ s keeps.
+      dispatched_as old startup loads.text s (loadable s.store (start_path s.store)) keeps (sym keeps.start ∙ wanted) refl (loads.loads s.store keeps.store keeps.current);
 }
+
+is_wanted : (start : Start) → (start ≡ Wanted) ⊎ (start ≢ Wanted)
+is_wanted Wanted = inl refl
+is_wanted Refused = inr (λ e. absurd cc)
+is_wanted (Loaded items) = inr (λ e. absurd cc)
+
+-- a document that is wanted is loaded where it can be, and every other is left as it is
+pub dispatched : (old : ProgramState) (was startup : Startup) (before after : List ℕ) → was ≡ old.startup → (start_of was ≡ Wanted → Loads old.store was startup before after)
+    → (start_of was ≢ Wanted → (startup ≡ was) × (after ≡ before)) → Dispatches old (with_startup old startup) before after
+dispatched old was startup before after is_old wanted other = by (is_wanted (start_of old.startup))
   where
-    by : (startup : Option Startup) (s : State) → Keeps old s → LoadsAs (start_path s.store) (loadable s.store (start_path s.store)) startup loads.text → HasDispatched (with_startup old (unwrap_or startup Wanted)) loads.text s
-    by None s keeps l = subst (λ (x : Startup). HasDispatched (with_startup old x) loads.text s) wanted (none_loaded old s loads.text (loadable s.store (start_path s.store)) keeps (sym keeps.startup ∙ wanted) refl l)
-    by (Some x) s keeps l = one_loaded old s x loads.text (loadable s.store (start_path s.store)) keeps (sym keeps.startup ∙ wanted) refl l
+    dispatches_as : Startup → Type 0
+    dispatches_as x = (start_of x ≡ Wanted → Loads old.store x startup before after) × (start_of x ≢ Wanted → (startup ≡ x) × (after ≡ before))
+
+    known : dispatches_as old.startup
+    known = subst dispatches_as is_old (wanted, other)
+
+    by : (start_of old.startup ≡ Wanted) ⊎ (start_of old.startup ≢ Wanted) → Dispatches old (with_startup old startup) before after
+    by (inl is) = dispatched_by old startup before after is (known.0 is)
+    by (inr not) =
+        let same = known.1 not in
+        subst (λ (x : Startup). Dispatches old (with_startup old x) before after) (sym same.0)
+        (subst (λ (l : List ℕ). Dispatches old old before l) (sym same.1) (none_dispatched old before not))
 
 -- ---- turns
 
@@ -242,7 +317,7 @@ turned_without old mid pid section before after takes leaves = record {
   turns = λ s stands.
       let taken = takes.takes s stands.keeps in
       let t = turned_by pid section s in
-      let done = still_done s t.state (leaves.startup s) (leaves.looks s stands.keeps) stands.done in
+      let done = still_done s t.state (leaves.start s) (leaves.looks s stands.keeps) stands.done in
       turned_to mid takes.text pid section s (record { state = t.state; text = [] }) (none_of_most t.state done) taken.keeps done (taken.text_is ∙ sym (append-nil t.text));
 }
 
@@ -274,7 +349,7 @@ keeps_dispatched s now (Some path) t e k = keeps_loaded s now path (loadable now
 
 keeps_dispatch : (s now : State) (t : Turned) → dispatch now ≡ Some t → KeepsWanted s now → KeepsWanted s t.state
 unfolding dispatch
-keeps_dispatch s now t e k = keeps_dispatched s now (wanted_path now.startup now.store) t e k
+keeps_dispatch s now t e k = keeps_dispatched s now (wanted_path now.start now.store) t e k
 
 keeps_dispatches : (bound : ℕ) (s now : State) → KeepsWanted s now → KeepsWanted s (dispatches bound now).state
 unfolding dispatches

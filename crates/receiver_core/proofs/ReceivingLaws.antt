@@ -27,6 +27,7 @@ use Rattle.receiver_core.specs.Outputs.{after, behind_turns, display_of, outputs
 use Rattle.receiver_core.specs.Programs.{HasTurned, ProgramState}
 use Rattle.receiver_core.specs.Programs as programs
 use Rattle.receiver_core.specs.Receiving.{AreWanted, IsDrained, IsIdle, ReceiverState, StandsFor, behind_those_left, texts_left, waiting_in}
+use Rattle.receiver_core.specs.Startups.{start_of}
 use Rattle.receiver_core.specs.State.{Input, Packet, Show, State, opening, services}
 use Rattle.receiver_core.specs.State as state_of
 use Rattle.receiver_core.specs.Dispatches.{turn}
@@ -80,7 +81,7 @@ next_ahead selection state inputs given s input more drained =
     ∙ ap (λ (l : List (List ℕ)). given ++ l) (quiet state.demultiplexer s.now (input ∷ more) drained.none)
 
 pub shows : (state : ReceiverState) → IsDrained state → (selection : Selection) (inputs : List Input) (given : List (List ℕ)) → StandsFor selection state inputs given
-    → StandsFor selection state (inputs ++ Show ∷ []) (given ++ display_of state.program.startup ∷ [])
+    → StandsFor selection state (inputs ++ Show ∷ []) (given ++ display_of (start_of state.program.startup) ∷ [])
 shows state drained selection inputs given s = record {
   now = s.now;
   sections = s.sections;
@@ -88,15 +89,15 @@ shows state drained selection inputs given s = record {
   assembled = s.assembled;
   ahead = λ more.
       next_ahead selection state inputs given s Show more drained
-      ∙ ap (λ (t : List ℕ). given ++ (t ∷ outputs_from s.now more)) (ap display_of (sym s.program.keeps.startup))
-      ∙ sym (append_assoc given (display_of state.program.startup ∷ []) (outputs_from s.now more))
-      ∙ ap (λ (l : List (List ℕ)). (given ++ display_of state.program.startup ∷ []) ++ l) (sym (quiet state.demultiplexer s.now more drained.none));
+      ∙ ap (λ (t : List ℕ). given ++ (t ∷ outputs_from s.now more)) (ap display_of (sym s.program.keeps.start))
+      ∙ sym (append_assoc given (display_of (start_of state.program.startup) ∷ []) (outputs_from s.now more))
+      ∙ ap (λ (l : List (List ℕ)). (given ++ display_of (start_of state.program.startup) ∷ []) ++ l) (sym (quiet state.demultiplexer s.now more drained.none));
 }
 
 -- the state with one packet more is one for the same program
 same_program : (program : ProgramState) (s : State) (packet : List ℕ) → programs.StandsFor program s → programs.StandsFor program (with_packet packet s)
 same_program program s packet p = record {
-  keeps = record { selection = p.keeps.selection; services = p.keeps.services; store = p.keeps.store; components = p.keeps.components; startup = p.keeps.startup };
+  keeps = record { selection = p.keeps.selection; services = p.keeps.services; store = p.keeps.store; components = p.keeps.components; start = p.keeps.start; current = p.keeps.current };
   done = same_dispatch s packet p.done;
 }
 

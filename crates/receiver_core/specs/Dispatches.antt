@@ -10,10 +10,9 @@ use Rattle.module_store.specs.Resources.{Resource, look, start_path}
 use Rattle.module_store.specs.Resources.Resource.{Found, Waiting, Missing}
 use Rattle.module_store.specs.Store.{Stored}
 use Rattle.document_load.specs.Needs.{needs_of}
-use Rattle.receiver_core.specs.declared.startup.Startup.{Startup}
-use Rattle.receiver_core.specs.declared.startup.Startup.TheVariants.{Wanted, Refused, Loaded}
 use Rattle.receiver_core.specs.Lines.{load_line}
-use Rattle.receiver_core.specs.State.{State}
+use Rattle.receiver_core.specs.State.{Start, State}
+use Rattle.receiver_core.specs.State.Start.{Wanted, Refused, Loaded}
 use Rattle.receiver_core.specs.Turns.{Turned, turned_by}
 
 -- ---- which documents can be loaded
@@ -44,18 +43,18 @@ loadable stored path = loadable_as stored path (look stored path)
 -- ---- one dispatch
 
 -- the path of the document that is wanted; that of the start document is found anew each time
-abbrev pub wanted_path : Startup → Stored → Option Path
+abbrev pub wanted_path : Start → Stored → Option Path
 wanted_path Wanted stored = Some (start_path stored)
 wanted_path Refused stored = None
-wanted_path (Loaded document) stored = None
+wanted_path (Loaded items) stored = None
 
 -- the load of a document
-abbrev pub loaded_as : Result (List Item) DocFault → Startup
-loaded_as (Ok items) = Loaded (record { tree = items })
+abbrev pub loaded_as : Result (List Item) DocFault → Start
+loaded_as (Ok items) = Loaded items
 loaded_as (Err fault) = Refused
 
 abbrev pub load : State → Path → Result (List Item) DocFault → Turned
-load s path reading = record { state = record s { startup = loaded_as reading }; text = load_line path reading }
+load s path reading = record { state = record s { start = loaded_as reading }; text = load_line path reading }
 
 abbrev pub dispatch_of : State → Option Path → Option Turned
 dispatch_of s None = None
@@ -63,7 +62,7 @@ dispatch_of s (Some path) = option_map (load s path) (loadable s.store path)
 
 -- The next dispatch loads the document that is wanted, where it can be loaded. Else there is none.
 unfoldable pub dispatch : State → Option Turned
-dispatch s = dispatch_of s (wanted_path s.startup s.store)
+dispatch s = dispatch_of s (wanted_path s.start s.store)
 
 -- ---- turns
 

@@ -3,7 +3,9 @@ pub mod Fronts
 pub mod Lines
 pub mod Loading
 pub mod Outputs
+pub mod Pendings
 pub mod Programs
 pub mod Receiving
+pub mod Startups
 pub mod State
 pub mod Turns

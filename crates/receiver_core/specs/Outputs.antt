@@ -6,9 +6,8 @@ use Rattle.ts_sections.specs.Sections.{completed_by}
 use Rattle.ts_sections.specs.Intact.{is_intact}
 use Rattle.display_list.specs.Show.{clock_line, shown}
 use Rattle.psi_tables.specs.declared.services.Selection.{Selection}
-use Rattle.receiver_core.specs.declared.startup.Startup.{Startup}
-use Rattle.receiver_core.specs.declared.startup.Startup.TheVariants.{Wanted, Refused, Loaded}
-use Rattle.receiver_core.specs.State.{Input, Packet, Show, State, opening, wants}
+use Rattle.receiver_core.specs.State.{Input, Packet, Show, Start, State, opening, wants}
+use Rattle.receiver_core.specs.State.Start.{Wanted, Refused, Loaded}
 use Rattle.receiver_core.specs.Dispatches.{turn}
 
 -- the turns of intact sections on a PID, one behind the other, as long as the PID is wanted: what they leave, and what
@@ -30,15 +29,15 @@ abbrev pub completed : List ℕ → State → List (List ℕ)
 completed packet s = if wants s (pid_of packet) then filter is_intact (completed_by (s.packets (pid_of packet)) packet) else []
 
 -- the display list of the document, at a clock that stands still; without one it is its first line alone
-abbrev pub display_of : Startup → List ℕ
+abbrev pub display_of : Start → List ℕ
 display_of Wanted = clock_line 0
 display_of Refused = clock_line 0
-display_of (Loaded document) = shown document.tree 0
+display_of (Loaded items) = shown items 0
 
 -- what one input prints, and what it leaves: a packet the turns of the intact sections that it completes
 abbrev pub texts_of : Input → State → List (List ℕ)
 texts_of (Packet packet) s = texts_of_turns (pid_of packet) (completed packet s) (with_packet packet s)
-texts_of Show s = display_of s.startup ∷ []
+texts_of Show s = display_of s.start ∷ []
 
 abbrev pub after : Input → State → State
 after (Packet packet) s = behind_turns (pid_of packet) (completed packet s) (with_packet packet s)

@@ -8,6 +8,7 @@ use Rattle.module_store.specs.Standing.{StoreState, has_component}
 use Rattle.module_store.specs.Standing as store
 use Rattle.receiver_core.specs.declared.startup.Startup.{Startup}
 use Rattle.receiver_core.specs.Dispatches.{dispatch, dispatches, most_dispatches}
+use Rattle.receiver_core.specs.Startups.{IsCurrent, start_of}
 use Rattle.receiver_core.specs.State.{State}
 use Rattle.receiver_core.specs.Turns.{Turned}
 
@@ -23,7 +24,9 @@ pub record Keeps (state : ProgramState) (s : State) : Type 0 where
   pub store : store.StandsFor state.store s.store
   -- the store has the components of the map
   pub components : (tag : ℕ) → has_component state.store tag ≡ is_some (pid_in state.services.map tag)
-  pub startup : state.startup ≡ s.startup
+  pub start : start_of state.startup ≡ s.start
+  -- a document that was read is the one that is there
+  pub current : IsCurrent s.store state.startup
 
 -- between two turns there is nothing left to dispatch
 pub record StandsFor (state : ProgramState) (s : State) : Type 0 where
@@ -45,7 +48,7 @@ pub record Takes (old new : ProgramState) (before after : List ℕ) (taken_from 
 
 -- the section changed nothing of what a dispatch looks at
 pub record LeavesLooks (old : ProgramState) (taken_from : State → Turned) : Type 0 where
-  pub startup : (s : State) → (taken_from s).state.startup ≡ s.startup
+  pub start : (s : State) → (taken_from s).state.start ≡ s.start
   pub looks : (s : State) → Keeps old s → LooksAlike s.store (taken_from s).state.store
 
 -- ---- dispatches

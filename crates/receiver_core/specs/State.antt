@@ -6,13 +6,18 @@ use Rattle.psi_tables.specs.Service.{ServicesState}
 use Rattle.psi_tables.specs.Service as services_of
 use Rattle.module_store.specs.Store.{Stored}
 use Rattle.module_store.specs.Store as store
-use Rattle.receiver_core.specs.declared.startup.Startup.{Startup}
-use Rattle.receiver_core.specs.declared.startup.Startup.TheVariants.{Wanted}
+use Rattle.dom_tree.specs.Items.{Item}
 
 -- the next packet of the stream, of whatever PID, or the wish to see what is displayed
 pub data Input : Type 0 where
   Packet : List ℕ → Input
   Show : Input
+
+-- what became of the start document: it is still wanted, it was refused, or it was loaded with its nodes
+pub data Start : Type 0 where
+  Wanted : Start
+  Refused : Start
+  Loaded : List Item → Start
 
 pub record State : Type 0 where
   -- which service is asked for
@@ -23,8 +28,7 @@ pub record State : Type 0 where
   pub packets : ℕ → List (List ℕ)
   -- the components with their messages
   pub store : Stored
-  -- the start document: still wanted, refused, or loaded with its nodes
-  pub startup : Startup
+  pub start : Start
 
 -- the service and the component map at present
 abbrev pub services : State → ServicesState
@@ -40,5 +44,5 @@ opening selection = record {
   handled = [];
   packets = λ pid. [];
   store = store.with_map (map_of selection []) store.at_start;
-  startup = Wanted;
+  start = Wanted;
 }

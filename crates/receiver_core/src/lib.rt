@@ -10,6 +10,7 @@
 mod laws;
 mod lines;
 mod loading;
+mod pending;
 mod program;
 mod receiver;
 mod startup;

@@ -6,17 +6,19 @@ ghost use Rattle.psi_tables.specs.Service.{reads_table};
 ghost use Rattle.receiver_core.specs.Outputs.{display_of};
 ghost use Rattle.receiver_core.specs.Dispatches.{turn};
 ghost use Rattle.receiver_core.specs.Programs.{Dispatches, LeavesLooks, StandsFor, Takes, Turns};
+ghost use Rattle.receiver_core.specs.Startups.{start_of};
 ghost use Rattle.receiver_core.specs.State.{opening};
 ghost use Rattle.receiver_core.specs.Turns.{turned_by, turned_by_component, turned_by_table, with_handled};
 
+use crate::laws::law_of_current_documents;
 use crate::lines::{push_change_lines, push_gone_lines};
-use crate::loading::load;
 use crate::startup::Startup;
 use bml_bytes::NoMemory;
 use module_store::Store;
-use psi_tables::{Selection, Services};
+use psi_tables::{Selection, Services, law_of_component_map};
 use std::alloc::Global;
 use std::marker::Model;
+use std::mem;
 
 /// Makes the turns of intact sections.
 #[derive(Drop)]
@@ -77,18 +79,14 @@ impl Program {
         ensures made { OnOk result (Dispatches self.old self.new out.old.items out.new.items) }
         ensures grows { take (length out.old.items) out.new.items ≡ out.old.items }
     {
-        let Startup::Wanted = self.startup else {
-            return Ok(());
-        };
-        let path = self.store.start_path()?;
-        let loaded = load(self.alloc, &self.store, &path, out)?;
-        self.startup = loaded.unwrap_or(Startup::Wanted);
+        let startup = mem::replace(&mut self.startup, Startup::Wanted);
+        self.startup = startup.dispatch(self.alloc, &self.store, out)?;
         Ok(())
     }
 
     /// Appends the display list of the start document, or its first line alone.
     pub fn show(&self, out: &mut Vec<u8>) -> Result<(), NoMemory>
-        ensures ok { OnOk result (out.new.items ≡ out.old.items ++ display_of self.now.startup) }
+        ensures ok { OnOk result (out.new.items ≡ out.old.items ++ display_of (start_of self.now.startup)) }
         ensures err { OnErr result (out.new.items ≡ out.old.items) }
     {
         self.startup.show(out)
@@ -120,6 +118,9 @@ impl Program {
     {
         self.services.feed(pid, section)?;
         let gone = self.store.set_components(&self.services)?;
+        self.startup.follow_gone(gone.as_slice());
+        law_of_current_documents();
+        law_of_component_map();
         push_gone_lines(gone.as_slice(), out)?;
         Ok(self.store.has_changed())
     }
@@ -143,6 +144,8 @@ impl Program {
             return Ok(false);
         }
         let changes = self.store.feed(component, section)?;
+        self.startup.follow(component, changes.as_slice());
+        law_of_current_documents();
         push_change_lines(component, changes.as_slice(), out)?;
         Ok(self.store.has_changed())
     }

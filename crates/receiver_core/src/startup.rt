@@ -1,11 +1,19 @@
-//! The start document, and how it is shown.
+//! The start document: what is kept of it, and how it is shown.
 
-ghost use Rattle.std.specs.Prelude.{◌≡◌, ◌++◌, OnOk, OnErr};
+ghost use Rattle.std.specs.Prelude.{◌≡◌, ◌≢◌, ◌++◌, IfOk, OnOk, OnErr, length, take};
+ghost use Rattle.module_store.specs.Staying.{tells_of, went};
 ghost use Rattle.receiver_core.specs.Outputs.{display_of};
+ghost use Rattle.receiver_core.specs.Loading.{Loads};
+ghost use Rattle.receiver_core.specs.State.Start.{Wanted};
+ghost use Rattle.receiver_core.specs.Startups.{following, is_told_by, start_of, went_with};
 
+use crate::loading::load;
+use crate::pending::Pending;
 use bml_bytes::NoMemory;
 use display_list::{push_clock_line, show_places};
 use document_load::Document;
+use module_store::{Change, Store};
+use std::alloc::Global;
 
 /// The time of the clock, which stands still.
 const CLOCK: u64 = 0;
@@ -13,22 +21,101 @@ const CLOCK: u64 = 0;
 /// What is kept of the start document.
 #[derive(Drop)]
 pub enum Startup {
-    /// It isn't there yet.
+    /// It wasn't read yet.
     Wanted,
+    /// It was read, and something that it needs is waited for.
+    Pending(Pending),
     /// It isn't a document that is shown.
     Refused,
     Loaded(Document),
 }
 
 impl Startup {
+    /// Loads the document, where it is wanted, is found, and nothing that it needs is waited for; or refuses it. Appends
+    /// the line that tells it.
+    pub fn dispatch(
+        self,
+        alloc: Global,
+        store: &Store,
+        out: &mut Vec<u8>,
+    ) -> Result<Startup, NoMemory>
+        ensures wanted { IfOk result (λ startup. start_of self ≡ Wanted → Loads store.now self startup out.old.items out.new.items) }
+        ensures other { IfOk result (λ startup. start_of self ≢ Wanted → (startup ≡ self) × (out.new.items ≡ out.old.items)) }
+        ensures grows { take (length out.old.items) out.new.items ≡ out.old.items }
+    {
+        match self {
+            Startup::Wanted => load(alloc, store, out),
+            Startup::Pending(pending) => pending.load(store, out),
+            Startup::Refused | Startup::Loaded(_) => Ok(self),
+        }
+    }
+
+    /// Takes the changes in the modules of a component: a document that was read is wanted anew, where its module changed.
+    pub fn follow(&mut self, component: u8, changes: &[Change])
+        ensures { self.new ≡ following (is_told_by component changes.now self.old) self.old }
+    {
+        if self.is_told_by(component, changes) {
+            *self = Startup::Wanted;
+        }
+    }
+
+    /// Takes the modules that went with their components: a document that was read is wanted anew, where its module went.
+    pub fn follow_gone(&mut self, gone: &[(u8, Change)])
+        ensures { self.new ≡ following (went_with gone.now self.old) self.old }
+    {
+        if self.went_with(gone) {
+            *self = Startup::Wanted;
+        }
+    }
+
     /// Appends the display list: its first line, and the boxes and texts of the document, where one is loaded.
     pub fn show(&self, out: &mut Vec<u8>) -> Result<(), NoMemory>
-        ensures ok { OnOk result (out.new.items ≡ out.old.items ++ display_of self.now) }
+        ensures ok { OnOk result (out.new.items ≡ out.old.items ++ display_of (start_of self.now)) }
         ensures err { OnErr result (out.new.items ≡ out.old.items) }
     {
         match self {
             Startup::Loaded(document) => show_places(&document.tree, CLOCK, out),
-            Startup::Wanted | Startup::Refused => push_clock_line(CLOCK, out),
+            Startup::Wanted | Startup::Pending(_) | Startup::Refused => push_clock_line(CLOCK, out),
         }
     }
+
+    // Whether a document was read whose module is told of by these changes in a component.
+    fn is_told_by(&self, component: u8, changes: &[Change]) -> bool
+        ensures { result ≡ is_told_by component changes.now self.now }
+    {
+        match self {
+            Startup::Pending(pending) => {
+                let path = pending.path();
+                path.component == component && tells_of(path.module, changes)
+            }
+            Startup::Wanted | Startup::Refused | Startup::Loaded(_) => false,
+        }
+    }
+
+    // Whether a document was read whose module went.
+    fn went_with(&self, gone: &[(u8, Change)]) -> bool
+        ensures { result ≡ went_with gone.now self.now }
+    {
+        match self {
+            Startup::Pending(pending) => {
+                let path = pending.path();
+                went(path.component, path.module, gone)
+            }
+            Startup::Wanted | Startup::Refused | Startup::Loaded(_) => false,
+        }
+    }
+}
+
+// Whether one of these changes is of the module.
+fn tells_of(module: u16, changes: &[Change]) -> bool
+    ensures { result ≡ tells_of «module» changes.now }
+{
+    changes.iter().any(|change| change.module == module)
+}
+
+// Whether the module is one of those that went.
+fn went(component: u8, module: u16, gone: &[(u8, Change)]) -> bool
+    ensures { result ≡ went component «module» gone.now }
+{
+    gone.iter().any(|(tag, change)| *tag == component && change.module == module)
 }

@@ -6,6 +6,8 @@ use Rattle.psi_tables.specs.Components.{tag_in}
 use Rattle.psi_tables.specs.Service.{reads_table}
 use Rattle.module_store.specs.Standing.{has_component}
 use Rattle.receiver_core.specs.Lines.{line_of_change}
+use Rattle.carousel_blocks.specs.declared.changes.Change.{Change}
+use Rattle.receiver_core.specs.Startups.{following, is_told_by}
 use Rattle.receiver_core.specs.Programs.{LeavesLooks, ProgramState, Takes}
 use Rattle.receiver_core.specs.State.{State}
 use Rattle.receiver_core.specs.Turns.{Turned, turned_by_component, with_handled}
@@ -30,7 +32,7 @@ returns-then-not-has_component-clause-taken c =
 no_looks : (state : ProgramState) (pid component : ℕ) (section : List ℕ) → tag_in state.services.map pid ≡ Some component → has_component state.store component ≡ false
     → LeavesLooks state (λ s. turned_by_component component section (with_handled pid section s))
 no_looks state pid component section is none = record {
-  startup = λ s. refl;
+  start = λ s. refl;
   looks = λ s keeps. absurd (false≢true (sym none ∙ has_its_component state s pid component keeps is));
 }
 
@@ -46,6 +48,6 @@ returns-clause-taken c =
     let told = c.in_ok-changes.ensures in
     rw (← c.self.view_is) (record {
       text = flat_map (line_of_change c.args.component) c.in_ok-changes.changes.items;
-      printed = c.in_ok-push_change_lines.ensures.ok ∙ ap (λ changes. c.args.out.now.items ++ flat_map (line_of_change c.args.component) changes) c.as_slice.ensures.value;
-      takes = data_taken old c.feed.new.self c.in_ok-changes.changes.items c.args.pid c.args.component c.args.section.now (subst (λ (p : ProgramState). reads_table p.services.selection p.services.service c.args.pid ≡ false) (sym c.self.view_is) c.requires.unread) told.stands told.changes told.components;
+      printed = c.in_ok-push_change_lines.ensures.ok ∙ ap (λ changes. c.args.out.now.items ++ flat_map (line_of_change c.args.component) changes) c.as_slice-2.ensures.value;
+      takes = data_taken old c.feed.new.self c.follow.new.self c.in_ok-changes.changes.items c.args.pid c.args.component c.args.section.now (subst (λ (p : ProgramState). reads_table p.services.selection p.services.service c.args.pid ≡ false) (sym c.self.view_is) c.requires.unread) told.stands told.changes told.components (c.follow.ensures ∙ ap (λ (l : List Change). following (is_told_by c.args.component l inside.startup) inside.startup) c.as_slice.ensures.value) c.law_of_current_documents.ensures.sections;
     })

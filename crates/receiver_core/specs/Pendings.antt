@@ -1,0 +1,21 @@
+-- A document that was read, and waits for what it needs. (This project's own.)
+use Rattle.std.specs.Prelude.{◌≡◌, ℕ, List, Ok}
+use Rattle.bml_reader.specs.Readings.{reading_of}
+use Rattle.multipart_entities.specs.declared.paths.Path.{Path}
+use Rattle.module_store.specs.Resources.{look, start_path}
+use Rattle.module_store.specs.Resources.Resource.{Found}
+use Rattle.module_store.specs.Store.{Stored}
+use Rattle.document_load.specs.Drafts.{DraftState}
+use Rattle.document_load.specs.Needs.{needs_of}
+
+pub record PendingState : Type 0 where
+  pub path : Path
+  pub draft : DraftState
+
+-- it is the document that is found under the start path, with its needs
+pub record IsStart (stored : Stored) (pending : PendingState) : Type 0 where
+  pub path_is : pending.path ≡ start_path stored
+  pub bytes : List ℕ
+  pub found : look stored pending.path ≡ Found bytes
+  pub reading_is : reading_of bytes ≡ Ok pending.draft.items
+  pub needs_are : pending.draft.needs ≡ needs_of pending.path pending.draft.items

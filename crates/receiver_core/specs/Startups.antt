@@ -1,0 +1,38 @@
+-- What is kept of the start document. (This project's own.)
+use Rattle.std.specs.Prelude.{ℕ, ◌==◌, Bool, false, ◌&&◌, if◌then◌else◌, List}
+use Rattle.carousel_blocks.specs.declared.changes.Change.{Change}
+use Rattle.module_store.specs.Staying.{tells_of, went}
+use Rattle.module_store.specs.Store.{Stored}
+use Rattle.receiver_core.specs.declared.startup.Startup.{Startup}
+use Rattle.receiver_core.specs.declared.startup.Startup.TheVariants as kept
+use Rattle.receiver_core.specs.Pendings.{IsStart}
+use Rattle.receiver_core.specs.State.{Start}
+use Rattle.receiver_core.specs.State.Start.{Wanted, Refused, Loaded}
+
+-- what became of the document: one that was read and waits is still wanted
+abbrev pub start_of : Startup → Start
+start_of kept.Wanted = Wanted
+start_of (kept.Pending pending) = Wanted
+start_of kept.Refused = Refused
+start_of (kept.Loaded document) = Loaded document.tree
+
+-- one that was read is the one that is there
+abbrev pub IsCurrent : Stored → Startup → Type 0
+IsCurrent stored (kept.Pending pending) = IsStart stored pending
+IsCurrent stored _ = Unit {0}
+
+-- ---- what changes tell of it
+
+-- a document was read, and one of these changes in a component is of its module
+abbrev pub is_told_by : ℕ → List Change → Startup → Bool
+is_told_by component changes (kept.Pending pending) = (pending.path.component == component) && tells_of pending.path.«module» changes
+is_told_by component changes _ = false
+
+-- a document was read, and its module went with its component
+abbrev pub went_with : List (ℕ × Change) → Startup → Bool
+went_with gone (kept.Pending pending) = went pending.path.component pending.path.«module» gone
+went_with gone _ = false
+
+-- then it is wanted anew
+abbrev pub following : Bool → Startup → Startup
+following told startup = if told then kept.Wanted else startup

@@ -1,0 +1,98 @@
+//! A document that was read, and the needs that it waits for.
+
+ghost use Rattle.std.specs.Prelude.{◌≡◌, true, None, IfOk, IfSome, length, take};
+ghost use Rattle.module_store.specs.Store.{Stored};
+ghost use Rattle.module_store.specs.Standing.{StandsFor};
+ghost use Rattle.receiver_core.specs.Dispatches.{are_settled};
+ghost use Rattle.receiver_core.specs.declared.startup.Startup.TheVariants as kept;
+ghost use Rattle.receiver_core.specs.Loading.{Loads, WaitsAt};
+
+use crate::lines::push_load_line;
+use crate::startup::Startup;
+use bml_bytes::NoMemory;
+use document_load::Draft;
+use module_store::{Look, Store};
+use multipart_entities::Path;
+use std::marker::Model;
+
+/// A document that was read, and waits until nothing that it needs is waited for.
+#[derive(Drop)]
+pub struct Pending {
+    path: Path,
+    draft: Draft,
+    /// Where the need stands that was waited for last. Look-ups begin there, so that a document with many needs costs
+    /// little as long as one of them stays away.
+    place: usize,
+}
+
+impl Model for Pending {
+    ghost use Rattle.std.specs.Prelude.{◌≤◌, length};
+    ghost use Rattle.receiver_core.specs.Pendings.{PendingState};
+
+    ghost Value = { PendingState };
+
+    ghost view = { λ p. record { path = p.path; draft = p.draft } };
+
+    ghost invariant = { λ p. p.place ≤ length p.draft.needs };
+}
+
+impl Pending {
+    /// A document that was read at a path.
+    pub fn new(path: Path, draft: Draft) -> Pending
+        ensures path { result.path ≡ path }
+        ensures draft { result.draft ≡ draft }
+    {
+        Pending {
+            path,
+            draft,
+            place: 0,
+        }
+    }
+
+    /// The path at which it was read.
+    pub fn path(&self) -> &Path
+        ensures { result.now ≡ self.now.path }
+    {
+        &self.path
+    }
+
+    /// Loads the document, where nothing that it needs is waited for, and appends its line. Else it goes on waiting.
+    pub fn load(self, store: &Store, out: &mut Vec<u8>) -> Result<Startup, NoMemory>
+        ensures loads { IfOk result (λ startup. Loads store.now (kept.Pending self) startup out.old.items out.new.items) }
+        ensures grows { take (length out.old.items) out.new.items ≡ out.old.items }
+    {
+        let waited = self.waited_for(store);
+        let Pending { path, draft, .. } = self;
+        if let Some(place) = waited {
+            return Ok(Startup::Pending(Pending { path, draft, place }));
+        }
+        let document = draft.finish()?;
+        push_load_line(&path, out)?;
+        Ok(Startup::Loaded(document))
+    }
+
+    // Where a need stands that is waited for.
+    fn waited_for(&self, store: &Store) -> Option<usize>
+        ensures settled { result ≡ None → (stored : Stored) → StandsFor store.now stored → are_settled stored self.now.draft.needs ≡ true }
+        ensures waits { IfSome result (λ place. WaitsAt store.now self.now.draft.needs place) }
+    {
+        let (before, behind) = self.draft.needs().split_at(self.place);
+        match first_waited(store, behind) {
+            Some(place) => Some(self.place + place),
+            None => first_waited(store, before),
+        }
+    }
+}
+
+// Where the first need stands that is waited for.
+fn first_waited(store: &Store, needs: &[Path]) -> Option<usize>
+    ensures settled { result ≡ None → (stored : Stored) → StandsFor store.now stored → are_settled stored needs.now ≡ true }
+    ensures waits { IfSome result (λ place. WaitsAt store.now needs.now place) }
+{
+    'needs: for (place, need) in needs.iter().enumerate() {
+        if let Look::Waiting = store.resource(need) {
+            return Some(place);
+        }
+    }
+    None
+}
