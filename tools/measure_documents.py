@@ -28,12 +28,16 @@ PLAIN_BOX = "box 0 0 0 0 8 0 7\n"
 
 
 class Document(NamedTuple):
-    """A document, or an entity, and the lines that are due behind its module's line."""
+    """A document, or an entity, and the lines that are due behind its module's line.
+
+    Behind it come DIIs, each with another transactionId; then module 0001 is announced, and stays away.
+    """
 
     name: str
     text: str
     lines: str
     info: bytes = descriptor(TYPE_DESCRIPTOR, b"text/X-arib-bml")
+    diis: int = 0
 
 
 def body(inside):
@@ -136,12 +140,27 @@ def entities():
     yield entity("16,000 needs", several([links]), EMPTY_PAGE)
 
 
+def waiting():
+    text, _ = filled('<bml><head><link href="/40/0001"/></head><body><p>', "a", "</p></body></bml>")
+    yield Document("waiting, 1 MB, 20,000 DIIs", text, NOTHING_LOADED, diis=20_000)
+    links = '<link href="/41/0000/x"/>' * 16_000
+    for name, text in [
+        ("waiting for the first of 16,000", f'<bml><link href="/40/0001"/>{links}</bml>'),
+        ("waiting for the last of 16,000", f'<bml>{links}<link href="/40/0001"/></bml>'),
+    ]:
+        yield Document(name, text, NOTHING_LOADED, diis=20_000)
+
+
 def stream_of(document):
     """Returns the stream of a document and how many packets it has."""
     data = document.text.encode("ascii")
-    sections = [dii_section(1, 1, BLOCK_SIZE, [Module(0, 1, len(data), document.info)])]
+    modules = [Module(0, 1, len(data), document.info)]
+    if document.diis:
+        modules.append(Module(1, 1, 10, b""))
+    sections = [dii_section(1, 1, BLOCK_SIZE, modules)]
     blocks = range(0, len(data), BLOCK_SIZE)
     sections += [ddb_section(1, 0, 1, at // BLOCK_SIZE, data[at : at + BLOCK_SIZE]) for at in blocks]
+    sections += [dii_section(2 + at, 1, BLOCK_SIZE, modules) for at in range(document.diis)]
     packets, counter = [], 0
     for section in sections:
         counters = [(counter + at) % 16 for at in range(packets_taken(section))]
@@ -177,7 +196,7 @@ def main():
         stream, record = f"{room}/stream.ts", f"{room}/record.txt"
         with open(record, "wb") as file:
             file.write(b"all\nshow\n")
-        for document in [*documents(), *entities()]:
+        for document in [*documents(), *entities(), *waiting()]:
             data, packets = stream_of(document)
             with open(stream, "wb") as file:
                 file.write(data)

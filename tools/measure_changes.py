@@ -1,0 +1,104 @@
+#!/usr/bin/env python3
+"""Measures how long a release build takes over streams in which each section changes as much as the limits let it.
+
+usage: measure_changes.py PROGRAM [--rounds N]
+
+What the program writes at the end is compared with what is due. Each stream is run N times (3), of which the best counts.
+`each` is in microseconds of the processor for one such section. Status: 0 where all was as due, 1 where a run went wrong.
+"""
+
+import argparse
+import os
+import sys
+import tempfile
+
+from measure_documents import timed
+from transport import (
+    ElementaryStream,
+    Module,
+    ddb_section,
+    dii_section,
+    packets_taken,
+    pat_section,
+    pmt_section,
+    section_packets,
+)
+
+DATA_PID = 256
+MAP_PID = 496
+DATA_STREAM = 0x0D
+MOST_BYTES = 1 << 20  # of a module
+MOST_MODULES = 32  # of so many bytes
+MOST_ENTRIES = 400
+
+
+def maps(count):
+    """PMTs with 16 components, and between them such as have one other."""
+    full = [ElementaryStream(DATA_STREAM, DATA_PID + place, 0x40 + place) for place in range(16)]
+    other = [ElementaryStream(DATA_STREAM, 0x200, 0x80)]
+    yield 0, pat_section([(1, MAP_PID)])
+    for number in range(count):
+        yield MAP_PID, pmt_section(1, other if number % 2 else full)
+
+
+def announced(count, modules, size):
+    """DIIs that announce so many modules, each in another version than before."""
+    for number in range(count):
+        entries = [Module(module, number % 256, size) for module in range(modules)]
+        yield DATA_PID, dii_section(number, 1, 4000, entries)
+
+
+def begun(count):
+    """Such DIIs with 32 MiB, and behind each a block far behind for each module."""
+    for number in range(count):
+        entries = [Module(module, number % 256, MOST_BYTES) for module in range(MOST_MODULES)]
+        yield DATA_PID, dii_section(number, 1, 17, entries)
+        for module in range(MOST_MODULES):
+            yield DATA_PID, ddb_section(1, module, number % 256, 60_000, b"x" * 17)
+
+
+# Each with its sections, the number of those that change much, and the words behind `replay`.
+STREAMS = [
+    ("PMTs, 16 components and another", maps(2_000), 2_000, []),
+    ("DIIs, 32 modules of 1 MiB", announced(500, MOST_MODULES, MOST_BYTES), 500, ["--data-pid", str(DATA_PID)]),
+    ("the same with one block of each", begun(100), 100, ["--data-pid", str(DATA_PID)]),
+    ("DIIs, 400 modules of 1,000 bytes", announced(1_000, MOST_ENTRIES, 1_000), 1_000, ["--data-pid", str(DATA_PID)]),
+]
+
+
+def stream_of(sections):
+    """Returns the packets of sections, each with its PID, and how many they are."""
+    packets, counters = [], {}
+    for pid, section in sections:
+        first = counters.get(pid, 0)
+        taken = [(first + at) % 16 for at in range(packets_taken(section))]
+        packets += section_packets(pid, taken, section)
+        counters[pid] = (taken[-1] + 1) % 16
+    return b"".join(packets), len(packets)
+
+
+def main():
+    parser = argparse.ArgumentParser(usage="measure_changes.py PROGRAM [--rounds N]")
+    parser.add_argument("program")
+    parser.add_argument("--rounds", type=int, default=3)
+    asked = parser.parse_args()
+    program, wrong = os.path.abspath(asked.program), 0
+    print(f"{'stream':34} {'bytes':>10} {'processor':>10} {'each':>8}")
+    with tempfile.TemporaryDirectory(prefix="measure-") as room:
+        stream, record = f"{room}/stream.ts", f"{room}/record.txt"
+        with open(record, "wb") as file:
+            file.write(b"all\n")
+        for name, sections, count, words in STREAMS:
+            data, packets = stream_of(sections)
+            with open(stream, "wb") as file:
+                file.write(data)
+            ran, _, processor = timed([program, "replay", *words, stream, record], max(1, asked.rounds))
+            as_due = ran.returncode == 0 and ran.stdout == f"end {packets}\n".encode("ascii")
+            wrong += not as_due
+            each = processor / count * 1e6
+            print(f"{name:34} {len(data):10,} {processor:10.3f} {each:8.0f}{'' if as_due else '  not what is due'}")
+    return 1 if wrong else 0
+
+
+if __name__ == "__main__":
+    sys.exit(main())
