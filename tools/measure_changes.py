@@ -7,12 +7,10 @@ What the program writes at the end is compared with what is due. Each stream is 
 `each` is in microseconds of the processor for one such section. Status: 0 where all was as due, 1 where a run went wrong.
 """
 
-import argparse
-import os
 import sys
 import tempfile
 
-from measure_documents import timed
+from measure_documents import timed, words
 from transport import (
     ElementaryStream,
     Module,
@@ -78,21 +76,18 @@ def stream_of(sections):
 
 
 def main():
-    parser = argparse.ArgumentParser(usage="measure_changes.py PROGRAM [--rounds N]")
-    parser.add_argument("program")
-    parser.add_argument("--rounds", type=int, default=3)
-    asked = parser.parse_args()
-    program, wrong = os.path.abspath(asked.program), 0
+    program, rounds = words("measure_changes.py")
+    wrong = 0
     print(f"{'stream':34} {'bytes':>10} {'processor':>10} {'each':>8}")
     with tempfile.TemporaryDirectory(prefix="measure-") as room:
         stream, record = f"{room}/stream.ts", f"{room}/record.txt"
         with open(record, "wb") as file:
             file.write(b"all\n")
-        for name, sections, count, words in STREAMS:
+        for name, sections, count, asked in STREAMS:
             data, packets = stream_of(sections)
             with open(stream, "wb") as file:
                 file.write(data)
-            ran, _, processor = timed([program, "replay", *words, stream, record], max(1, asked.rounds))
+            ran, _, processor = timed([program, "replay", *asked, stream, record], rounds)
             as_due = ran.returncode == 0 and ran.stdout == f"end {packets}\n".encode("ascii")
             wrong += not as_due
             each = processor / count * 1e6

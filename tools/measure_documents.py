@@ -185,12 +185,18 @@ def timed(command, rounds):
     return ran, min(seconds), min(processor)
 
 
-def main():
-    parser = argparse.ArgumentParser(usage="measure_documents.py PROGRAM [--rounds N]")
+def words(name):
+    """Returns the program and the number of rounds that the command line asks for."""
+    parser = argparse.ArgumentParser(usage=f"{name} PROGRAM [--rounds N]")
     parser.add_argument("program")
     parser.add_argument("--rounds", type=int, default=3)
     asked = parser.parse_args()
-    program, wrong = os.path.abspath(asked.program), 0
+    return os.path.abspath(asked.program), max(1, asked.rounds)
+
+
+def main():
+    program, rounds = words("measure_documents.py")
+    wrong = 0
     print(f"{'document':32} {'bytes':>9} {'seconds':>8} {'processor':>10}")
     with tempfile.TemporaryDirectory(prefix="measure-") as room:
         stream, record = f"{room}/stream.ts", f"{room}/record.txt"
@@ -202,7 +208,7 @@ def main():
                 file.write(data)
             due = f"module 40 0000 01 {len(document.text)}\n{document.lines}end {packets}\n".encode("ascii")
             command = [program, "replay", "--data-pid", str(DATA_PID), stream, record]
-            ran, seconds, processor = timed(command, max(1, asked.rounds))
+            ran, seconds, processor = timed(command, rounds)
             as_due = ran.returncode == 0 and ran.stdout == due
             wrong += not as_due
             times = f"{seconds:8.3f} {processor:10.3f}"
