@@ -22,13 +22,13 @@ all was measured, 1 where a run went wrong.
 import argparse
 import os
 import random
-import resource
 import subprocess
 import sys
 import tempfile
 import time
 from typing import NamedTuple
 
+from measuring import processor_seconds
 from transport import (
     PACKET_SIZE,
     PAYLOAD_SIZE,
@@ -212,11 +212,6 @@ class Cost(NamedTuple):
 
     elapsed: float
     processor: float  # by the program and by the system for it
-
-
-def processor_seconds():
-    used = resource.getrusage(resource.RUSAGE_CHILDREN)
-    return used.ru_utime + used.ru_stime
 
 
 def run(command, wanted):

@@ -8,21 +8,12 @@ What the program writes at the end is compared with what is due. Each stream is 
 """
 
 import sys
-import tempfile
 
-from measure_documents import timed, words
-from transport import (
-    ElementaryStream,
-    Module,
-    ddb_section,
-    dii_section,
-    packets_taken,
-    pat_section,
-    pmt_section,
-    section_packets,
-)
+from measuring import replayed, stream_of, words
+from transport import ElementaryStream, Module, ddb_section, dii_section, pat_section, pmt_section
 
 DATA_PID = 256
+OPTIONS = ["--data-pid", str(DATA_PID)]
 MAP_PID = 496
 DATA_STREAM = 0x0D
 MOST_BYTES = 1 << 20  # of a module
@@ -47,7 +38,7 @@ def announced(count, modules, size):
 
 
 def begun(count):
-    """Such DIIs with 32 MiB, and behind each a block far behind for each module."""
+    """DIIs that announce 32 MiB anew, and behind each for each of its modules one block from near its end."""
     for number in range(count):
         entries = [Module(module, number % 256, MOST_BYTES) for module in range(MOST_MODULES)]
         yield DATA_PID, dii_section(number, 1, 17, entries)
@@ -58,40 +49,23 @@ def begun(count):
 # Each with its sections, the number of those that change much, and the words behind `replay`.
 STREAMS = [
     ("PMTs, 16 components and another", maps(2_000), 2_000, []),
-    ("DIIs, 32 modules of 1 MiB", announced(500, MOST_MODULES, MOST_BYTES), 500, ["--data-pid", str(DATA_PID)]),
-    ("the same with one block of each", begun(100), 100, ["--data-pid", str(DATA_PID)]),
-    ("DIIs, 400 modules of 1,000 bytes", announced(1_000, MOST_ENTRIES, 1_000), 1_000, ["--data-pid", str(DATA_PID)]),
+    ("DIIs, 32 modules of 1 MiB", announced(500, MOST_MODULES, MOST_BYTES), 500, OPTIONS),
+    ("the same with one block of each", begun(100), 100, OPTIONS),
+    ("DIIs, 400 modules of 1,000 bytes", announced(1_000, MOST_ENTRIES, 1_000), 1_000, OPTIONS),
 ]
-
-
-def stream_of(sections):
-    """Returns the packets of sections, each with its PID, and how many they are."""
-    packets, counters = [], {}
-    for pid, section in sections:
-        first = counters.get(pid, 0)
-        taken = [(first + at) % 16 for at in range(packets_taken(section))]
-        packets += section_packets(pid, taken, section)
-        counters[pid] = (taken[-1] + 1) % 16
-    return b"".join(packets), len(packets)
 
 
 def main():
     program, rounds = words("measure_changes.py")
     wrong = 0
     print(f"{'stream':34} {'bytes':>10} {'processor':>10} {'each':>8}")
-    with tempfile.TemporaryDirectory(prefix="measure-") as room:
-        stream, record = f"{room}/stream.ts", f"{room}/record.txt"
-        with open(record, "wb") as file:
-            file.write(b"all\n")
-        for name, sections, count, asked in STREAMS:
-            data, packets = stream_of(sections)
-            with open(stream, "wb") as file:
-                file.write(data)
-            ran, _, processor = timed([program, "replay", *asked, stream, record], rounds)
-            as_due = ran.returncode == 0 and ran.stdout == f"end {packets}\n".encode("ascii")
-            wrong += not as_due
-            each = processor / count * 1e6
-            print(f"{name:34} {len(data):10,} {processor:10.3f} {each:8.0f}{'' if as_due else '  not what is due'}")
+    for name, sections, count, options in STREAMS:
+        stream, packets = stream_of(sections)
+        ran, _, processor = replayed(program, options, stream, b"all\n", rounds)
+        as_due = ran.returncode == 0 and ran.stdout == f"end {packets}\n".encode("ascii")
+        wrong += not as_due
+        each = processor / count * 1e6
+        print(f"{name:34} {len(stream):10,} {processor:10.3f} {each:8.0f}{'' if as_due else '  not what is due'}")
     return 1 if wrong else 0
 
 

@@ -9,18 +9,14 @@ with what is due. Each is run N times (3), of which the best counts. `processor`
 `seconds` where other work shares the machine. Status: 0 where all was as due, 1 where a run went wrong.
 """
 
-import argparse
-import os
-import resource
-import subprocess
 import sys
-import tempfile
-import time
 from typing import NamedTuple
 
-from transport import TYPE_DESCRIPTOR, Module, ddb_section, descriptor, dii_section, packets_taken, section_packets
+from measuring import replayed, stream_of, words
+from transport import TYPE_DESCRIPTOR, Module, ddb_section, descriptor, dii_section
 
 DATA_PID = 256
+OPTIONS = ["--data-pid", str(DATA_PID)]
 BLOCK_SIZE = 4000
 MOST_BYTES = 1 << 20  # of a module, and so of a document
 MOST_NODES = 16_384
@@ -30,7 +26,7 @@ PLAIN_BOX = "box 0 0 0 0 8 0 7\n"
 class Document(NamedTuple):
     """A document, or an entity, and the lines that are due behind its module's line.
 
-    Behind it come DIIs, each with another transactionId; then module 0001 is announced, and stays away.
+    So many DIIs come behind it, each with another transactionId; where there are any, module 0001 is announced and stays away.
     """
 
     name: str
@@ -151,8 +147,8 @@ def waiting():
         yield Document(name, text, NOTHING_LOADED, diis=20_000)
 
 
-def stream_of(document):
-    """Returns the stream of a document and how many packets it has."""
+def sections_of(document):
+    """Returns the sections of a document, each with its PID."""
     data = document.text.encode("ascii")
     modules = [Module(0, 1, len(data), document.info)]
     if document.diis:
@@ -161,58 +157,21 @@ def stream_of(document):
     blocks = range(0, len(data), BLOCK_SIZE)
     sections += [ddb_section(1, 0, 1, at // BLOCK_SIZE, data[at : at + BLOCK_SIZE]) for at in blocks]
     sections += [dii_section(2 + at, 1, BLOCK_SIZE, modules) for at in range(document.diis)]
-    packets, counter = [], 0
-    for section in sections:
-        counters = [(counter + at) % 16 for at in range(packets_taken(section))]
-        packets += section_packets(DATA_PID, counters, section)
-        counter = (counters[-1] + 1) % 16
-    return b"".join(packets), len(packets)
-
-
-def processor_seconds():
-    used = resource.getrusage(resource.RUSAGE_CHILDREN)
-    return used.ru_utime + used.ru_stime
-
-
-def timed(command, rounds):
-    """Runs a command some times, and returns the last run, the least seconds and the least processor seconds."""
-    seconds, processor = [], []
-    for _ in range(rounds):
-        begin, used = time.perf_counter(), processor_seconds()
-        ran = subprocess.run(command, stdin=subprocess.DEVNULL, stdout=subprocess.PIPE, check=False)
-        seconds.append(time.perf_counter() - begin)
-        processor.append(processor_seconds() - used)
-    return ran, min(seconds), min(processor)
-
-
-def words(name):
-    """Returns the program and the number of rounds that the command line asks for."""
-    parser = argparse.ArgumentParser(usage=f"{name} PROGRAM [--rounds N]")
-    parser.add_argument("program")
-    parser.add_argument("--rounds", type=int, default=3)
-    asked = parser.parse_args()
-    return os.path.abspath(asked.program), max(1, asked.rounds)
+    return [(DATA_PID, section) for section in sections]
 
 
 def main():
     program, rounds = words("measure_documents.py")
     wrong = 0
     print(f"{'document':32} {'bytes':>9} {'seconds':>8} {'processor':>10}")
-    with tempfile.TemporaryDirectory(prefix="measure-") as room:
-        stream, record = f"{room}/stream.ts", f"{room}/record.txt"
-        with open(record, "wb") as file:
-            file.write(b"all\nshow\n")
-        for document in [*documents(), *entities(), *waiting()]:
-            data, packets = stream_of(document)
-            with open(stream, "wb") as file:
-                file.write(data)
-            due = f"module 40 0000 01 {len(document.text)}\n{document.lines}end {packets}\n".encode("ascii")
-            command = [program, "replay", "--data-pid", str(DATA_PID), stream, record]
-            ran, seconds, processor = timed(command, rounds)
-            as_due = ran.returncode == 0 and ran.stdout == due
-            wrong += not as_due
-            times = f"{seconds:8.3f} {processor:10.3f}"
-            print(f"{document.name:32} {len(document.text):9,} {times}{'' if as_due else '  not what is due'}")
+    for document in [*documents(), *entities(), *waiting()]:
+        stream, packets = stream_of(sections_of(document))
+        due = f"module 40 0000 01 {len(document.text)}\n{document.lines}end {packets}\n".encode("ascii")
+        ran, seconds, processor = replayed(program, OPTIONS, stream, b"all\nshow\n", rounds)
+        as_due = ran.returncode == 0 and ran.stdout == due
+        wrong += not as_due
+        times = f"{seconds:8.3f} {processor:10.3f}"
+        print(f"{document.name:32} {len(document.text):9,} {times}{'' if as_due else '  not what is due'}")
     return 1 if wrong else 0
 
 
