@@ -2,12 +2,14 @@
 # Runs examples against a built program: run_examples.sh PROGRAM [EXAMPLE..]
 #
 # With no example named it runs all of them. It makes each stream anew from its description and compares it with the
-# file beside it, runs the program in a copy of the example's folder, and compares standard output, standard error and
-# status with what the example wants. It prints a line for each example, with what differs behind it, and a sum.
+# file beside it, runs the program in a copy of the example's folder, for at most 60 seconds and with 256 MiB of addresses,
+# and compares standard output, standard error and status with what the example wants. It prints a line for each example,
+# with what differs behind it, and a sum.
 # Status: 0 where all passed, 1 where one failed, 2 where nothing could be run.
 set -uo pipefail
 
-readonly limit=60 # seconds for each run
+readonly limit=60       # seconds for each run
+readonly memory=262144  # KiB of addresses for each run
 
 stop() {
   echo "run_examples.sh: $1" >&2
@@ -46,7 +48,7 @@ check_run() {
   mapfile -t words <"$1/args"
   rm -rf "$room/run"
   cp -R "$1" "$room/run" || { echo "the folder cannot be copied"; return; }
-  (cd "$room/run" && exec timeout "$limit" "$program" "${words[@]}") >"$room/stdout" 2>"$room/stderr" </dev/null || status=$?
+  (cd "$room/run" && ulimit -v "$memory" && exec timeout "$limit" "$program" "${words[@]}") >"$room/stdout" 2>"$room/stderr" </dev/null || status=$?
   for file in stdout stderr; do
     diff --text --unified --label "wanted $file" --label "$file" "$1/$file" "$room/$file" 2>&1
   done
