@@ -13,6 +13,7 @@ mod laws;
 mod line_fields;
 mod numerals;
 mod refusals;
+mod sequence;
 #[cfg(test)]
 mod tests;
 mod texts;
@@ -26,5 +27,6 @@ pub use crate::laws::{
 pub use crate::line_fields::{Escapes, push_count, push_line_end, push_word};
 pub use crate::numerals::{push_decimal, push_hex, read_decimal};
 pub use crate::refusals::{NoMemory, TableFault, TableRefusal};
+pub use crate::sequence::Sequence;
 pub use crate::texts::Text;
 pub use crate::words::{is_word, is_word_in_any_case};

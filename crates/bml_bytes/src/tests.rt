@@ -110,6 +110,14 @@ fn line_fields(rt: HostRuntime) -> Result<(), Fail> {
 }
 
 #[test]
+fn sequences(rt: HostRuntime) -> Result<(), Fail> {
+    let sequence: Sequence<u16> = Sequence::from(Vec::from_slice(rt.alloc(), &[7, 3, 7])?);
+    assert_eq!(rt; sequence.as_slice(), [7, 3, 7].as_slice());
+    assert_eq!(rt; sequence.into_vec().as_slice(), [7, 3, 7].as_slice());
+    Ok(())
+}
+
+#[test]
 fn cursors(rt: HostRuntime) {
     let mut cursor = Cursor::new(b"\x47\x01\xFF\x00\x10\x20\x80\x00\x00\x01\xAB\xCD");
     assert_eq!(rt; cursor.u8(), Some(0x47));
