@@ -22,7 +22,7 @@ pub use crate::laws::{
     law_of_wanted_pids,
 };
 pub use crate::pat::{PAT_PID, PatEntry, read_pat};
-pub use crate::pmt::{Pmt, PmtStream, Streams, read_pmt};
+pub use crate::pmt::{Pmt, PmtStream, read_pmt};
 pub use crate::services::{Selection, Services};
 
 #[cfg(test)]
