@@ -1,5 +1,6 @@
 pub mod CodeLaws
 pub mod Elements
+pub mod FieldLaws
 pub mod Fronts
 pub mod NumberLaws
 pub mod NumeralLaws
