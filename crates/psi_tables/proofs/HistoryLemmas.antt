@@ -10,7 +10,8 @@ use Rattle.psi_tables.specs.declared.pmt.Pmt.{Pmt}
 use Rattle.psi_tables.specs.declared.components.Component.{Component}
 use Rattle.psi_tables.specs.declared.services.Selection.{Selection}
 use Rattle.psi_tables.specs.declared.services.Selection.TheVariants.{First, Service, Pid}
-use Rattle.psi_tables.specs.Reading.{◌>>=◌, pat_in}
+use Rattle.bml_bytes.specs.Fields.{◌>>=◌}
+use Rattle.psi_tables.specs.Reading.{pat_in}
 use Rattle.psi_tables.specs.History.{Handled, last_of, moments, readable, service_in, service_named, service_of, is_on, pmt_for, pmt_of_program, pmt_counting, map_at_first, map_of}
 use Rattle.psi_tables.specs.Service.{ServicesState, StandsFor, reads_table}
 use Rattle.psi_tables.specs.Step.{components_in, after_pat, after_pmt}

@@ -5,7 +5,6 @@ pub mod Entries
 pub mod StreamFields
 pub mod TableLaws
 pub mod Readers
-pub mod TagLoop
 pub mod WantedLemmas
 pub mod ComponentLemmas
 pub mod HistoryLemmas

@@ -3,7 +3,6 @@
 
 ghost use Rattle.std.specs.Prelude.{◌≡◌, ◌≢◌, ◌≤◌, ◌↔◌, ◌==◌, ℕ, false, List, [], ◌∷◌, ◌++◌, length, AllPairs, None, Some, Ok, Err};
 ghost use Rattle.std.specs.List.{list_any};
-ghost use Rattle.bml_bytes.specs.Codes.{AreBytes};
 ghost use Rattle.psi_tables.specs.declared.pat.PatEntry.{PatEntry};
 ghost use Rattle.psi_tables.specs.declared.pmt.Pmt.{Pmt};
 ghost use Rattle.psi_tables.specs.declared.pmt.PmtStream.{PmtStream};
@@ -19,26 +18,36 @@ ghost use Rattle.psi_tables.specs.Service.{ServicesState, StandsFor, reads_table
 
 use crate::services::Selection;
 use bml_bytes::{TableFault, law_of_big_numbers, law_of_fields};
+use table_fields::law_of_descriptors;
 
 /// A section has at most one list of entries of a PAT, and reading gives it.
 pub fn law_of_pat()
-    ensures one { (section : List ℕ) (entries others : List PatEntry) → IsPat section entries → IsPat section others → entries ≡ others }
-    ensures ok { (section : List ℕ) (entries : List PatEntry) → AreBytes section → IsPat section entries ↔ (pat_in section ≡ Ok entries) }
-    ensures kind { (section : List ℕ) → IsOfTable association_table section ↔ (pat_in section ≢ Err TableFault.Kind) }
-    ensures short { (section : List ℕ) → pat_in section ≡ Err TableFault.Short → IsOfTable association_table section × ((entries : List PatEntry) → ¬ IsPat section entries) }
+    ensures one { (section : List ℕ) (entries others : List PatEntry) →
+        IsPat section entries → IsPat section others → entries ≡ others }
+    ensures ok { (section : List ℕ) (entries : List PatEntry) →
+        IsPat section entries ↔ (pat_in section ≡ Ok entries) }
+    ensures kind { (section : List ℕ) →
+        IsOfTable association_table section ↔ (pat_in section ≢ Err TableFault.Kind) }
+    ensures short { (section : List ℕ) → pat_in section ≡ Err TableFault.Short →
+        IsOfTable association_table section × ((entries : List PatEntry) → ¬ IsPat section entries) }
 {
     law_of_fields();
+    law_of_descriptors();
     law_of_big_numbers();
 }
 
 /// A section has at most one list of fields of a PMT, and reading gives it.
 pub fn law_of_pmt()
-    ensures one { (section : List ℕ) (pmt other : Pmt) → IsPmt section pmt → IsPmt section other → pmt ≡ other }
-    ensures ok { (section : List ℕ) (pmt : Pmt) → AreBytes section → IsPmt section pmt ↔ (pmt_in section ≡ Ok pmt) }
-    ensures kind { (section : List ℕ) → IsOfTable map_table section ↔ (pmt_in section ≢ Err TableFault.Kind) }
-    ensures short { (section : List ℕ) → pmt_in section ≡ Err TableFault.Short → IsOfTable map_table section × ((pmt : Pmt) → ¬ IsPmt section pmt) }
+    ensures one { (section : List ℕ) (pmt other : Pmt) →
+        IsPmt section pmt → IsPmt section other → pmt ≡ other }
+    ensures ok { (section : List ℕ) (pmt : Pmt) → IsPmt section pmt ↔ (pmt_in section ≡ Ok pmt) }
+    ensures kind { (section : List ℕ) →
+        IsOfTable map_table section ↔ (pmt_in section ≢ Err TableFault.Kind) }
+    ensures short { (section : List ℕ) → pmt_in section ≡ Err TableFault.Short →
+        IsOfTable map_table section × ((pmt : Pmt) → ¬ IsPmt section pmt) }
 {
     law_of_fields();
+    law_of_descriptors();
     law_of_big_numbers();
 }
 

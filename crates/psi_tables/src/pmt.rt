@@ -8,9 +8,10 @@ ghost use Rattle.psi_tables.specs.Reading.{stream_at, streams_in, program_map, i
 
 use crate::descriptor::component_tag;
 use crate::laws::law_of_pmt;
-use crate::table::{body, extension, info, is_of_table, pid};
+use crate::table::{extension, info, is_of_table, pid};
 use bml_bytes::{Cursor, Sequence, TableFault, TableRefusal};
 use std::alloc::Global;
+use table_fields::body;
 
 /// What a PMT says of one stream (ISO/IEC 13818-1, 2.4.4.8).
 #[derive(Clone, Copy, Debug, PartialEq, Eq)]
