@@ -1,9 +1,10 @@
 //! The DownloadInfoIndication, DII for short: which modules a data carousel has.
 
 ghost use Rattle.std.specs.Prelude.{◌≡◌, ◌≤◌, ◌↔◌, length, option_copied, ok_or, IfOk, MatchResult, Err, true};
+ghost use Rattle.bml_bytes.specs.Fields.{with_left};
 ghost use Rattle.dsmcc_messages.specs.Message.{indication, IsOfKind};
 ghost use Rattle.dsmcc_messages.specs.Dii.{IsDii, entry_of};
-ghost use Rattle.dsmcc_messages.specs.Reading.{dii_in, entries_at, entry_at, indication_at, is_of_kind, long_bytes_at, modules_at, short_bytes_at, sizes_at, IsRead, IsReadAt, with_left};
+ghost use Rattle.dsmcc_messages.specs.Reading.{dii_in, entries_at, entry_at, indication_at, is_of_kind, long_bytes_at, modules_at, short_bytes_at, sizes_at, IsRead, IsReadAt};
 
 use crate::entry::Entry;
 use crate::laws::law_of_dii;
