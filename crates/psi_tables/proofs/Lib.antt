@@ -5,6 +5,7 @@ pub mod Entries
 pub mod StreamFields
 pub mod TableLaws
 pub mod Readers
+pub mod TakenLemmas
 pub mod WantedLemmas
 pub mod ComponentLemmas
 pub mod HistoryLemmas

@@ -1,15 +1,16 @@
 //! What the definitions of this crate say together. Each function is a law: its contract is what it is for, and
 //! it does nothing when it runs.
 
-ghost use Rattle.std.specs.Prelude.{◌≡◌, ◌≢◌, ◌≤◌, ◌↔◌, ◌==◌, ℕ, false, List, [], ◌∷◌, ◌++◌, length, AllPairs, None, Some, Ok, Err};
+ghost use Rattle.std.specs.Prelude.{◌≡◌, ◌≢◌, ◌≤◌, ◌↔◌, ◌==◌, ℕ, false, List, [], ◌∷◌, ◌++◌, length, slice_get, take, AllPairs, Contains, None, Some, Ok, Err};
 ghost use Rattle.std.specs.List.{list_any};
 ghost use Rattle.psi_tables.specs.declared.pat.PatEntry.{PatEntry};
 ghost use Rattle.psi_tables.specs.declared.pmt.Pmt.{Pmt};
 ghost use Rattle.psi_tables.specs.declared.pmt.PmtStream.{PmtStream};
+ghost use Rattle.psi_tables.specs.declared.components.Component.{Component};
 ghost use Rattle.psi_tables.specs.declared.services.Selection.{Selection};
 ghost use Rattle.psi_tables.specs.Components.{components_of, AreApart};
 ghost use Rattle.psi_tables.specs.History.{Handled, map_at_first, map_of, service_of};
-ghost use Rattle.psi_tables.specs.Places.{CountsAt, IsLast, NamesAt};
+ghost use Rattle.psi_tables.specs.Places.{CountsAt, IsLast, NamesAt, TakenAt};
 ghost use Rattle.psi_tables.specs.Table.{association_table, map_table, IsOfTable};
 ghost use Rattle.psi_tables.specs.Pat.{IsPat};
 ghost use Rattle.psi_tables.specs.Pmt.{IsPmt};
@@ -63,10 +64,16 @@ pub fn law_of_component_map()
     ensures apart { (selection : Selection) (history : List Handled) → AllPairs AreApart (map_of selection history) }
 {}
 
-/// The components of some streams have distinct tags and distinct PIDs, and there are at most 16.
+/// The components of some streams have distinct tags and distinct PIDs, and there are at most 16. They are those that
+/// are taken at some place of the streams, each behind those taken at the places before it.
 pub fn law_of_components()
     ensures distinct { (streams : List PmtStream) → AllPairs AreApart (components_of streams) }
     ensures few { (streams : List PmtStream) → length (components_of streams) ≤ 16 }
+    ensures somewhere { (streams : List PmtStream) (component : Component) →
+        Contains (components_of streams) component → (place : ℕ) × TakenAt streams place component }
+    ensures order { (streams : List PmtStream) (place : ℕ) (component : Component) →
+        TakenAt streams place component →
+        slice_get (components_of streams) (length (components_of (take place streams))) ≡ Some component }
 {}
 
 /// A section on a PID on which no table is read changes neither the service nor the component map, so what
