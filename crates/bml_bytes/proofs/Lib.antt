@@ -1,4 +1,7 @@
 pub mod CodeLaws
 pub mod Elements
+pub mod FieldLaws
+pub mod Fronts
 pub mod NumberLaws
 pub mod NumeralLaws
+pub mod WordLaws

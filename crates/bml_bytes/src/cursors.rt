@@ -2,6 +2,7 @@
 
 ghost use Rattle.std.specs.Prelude.{◌≡◌, ◌<◌, ◌≤◌, ◌^◌, ◌∷◌, ◌++◌, [], length, take, drop, slice_get, IfSome, MatchOption};
 ghost use Rattle.bml_bytes.specs.Codes.{AreBytes};
+ghost use Rattle.bml_bytes.specs.Fields.{byte_at, bytes_at, number_at, with_left};
 ghost use Rattle.bml_bytes.specs.Numbers.{big_bytes, big_number};
 
 use byteorder::{BigEndian, ByteOrder};
@@ -50,6 +51,7 @@ impl<'a> Cursor<'a> {
         ensures number { result ≡ slice_get self.old 0 }
         ensures left { MatchOption result (self.new ≡ self.old) (λ _. self.new ≡ drop 1 self.old) }
         ensures read { IfSome result (λ byte. self.old ≡ byte ∷ self.new) }
+        ensures field { with_left (λ byte. byte) result self.new ≡ byte_at self.old }
     {
         let (byte, left) = self.left.split_first()?;
         self.left = left;
@@ -62,6 +64,7 @@ impl<'a> Cursor<'a> {
         ensures number { IfSome result (λ number. number ≡ big_number (take 2 self.old)) }
         ensures left { MatchOption result (self.new ≡ self.old) (λ _. self.new ≡ drop 2 self.old) }
         ensures read { IfSome result (λ number. self.old ≡ big_bytes 2 number ++ self.new) }
+        ensures field { with_left (λ number. number) result self.new ≡ number_at 2 self.old }
     {
         let bytes = self.take(2)?;
         Some(BigEndian::read_u16(bytes))
@@ -74,6 +77,7 @@ impl<'a> Cursor<'a> {
         ensures fits { IfSome result (λ number. number < 2 ^ 24) }
         ensures left { MatchOption result (self.new ≡ self.old) (λ _. self.new ≡ drop 3 self.old) }
         ensures read { IfSome result (λ number. self.old ≡ big_bytes 3 number ++ self.new) }
+        ensures field { with_left (λ number. number) result self.new ≡ number_at 3 self.old }
     {
         let bytes = self.take(3)?;
         Some(BigEndian::read_u24(bytes))
@@ -85,6 +89,7 @@ impl<'a> Cursor<'a> {
         ensures number { IfSome result (λ number. number ≡ big_number (take 4 self.old)) }
         ensures left { MatchOption result (self.new ≡ self.old) (λ _. self.new ≡ drop 4 self.old) }
         ensures read { IfSome result (λ number. self.old ≡ big_bytes 4 number ++ self.new) }
+        ensures field { with_left (λ number. number) result self.new ≡ number_at 4 self.old }
     {
         let bytes = self.take(4)?;
         Some(BigEndian::read_u32(bytes))
@@ -96,6 +101,7 @@ impl<'a> Cursor<'a> {
         ensures part { IfSome result (λ part. part.now ≡ take count self.old) }
         ensures left { MatchOption result (self.new ≡ self.old) (λ _. self.new ≡ drop count self.old) }
         ensures read { IfSome result (λ part. self.old ≡ part.now ++ self.new) }
+        ensures field { with_left (λ part. part.now) result self.new ≡ bytes_at count self.old }
         ensures bytes { IfSome result (λ part. AreBytes part.now) }
     {
         if self.left.len() < count {

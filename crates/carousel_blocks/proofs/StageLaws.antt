@@ -6,10 +6,12 @@ use Rattle.std.specs.Option.{ok_or}
 use Rattle.slab.specs.Slab.{get, with_value}
 use Rattle.bml_bytes.specs.declared.refusals.TableFault.{TableFault}
 use Rattle.bml_bytes.specs.declared.refusals.TableFault.TheVariants.{Kind, Short}
-use Rattle.dsmcc_messages.specs.Message.{indication, data_block, body, kind_bytes}
+use Rattle.bml_bytes.specs.Fields.{◌>>=◌}
+use Rattle.table_fields.specs.Sections.{body}
+use Rattle.dsmcc_messages.specs.Message.{indication, data_block, kind_bytes}
 use Rattle.dsmcc_messages.specs.declared.dii.Dii.{Dii}
 use Rattle.dsmcc_messages.specs.Ddb.{DataBlock}
-use Rattle.dsmcc_messages.specs.Reading.{◌>>=◌, agree, message_at, indication_at, data_block_at, fields_in, dii_in, ddb_in}
+use Rattle.dsmcc_messages.specs.Reading.{agree, message_at, indication_at, data_block_at, fields_in, dii_in, ddb_in}
 use Rattle.carousel_blocks.specs.declared.put.Put.TheVariants as puts
 use Rattle.carousel_blocks.specs.declared.modules.Module.{Module}
 use Rattle.carousel_blocks.specs.Message.{Message, Data, message_with, message_of}

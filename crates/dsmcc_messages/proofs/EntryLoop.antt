@@ -4,7 +4,8 @@ use Rattle.std.proofs.lemmas.List.{append-nil}
 use Rattle.bml_bytes.specs.declared.refusals.TableRefusal.{TableRefusal}
 use Rattle.bml_bytes.specs.declared.refusals.TableRefusal.TheVariants as refusals
 use Rattle.dsmcc_messages.specs.declared.entry.Entry.{Entry}
-use Rattle.dsmcc_messages.specs.Reading.{◌>>=◌, IsReadAt, number_at, entry_at, entries_at, modules_at}
+use Rattle.bml_bytes.specs.Fields.{◌>>=◌, number_at}
+use Rattle.dsmcc_messages.specs.Reading.{IsReadAt, entry_at, entries_at, modules_at}
 
 -- what was read before, and what is still read
 abbrev pub with_front : List Entry → Option (List Entry × List ℕ) → Option (List Entry × List ℕ)

@@ -1,13 +1,13 @@
 -- The header of a message: what is read is what stands there, and what was written is read again.
-use Rattle.std.proofs.Common.{◌≡◌, ℕ, zero, suc, ◌-◌, ◌<◌, true, eqb, List, [], ◌∷◌, ◌++◌, length, drop, get_or, Option, Some, refl, sym, ap, subst, ◌∙◌, append_assoc, arith}
+use Rattle.std.proofs.Common.{◌≡◌, ℕ, zero, suc, ◌<◌, true, eqb, List, [], ◌∷◌, ◌++◌, length, get_or, Option, Some, refl, sym, ap, subst, ◌∙◌, append_assoc, arith}
 use Rattle.std.proofs.lemmas.Bool.{eqb-true, eq-eqb, and_parts, and_from}
-use Rattle.std.proofs.lemmas.List.Elements.{All-take, All-drop}
-use Rattle.bml_bytes.specs.Codes.{AreBytes}
+use Rattle.bml_bytes.specs.Fields.{◌>>=◌, byte_at, number_at, bytes_at}
 use Rattle.bml_bytes.specs.Numbers.{big_bytes}
 use Rattle.dsmcc_messages.specs.declared.message.MessageKind.{MessageKind}
-use Rattle.dsmcc_messages.specs.Message.{body, kind_bytes, Agree, IsOfKind, Carries}
-use Rattle.dsmcc_messages.specs.Reading.{◌>>=◌, byte_at, number_at, bytes_at, agree, is_of_kind, message_at}
-use Rattle.dsmcc_messages.proofs.Fields.{NumberLaws, takes_from, text_bytes, bind_with, some_is, byte_takes, byte_parts, number_takes, number_again, bytes_parts, bytes_take, bytes_again}
+use Rattle.table_fields.specs.Sections.{body}
+use Rattle.dsmcc_messages.specs.Message.{kind_bytes, Agree, IsOfKind, Carries}
+use Rattle.dsmcc_messages.specs.Reading.{agree, is_of_kind, message_at}
+use Rattle.dsmcc_messages.proofs.Fields.{FieldLaws, bind_with, some_is, byte_parts, bytes_told}
 
 -- the test of a kind
 
@@ -48,9 +48,6 @@ kind_is kind section h =
 
 -- the header
 
-body_bytes : (section : List ℕ) → AreBytes section → AreBytes (body section)
-body_bytes section fit = All-take (λ n. n < 256) (length section - 12) (drop 8 section) (All-drop (λ n. n < 256) 8 section fit)
-
 abbrev behind_message : ℕ → ℕ → List ℕ × List ℕ → Option (ℕ × List ℕ)
 behind_message identifier count message = bytes_at count message.0 >>= λ adaptation. Some (identifier, adaptation.1)
 
@@ -82,10 +79,10 @@ header_from kind identifier reserved count len bytes front r0 r1 r2 r3 r4 messag
     let named : read ≡ big_bytes 4 identifier ++ (reserved ∷ length adaptation ∷ (big_bytes 2 (length (adaptation ++ payload)) ++ ((adaptation ++ payload) ++ behind))) = rw (a, ← e6, l) refl in
     parts ∙ ap (λ (start : List ℕ). start ++ read) (sym k) ∙ ap (λ (rest : List ℕ). kind_bytes kind ++ rest) named ∙ simp append_assoc
 
-pub carries : (laws : NumberLaws) (kind : MessageKind) (section : List ℕ) (x : ℕ × List ℕ) → AreBytes section → is_of_kind kind section ≡ true → message_at (body section) ≡ Some x
-    → Carries kind section x.0 x.1 × AreBytes x.1
+pub carries : (laws : FieldLaws) (kind : MessageKind) (section : List ℕ) (x : ℕ × List ℕ) → is_of_kind kind section ≡ true → message_at (body section) ≡ Some x
+    → Carries kind section x.0 x.1
 unfolding message_at
-carries laws kind section x fit of_kind e =
+carries laws kind section x of_kind e =
     let is = kind_is kind section of_kind in
     let parts = and_parts _ _ of_kind in
     bind_with (bytes_at 4 (body section)) behind_kind x e (λ front front-is e0.
@@ -95,31 +92,27 @@ carries laws kind section x fit of_kind e =
     bind_with (number_at 2 count.1) (behind_length identifier.0 count.0) x e3 (λ len len-is e4.
     bind_with (bytes_at len.0 len.1) (behind_message identifier.0 count.0) x e4 (λ message message-is e5.
     bind_with (bytes_at count.0 message.0) (λ (adaptation : List ℕ × List ℕ). Some (identifier.0, adaptation.1)) x e5 (λ adaptation adaptation-is e6.
-    let t0 = bytes_take 4 (body section) front (body_bytes section fit) front-is in
-    let t1 = number_takes laws 4 front.1 identifier t0.0.behind identifier-is in
-    let t2 = byte_takes identifier.1 reserved t1.0.behind reserved-is in
-    let t3 = byte_takes reserved.1 count t2.behind count-is in
-    let t4 = number_takes laws 2 count.1 len t3.behind len-is in
-    let t5 = bytes_parts len.0 len.1 message message-is in
-    let t6 = bytes_parts count.0 message.0 adaptation adaptation-is in
-    let same : kind_bytes kind ≡ front.0 = agree_same (kind_bytes kind) front.0 front.1 (omega (arith, laws.count 2 kind.message_id, t0.1)) (subst (λ (bytes : List ℕ). agree (kind_bytes kind) bytes ≡ true) t0.0.parts parts.1) in
+    let t0 = laws.bytes 4 (body section) front front-is in
+    let t1 = laws.number 4 front.1 identifier identifier-is in
+    let t4 = laws.number 2 count.1 len len-is in
+    let t5 = laws.bytes len.0 len.1 message message-is in
+    let t6 = laws.bytes count.0 message.0 adaptation adaptation-is in
+    let same : kind_bytes kind ≡ front.0 = agree_same (kind_bytes kind) front.0 front.1 (omega (arith, laws.count 2 kind.message_id, t0.1)) (subst (λ (bytes : List ℕ). agree (kind_bytes kind) bytes ≡ true) t0.0 parts.1) in
     let made : ℕ × List ℕ = (identifier.0, adaptation.1) in
-    subst (λ (y : ℕ × List ℕ). Carries kind section y.0 y.1 × AreBytes y.1) (some_is made x e6) (
-      record {
-        reserved = reserved.0;
-        adaptation = adaptation.0;
-        behind = message.1;
-        identifier_fits = omega (arith, t1.1);
-        message_fits = omega (arith, t4.1, t5.1, ap (length {A = ℕ}) t6.0);
-        table = is.table;
-        written = header_from kind identifier.0 reserved.0 count.0 len.0 (body section) front.0 front.1 identifier.1 reserved.1 count.1 len.1 message.0 message.1 adaptation.0 adaptation.1
-            t0.0.parts t1.0.parts (byte_parts identifier.1 reserved reserved-is) (byte_parts reserved.1 count count-is) t4.0.parts t5.0 t6.0 same t6.1 t5.1;
-      },
-      (takes_from message.0 adaptation.0 adaptation.1 (text_bytes len.1 message.0 message.1 t4.0.behind t5.0) t6.0).behind,
-    ))))))))
+    subst (λ (y : ℕ × List ℕ). Carries kind section y.0 y.1) (some_is made x e6)
+    (record {
+      reserved = reserved.0;
+      adaptation = adaptation.0;
+      behind = message.1;
+      identifier_fits = omega (arith, t1.1);
+      message_fits = omega (arith, t4.1, t5.1, ap (length {A = ℕ}) t6.0);
+      table = is.table;
+      written = header_from kind identifier.0 reserved.0 count.0 len.0 (body section) front.0 front.1 identifier.1 reserved.1 count.1 len.1 message.0 message.1 adaptation.0 adaptation.1
+          t0.0 t1.0 (byte_parts identifier.1 reserved reserved-is) (byte_parts reserved.1 count count-is) t4.0 t5.0 t6.0 same t6.1 t5.1;
+    }))))))))
 
 -- what a header says is read from it
-pub carries_again : (laws : NumberLaws) (kind : MessageKind) (section : List ℕ) (identifier : ℕ) (payload : List ℕ) → Carries kind section identifier payload
+pub carries_again : (laws : FieldLaws) (kind : MessageKind) (section : List ℕ) (identifier : ℕ) (payload : List ℕ) → Carries kind section identifier payload
     → (is_of_kind kind section ≡ true) × (message_at (body section) ≡ Some (identifier, payload))
 unfolding message_at
 carries_again laws kind section identifier payload is =
@@ -134,5 +127,5 @@ carries_again laws kind section identifier payload is =
     let four : length (kind_bytes kind) ≡ 4 = omega (arith, laws.count 2 kind.message_id) in (
       and_from _ _ (eq-eqb _ _ is.table) agrees,
       ap message_at whole
-          ∙ rw (bytes_again 4 (kind_bytes kind) r0 four, number_again laws 4 identifier r1 (omega (arith, is.identifier_fits)), number_again laws 2 (length message) r4 (omega (arith, is.message_fits)), bytes_again (length message) message is.behind refl, bytes_again (length is.adaptation) is.adaptation payload refl) refl,
+          ∙ rw (bytes_told laws 4 (kind_bytes kind) r0 four, laws.number_again 4 identifier r1 (omega (arith, is.identifier_fits)), laws.number_again 2 (length message) r4 (omega (arith, is.message_fits)), laws.bytes_again message is.behind, laws.bytes_again is.adaptation payload) refl,
     )

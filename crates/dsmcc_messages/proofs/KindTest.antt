@@ -4,7 +4,8 @@ use Rattle.std.proofs.lemmas.Bool.{eq-eqb}
 use Rattle.std.proofs.Math.Nat.{div-one}
 use Rattle.bml_bytes.specs.Numbers.{digits_in, big_bytes}
 use Rattle.dsmcc_messages.specs.declared.message.MessageKind.{MessageKind}
-use Rattle.dsmcc_messages.specs.Message.{body, kind_bytes}
+use Rattle.table_fields.specs.Sections.{body}
+use Rattle.dsmcc_messages.specs.Message.{kind_bytes}
 use Rattle.dsmcc_messages.specs.Reading.{agree, is_of_kind}
 
 -- a number in two bytes

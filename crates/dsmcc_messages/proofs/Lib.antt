@@ -5,5 +5,4 @@ pub mod Modules
 pub mod Payloads
 pub mod Headers
 pub mod Sections
-pub mod Descriptors
 pub mod Readers

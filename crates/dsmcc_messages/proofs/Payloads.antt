@@ -3,14 +3,14 @@ use Rattle.std.proofs.Common.{◌≡◌, ℕ, ◌^◌, ◌<◌, Bool, true, fals
 use Rattle.std.specs.List.{All, flat_map}
 use Rattle.std.proofs.lemmas.Bool.{eqb-true}
 use Rattle.std.proofs.lemmas.List.{append-nil, nil_from_length}
-use Rattle.bml_bytes.specs.Codes.{AreBytes}
 use Rattle.bml_bytes.specs.Numbers.{big_bytes}
 use Rattle.dsmcc_messages.specs.declared.entry.Entry.{Entry}
 use Rattle.dsmcc_messages.specs.declared.dii.Dii.{Dii}
 use Rattle.dsmcc_messages.specs.Dii.{entry_bytes, EntryFits}
 use Rattle.dsmcc_messages.specs.Ddb.{DataBlock}
-use Rattle.dsmcc_messages.specs.Reading.{◌>>=◌, byte_at, number_at, long_bytes_at, modules_at, sizes_at, indication_at, data_block_at}
-use Rattle.dsmcc_messages.proofs.Fields.{NumberLaws, Takes, Takes-then, bind_some, some_is, byte_takes, number_takes, number_again, long_bytes_take, long_bytes_again}
+use Rattle.bml_bytes.specs.Fields.{◌>>=◌, byte_at, number_at}
+use Rattle.dsmcc_messages.specs.Reading.{long_bytes_at, modules_at, sizes_at, indication_at, data_block_at}
+use Rattle.dsmcc_messages.proofs.Fields.{FieldLaws, one_text, bind_some, some_is, byte_parts, long_bytes_take, long_bytes_again}
 use Rattle.dsmcc_messages.proofs.Modules.{modules_take, modules_again}
 
 -- a DDB's payload
@@ -37,31 +37,31 @@ pub record IsBlock (message : ℕ × List ℕ) (ddb : DataBlock) : Type 0 where
   pub number_fits : ddb.number < 2 ^ 16
   pub written : message.1 ≡ block_text reserved ddb
 
-pub block_takes : (laws : NumberLaws) (message : ℕ × List ℕ) (ddb : DataBlock) → AreBytes message.1 → data_block_at message ≡ Some ddb → IsBlock message ddb
+pub block_takes : (laws : FieldLaws) (message : ℕ × List ℕ) (ddb : DataBlock) → data_block_at message ≡ Some ddb → IsBlock message ddb
 unfolding data_block_at
-block_takes laws message ddb fit e =
+block_takes laws message ddb e =
     let number = bind_some (number_at 2 message.1) (behind_module message.0) ddb e in
     let version = bind_some (byte_at number.0.1) (behind_version message.0 number.0.0) ddb number.2 in
     let reserved = bind_some (byte_at version.0.1) (behind_reserved message.0 number.0.0 version.0.0) ddb version.2 in
     let place = bind_some (number_at 2 reserved.0.1) (block_of message.0 number.0.0 version.0.0) ddb reserved.2 in
-    let t0 = number_takes laws 2 message.1 number.0 fit number.1 in
-    let t1 = byte_takes number.0.1 version.0 t0.0.behind version.1 in
-    let t2 = byte_takes version.0.1 reserved.0 t1.behind reserved.1 in
-    let t3 = number_takes laws 2 reserved.0.1 place.0 t2.behind place.1 in
-    let pair = Takes-then number.0.1 (version.0.0 ∷ []) version.0.1 (reserved.0.0 ∷ []) reserved.0.1 t1 t2 in
-    let front = Takes-then message.1 (big_bytes 2 number.0.0) number.0.1 (version.0.0 ∷ reserved.0.0 ∷ []) reserved.0.1 t0.0 pair in
-    let whole = Takes-then message.1 (big_bytes 2 number.0.0 ++ version.0.0 ∷ reserved.0.0 ∷ []) reserved.0.1 (big_bytes 2 place.0.0) place.0.1 front t3.0 in
+    let t0 = laws.number 2 message.1 number.0 number.1 in
+    let t1 = byte_parts number.0.1 version.0 version.1 in
+    let t2 = byte_parts version.0.1 reserved.0 reserved.1 in
+    let t3 = laws.number 2 reserved.0.1 place.0 place.1 in
+    let pair = one_text number.0.1 (version.0.0 ∷ []) version.0.1 (reserved.0.0 ∷ []) reserved.0.1 t1 t2 in
+    let front = one_text message.1 (big_bytes 2 number.0.0) number.0.1 (version.0.0 ∷ reserved.0.0 ∷ []) reserved.0.1 t0.0 pair in
+    let whole = one_text message.1 (big_bytes 2 number.0.0 ++ version.0.0 ∷ reserved.0.0 ∷ []) reserved.0.1 (big_bytes 2 place.0.0) place.0.1 front t3.0 in
     let made : DataBlock = record { download = message.0; «module» = number.0.0; version = version.0.0; number = place.0.0; block = place.0.1 } in
     subst (IsBlock message) (some_is made ddb place.2)
-    (record { reserved = reserved.0.0; download = refl; module_fits = omega (arith, t0.1); number_fits = omega (arith, t3.1); written = whole.parts })
+    (record { reserved = reserved.0.0; download = refl; module_fits = omega (arith, t0.1); number_fits = omega (arith, t3.1); written = whole })
 
-pub block_again : (laws : NumberLaws) (message : ℕ × List ℕ) (ddb : DataBlock) → IsBlock message ddb → data_block_at message ≡ Some ddb
+pub block_again : (laws : FieldLaws) (message : ℕ × List ℕ) (ddb : DataBlock) → IsBlock message ddb → data_block_at message ≡ Some ddb
 unfolding data_block_at
 block_again laws message ddb is =
     let regrouped : block_text is.reserved ddb ≡ big_bytes 2 ddb.module ++ (ddb.version ∷ is.reserved ∷ (big_bytes 2 ddb.number ++ ddb.block)) = simp append_assoc in
     let whole : message ≡ (ddb.download, big_bytes 2 ddb.module ++ (ddb.version ∷ is.reserved ∷ (big_bytes 2 ddb.number ++ ddb.block))) = rw (← is.download, ← regrouped, ← is.written) refl in
     ap data_block_at whole
-    ∙ rw (number_again laws 2 ddb.module (ddb.version ∷ is.reserved ∷ (big_bytes 2 ddb.number ++ ddb.block)) (omega (arith, is.module_fits)), number_again laws 2 ddb.number ddb.block (omega (arith, is.number_fits))) refl
+    ∙ rw (laws.number_again 2 ddb.module (ddb.version ∷ is.reserved ∷ (big_bytes 2 ddb.number ++ ddb.block)) (omega (arith, is.module_fits)), laws.number_again 2 ddb.number ddb.block (omega (arith, is.number_fits))) refl
 
 -- what a DII's payload has in front of its entries
 
@@ -90,7 +90,7 @@ pub record AreSizes (bytes : List ℕ) (x : (ℕ × ℕ) × List ℕ) : Type 0 w
   pub sizes : Sizes
   pub fits : SizesFit sizes
   pub values : x.0 ≡ (sizes.download, sizes.block_size)
-  pub takes : Takes bytes (sizes_text sizes) x.1
+  pub takes : bytes ≡ sizes_text sizes ++ x.1
 
 abbrev behind_scenario : ℕ → ℕ → ℕ × List ℕ → Option ((ℕ × ℕ) × List ℕ)
 behind_scenario download size scenario = long_bytes_at scenario.1 >>= λ compatibility. Some ((download, size), compatibility.1)
@@ -110,9 +110,9 @@ behind_size download size = byte_at size.1 >>= behind_window_size download size.
 abbrev behind_download : ℕ × List ℕ → Option ((ℕ × ℕ) × List ℕ)
 behind_download download = number_at 2 download.1 >>= behind_size download.0
 
-pub sizes_take : (laws : NumberLaws) (bytes : List ℕ) (x : (ℕ × ℕ) × List ℕ) → AreBytes bytes → sizes_at bytes ≡ Some x → AreSizes bytes x
+pub sizes_take : (laws : FieldLaws) (bytes : List ℕ) (x : (ℕ × ℕ) × List ℕ) → sizes_at bytes ≡ Some x → AreSizes bytes x
 unfolding sizes_at
-sizes_take laws bytes x fit e =
+sizes_take laws bytes x e =
     let a = bind_some (number_at 4 bytes) behind_download x e in
     let b = bind_some (number_at 2 a.0.1) (behind_size a.0.0) x a.2 in
     let c = bind_some (byte_at b.0.1) (behind_window_size a.0.0 b.0.0) x b.2 in
@@ -120,20 +120,20 @@ sizes_take laws bytes x fit e =
     let f = bind_some (number_at 4 d.0.1) (behind_window a.0.0 b.0.0) x d.2 in
     let g = bind_some (number_at 4 f.0.1) (behind_scenario a.0.0 b.0.0) x f.2 in
     let h = bind_some (long_bytes_at g.0.1) (λ (compatibility : List ℕ × List ℕ). Some ((a.0.0, b.0.0), compatibility.1)) x g.2 in
-    let ta = number_takes laws 4 bytes a.0 fit a.1 in
-    let tb = number_takes laws 2 a.0.1 b.0 ta.0.behind b.1 in
-    let tc = byte_takes b.0.1 c.0 tb.0.behind c.1 in
-    let td = byte_takes c.0.1 d.0 tc.behind d.1 in
-    let tf = number_takes laws 4 d.0.1 f.0 td.behind f.1 in
-    let tg = number_takes laws 4 f.0.1 g.0 tf.0.behind g.1 in
-    let th = long_bytes_take laws g.0.1 h.0 tg.0.behind h.1 in
+    let ta = laws.number 4 bytes a.0 a.1 in
+    let tb = laws.number 2 a.0.1 b.0 b.1 in
+    let tc = byte_parts b.0.1 c.0 c.1 in
+    let td = byte_parts c.0.1 d.0 d.1 in
+    let tf = laws.number 4 d.0.1 f.0 f.1 in
+    let tg = laws.number 4 f.0.1 g.0 g.1 in
+    let th = long_bytes_take laws g.0.1 h.0 h.1 in
     let s : Sizes = record { download = a.0.0; block_size = b.0.0; window_size = c.0.0; ack_period = d.0.0; download_window = f.0.0; download_scenario = g.0.0; compatibility = h.0.0 } in
-    let t1 = Takes-then bytes (big_bytes 4 s.download) a.0.1 (big_bytes 2 s.block_size) b.0.1 ta.0 tb.0 in
-    let pair = Takes-then b.0.1 (s.window_size ∷ []) c.0.1 (s.ack_period ∷ []) d.0.1 tc td in
-    let t2 = Takes-then bytes (big_bytes 4 s.download ++ big_bytes 2 s.block_size) b.0.1 (s.window_size ∷ s.ack_period ∷ []) d.0.1 t1 pair in
-    let t3 = Takes-then bytes (big_bytes 4 s.download ++ big_bytes 2 s.block_size ++ s.window_size ∷ s.ack_period ∷ []) d.0.1 (big_bytes 4 s.download_window) f.0.1 t2 tf.0 in
-    let t4 = Takes-then bytes (big_bytes 4 s.download ++ big_bytes 2 s.block_size ++ s.window_size ∷ s.ack_period ∷ [] ++ big_bytes 4 s.download_window) f.0.1 (big_bytes 4 s.download_scenario) g.0.1 t3 tg.0 in
-    let t5 = Takes-then bytes (big_bytes 4 s.download ++ big_bytes 2 s.block_size ++ s.window_size ∷ s.ack_period ∷ [] ++ big_bytes 4 s.download_window ++ big_bytes 4 s.download_scenario) g.0.1 (big_bytes 2 (length s.compatibility) ++ s.compatibility) h.0.1 t4 th.0 in
+    let t1 = one_text bytes (big_bytes 4 s.download) a.0.1 (big_bytes 2 s.block_size) b.0.1 ta.0 tb.0 in
+    let pair = one_text b.0.1 (s.window_size ∷ []) c.0.1 (s.ack_period ∷ []) d.0.1 tc td in
+    let t2 = one_text bytes (big_bytes 4 s.download ++ big_bytes 2 s.block_size) b.0.1 (s.window_size ∷ s.ack_period ∷ []) d.0.1 t1 pair in
+    let t3 = one_text bytes (big_bytes 4 s.download ++ big_bytes 2 s.block_size ++ s.window_size ∷ s.ack_period ∷ []) d.0.1 (big_bytes 4 s.download_window) f.0.1 t2 tf.0 in
+    let t4 = one_text bytes (big_bytes 4 s.download ++ big_bytes 2 s.block_size ++ s.window_size ∷ s.ack_period ∷ [] ++ big_bytes 4 s.download_window) f.0.1 (big_bytes 4 s.download_scenario) g.0.1 t3 tg.0 in
+    let t5 = one_text bytes (big_bytes 4 s.download ++ big_bytes 2 s.block_size ++ s.window_size ∷ s.ack_period ∷ [] ++ big_bytes 4 s.download_window ++ big_bytes 4 s.download_scenario) g.0.1 (big_bytes 2 (length s.compatibility) ++ s.compatibility) h.0.1 t4 th.0 in
     subst (AreSizes bytes) (some_is ((a.0.0, b.0.0), h.0.1) x h.2)
     (record {
       sizes = s;
@@ -142,7 +142,7 @@ sizes_take laws bytes x fit e =
       takes = t5;
     })
 
-pub sizes_again : (laws : NumberLaws) (s : Sizes) (rest : List ℕ) → SizesFit s → sizes_at (sizes_text s ++ rest) ≡ Some ((s.download, s.block_size), rest)
+pub sizes_again : (laws : FieldLaws) (s : Sizes) (rest : List ℕ) → SizesFit s → sizes_at (sizes_text s ++ rest) ≡ Some ((s.download, s.block_size), rest)
 unfolding sizes_at
 sizes_again laws s rest fits =
     let t6 : List ℕ = big_bytes 2 (length s.compatibility) ++ (s.compatibility ++ rest) in
@@ -152,7 +152,7 @@ sizes_again laws s rest fits =
     let t2 : List ℕ = big_bytes 2 s.block_size ++ t3 in
     let regrouped : sizes_text s ++ rest ≡ big_bytes 4 s.download ++ t2 = simp append_assoc in
     ap sizes_at regrouped
-    ∙ rw (number_again laws 4 s.download t2 (omega (arith, fits.download)), number_again laws 2 s.block_size t3 (omega (arith, fits.block_size)), number_again laws 4 s.download_window t5 (omega (arith, fits.download_window)), number_again laws 4 s.download_scenario t6 (omega (arith, fits.download_scenario)), long_bytes_again laws s.compatibility rest fits.compatibility) refl
+    ∙ rw (laws.number_again 4 s.download t2 (omega (arith, fits.download)), laws.number_again 2 s.block_size t3 (omega (arith, fits.block_size)), laws.number_again 4 s.download_window t5 (omega (arith, fits.download_window)), laws.number_again 4 s.download_scenario t6 (omega (arith, fits.download_scenario)), long_bytes_again laws s.compatibility rest fits.compatibility) refl
 
 -- a DII's payload
 
@@ -188,19 +188,19 @@ passed : {A : Type 0} (test : Bool) (x y : A) → cond test (Some x) None ≡ So
 passed true x y e = (refl, cc)
 passed false x y e = absurd cc
 
-pub indication_takes : (laws : NumberLaws) (message : ℕ × List ℕ) (dii : Dii) → AreBytes message.1 → indication_at message ≡ Some dii → IsIndication message dii
+pub indication_takes : (laws : FieldLaws) (message : ℕ × List ℕ) (dii : Dii) → indication_at message ≡ Some dii → IsIndication message dii
 unfolding indication_at
-indication_takes laws message dii fit e =
+indication_takes laws message dii e =
     let a = bind_some (sizes_at message.1) (behind_sizes message.0) dii e in
     let b = bind_some (modules_at a.0.1) (behind_modules message.0 a.0.0) dii a.2 in
     let c = bind_some (long_bytes_at b.0.1) (at_the_end message.0 a.0.0 b.0.0) dii b.2 in
     let g = passed (eqb (length c.0.1) 0) (dii_of message.0 a.0.0 b.0.0) dii c.2 in
     let nothing : c.0.1 ≡ [] = nil_from_length c.0.1 (eqb-true _ _ g.0) in
-    let ta = sizes_take laws message.1 a.0 fit a.1 in
-    let tb = modules_take laws a.0.1 b.0 ta.takes.behind b.1 in
-    let tc = long_bytes_take laws b.0.1 c.0 tb.0.behind c.1 in
-    let front = Takes-then message.1 (sizes_text ta.sizes) a.0.1 (big_bytes 2 (length b.0.0) ++ flat_map entry_bytes b.0.0) b.0.1 ta.takes tb.0 in
-    let whole = Takes-then message.1 (sizes_text ta.sizes ++ (big_bytes 2 (length b.0.0) ++ flat_map entry_bytes b.0.0)) b.0.1 (big_bytes 2 (length c.0.0) ++ c.0.0) c.0.1 front tc.0 in
+    let ta = sizes_take laws message.1 a.0 a.1 in
+    let tb = modules_take laws a.0.1 b.0 b.1 in
+    let tc = long_bytes_take laws b.0.1 c.0 c.1 in
+    let front = one_text message.1 (sizes_text ta.sizes) a.0.1 (big_bytes 2 (length b.0.0) ++ flat_map entry_bytes b.0.0) b.0.1 ta.takes tb.0 in
+    let whole = one_text message.1 (sizes_text ta.sizes ++ (big_bytes 2 (length b.0.0) ++ flat_map entry_bytes b.0.0)) b.0.1 (big_bytes 2 (length c.0.0) ++ c.0.0) c.0.1 front tc.0 in
     let text : List ℕ = indication_text ta.sizes b.0.0 c.0.0 in
     subst (IsIndication message) g.1
     (record {
@@ -213,10 +213,10 @@ indication_takes laws message dii fit e =
       modules_fit = tb.1;
       entries_fit = tb.2;
       private_data_fits = tc.1;
-      written = whole.parts ∙ ap (λ (rest : List ℕ). text ++ rest) nothing ∙ append-nil text;
+      written = whole ∙ ap (λ (rest : List ℕ). text ++ rest) nothing ∙ append-nil text;
     })
 
-pub indication_again : (laws : NumberLaws) (message : ℕ × List ℕ) (dii : Dii) → IsIndication message dii → indication_at message ≡ Some dii
+pub indication_again : (laws : FieldLaws) (message : ℕ × List ℕ) (dii : Dii) → IsIndication message dii → indication_at message ≡ Some dii
 unfolding indication_at
 indication_again laws message dii is =
     let t2 : List ℕ = big_bytes 2 (length is.private_data) ++ (is.private_data ++ []) in

@@ -6,8 +6,9 @@ use Rattle.bml_bytes.specs.declared.refusals.TableFault.TheVariants.{Kind, Short
 use Rattle.bml_bytes.specs.declared.refusals.TableRefusal.{TableRefusal}
 use Rattle.bml_bytes.specs.declared.refusals.TableRefusal.TheVariants as refusals
 use Rattle.dsmcc_messages.specs.declared.message.MessageKind.{MessageKind}
-use Rattle.dsmcc_messages.specs.Message.{body}
-use Rattle.dsmcc_messages.specs.Reading.{◌>>=◌, IsRead, seen, is_of_kind, message_at, fields_in}
+use Rattle.bml_bytes.specs.Fields.{◌>>=◌}
+use Rattle.table_fields.specs.Sections.{body}
+use Rattle.dsmcc_messages.specs.Reading.{IsRead, seen, is_of_kind, message_at, fields_in}
 
 -- what is known of reading a section
 pub record Law {A : Type 0} (read : Result A TableFault) (Is : A → Type 0) (OfKind : Type 0) : Type 0 where

@@ -2,17 +2,18 @@
 use Rattle.std.proofs.Common.{◌≡◌, ◌≢◌, ◌↔◌, ℕ, Bool, true, false, cond, List, [], ◌∷◌, ◌++◌, length, Option, Some, None, Result, Ok, Err, refl, sym, subst, ◌∙◌, append_assoc, arith}
 use Rattle.std.specs.Prelude.{ok_or}
 use Rattle.std.specs.List.{flat_map}
-use Rattle.bml_bytes.specs.Codes.{AreBytes}
 use Rattle.bml_bytes.specs.Numbers.{big_bytes}
 use Rattle.bml_bytes.specs.declared.refusals.TableFault.{TableFault}
 use Rattle.bml_bytes.specs.declared.refusals.TableFault.TheVariants.{Kind, Short}
 use Rattle.dsmcc_messages.specs.declared.message.MessageKind.{MessageKind}
 use Rattle.dsmcc_messages.specs.declared.dii.Dii.{Dii}
-use Rattle.dsmcc_messages.specs.Message.{body, indication, data_block, IsOfKind, Carries}
+use Rattle.table_fields.specs.Sections.{body}
+use Rattle.dsmcc_messages.specs.Message.{indication, data_block, IsOfKind, Carries}
 use Rattle.dsmcc_messages.specs.Dii.{IsDii, entry_bytes}
 use Rattle.dsmcc_messages.specs.Ddb.{DataBlock, IsDdb}
-use Rattle.dsmcc_messages.specs.Reading.{◌>>=◌, is_of_kind, message_at, fields_in, indication_at, data_block_at, dii_in, ddb_in}
-use Rattle.dsmcc_messages.proofs.Fields.{NumberLaws}
+use Rattle.bml_bytes.specs.Fields.{◌>>=◌}
+use Rattle.dsmcc_messages.specs.Reading.{is_of_kind, message_at, fields_in, indication_at, data_block_at, dii_in, ddb_in}
+use Rattle.dsmcc_messages.proofs.Fields.{FieldLaws}
 use Rattle.dsmcc_messages.proofs.Headers.{kind_from, kind_is, carries, carries_again}
 use Rattle.dsmcc_messages.proofs.Payloads.{Sizes, indication_text, indication_takes, indication_again, block_text, block_takes, block_again}
 
@@ -61,19 +62,19 @@ fields_short kind fields section e = kind_is kind section (short_kind (is_of_kin
 
 -- a DDB
 
-pub ddb_takes : (laws : NumberLaws) (section : List ℕ) (ddb : DataBlock) → AreBytes section → ddb_in section ≡ Ok ddb → IsDdb section ddb
-ddb_takes laws section ddb fit e =
+pub ddb_takes : (laws : FieldLaws) (section : List ℕ) (ddb : DataBlock) → ddb_in section ≡ Ok ddb → IsDdb section ddb
+ddb_takes laws section ddb e =
     let read = fields_ok data_block data_block_at section ddb e in
-    let header = carries laws data_block section read.1 fit read.0 read.2 in
-    let is = block_takes laws read.1 ddb header.1 read.3 in
+    let header = carries laws data_block section read.1 read.0 read.2 in
+    let is = block_takes laws read.1 ddb read.3 in
     record {
       reserved = is.reserved;
       module_fits = is.module_fits;
       number_fits = is.number_fits;
-      carried = subst (λ (text : List ℕ). Carries data_block section ddb.download text) is.written (subst (λ (n : ℕ). Carries data_block section n read.1.1) is.download header.0);
+      carried = subst (λ (text : List ℕ). Carries data_block section ddb.download text) is.written (subst (λ (n : ℕ). Carries data_block section n read.1.1) is.download header);
     }
 
-pub ddb_again : (laws : NumberLaws) (section : List ℕ) (ddb : DataBlock) → IsDdb section ddb → ddb_in section ≡ Ok ddb
+pub ddb_again : (laws : FieldLaws) (section : List ℕ) (ddb : DataBlock) → IsDdb section ddb → ddb_in section ≡ Ok ddb
 ddb_again laws section ddb is =
     let text : List ℕ = block_text is.reserved ddb in
     let header = carries_again laws data_block section ddb.download text is.carried in
@@ -91,11 +92,11 @@ same_text : (sizes : Sizes) (dii : Dii) (private_data : List ℕ) → sizes.down
     → indication_text sizes dii.entries private_data ≡ dii_text sizes.window_size sizes.ack_period sizes.download_window sizes.download_scenario sizes.compatibility private_data dii
 same_text sizes dii private_data d b = rw (d, b) (simp append_assoc)
 
-pub dii_takes : (laws : NumberLaws) (section : List ℕ) (dii : Dii) → AreBytes section → dii_in section ≡ Ok dii → IsDii section dii
-dii_takes laws section dii fit e =
+pub dii_takes : (laws : FieldLaws) (section : List ℕ) (dii : Dii) → dii_in section ≡ Ok dii → IsDii section dii
+dii_takes laws section dii e =
     let read = fields_ok indication indication_at section dii e in
-    let header = carries laws indication section read.1 fit read.0 read.2 in
-    let is = indication_takes laws read.1 dii header.1 read.3 in
+    let header = carries laws indication section read.1 read.0 read.2 in
+    let is = indication_takes laws read.1 dii read.3 in
     let text : read.1.1 ≡ dii_text is.sizes.window_size is.sizes.ack_period is.sizes.download_window is.sizes.download_scenario is.sizes.compatibility is.private_data dii =
     is.written ∙ same_text is.sizes dii is.private_data is.download is.block_size in
     record {
@@ -113,10 +114,10 @@ dii_takes laws section dii fit e =
       modules_fit = is.modules_fit;
       entries_fit = is.entries_fit;
       private_data_fits = is.private_data_fits;
-      carried = subst (λ (text : List ℕ). Carries indication section dii.transaction text) text (subst (λ (n : ℕ). Carries indication section n read.1.1) is.transaction header.0);
+      carried = subst (λ (text : List ℕ). Carries indication section dii.transaction text) text (subst (λ (n : ℕ). Carries indication section n read.1.1) is.transaction header);
     }
 
-pub dii_again : (laws : NumberLaws) (section : List ℕ) (dii : Dii) → IsDii section dii → dii_in section ≡ Ok dii
+pub dii_again : (laws : FieldLaws) (section : List ℕ) (dii : Dii) → IsDii section dii → dii_in section ≡ Ok dii
 dii_again laws section dii is =
     let text : List ℕ = dii_text is.window_size is.ack_period is.download_window is.download_scenario is.compatibility is.private_data dii in
     let sizes : Sizes = record {
@@ -146,13 +147,13 @@ dii_again laws section dii is =
 
 -- what the laws say
 
-pub one_dii : (laws : NumberLaws) (section : List ℕ) (dii other : Dii) → IsDii section dii → IsDii section other → dii ≡ other
+pub one_dii : (laws : FieldLaws) (section : List ℕ) (dii other : Dii) → IsDii section dii → IsDii section other → dii ≡ other
 one_dii laws section dii other is too = same_ok (dii_in section) (dii_again laws section dii is) (dii_again laws section other too)
   where
     same_ok : {dii other : Dii} (read : Result Dii TableFault) → read ≡ Ok dii → read ≡ Ok other → dii ≡ other
     same_ok read e f = cc
 
-pub one_ddb : (laws : NumberLaws) (section : List ℕ) (ddb other : DataBlock) → IsDdb section ddb → IsDdb section other → ddb ≡ other
+pub one_ddb : (laws : FieldLaws) (section : List ℕ) (ddb other : DataBlock) → IsDdb section ddb → IsDdb section other → ddb ≡ other
 one_ddb laws section ddb other is too = same_ok (ddb_in section) (ddb_again laws section ddb is) (ddb_again laws section other too)
   where
     same_ok : {ddb other : DataBlock} (read : Result DataBlock TableFault) → read ≡ Ok ddb → read ≡ Ok other → ddb ≡ other

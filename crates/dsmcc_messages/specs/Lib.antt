@@ -1,5 +1,4 @@
 pub mod Message
 pub mod Dii
 pub mod Ddb
-pub mod Descriptor
 pub mod Reading

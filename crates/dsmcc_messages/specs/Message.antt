@@ -1,13 +1,9 @@
 -- Download messages of DSM-CC in sections (ISO/IEC 13818-6): where a section has its message, of which kind
 -- it is, and how its header is written. Numbers are big-endian.
-use Rattle.std.specs.Prelude.{◌≡◌, ◌<◌, ◌-◌, ◌^◌, ℕ, List, [], ◌∷◌, ◌++◌, length, take, drop, slice_index}
+use Rattle.std.specs.Prelude.{◌≡◌, ◌<◌, ◌^◌, ℕ, List, [], ◌∷◌, ◌++◌, length, slice_index}
 use Rattle.bml_bytes.specs.Numbers.{big_bytes}
+use Rattle.table_fields.specs.Sections.{body}
 use Rattle.dsmcc_messages.specs.declared.message.MessageKind.{MessageKind}
-
--- A section's body is what stands behind its eight header bytes and before the four bytes of its CRC_32
--- (ISO/IEC 13818-6, 9.2).
-abbrev pub body : List ℕ → List ℕ
-body section = take (length section - 12) (drop 8 section)
 
 -- A kind of message is the table_id of the sections that carry it (ISO/IEC 13818-6, 9.2) and the messageId
 -- in its header (7.3). That of a DownloadInfoIndication:

@@ -1,9 +1,9 @@
 -- The same messages read from the front to the back: for each relation between bytes and fields the one
--- value that the bytes have, if any. `law_of_dii`, `law_of_ddb` and `law_of_descriptors` say that both agree.
-use Rattle.std.specs.Prelude.{◌≡◌, ℕ, zero, suc, ◌==◌, nat_lt, Bool, ◌&&◌, if◌then◌else◌, List, [], ◌∷◌, length, take, drop, slice_index, Option, Some, None, Result, Ok, Err, option_map}
+-- value that the bytes have, if any. `law_of_dii` and `law_of_ddb` say that both agree.
+use Rattle.std.specs.Prelude.{◌≡◌, ℕ, zero, suc, ◌==◌, Bool, ◌&&◌, if◌then◌else◌, List, [], ◌∷◌, length, slice_index, Option, Some, None, Result, Ok, Err, option_map}
 use Rattle.std.specs.List.{zip, list_all}
 use Rattle.std.specs.Option.{ok_or}
-use Rattle.bml_bytes.specs.Numbers.{big_number}
+use Rattle.bml_bytes.specs.Fields.{◌>>=◌, byte_at, number_at, bytes_at}
 use Rattle.bml_bytes.specs.declared.refusals.TableFault.{TableFault}
 use Rattle.bml_bytes.specs.declared.refusals.TableFault.TheVariants.{Kind, Short}
 use Rattle.bml_bytes.specs.declared.refusals.TableRefusal.{TableRefusal}
@@ -11,26 +11,10 @@ use Rattle.bml_bytes.specs.declared.refusals.TableRefusal.TheVariants as refusal
 use Rattle.dsmcc_messages.specs.declared.message.MessageKind.{MessageKind}
 use Rattle.dsmcc_messages.specs.declared.entry.Entry.{Entry}
 use Rattle.dsmcc_messages.specs.declared.dii.Dii.{Dii}
-use Rattle.dsmcc_messages.specs.Message.{indication, data_block, kind_bytes, body}
+use Rattle.table_fields.specs.Descriptors.{descriptors_in, first_with}
+use Rattle.table_fields.specs.Sections.{body}
+use Rattle.dsmcc_messages.specs.Message.{indication, data_block, kind_bytes}
 use Rattle.dsmcc_messages.specs.Ddb.{DataBlock}
-use Rattle.dsmcc_messages.specs.Descriptor.{Descriptor, first_with}
-
--- a step, and what is read behind it
-infixl 10 ◌>>=◌
-abbrev pub ◌>>=◌ : {A B : Type 0} → Option A → (A → Option B) → Option B
-None >>= f = None
-(Some x) >>= f = f x
-
--- A field is a value and the bytes behind it; there is none where the bytes end before.
-abbrev pub byte_at : List ℕ → Option (ℕ × List ℕ)
-byte_at [] = None
-byte_at (byte ∷ bytes) = Some (byte, bytes)
-
-abbrev pub number_at : ℕ → List ℕ → Option (ℕ × List ℕ)
-number_at width bytes = if nat_lt (length bytes) width then None else Some (big_number (take width bytes), drop width bytes)
-
-abbrev pub bytes_at : ℕ → List ℕ → Option (List ℕ × List ℕ)
-bytes_at count bytes = if nat_lt (length bytes) count then None else Some (take count bytes, drop count bytes)
 
 -- bytes behind their length, which is one byte or a number of two bytes
 unfoldable pub short_bytes_at : List ℕ → Option (List ℕ × List ℕ)
@@ -126,26 +110,6 @@ dii_in section = fields_in indication indication_at section
 abbrev pub ddb_in : List ℕ → Result DataBlock TableFault
 ddb_in section = fields_in data_block data_block_at section
 
--- one descriptor, and the bytes behind it
-unfoldable pub descriptor_at : List ℕ → Option (Descriptor × List ℕ)
-descriptor_at bytes = do
-  tag ← byte_at bytes
-  content ← short_bytes_at tag.1
-  Some (record { tag = tag.0; bytes = content.0 }, content.1)
-
--- descriptors up to the bytes' end, of which there are no more than the bound
-unfoldable pub descriptors_within : ℕ → List ℕ → Option (List Descriptor)
-descriptors_within bound [] = Some []
-descriptors_within zero (x ∷ bytes) = None
-descriptors_within (suc bound) (x ∷ bytes) = do
-  first ← descriptor_at (x ∷ bytes)
-  others ← descriptors_within bound first.1
-  Some (first.0 ∷ others)
-
--- the descriptors that the info is, where it is descriptors end to end
-unfoldable pub descriptors_in : List ℕ → Option (List Descriptor)
-descriptors_in info = descriptors_within (length info) info
-
 -- the bytes of the info's first descriptor with that tag, where the info is descriptors end to end
 abbrev pub found_in : List ℕ → ℕ → Result (Option (List ℕ)) TableFault
 found_in info tag = ok_or (option_map (first_with tag) (descriptors_in info)) Short
@@ -165,10 +129,6 @@ abbrev pub IsReadAt : {X Y : Type 0} → (X → Y) → Result X TableRefusal →
 IsReadAt view (Ok x) left read = read ≡ Some (view x, left)
 IsReadAt view (Err refusals.NoMemory) left read = Unit {0}
 IsReadAt view (Err (refusals.Fault fault)) left read = (fault ≡ Short) × (read ≡ None)
-
--- a value read, and the bytes left
-abbrev pub with_left : {X Y : Type 0} → (X → Y) → Option X → List ℕ → Option (Y × List ℕ)
-with_left view result left = option_map (λ x. (view x, left)) result
 
 -- a result, with its value seen by view
 abbrev pub seen : {X Y E : Type 0} → (X → Y) → Result X E → Result Y E

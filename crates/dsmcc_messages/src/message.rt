@@ -1,10 +1,10 @@
 //! The header that all download messages share, and what it says of the message behind it.
 
 ghost use Rattle.std.specs.Prelude.{◌≡◌, ◌≤◌, ◌↔◌, length, option_map, ok_or, if◌then◌else◌, Ok, Err};
-ghost use Rattle.dsmcc_messages.specs.Message.{body as body_of, IsOfKind};
 ghost use Rattle.dsmcc_messages.specs.Reading.{agree as agree_of, is_of_kind as has_kind, message_at, fields_in, seen};
 
 use bml_bytes::{Cursor, TableFault};
+use table_fields::body;
 
 /// A kind of download message.
 #[derive(Clone, Copy, Debug, PartialEq, Eq)]
@@ -34,13 +34,6 @@ pub fn message_in(kind: MessageKind, section: &[u8]) -> Result<Message<'_>, Tabl
     read_message(body(section)).ok_or(TableFault::Short)
 }
 
-fn body(section: &[u8]) -> &[u8]
-    requires { 12 ≤ length section.now }
-    ensures { result.now ≡ body_of section.now }
-{
-    &section[8..section.len() - 4]
-}
-
 fn is_of_kind(kind: MessageKind, section: &[u8]) -> bool
     requires { 12 ≤ length section.now }
     ensures { result ≡ has_kind kind section.now }
@@ -68,10 +61,10 @@ fn read_message(body: &[u8]) -> Option<Message<'_>>
     let _reserved = cursor.u8()?;
     let adaptation_length = cursor.u8()?;
     let message_length = cursor.u16()?;
-    let message = cursor.take(usize::from(message_length))?;
-    let payload = message.get(usize::from(adaptation_length)..)?;
+    let mut message = Cursor::new(cursor.take(usize::from(message_length))?);
+    let _adaptation = message.take(usize::from(adaptation_length))?;
     Some(Message {
         identifier,
-        payload,
+        payload: message.left(),
     })
 }

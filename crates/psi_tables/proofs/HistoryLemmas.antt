@@ -10,7 +10,8 @@ use Rattle.psi_tables.specs.declared.pmt.Pmt.{Pmt}
 use Rattle.psi_tables.specs.declared.components.Component.{Component}
 use Rattle.psi_tables.specs.declared.services.Selection.{Selection}
 use Rattle.psi_tables.specs.declared.services.Selection.TheVariants.{First, Service, Pid}
-use Rattle.psi_tables.specs.Reading.{◌>>=◌, pat_in}
+use Rattle.bml_bytes.specs.Fields.{◌>>=◌}
+use Rattle.psi_tables.specs.Reading.{pat_in}
 use Rattle.psi_tables.specs.History.{Handled, last_of, moments, readable, service_in, service_named, service_of, is_on, pmt_for, pmt_of_program, pmt_counting, map_at_first, map_of}
 use Rattle.psi_tables.specs.Service.{ServicesState, StandsFor, reads_table}
 use Rattle.psi_tables.specs.Step.{components_in, after_pat, after_pmt}
@@ -147,3 +148,16 @@ read_on (Service program) service pid e not_pat = second (eqb pid 0) (is_on serv
 pub stands_if_ok : {A E : Type 0} {P Q : Type 0} (r : Result A E) → OnOk r P → (P → Q) → OnOk r Q
 stands_if_ok (Ok a) p f = f p
 stands_if_ok (Err e) p f = tt
+
+unread_state : (selection : Selection) (history : List Handled) → StandsFor (record { selection = selection; service = service_of selection history; map = map_of selection history }) history
+unread_state selection history = record { service = refl; map = refl }
+
+pub service_unread : (selection : Selection) (history : List Handled) (handled : Handled) → reads_table selection (service_of selection history) handled.pid ≡ false → service_of selection (history ++ handled ∷ []) ≡ service_of selection history
+service_unread selection history handled unread =
+    let stands = stands_unread (record { selection = selection; service = service_of selection history; map = map_of selection history }) history handled.pid handled.section unread (unread_state selection history) in
+    sym stands.service
+
+pub map_unread : (selection : Selection) (history : List Handled) (handled : Handled) → reads_table selection (service_of selection history) handled.pid ≡ false → map_of selection (history ++ handled ∷ []) ≡ map_of selection history
+map_unread selection history handled unread =
+    let stands = stands_unread (record { selection = selection; service = service_of selection history; map = map_of selection history }) history handled.pid handled.section unread (unread_state selection history) in
+    sym stands.map

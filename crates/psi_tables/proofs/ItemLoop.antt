@@ -4,7 +4,8 @@ use Rattle.std.specs.Prelude.{ok_or}
 use Rattle.std.proofs.lemmas.List.{append-nil, nil_from_length}
 use Rattle.bml_bytes.specs.declared.refusals.TableFault.{TableFault}
 use Rattle.bml_bytes.specs.declared.refusals.TableFault.TheVariants.{Short}
-use Rattle.psi_tables.specs.Reading.{◌>>=◌, items_in}
+use Rattle.bml_bytes.specs.Fields.{◌>>=◌}
+use Rattle.psi_tables.specs.Reading.{items_in}
 use Rattle.psi_tables.proofs.Items.{Shortens, items_first, items_none, items_nil}
 
 -- what was read before, and what is still read

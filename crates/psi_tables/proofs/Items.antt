@@ -1,9 +1,9 @@
 -- Items laid end to end: what is read is what stands there, and what was written is read again.
 use Rattle.std.proofs.Common.{◌≡◌, ℕ, zero, suc, ◌≤◌, ◌<◌, List, [], ◌∷◌, ◌++◌, length, Option, Some, None, refl, ap, subst, ◌∙◌, arith}
-use Rattle.bml_bytes.specs.Codes.{AreBytes}
+use Rattle.bml_bytes.specs.Fields.{◌>>=◌}
 use Rattle.psi_tables.specs.Laid.{AreLaid}
-use Rattle.psi_tables.specs.Reading.{◌>>=◌, items_within, items_in}
-use Rattle.psi_tables.proofs.Fields.{Takes, bind_with}
+use Rattle.psi_tables.specs.Reading.{items_within, items_in}
+use Rattle.psi_tables.proofs.Fields.{bind_with}
 
 -- each item takes a byte at least
 pub record Shortens {A : Type 0} (item : List ℕ → Option (A × List ℕ)) : Type 0 where
@@ -11,7 +11,7 @@ pub record Shortens {A : Type 0} (item : List ℕ → Option (A × List ℕ)) : 
 
 -- what is known of reading one item
 pub record ItemLaws {A : Type 0} (item : List ℕ → Option (A × List ℕ)) (Is : A → List ℕ → Type 0) : Type 0 where
-  pub takes : (bytes : List ℕ) (x : A × List ℕ) → AreBytes bytes → item bytes ≡ Some x → (text : List ℕ) × Takes bytes text x.1 × Is x.0 text
+  pub takes : (bytes : List ℕ) (x : A × List ℕ) → item bytes ≡ Some x → (text : List ℕ) × (bytes ≡ text ++ x.1) × Is x.0 text
   pub again : (a : A) (text rest : List ℕ) → Is a text → item (text ++ rest) ≡ Some (a, rest)
   pub short : Shortens item
 
@@ -56,20 +56,20 @@ found x = Some x
 same : {A : Type 0} (x y : A) → found x ≡ found y → x ≡ y
 same x y e = cc
 
-within_laid : {A : Type 0} (item : List ℕ → Option (A × List ℕ)) (Is : A → List ℕ → Type 0) (laws : ItemLaws item Is) (n : ℕ) (bytes : List ℕ) (items : List A) → AreBytes bytes → items_within item n bytes ≡ Some items → AreLaid Is bytes items
+within_laid : {A : Type 0} (item : List ℕ → Option (A × List ℕ)) (Is : A → List ℕ → Type 0) (laws : ItemLaws item Is) (n : ℕ) (bytes : List ℕ) (items : List A) → items_within item n bytes ≡ Some items → AreLaid Is bytes items
 unfolding items_within
-within_laid item Is laws zero [] items fit e = subst (AreLaid Is []) (same [] items e) refl
-within_laid item Is laws zero (b ∷ bytes) items fit e = absurd cc
-within_laid item Is laws (suc n) [] items fit e = subst (AreLaid Is []) (same [] items e) refl
-within_laid {A} item Is laws (suc n) (b ∷ bytes) items fit e =
+within_laid item Is laws zero [] items e = subst (AreLaid Is []) (same [] items e) refl
+within_laid item Is laws zero (b ∷ bytes) items e = absurd cc
+within_laid item Is laws (suc n) [] items e = subst (AreLaid Is []) (same [] items e) refl
+within_laid {A} item Is laws (suc n) (b ∷ bytes) items e =
     bind_with (item (b ∷ bytes)) (λ (first : A × List ℕ). items_within item n first.1 >>= λ others. Some (first.0 ∷ others)) items e (λ first first-is e0.
     bind_with (items_within item n first.1) (λ (others : List A). Some (first.0 ∷ others)) items e0 (λ others others-is e1.
-    let t = laws.takes (b ∷ bytes) first fit first-is in
-    subst (AreLaid Is (b ∷ bytes)) (same (first.0 ∷ others) items e1) (t.0, first.1, t.1.parts, t.2, within_laid item Is laws n first.1 others t.1.behind others-is)))
+    let t = laws.takes (b ∷ bytes) first first-is in
+    subst (AreLaid Is (b ∷ bytes)) (same (first.0 ∷ others) items e1) (t.0, first.1, t.1, t.2, within_laid item Is laws n first.1 others others-is)))
 
-pub items_laid : {A : Type 0} (item : List ℕ → Option (A × List ℕ)) (Is : A → List ℕ → Type 0) (laws : ItemLaws item Is) (bytes : List ℕ) (items : List A) → AreBytes bytes → items_in item bytes ≡ Some items → AreLaid Is bytes items
+pub items_laid : {A : Type 0} (item : List ℕ → Option (A × List ℕ)) (Is : A → List ℕ → Type 0) (laws : ItemLaws item Is) (bytes : List ℕ) (items : List A) → items_in item bytes ≡ Some items → AreLaid Is bytes items
 unfolding items_in
-items_laid item Is laws bytes items fit e = within_laid item Is laws (length bytes) bytes items fit e
+items_laid item Is laws bytes items e = within_laid item Is laws (length bytes) bytes items e
 
 pub items_again : {A : Type 0} (item : List ℕ → Option (A × List ℕ)) (Is : A → List ℕ → Type 0) (laws : ItemLaws item Is) (bytes : List ℕ) (items : List A) → AreLaid Is bytes items → items_in item bytes ≡ Some items
 items_again item Is laws bytes [] laid = ap (items_in item) laid ∙ items_nil item

@@ -5,7 +5,8 @@ pub mod Entries
 pub mod StreamFields
 pub mod TableLaws
 pub mod Readers
-pub mod TagLoop
+pub mod TakenLemmas
+pub mod WantedLemmas
 pub mod ComponentLemmas
 pub mod HistoryLemmas
 pub mod PlaceLemmas

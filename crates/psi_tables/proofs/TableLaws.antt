@@ -1,24 +1,24 @@
 -- A section's PAT or PMT: the relation between bytes and fields, and reading, agree.
-use Rattle.std.proofs.Common.{◌≡◌, ◌≢◌, ◌↔◌, ℕ, ◌-◌, ◌<◌, ◌≤◌, ◌^◌, Bool, true, false, cond, List, ◌++◌, length, take, drop, Option, Some, None, Result, Ok, Err, refl, sym, ap, subst, ◌∙◌, arith}
+use Rattle.std.proofs.Common.{◌≡◌, ◌≢◌, ◌↔◌, ℕ, ◌<◌, ◌^◌, Bool, true, false, cond, List, ◌++◌, take, drop, Option, Some, None, Result, Ok, Err, refl, sym, ap, subst, ◌∙◌, arith}
 use Rattle.std.specs.Prelude.{ok_or, option_map}
 use Rattle.std.proofs.lemmas.Bool.{eqb-true, eq-eqb, and_parts, and_from}
-use Rattle.std.proofs.lemmas.List.{take_at, length-take, length-drop}
-use Rattle.std.proofs.lemmas.List.Elements.{All-take, All-drop}
-use Rattle.bml_bytes.specs.Codes.{AreBytes}
-use Rattle.bml_bytes.specs.Numbers.{big_bytes, big_number}
+use Rattle.std.proofs.lemmas.List.{take_at, take-append-drop}
+use Rattle.bml_bytes.specs.Fields.{number_at}
+use Rattle.bml_bytes.specs.Numbers.{big_bytes}
 use Rattle.bml_bytes.specs.declared.refusals.TableFault.{TableFault}
 use Rattle.bml_bytes.specs.declared.refusals.TableFault.TheVariants.{Kind, Short}
 use Rattle.psi_tables.specs.declared.pat.PatEntry.{PatEntry}
 use Rattle.psi_tables.specs.declared.pmt.PmtStream.{PmtStream}
 use Rattle.psi_tables.specs.declared.pmt.Pmt.{Pmt}
-use Rattle.psi_tables.specs.Table.{association_table, map_table, body, extension, IsOfTable}
+use Rattle.table_fields.specs.Sections.{body}
+use Rattle.psi_tables.specs.Table.{association_table, map_table, extension, IsOfTable}
 use Rattle.psi_tables.specs.Pat.{IsPat, IsPatEntry}
 use Rattle.psi_tables.specs.Pmt.{IsPmt}
-use Rattle.psi_tables.specs.Reading.{is_of_table, table_in, items_in, entry_at, streams_in, program_map, pat_in, pmt_in}
-use Rattle.psi_tables.proofs.Fields.{NumberLaws, some_is}
+use Rattle.psi_tables.specs.Reading.{is_of_table, table_in, items_in, entry_at, streams_in, program_map, program_number, map_with_number, pat_in, pmt_in}
+use Rattle.psi_tables.proofs.Fields.{FieldLaws, bind_with, some_is}
 use Rattle.psi_tables.proofs.Items.{items_laid, items_again}
 use Rattle.psi_tables.proofs.Entries.{entry_laws}
-use Rattle.psi_tables.proofs.StreamFields.{IsBody, body_takes, body_again, body_long}
+use Rattle.psi_tables.proofs.StreamFields.{IsBody, body_takes, body_again}
 
 pub table_is : (table_id : ℕ) (section : List ℕ) → is_of_table table_id section ≡ true → IsOfTable table_id section
 table_is table_id section h =
@@ -69,17 +69,14 @@ pub fields_short : {A : Type 0} (table_id : ℕ) (fields : List ℕ → Option A
 unfolding table_in
 fields_short table_id fields section e = table_is table_id section (short_kind (is_of_table table_id section) (fields (body section)) e)
 
-body_bytes : (section : List ℕ) → AreBytes section → AreBytes (body section)
-body_bytes section fit = All-take (λ n. n < 256) (length section - 12) (drop 8 section) (All-drop (λ n. n < 256) 8 section fit)
-
 -- a PAT
 
-pub pat_takes : (laws : NumberLaws) (section : List ℕ) (entries : List PatEntry) → AreBytes section → pat_in section ≡ Ok entries → IsPat section entries
-pat_takes laws section entries fit e =
+pub pat_takes : (laws : FieldLaws) (section : List ℕ) (entries : List PatEntry) → pat_in section ≡ Ok entries → IsPat section entries
+pat_takes laws section entries e =
     let read = fields_ok association_table (items_in entry_at) section entries e in
-    record { of_table = table_is association_table section read.0; laid = items_laid entry_at IsPatEntry (entry_laws laws) (body section) entries (body_bytes section fit) read.1 }
+    record { of_table = table_is association_table section read.0; laid = items_laid entry_at IsPatEntry (entry_laws laws) (body section) entries read.1 }
 
-pub pat_again : (laws : NumberLaws) (section : List ℕ) (entries : List PatEntry) → IsPat section entries → pat_in section ≡ Ok entries
+pub pat_again : (laws : FieldLaws) (section : List ℕ) (entries : List PatEntry) → IsPat section entries → pat_in section ≡ Ok entries
 pat_again laws section entries is =
     fields_again association_table (items_in entry_at) section entries (table_from association_table section is.of_table) (items_again entry_at IsPatEntry (entry_laws laws) (body section) entries is.laid)
 
@@ -92,21 +89,35 @@ named program (Some streams) pmt e =
     let is : made ≡ pmt = some_is made pmt e in
     (ap (λ (p : Pmt). Some p.streams) is, ap (λ (p : Pmt). p.program) is)
 
-pub pmt_takes : (laws : NumberLaws) (section : List ℕ) (pmt : Pmt) → AreBytes section → pmt_in section ≡ Ok pmt → IsPmt section pmt
+-- program_number
+
+number_read : (read : Option (ℕ × List ℕ)) (program : ℕ) → option_map (λ (number : ℕ × List ℕ). number.0) read ≡ Some program → (x : ℕ × List ℕ) × (read ≡ Some x) × (x.0 ≡ program)
+number_read None program e = absurd cc
+number_read (Some x) program e = (x, refl, some_is x.0 program e)
+
+number_takes : (laws : FieldLaws) (section : List ℕ) (program : ℕ) → program_number section ≡ Some program → (extension section ≡ big_bytes 2 program) × (program < 256 ^ 2)
+unfolding program_number
+number_takes laws section program e =
+    let read = number_read (number_at 2 (drop 3 section)) program e in
+    let t = laws.number 2 (drop 3 section) read.0 read.1 in
+    subst (λ (n : ℕ). (extension section ≡ big_bytes 2 n) × (n < 256 ^ 2)) read.2
+    (ap (take 2) t.0 ∙ take_at (big_bytes 2 read.0.0) read.0.1 2 (laws.count 2 read.0.0), t.1)
+
+number_again : (laws : FieldLaws) (section : List ℕ) (program : ℕ) → program < 256 ^ 2 → extension section ≡ big_bytes 2 program → program_number section ≡ Some program
+unfolding program_number
+number_again laws section program fits e =
+    let whole : drop 3 section ≡ big_bytes 2 program ++ drop 2 (drop 3 section) = sym (take-append-drop 2 (drop 3 section)) ∙ ap (λ (front : List ℕ). front ++ drop 2 (drop 3 section)) e in
+    ap (λ (bytes : List ℕ). option_map (λ (number : ℕ × List ℕ). number.0) (number_at 2 bytes)) whole
+    ∙ ap (option_map (λ (number : ℕ × List ℕ). number.0)) (laws.number_again 2 program (drop 2 (drop 3 section)) fits)
+
+pub pmt_takes : (laws : FieldLaws) (section : List ℕ) (pmt : Pmt) → pmt_in section ≡ Ok pmt → IsPmt section pmt
 unfolding program_map
-pmt_takes laws section pmt fit e =
-    let number : ℕ = big_number (extension section) in
-    let read = fields_ok map_table (program_map number) section pmt e in
-    let parts = named number (streams_in (body section)) pmt read.1 in
-    let is = body_takes laws (body section) pmt.streams (body_bytes section fit) parts.0 in
-    let long = body_long (body section) pmt.streams parts.0 in
-    let size : 2 ≤ length (drop 3 section) = omega (arith, length-take (length section - 12) (drop 8 section), length-drop 8 section, length-drop 3 section) in
-    let two : length (extension section) ≡ 2 = omega (arith, length-take 2 (drop 3 section)) in
-    let rest : List ℕ = drop 2 (drop 3 section) in
-    let field : big_bytes 2 number ++ rest ≡ drop 3 section = laws.field 2 (drop 3 section) (All-drop (λ n. n < 256) 3 section fit) size in
-    let written : extension section ≡ big_bytes 2 number = sym (ap (take 2) field) ∙ take_at (big_bytes 2 number) rest 2 (laws.count 2 number) in
-    let fits : number < 256 ^ length (extension section) = laws.fits (extension section) (All-take (λ n. n < 256) 2 (drop 3 section) (All-drop (λ n. n < 256) 3 section fit)) in
-    let below : number < 256 ^ 2 = subst (λ (n : ℕ). number < 256 ^ n) two fits in
+pmt_takes laws section pmt e =
+    let read = fields_ok map_table (map_with_number section) section pmt e in
+    bind_with (program_number section) (λ (program : ℕ). program_map program (body section)) pmt read.1 (λ program program-is e0.
+    let parts = named program (streams_in (body section)) pmt e0 in
+    let is = body_takes laws (body section) pmt.streams parts.0 in
+    let number = number_takes laws section program program-is in
     record {
       pcr_pid = is.pcr_pid;
       pcr_bytes = is.pcr_bytes;
@@ -114,21 +125,21 @@ pmt_takes laws section pmt fit e =
       descriptors = is.descriptors;
       streams = is.streams;
       of_table = table_is map_table section read.0;
-      program_fits = omega (arith, below, parts.1);
-      program_written = written ∙ ap (big_bytes 2) parts.1;
+      program_fits = omega (arith, number.1, parts.1);
+      program_written = number.0 ∙ ap (big_bytes 2) parts.1;
       pcr_written = is.pcr_written;
       info_written = is.info_written;
       laid = is.laid;
       written = is.written;
-    }
+    })
 
-pub pmt_again : (laws : NumberLaws) (section : List ℕ) (pmt : Pmt) → IsPmt section pmt → pmt_in section ≡ Ok pmt
+pub pmt_again : (laws : FieldLaws) (section : List ℕ) (pmt : Pmt) → IsPmt section pmt → pmt_in section ≡ Ok pmt
 unfolding program_map
 pmt_again laws section pmt is =
-    let number : big_number (extension section) ≡ pmt.program = ap big_number is.program_written ∙ laws.back 2 pmt.program (omega (arith, is.program_fits)) in
+    let number = number_again laws section pmt.program (omega (arith, is.program_fits)) is.program_written in
     let front : IsBody (body section) pmt.streams = record { pcr_pid = is.pcr_pid; pcr_bytes = is.pcr_bytes; info = is.info; descriptors = is.descriptors; streams = is.streams; pcr_written = is.pcr_written; info_written = is.info_written; laid = is.laid; written = is.written } in
-    let read : program_map (big_number (extension section)) (body section) ≡ Some pmt = rw (number, body_again laws (body section) pmt.streams front) refl in
-    fields_again map_table (program_map (big_number (extension section))) section pmt (table_from map_table section is.of_table) read
+    let read : map_with_number section (body section) ≡ Some pmt = rw (number, body_again laws (body section) pmt.streams front) refl in
+    fields_again map_table (map_with_number section) section pmt (table_from map_table section is.of_table) read
 
 -- an answer is one
 

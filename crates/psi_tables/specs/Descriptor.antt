@@ -1,13 +1,6 @@
--- Descriptors (ISO/IEC 13818-1, 2.6.1): a tag, a length, and that many bytes.
-use Rattle.std.specs.Prelude.{◌≡◌, ◌==◌, Bool, ◌&&◌, ℕ, List, ◌∷◌, length, slice_index, find, option_map, Option}
-
-pub record Descriptor : Type 0 where
-  pub tag : ℕ
-  pub bytes : List ℕ
-
--- the text is this descriptor
-abbrev pub IsDescriptor : Descriptor → List ℕ → Type 0
-IsDescriptor descriptor text = text ≡ descriptor.tag ∷ length descriptor.bytes ∷ descriptor.bytes
+-- What the descriptors of a stream say of its component.
+use Rattle.std.specs.Prelude.{◌==◌, Bool, ◌&&◌, ℕ, List, length, slice_index, find, option_map, Option}
+use Rattle.table_fields.specs.Descriptors.{Descriptor}
 
 -- a stream identifier descriptor (ETSI EN 300 468, 6.2.39; ARIB STD-B10, part 2), which has the one byte
 -- component_tag. One of another length is none: this project's own rule.

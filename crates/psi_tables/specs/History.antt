@@ -8,7 +8,8 @@ use Rattle.psi_tables.specs.declared.components.Component.{Component}
 use Rattle.psi_tables.specs.declared.services.Selection.{Selection}
 use Rattle.psi_tables.specs.declared.services.Selection.TheVariants.{First, Service, Pid}
 use Rattle.psi_tables.specs.Components.{components_of}
-use Rattle.psi_tables.specs.Reading.{◌>>=◌, pat_in, pmt_in}
+use Rattle.bml_bytes.specs.Fields.{◌>>=◌}
+use Rattle.psi_tables.specs.Reading.{pat_in, pmt_in}
 
 -- an intact section, and the PID on which it came
 pub record Handled : Type 0 where

@@ -2,7 +2,8 @@
 use Rattle.std.specs.Prelude.{◌≡◌, ◌<◌, ◌^◌, ℕ, List, ◌++◌}
 use Rattle.bml_bytes.specs.Numbers.{big_bytes}
 use Rattle.psi_tables.specs.declared.pat.PatEntry.{PatEntry}
-use Rattle.psi_tables.specs.Table.{association_table, body, IsOfTable, IsNarrow}
+use Rattle.table_fields.specs.Sections.{body}
+use Rattle.psi_tables.specs.Table.{association_table, IsOfTable, IsNarrow}
 use Rattle.psi_tables.specs.Laid.{AreLaid}
 
 -- an entry: program_number, three reserved bits, and a PID

@@ -1,8 +1,12 @@
--- The same in terms of places in the history. `law_of_component_map` says that both agree.
-use Rattle.std.specs.Prelude.{◌≡◌, ◌<◌, ℕ, List, take, slice_get, Some}
+-- The same in terms of places: of sections in the history, and of streams in a PMT. `law_of_component_map` and
+-- `law_of_components` say that both agree.
+use Rattle.std.specs.Prelude.{◌≡◌, ◌<◌, ℕ, List, length, take, slice_get, Some, All}
 use Rattle.psi_tables.specs.declared.pat.PatEntry.{PatEntry}
 use Rattle.psi_tables.specs.declared.pmt.Pmt.{Pmt}
+use Rattle.psi_tables.specs.declared.pmt.PmtStream.{PmtStream}
+use Rattle.psi_tables.specs.declared.components.Component.{Component}
 use Rattle.psi_tables.specs.declared.services.Selection.{Selection}
+use Rattle.psi_tables.specs.Components.{AreApart, component_of_stream, components_of}
 use Rattle.psi_tables.specs.History.{Handled, service_named, service_of, pmt_for}
 
 -- a PAT counts at that place of the history, and names this service
@@ -21,3 +25,12 @@ pub record CountsAt (selection : Selection) (history : List Handled) (place : �
 pub record IsLast {A : Type 0} (Holds : ℕ → A → Type 0) (place : ℕ) (value : A) : Type 0 where
   pub holds : Holds place value
   pub last : (later : ℕ) (other : A) → place < later → ¬ Holds later other
+
+-- The stream at that place brings this component and is taken: fewer than 16 were taken before it, and none of these
+-- has its tag or its PID.
+pub record TakenAt (streams : List PmtStream) (place : ℕ) (component : Component) : Type 0 where
+  pub stream : PmtStream
+  pub stands : slice_get streams place ≡ Some stream
+  pub brings : component_of_stream stream ≡ Some component
+  pub room : length (components_of (take place streams)) < 16
+  pub apart : All (λ taken. AreApart taken component) (components_of (take place streams))

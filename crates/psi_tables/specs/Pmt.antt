@@ -3,16 +3,18 @@ use Rattle.std.specs.Prelude.{◌≡◌, ◌<◌, ◌^◌, ℕ, List, ◌∷◌,
 use Rattle.bml_bytes.specs.Numbers.{big_bytes}
 use Rattle.psi_tables.specs.declared.pmt.PmtStream.{PmtStream}
 use Rattle.psi_tables.specs.declared.pmt.Pmt.{Pmt}
-use Rattle.psi_tables.specs.Table.{map_table, body, extension, IsOfTable, IsNarrow}
+use Rattle.table_fields.specs.Descriptors.{Descriptor, AreDescriptors}
+use Rattle.table_fields.specs.Sections.{body}
+use Rattle.psi_tables.specs.Table.{map_table, extension, IsOfTable, IsNarrow}
 use Rattle.psi_tables.specs.Laid.{AreLaid}
-use Rattle.psi_tables.specs.Descriptor.{Descriptor, IsDescriptor, component_tag_in}
+use Rattle.psi_tables.specs.Descriptor.{component_tag_in}
 
 -- these descriptors behind their length: four reserved bits, a length in 12 bits, and the descriptors
-pub record AreDescriptors (descriptors : List Descriptor) (text : List ℕ) : Type 0 where
+pub record IsInfo (descriptors : List Descriptor) (text : List ℕ) : Type 0 where
   pub length_bytes : List ℕ
   pub bytes : List ℕ
   pub length_written : IsNarrow 12 (length bytes) length_bytes
-  pub laid : AreLaid IsDescriptor bytes descriptors
+  pub laid : AreDescriptors bytes descriptors
   pub written : text ≡ length_bytes ++ bytes
 
 -- A stream: stream_type, three reserved bits, elementary_PID, and its descriptors behind ES_info_length. Its
@@ -22,7 +24,7 @@ pub record IsStream (stream : PmtStream) (text : List ℕ) : Type 0 where
   pub info : List ℕ
   pub descriptors : List Descriptor
   pub pid_written : IsNarrow 13 stream.pid pid_bytes
-  pub info_written : AreDescriptors descriptors info
+  pub info_written : IsInfo descriptors info
   pub component : stream.component ≡ component_tag_in descriptors
   pub written : text ≡ stream.kind ∷ (pid_bytes ++ info)
 
@@ -38,6 +40,6 @@ pub record IsPmt (section : List ℕ) (pmt : Pmt) : Type 0 where
   pub program_fits : pmt.program < 2 ^ 16
   pub program_written : extension section ≡ big_bytes 2 pmt.program
   pub pcr_written : IsNarrow 13 pcr_pid pcr_bytes
-  pub info_written : AreDescriptors descriptors info
+  pub info_written : IsInfo descriptors info
   pub laid : AreLaid IsStream streams pmt.streams
   pub written : body section ≡ pcr_bytes ++ (info ++ streams)

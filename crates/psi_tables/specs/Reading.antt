@@ -1,8 +1,8 @@
 -- The same tables read from the front to the back: for each relation between bytes and fields the one value that
 -- the bytes have, if any. `law_of_pat` and `law_of_pmt` say that both agree.
-use Rattle.std.specs.Prelude.{◌≡◌, ℕ, zero, suc, ◌%◌, ◌^◌, ◌==◌, nat_lt, Bool, ◌&&◌, if◌then◌else◌, List, [], ◌∷◌, length, take, drop, slice_index, Option, Some, None, Result, Ok, Err, option_map}
+use Rattle.std.specs.Prelude.{◌≡◌, ℕ, zero, suc, ◌%◌, ◌^◌, ◌==◌, Bool, ◌&&◌, if◌then◌else◌, List, [], ◌∷◌, length, drop, slice_index, Option, Some, None, Result, Ok, Err, option_map}
 use Rattle.std.specs.Option.{ok_or}
-use Rattle.bml_bytes.specs.Numbers.{big_number}
+use Rattle.bml_bytes.specs.Fields.{◌>>=◌, byte_at, number_at, bytes_at}
 use Rattle.bml_bytes.specs.declared.refusals.TableFault.{TableFault}
 use Rattle.bml_bytes.specs.declared.refusals.TableFault.TheVariants.{Kind, Short}
 use Rattle.bml_bytes.specs.declared.refusals.TableRefusal.{TableRefusal}
@@ -10,25 +10,10 @@ use Rattle.bml_bytes.specs.declared.refusals.TableRefusal.TheVariants as refusal
 use Rattle.psi_tables.specs.declared.pat.PatEntry.{PatEntry}
 use Rattle.psi_tables.specs.declared.pmt.PmtStream.{PmtStream}
 use Rattle.psi_tables.specs.declared.pmt.Pmt.{Pmt}
-use Rattle.psi_tables.specs.Table.{association_table, map_table, body, extension}
-use Rattle.psi_tables.specs.Descriptor.{Descriptor, component_tag_in}
-
--- a step, and what is read behind it
-infixl 10 ◌>>=◌
-abbrev pub ◌>>=◌ : {A B : Type 0} → Option A → (A → Option B) → Option B
-None >>= f = None
-(Some x) >>= f = f x
-
--- A field is a value and the bytes behind it; there is none where the bytes end before.
-abbrev pub byte_at : List ℕ → Option (ℕ × List ℕ)
-byte_at [] = None
-byte_at (byte ∷ bytes) = Some (byte, bytes)
-
-abbrev pub number_at : ℕ → List ℕ → Option (ℕ × List ℕ)
-number_at width bytes = if nat_lt (length bytes) width then None else Some (big_number (take width bytes), drop width bytes)
-
-abbrev pub bytes_at : ℕ → List ℕ → Option (List ℕ × List ℕ)
-bytes_at count bytes = if nat_lt (length bytes) count then None else Some (take count bytes, drop count bytes)
+use Rattle.table_fields.specs.Descriptors.{descriptors_in}
+use Rattle.table_fields.specs.Sections.{body}
+use Rattle.psi_tables.specs.Table.{association_table, map_table}
+use Rattle.psi_tables.specs.Descriptor.{component_tag_in}
 
 -- a number of `width` bits behind the reserved bits that fill two bytes
 unfoldable pub narrow_at : ℕ → List ℕ → Option (ℕ × List ℕ)
@@ -55,13 +40,6 @@ entry_at bytes = do
   pid ← narrow_at 13 program.1
   Some (record { program = program.0; pid = pid.0 }, pid.1)
 
-unfoldable pub descriptor_at : List ℕ → Option (Descriptor × List ℕ)
-descriptor_at bytes = do
-  tag ← byte_at bytes
-  count ← byte_at tag.1
-  content ← bytes_at count.0 count.1
-  Some (record { tag = tag.0; bytes = content.0 }, content.1)
-
 -- bytes behind their length in 12 bits
 unfoldable pub info_at : List ℕ → Option (List ℕ × List ℕ)
 info_at bytes = do
@@ -70,7 +48,7 @@ info_at bytes = do
 
 -- the component_tag in descriptors, where they are any; none inside where no stream identifier is among them
 unfoldable pub component_in : List ℕ → Option (Option ℕ)
-component_in info = option_map component_tag_in (items_in descriptor_at info)
+component_in info = option_map component_tag_in (descriptors_in info)
 
 unfoldable pub stream_at : List ℕ → Option (PmtStream × List ℕ)
 stream_at bytes = do
@@ -104,9 +82,17 @@ pat_in section = table_in association_table (items_in entry_at) section
 unfoldable pub program_map : ℕ → List ℕ → Option Pmt
 program_map program bytes = option_map (λ streams. record { program = program; streams = streams }) (streams_in bytes)
 
+-- program_number, which stands behind section_length
+unfoldable pub program_number : List ℕ → Option ℕ
+program_number section = option_map (λ number. number.0) (number_at 2 (drop 3 section))
+
+-- the PMT with the program_number of a section and the streams in its body
+abbrev pub map_with_number : List ℕ → List ℕ → Option Pmt
+map_with_number section bytes = program_number section >>= λ program. program_map program bytes
+
 -- the PMT in a section
 abbrev pub pmt_in : List ℕ → Result Pmt TableFault
-pmt_in section = table_in map_table (program_map (big_number (extension section))) section
+pmt_in section = table_in map_table (map_with_number section) section
 
 -- what a function answered, seen by view, is what reading gives, unless memory ran out
 abbrev pub IsRead : {X Y : Type 0} → (X → Y) → Result X TableRefusal → Result Y TableFault → Type 0

@@ -4,8 +4,9 @@ use Rattle.std.specs.List.{list_all}
 use Rattle.std.specs.Option.{option_or}
 use Rattle.psi_tables.specs.declared.components.Component.{Component}
 use Rattle.psi_tables.specs.declared.pmt.Pmt.{Pmt}
-use Rattle.psi_tables.specs.Descriptor.{Descriptor, is_stream_identifier}
-use Rattle.psi_tables.specs.Reading.{◌>>=◌}
+use Rattle.table_fields.specs.Descriptors.{Descriptor}
+use Rattle.psi_tables.specs.Descriptor.{is_stream_identifier}
+use Rattle.bml_bytes.specs.Fields.{◌>>=◌}
 use Rattle.psi_tables.specs.Components.{components_of, is_taken, pid_in}
 use Rattle.psi_tables.specs.History.{service_in_pat, pmt_of_program}
 use Rattle.psi_tables.specs.Service.{ServicesState}

@@ -1,11 +1,7 @@
 -- Tables of program specific information in sections (ISO/IEC 13818-1, 2.4.4): which table a section carries, and
 -- how its fields are written. Numbers are big-endian.
-use Rattle.std.specs.Prelude.{◌≡◌, ◌<◌, ◌+◌, ◌-◌, ◌*◌, ◌%◌, ◌^◌, ℕ, List, length, take, drop, slice_index}
+use Rattle.std.specs.Prelude.{◌≡◌, ◌<◌, ◌+◌, ◌-◌, ◌*◌, ◌%◌, ◌^◌, ℕ, List, take, drop, slice_index}
 use Rattle.bml_bytes.specs.Numbers.{big_bytes}
-
--- what stands behind the eight header bytes of a section and before the four bytes of its CRC_32 (2.4.4.3, 2.4.4.8)
-abbrev pub body : List ℕ → List ℕ
-body section = take (length section - 12) (drop 8 section)
 
 -- the two bytes behind section_length: transport_stream_id or program_number (2.4.4.5, 2.4.4.9)
 abbrev pub extension : List ℕ → List ℕ

@@ -7,9 +7,10 @@ ghost use Rattle.psi_tables.specs.Pat.{IsPat};
 ghost use Rattle.psi_tables.specs.Reading.{entry_at, items_in, is_of_table as has_table, pat_in, IsRead};
 
 use crate::laws::law_of_pat;
-use crate::table::{body, is_of_table, pid};
+use crate::table::{is_of_table, pid};
 use bml_bytes::{Cursor, TableFault, TableRefusal};
 use std::alloc::Global;
+use table_fields::body;
 
 /// The PID on which PATs come (ISO/IEC 13818-1, 2.4.3.3, table 2-3).
 pub const PAT_PID: u16 = 0;

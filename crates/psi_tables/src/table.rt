@@ -1,9 +1,7 @@
 //! What the sections of all tables share (ISO/IEC 13818-1, 2.4.4).
 
-ghost use Rattle.std.specs.Prelude.{◌≡◌, ◌≤◌, length, option_map};
-ghost use Rattle.bml_bytes.specs.Numbers.{big_number};
-ghost use Rattle.psi_tables.specs.Table.{body as body_of, extension as extension_of};
-ghost use Rattle.psi_tables.specs.Reading.{is_of_table as has_table, info_at, narrow_at};
+ghost use Rattle.std.specs.Prelude.{◌≡◌, ◌≤◌, length, option_map, Some};
+ghost use Rattle.psi_tables.specs.Reading.{is_of_table as has_table, info_at, narrow_at, program_number};
 
 use bml_bytes::Cursor;
 
@@ -15,18 +13,11 @@ pub fn is_of_table(table_id: u8, section: &[u8]) -> bool
     section[0] == table_id && section[5] % 2 == 1 && section[6] == 0
 }
 
-/// What stands behind the header and before the CRC_32.
-pub fn body(section: &[u8]) -> &[u8]
-    requires { 12 ≤ length section.now }
-    ensures { result.now ≡ body_of section.now }
-{
-    &section[8..section.len() - 4]
-}
-
-/// The number behind section_length: transport_stream_id or program_number.
+/// The number behind section_length, which is the program_number of a PMT.
+#[tactic(auto, unfolding(crate::specs::Reading::program_number))]
 pub fn extension(section: &[u8]) -> u16
     requires { 12 ≤ length section.now }
-    ensures { result ≡ big_number (extension_of section.now) }
+    ensures { Some result ≡ program_number section.now }
 {
     let mut cursor = Cursor::new(&section[3..]);
     cursor.u16().unwrap_or(0)

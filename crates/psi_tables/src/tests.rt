@@ -49,10 +49,7 @@ fn one_program_from_its_tables(rt: HostRuntime) -> Result<(), Fail> {
         pid: 256,
         component: Some(0x40),
     };
-    assert_eq!(rt;
-        Streams::from(pmt.streams.into_vec()).as_slice(),
-        [stream].as_slice()
-    );
+    assert_eq!(rt; pmt.streams.as_slice(), [stream].as_slice());
     // What is asked for, the component's PID behind the PAT and the PMT, and behind a PMT without a stream.
     for (selection, before, behind, bare) in [
         (Selection::First, None, Some(256), None),

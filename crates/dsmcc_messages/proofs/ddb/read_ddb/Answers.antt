@@ -1,6 +1,3 @@
-use Rattle.std.proofs.Common.{◌<◌, arith}
-use Rattle.std.proofs.lemmas.List.Elements.{All-from_get_or}
-use Rattle.bml_bytes.specs.Codes.{AreBytes}
 use Rattle.dsmcc_messages.specs.Message.{data_block, IsOfKind}
 use Rattle.dsmcc_messages.specs.Ddb.{IsDdb, fields_of}
 use Rattle.dsmcc_messages.specs.Reading.{ddb_in}
@@ -9,8 +6,7 @@ use Rattle.dsmcc_messages.proofs.ddb.read_ddb.Goals as goal
 
 law_at : (c : goal.After-ddb_of) → Law (ddb_in c.args.section.now) (IsDdb c.args.section.now) (IsOfKind data_block c.args.section.now)
 law_at c =
-    let fit : AreBytes c.args.section.now = All-from_get_or (λ n. n < 256) c.args.section.now 0 (λ i below. omega (arith, c.type_inv.section i)) in
-    record { ok = λ ddb. c.law_of_ddb.ensures.ok c.args.section.now ddb fit; kind = c.law_of_ddb.ensures.kind c.args.section.now; short = c.law_of_ddb.ensures.short c.args.section.now }
+    record { ok = c.law_of_ddb.ensures.ok c.args.section.now; kind = c.law_of_ddb.ensures.kind c.args.section.now; short = c.law_of_ddb.ensures.short c.args.section.now }
 
 pub returns-clause-only : goal.returns-clause-only
 returns-clause-only c = sees_only fields_of (ddb_in c.args.section.now) (law_at c) c.ddb_of.result c.ddb_of.ensures

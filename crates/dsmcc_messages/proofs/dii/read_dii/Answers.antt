@@ -1,6 +1,3 @@
-use Rattle.std.proofs.Common.{◌<◌, arith}
-use Rattle.std.proofs.lemmas.List.Elements.{All-from_get_or}
-use Rattle.bml_bytes.specs.Codes.{AreBytes}
 use Rattle.dsmcc_messages.specs.Message.{indication, IsOfKind}
 use Rattle.dsmcc_messages.specs.Dii.{IsDii}
 use Rattle.dsmcc_messages.specs.Reading.{dii_in}
@@ -10,8 +7,7 @@ use Rattle.dsmcc_messages.proofs.dii.read_dii.Goals as goal
 
 law_at : (c : goal.After-dii_of) → Law (dii_in c.args.section.now) (IsDii c.args.section.now) (IsOfKind indication c.args.section.now)
 law_at c =
-    let fit : AreBytes c.args.section.now = All-from_get_or (λ n. n < 256) c.args.section.now 0 (λ i below. omega (arith, c.type_inv.section i)) in
-    record { ok = λ dii. c.law_of_dii.ensures.ok c.args.section.now dii fit; kind = c.law_of_dii.ensures.kind c.args.section.now; short = c.law_of_dii.ensures.short c.args.section.now }
+    record { ok = c.law_of_dii.ensures.ok c.args.section.now; kind = c.law_of_dii.ensures.kind c.args.section.now; short = c.law_of_dii.ensures.short c.args.section.now }
 
 pub returns-clause-only : goal.returns-clause-only
 returns-clause-only c = is_only (dii_in c.args.section.now) (law_at c) c.dii_of.result c.dii_of.ensures.reading

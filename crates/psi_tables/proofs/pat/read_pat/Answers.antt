@@ -1,6 +1,4 @@
-use Rattle.std.proofs.Common.{◌<◌, arith, Vec, Global}
-use Rattle.std.proofs.lemmas.List.Elements.{All-from_get_or}
-use Rattle.bml_bytes.specs.Codes.{AreBytes}
+use Rattle.std.proofs.Common.{Vec, Global}
 use Rattle.psi_tables.specs.declared.pat.PatEntry.{PatEntry}
 use Rattle.psi_tables.specs.Table.{association_table, IsOfTable}
 use Rattle.psi_tables.specs.Pat.{IsPat}
@@ -11,8 +9,7 @@ use Rattle.psi_tables.proofs.pat.read_pat.Goals as goal
 
 law_at : (c : goal.After-pat_of) → Law (pat_in c.args.section.now) (IsPat c.args.section.now) (IsOfTable association_table c.args.section.now)
 law_at c =
-    let fit : AreBytes c.args.section.now = All-from_get_or (λ n. n < 256) c.args.section.now 0 (λ i below. omega (arith, c.type_inv.section i)) in
-    record { ok = λ entries. c.law_of_pat.ensures.ok c.args.section.now entries fit; kind = c.law_of_pat.ensures.kind c.args.section.now; short = c.law_of_pat.ensures.short c.args.section.now }
+    record { ok = c.law_of_pat.ensures.ok c.args.section.now; kind = c.law_of_pat.ensures.kind c.args.section.now; short = c.law_of_pat.ensures.short c.args.section.now }
 
 pub returns-clause-found : goal.returns-clause-found
 returns-clause-found c = is_found (λ (found : Vec PatEntry Global). found.items) (pat_in c.args.section.now) (law_at c) c.pat_of.result c.pat_of.ensures.reading

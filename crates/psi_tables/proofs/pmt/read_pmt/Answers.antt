@@ -1,6 +1,3 @@
-use Rattle.std.proofs.Common.{◌<◌, arith}
-use Rattle.std.proofs.lemmas.List.Elements.{All-from_get_or}
-use Rattle.bml_bytes.specs.Codes.{AreBytes}
 use Rattle.psi_tables.specs.declared.pmt.Pmt.{Pmt}
 use Rattle.psi_tables.specs.Table.{map_table, IsOfTable}
 use Rattle.psi_tables.specs.Pmt.{IsPmt}
@@ -11,8 +8,7 @@ use Rattle.psi_tables.proofs.pmt.read_pmt.Goals as goal
 
 law_at : (c : goal.After-pmt_of) → Law (pmt_in c.args.section.now) (IsPmt c.args.section.now) (IsOfTable map_table c.args.section.now)
 law_at c =
-    let fit : AreBytes c.args.section.now = All-from_get_or (λ n. n < 256) c.args.section.now 0 (λ i below. omega (arith, c.type_inv.section i)) in
-    record { ok = λ pmt. c.law_of_pmt.ensures.ok c.args.section.now pmt fit; kind = c.law_of_pmt.ensures.kind c.args.section.now; short = c.law_of_pmt.ensures.short c.args.section.now }
+    record { ok = c.law_of_pmt.ensures.ok c.args.section.now; kind = c.law_of_pmt.ensures.kind c.args.section.now; short = c.law_of_pmt.ensures.short c.args.section.now }
 
 pub returns-clause-found : goal.returns-clause-found
 returns-clause-found c = is_found (λ (found : Pmt). found) (pmt_in c.args.section.now) (law_at c) c.pmt_of.result c.pmt_of.ensures.reading

@@ -1,5 +1,7 @@
-use Rattle.std.proofs.Common.{◌≡◌, ◌∙◌, take}
+use Rattle.std.proofs.Common.{◌≡◌, ℕ, Option, sym, ap, ◌∙◌, take}
+use Rattle.bml_bytes.specs.Fields.{with_left}
 use Rattle.bml_bytes.specs.Numbers.{number_in}
+use Rattle.bml_bytes.proofs.FieldLaws.{number_at-none, number_at-some}
 use Rattle.bml_bytes.proofs.NumberLaws.{big_from-part, read_field}
 use Rattle.bml_bytes.proofs.cursors.Cursor.u32.Goals as goal
 
@@ -11,3 +13,14 @@ returns-clause-read c =
     let number : c.read_u32.result ≡ number_in 256 (take 4 c.args.self.now) = returns-clause-number c in
     let field = c.in_ok-bytes.ensures in
     read_field 4 c.read_u32.result c.in_ok-bytes.bytes.now c.args.self.now c.take.new.self field.bytes field.enough field.part number field.read
+
+pub returns-in_err-bytes-clause-field : goal.returns-in_err-bytes-clause-field
+returns-in_err-bytes-clause-field c =
+    ap (λ (result : Option ℕ). with_left (λ (number : ℕ). number) result c.take.new.self) c.from_residual.ensures
+    ∙ sym (number_at-none 4 c.args.self.now c.in_err-bytes.ensures.enough)
+
+pub returns-clause-field : goal.returns-clause-field
+returns-clause-field c =
+    let number : c.read_u32.result ≡ number_in 256 (take 4 c.args.self.now) = returns-clause-number c in
+    let field = c.in_ok-bytes.ensures in
+    number_at-some 4 c.read_u32.result c.in_ok-bytes.bytes.now c.take.new.self c.args.self.now field.bytes field.enough field.part number field.left
