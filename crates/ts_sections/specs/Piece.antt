@@ -1,7 +1,7 @@
--- The piece that is being read: what taking in bytes of a packet says of the sections ahead.
-use Rattle.std.specs.Prelude.{◌≡◌, ◌≢◌, ℕ, ◌<◌, ◌≤◌, true, List, [], ◌∷◌, length, take, drop, map, slice_index, Option, Some, None}
-use Rattle.ts_sections.specs.Sections.{Byte, section_size}
-use Rattle.ts_sections.specs.Assembly.{Tokens, in_front, sections_of_open, sections_from}
+-- A device of the proofs: what taking in bytes of a packet says of the sections ahead. (This project's own.)
+use Rattle.std.specs.Prelude.{◌≡◌, ◌≢◌, ℕ, ◌<◌, ◌≤◌, Bool, true, false, List, [], ◌∷◌, ◌++◌, length, take, drop, map, slice_index, Option, Some, None}
+use Rattle.ts_sections.specs.Sections.{Byte, section_size, begins_whole}
+use Rattle.ts_sections.specs.Ahead.{Tokens, in_front, sections_of_open, sections_from}
 use Rattle.ts_sections.specs.declared.piece.Stage.{Stage}
 use Rattle.ts_sections.specs.declared.piece.Stage.TheVariants.{Unread, Gathering, Given}
 use Rattle.ts_sections.specs.declared.piece.Taken.{Taken}
@@ -42,3 +42,8 @@ abbrev pub Takes : PieceState → List ℕ → PieceState → Taken → Type 0
 Takes old bytes new All = TakesAll old.known new.known bytes
 Takes old bytes new (Joined count) = TakesSection old.known new.known bytes new.gathered count
 Takes old bytes new (Whole count) = TakesSection old.known new.known bytes (take count bytes) count
+
+-- a section ends in bytes that come behind those that are known
+abbrev pub ends_in : Option (List ℕ) → List ℕ → Bool
+ends_in None bytes = false
+ends_in (Some known) bytes = begins_whole (known ++ bytes)

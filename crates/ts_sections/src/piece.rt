@@ -1,8 +1,8 @@
 //! The piece that is being read: what stands between a mark and the next, and the section in the making.
-ghost use Rattle.std.specs.Prelude.{◌≡◌, ◌≢◌, ℕ, ◌+◌, ◌-◌, ◌<◌, ◌≤◌, true, false, List, [], ◌∷◌, ◌++◌, length, take, min, slice_index, Some, None, IsTrue, ◌↔◌};
+ghost use Rattle.std.specs.Prelude.{◌≡◌, ◌≢◌, ℕ, ◌+◌, ◌-◌, ◌*◌, ◌%◌, ◌<◌, ◌≤◌, true, false, List, [], ◌∷◌, ◌++◌, length, take, min, slice_index, Some, None, IsTrue, ◌↔◌};
 ghost use Rattle.ts_sections.specs.Sections.{section_size, begins_whole};
-ghost use Rattle.ts_sections.specs.Assembly.{sections_of_open};
-ghost use Rattle.ts_sections.specs.Piece.{IsPart, Takes};
+ghost use Rattle.ts_sections.specs.Ahead.{sections_of_open};
+ghost use Rattle.ts_sections.specs.Piece.{IsPart, Takes, ends_in};
 
 use arrayvec::ArrayVec;
 use std::marker::Model;
@@ -90,6 +90,17 @@ impl Piece {
         self.buffer.as_slice()
     }
 
+    /// Whether a section ends in bytes that come next.
+    pub fn ends_in(&self, bytes: &[u8]) -> bool
+        ensures { result ≡ ends_in self.now.known bytes.now }
+    {
+        match self.stage {
+            Stage::Unread => false,
+            Stage::Gathering => both_start_section(self.buffer.as_slice(), bytes),
+            Stage::Given => starts_section(bytes),
+        }
+    }
+
     /// Takes in bytes, up to the end of the next section that ends in them.
     pub fn take(&mut self, bytes: &[u8]) -> Taken
         ensures { Takes self.old bytes.now self.new result }
@@ -139,10 +150,35 @@ impl Piece {
 }
 
 /// Whether a whole section begins the bytes.
-fn starts_section(bytes: &[u8]) -> bool
+pub fn starts_section(bytes: &[u8]) -> bool
     ensures { result ≡ begins_whole bytes.now }
 {
     bytes.len() >= HEADER_LENGTH && bytes[0] != STUFFING && bytes.len() >= size_of_section(bytes)
+}
+
+/// Whether a whole section begins these bytes and those behind them.
+fn both_start_section(bytes: &[u8], behind: &[u8]) -> bool
+    ensures { result ≡ begins_whole (bytes.now ++ behind.now) }
+{
+    let length = bytes.len() + behind.len();
+    if length < HEADER_LENGTH || byte_of_both(bytes, behind, 0) == STUFFING {
+        return false;
+    }
+    let high = byte_of_both(bytes, behind, 1);
+    let low = byte_of_both(bytes, behind, 2);
+    length >= size_in(high, low)
+}
+
+/// The byte at a place of these bytes and those behind them.
+fn byte_of_both(bytes: &[u8], behind: &[u8], place: usize) -> u8
+    requires within { place < length bytes.now + length behind.now }
+    ensures { result ≡ slice_index (bytes.now ++ behind.now) place }
+{
+    if place < bytes.len() {
+        bytes[place]
+    } else {
+        behind[place - bytes.len()]
+    }
 }
 
 /// Whether stuffing begins the bytes.
@@ -158,7 +194,14 @@ fn size_of_section(bytes: &[u8]) -> usize
     ensures size { result ≡ section_size bytes.now }
     ensures limit { result ≤ 4098 }
 {
-    HEADER_LENGTH + (bytes[1] as usize % 16 * 256 + bytes[2] as usize)
+    size_in(bytes[1], bytes[2])
+}
+
+/// The size of a section of which these bytes hold the section_length.
+fn size_in(high: u8, low: u8) -> usize
+    ensures { result ≡ 3 + (high % 16 * 256 + low) }
+{
+    HEADER_LENGTH + (high as usize % 16 * 256 + low as usize)
 }
 
 /// Appends to the first bytes of a section those that follow, up to its end, and says how many they are.

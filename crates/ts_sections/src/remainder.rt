@@ -1,9 +1,9 @@
 //! What of a packet isn't taken in yet.
-ghost use Rattle.std.specs.Prelude.{◌≡◌, ◌↔◌, ◌<◌, [], length, drop, MatchOption, IsTrue};
+ghost use Rattle.std.specs.Prelude.{◌≡◌, ◌<◌, [], length, drop, MatchOption};
 ghost use Rattle.ts_sections.specs.Sections.{tokens_of_packet, marked};
-ghost use Rattle.ts_sections.specs.Remainder.{tokens_of, IsWithin, Passes, Finds, Drains};
+ghost use Rattle.ts_sections.specs.Remainder.{tokens_of, is_done, IsWithin, Passes, Finds, Drains};
 
-use crate::piece::{Piece, Taken};
+use crate::piece::{Piece, Taken, starts_section};
 use ts_packets::Packet;
 
 /// The bytes of a packet from `place` on, where a mark may stand before the byte at `mark`.
@@ -67,12 +67,17 @@ impl Remainder {
         }
     }
 
-    /// Whether all is taken in.
-    pub fn is_empty(&self, packet: &[u8]) -> bool
+    /// Whether no section of that piece, or of the next one, ends in it.
+    pub fn is_done(&self, packet: &[u8], piece: &Piece) -> bool
         requires { IsWithin packet.now self.now }
-        ensures { IsTrue result ↔ (tokens_of packet.now self.now ≡ []) }
+        ensures { result ≡ is_done packet.now self.now piece.now }
     {
-        self.place == packet.len() && self.mark.is_none()
+        match self.mark {
+            None => !piece.ends_in(&packet[self.place..]),
+            Some(mark) => {
+                !piece.ends_in(&packet[self.place..mark]) && !starts_section(&packet[mark..])
+            }
+        }
     }
 
     /// Takes in bytes of the packet, up to the end of the next section that ends in it.
