@@ -1,4 +1,5 @@
--- A device of the proofs: the assemblers that a demultiplexer keeps, each with its PID. (This project's own.)
+-- A device of the proofs: the assemblers that a demultiplexer keeps, each with its PID. (This
+-- project's own.)
 use Rattle.std.specs.Prelude.{◌≡◌, ◌≢◌, ◌≤◌, ◌==◌, nat_lt, ℕ, Bool, ◌||◌, List, [], length, filter, find, Option, Some, None, is_some}
 use Rattle.ts_sections.specs.Assembly as assembly
 use Rattle.section_demultiplexer.specs.declared.demultiplexer.Channel.{Channel}
@@ -43,5 +44,6 @@ pub record IsSound (channels : List Channel) (capacity pid : ℕ) : Type 0 where
 
 -- what stood for packets stands for them still, and as many sections wait
 pub record Continues (old new : Option Channel) : Type 0 where
-  pub stands : (packets given : List (List ℕ)) → StandsIn old packets given → StandsIn new packets given
+  pub stands : (packets given : List (List ℕ)) → StandsIn old packets given
+      → StandsIn new packets given
   pub waiting : waiting_in new ≡ waiting_in old

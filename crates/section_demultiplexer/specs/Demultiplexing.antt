@@ -1,5 +1,6 @@
--- What a demultiplexer stands for: for each PID the packets handed in since it was wanted without a break, the sections
--- given of these, and those that are waiting. (This project's own, over the sections of ISO/IEC 13818-1, 2.4.4.)
+-- What a demultiplexer stands for: for each PID the packets handed in since it was wanted without a
+-- break, the sections given of these, and those that are waiting. (This project's own, over the
+-- sections of ISO/IEC 13818-1, 2.4.4.)
 use Rattle.std.specs.Prelude.{◌≡◌, ◌==◌, ◌||◌, nat_lt, ℕ, Bool, true, if◌then◌else◌, List, [], ◌∷◌, ◌++◌, length, Option, MatchOption}
 use Rattle.ts_sections.specs.Sections.{sections}
 use Rattle.section_demultiplexer.specs.Channels.{AreKept, channel_on, has_channel, waiting_in}
@@ -38,7 +39,8 @@ has_room state pid = is_followed state pid || nat_lt (length state.kept) pid_lim
 abbrev pub waiting_on : DemultiplexerState → ℕ → List (List ℕ)
 waiting_on state pid = if pid == state.pid then state.waiting else []
 
--- For each PID these packets were handed in since it was wanted without a break, and these sections of them given.
+-- For each PID these packets were handed in since it was wanted without a break, and these sections
+-- of them given.
 pub record StandsFor (state : DemultiplexerState) (packets given : ℕ → List (List ℕ)) : Type 0 where
   -- the sections of the packets of a PID, in their order, are those given and then those waiting
   pub all : (pid : ℕ) → given pid ++ waiting_on state pid ≡ sections (packets pid)
@@ -73,7 +75,8 @@ pub record HasGivenAll (old new : DemultiplexerState) : Type 0 where
   pub pid : new.pid ≡ old.pid
   pub none : old.waiting ≡ []
   pub left : new.waiting ≡ []
-  pub stands : (packets given : ℕ → List (List ℕ)) → StandsFor old packets given → StandsFor new packets given
+  pub stands : (packets given : ℕ → List (List ℕ)) → StandsFor old packets given
+      → StandsFor new packets given
   pub same : (pid : ℕ) → is_followed new pid ≡ is_followed old pid
 
 abbrev pub NextSection : DemultiplexerState → DemultiplexerState → Option (List ℕ) → Type 0

@@ -3,11 +3,12 @@ use Rattle.std.specs.Prelude.{◌≡◌, ◌≤◌, ◌==◌, ℕ, Bool, true, L
 use Rattle.std.specs.List.{list_any}
 use Rattle.section_demultiplexer.specs.Demultiplexing.{DemultiplexerState, StandsFor, has_room, is_followed, pid_limit}
 
--- Where these PIDs, no more than there can be followed, are all that are wanted, and only such are followed, there is room
--- for each of them.
+-- Where these PIDs, no more than there can be followed, are all that are wanted, and only such are
+-- followed, there is room for each of them.
 abbrev pub WantedHaveRoom : Type 0
 WantedHaveRoom =
-    (state : DemultiplexerState) (packets given : ℕ → List (List ℕ)) (wanted : ℕ → Bool) (pids : List ℕ)
+    (state : DemultiplexerState) (packets given : ℕ → List (List ℕ))
+    (wanted : ℕ → Bool) (pids : List ℕ)
     → StandsFor state packets given
     → length pids ≤ pid_limit
     → ((pid : ℕ) → wanted pid ≡ true → list_any (λ p. p == pid) pids ≡ true)

@@ -18,7 +18,8 @@ use std::marker::Model;
 use ts_packets::Packet;
 use ts_sections::Assembler;
 
-/// The most PIDs whose sections are put together: those of the PAT, of the PMT, and of 16 components.
+/// The most PIDs whose sections are put together: those of the PAT, of the PMT, and of 16
+/// components.
 pub const CHANNEL_LIMIT: usize = 18;
 
 /// A PID on which packets came, with the assembler of its sections.
@@ -30,9 +31,9 @@ pub struct Channel {
 
 /// Puts the sections of each wanted PID together.
 ///
-/// Hand in a packet of such a PID by [`push`](Demultiplexer::push), and then take the sections that it completes by
-/// [`next`](Demultiplexer::next), until that answers `None`. When other PIDs are wanted, tell it by
-/// [`follow`](Demultiplexer::follow).
+/// Hand in a packet of such a PID by [`push`](Demultiplexer::push), and then take the sections that
+/// it completes by [`next`](Demultiplexer::next), until that answers `None`. When other PIDs are
+/// wanted, tell it by [`follow`](Demultiplexer::follow).
 #[derive(Drop)]
 pub struct Demultiplexer {
     channels: Vec<Channel>,
@@ -47,7 +48,11 @@ impl Model for Demultiplexer {
 
     ghost Value = { DemultiplexerState };
 
-    ghost view = { λ d. record { pid = d.pid; waiting = waiting_in (channel_on d.channels.items d.pid); kept = d.channels.items } };
+    ghost view = { λ d. record {
+      pid = d.pid;
+      waiting = waiting_in (channel_on d.channels.items d.pid);
+      kept = d.channels.items;
+    } };
 
     ghost invariant = { λ d. IsSound d.channels.items (vec_capacity d.channels) d.pid };
 }
@@ -57,9 +62,11 @@ impl Demultiplexer {
 
     /// A demultiplexer that no packet was handed to. All of its memory is taken here.
     pub fn new(alloc: Global) -> Result<Demultiplexer, NoMemory>
-        ensures stands { IfOk result (λ demultiplexer. StandsFor demultiplexer (λ pid. []) (λ pid. [])) }
+        ensures stands { IfOk result
+            (λ demultiplexer. StandsFor demultiplexer (λ pid. []) (λ pid. [])) }
         ensures drained { IfOk result (λ demultiplexer. IsDrained demultiplexer) }
-        ensures followed { IfOk result (λ demultiplexer. (pid : ℕ) → is_followed demultiplexer pid ≡ false) }
+        ensures followed { IfOk result
+            (λ demultiplexer. (pid : ℕ) → is_followed demultiplexer pid ≡ false) }
         ensures pid { IfOk result (λ demultiplexer. demultiplexer.pid ≡ 0) }
     {
         Ok(Demultiplexer {
@@ -75,7 +82,8 @@ impl Demultiplexer {
         self.pid
     }
 
-    /// Whether no section is waiting to be given, so that [`push`](Demultiplexer::push) may be called.
+    /// Whether no section is waiting to be given, so that [`push`](Demultiplexer::push) may be
+    /// called.
     pub fn is_drained(&self) -> bool
         ensures { IsTrue result ↔ IsDrained self.now }
     {
@@ -88,8 +96,9 @@ impl Demultiplexer {
         }
     }
 
-    /// Hands in the next packet of its PID, which is wanted. Takes no memory. A packet of one PID more than there is
-    /// room for is left out; where no more than 18 are wanted there is room for each (law `law_of_room`).
+    /// Hands in the next packet of its PID, which is wanted. Takes no memory. A packet of one PID
+    /// more than there is room for is left out; where no more than 18 are wanted there is room for
+    /// each (law `law_of_room`).
     pub fn push(&mut self, packet: &Packet)
         requires drained { IsDrained self.old }
         ensures pid { self.new.pid ≡ pid_of packet.now }
@@ -100,7 +109,8 @@ impl Demultiplexer {
             → (packets given : ℕ → List (List ℕ)) → StandsFor self.old packets given
             → self.new.waiting ≡ completed_by (packets (pid_of packet.now)) packet.now }
         ensures followed { has_room self.old (pid_of packet.now) ≡ true → (other : ℕ)
-            → is_followed self.new other ≡ (is_followed self.old other || (pid_of packet.now == other)) }
+            → is_followed self.new other
+            ≡ (is_followed self.old other || (pid_of packet.now == other)) }
         ensures full { has_room self.old (pid_of packet.now) ≡ false
             → self.new ≡ with_pid (pid_of packet.now) self.old }
         ensures among { (other : ℕ) → is_followed self.new other ≡ true
@@ -114,19 +124,23 @@ impl Demultiplexer {
         channel.assembler.push(packet);
     }
 
-    /// The next section that ended in the packet pushed last, or `None` where there is no further one.
+    /// The next section that ended in the packet pushed last, or `None` where there is no further
+    /// one.
     pub fn next(&mut self) -> Option<&[u8]>
-        ensures* after { sem 𝓛 (Rests the_row self.entry (λ new. NextSection self.old new (option_copied result))) }
+        ensures* after { sem 𝓛 (Rests the_row self.entry
+            (λ new. NextSection self.old new (option_copied result))) }
     {
         let place = place_of(&self.channels, self.pid)?;
         let channel = &mut self.channels[place];
         channel.assembler.next()
     }
 
-    /// Leaves the PIDs that aren't wanted any more. Those that stay wanted keep the sections that have begun.
+    /// Leaves the PIDs that aren't wanted any more. Those that stay wanted keep the sections that
+    /// have begun.
     pub fn follow(&mut self, services: &Services)
         ensures stands { (packets given : ℕ → List (List ℕ)) → StandsFor self.old packets given
-            → StandsFor self.new (of_wanted (wants services.now) packets) (of_wanted (wants services.now) given) }
+            → StandsFor self.new (of_wanted (wants services.now) packets)
+            (of_wanted (wants services.now) given) }
         ensures waiting { self.new.waiting
             ≡ (if wants services.now self.old.pid then self.old.waiting else []) }
         ensures followed { (pid : ℕ)
@@ -151,13 +165,15 @@ impl Channel {
     }
 }
 
-/// The place of the channel on that PID, which is made where there is none. `None` where there are too many.
+/// The place of the channel on that PID, which is made where there is none. `None` where there are
+/// too many.
 fn place_for(channels: &mut Vec<Channel>, pid: u16) -> Option<usize>
     requires { CHANNEL_LIMIT ≤ vec_capacity channels.old }
     ensures room { is_some result ≡ can_have channels.old.items pid }
     ensures place { position (is_on pid) channels.new.items ≡ result }
     ensures followed { OnSome result ((other : ℕ)
-        → has_channel channels.new.items other ≡ (has_channel channels.old.items other || (pid == other))) }
+        → has_channel channels.new.items other
+        ≡ (has_channel channels.old.items other || (pid == other))) }
     ensures same { is_some result ≡ false → channels.new.items ≡ channels.old.items }
     ensures continues { (other : ℕ)
         → Continues (channel_on channels.old.items other) (channel_on channels.new.items other) }

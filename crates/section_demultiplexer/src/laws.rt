@@ -2,7 +2,8 @@
 
 ghost use Rattle.section_demultiplexer.specs.Laws.{SameLists, WantedHaveRoom};
 
-/// Where no more than 18 PIDs are wanted, and only such are followed, there is room for each that is wanted.
+/// Where no more than 18 PIDs are wanted, and only such are followed, there is room for each that
+/// is wanted.
 pub fn law_of_room()
     ensures { WantedHaveRoom }
 {}

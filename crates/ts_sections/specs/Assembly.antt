@@ -1,5 +1,5 @@
--- What an assembler stands for: the packets handed in, the sections given, and those that are waiting. The sections of
--- packets are those of `Sections`. (This project's own.)
+-- What an assembler stands for: the packets handed in, the sections given, and those that are
+-- waiting. The sections of packets are those of `Sections`. (This project's own.)
 use Rattle.std.specs.Prelude.{◌≡◌, ℕ, List, [], ◌∷◌, ◌++◌, Option, MatchOption}
 use Rattle.ts_sections.specs.Sections.{sections}
 use Rattle.ts_sections.specs.Ahead.{Kept, sections_ahead}
@@ -20,7 +20,8 @@ pub record StandsFor (state : AssemblerState) (packets given : List (List ℕ)) 
   -- the sections of the packets, in their order, are those given and then those waiting
   pub all : given ++ state.waiting ≡ sections packets
   -- what is kept tells the sections ahead, whatever packets come behind (a device of the proofs)
-  pub ahead : (behind : List (List ℕ)) → sections (packets ++ behind) ≡ given ++ sections_ahead state.kept behind
+  pub ahead : (behind : List (List ℕ))
+      → sections (packets ++ behind) ≡ given ++ sections_ahead state.kept behind
 
 -- ---- one call of `next`
 
@@ -34,7 +35,8 @@ pub record GivesNext (old new : AssemblerState) (section : List ℕ) : Type 0 wh
 pub record HasGivenAll (old new : AssemblerState) : Type 0 where
   pub none : old.waiting ≡ []
   pub left : new.waiting ≡ []
-  pub stands : (packets given : List (List ℕ)) → StandsFor old packets given → StandsFor new packets given
+  pub stands : (packets given : List (List ℕ)) → StandsFor old packets given
+      → StandsFor new packets given
   pub all : (packets given : List (List ℕ)) → StandsFor old packets given → given ≡ sections packets
 
 abbrev pub NextSection : AssemblerState → AssemblerState → Option (List ℕ) → Type 0

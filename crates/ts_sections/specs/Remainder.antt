@@ -11,13 +11,16 @@ use Rattle.ts_sections.specs.declared.remainder.Found.TheVariants.{Gathered, InP
 -- the packet's bytes from a place on, with a mark before one of them
 abbrev pub tokens_from : List ℕ → ℕ → Option ℕ → List Token
 tokens_from packet place None = map Byte (drop place packet)
-tokens_from packet place (Some mark) = map Byte (slice_range packet place mark) ++ Mark ∷ map Byte (drop mark packet)
+tokens_from packet place (Some mark) =
+    map Byte (slice_range packet place mark) ++ Mark ∷ map Byte (drop mark packet)
 
 abbrev pub tokens_of : List ℕ → Remainder → List Token
 tokens_of packet rest = tokens_from packet rest.place rest.mark
 
 abbrev pub IsWithin : List ℕ → Remainder → Type 0
-IsWithin packet rest = (rest.place ≤ length packet) × IfSome rest.mark (λ mark. (rest.place ≤ mark) × (mark ≤ length packet))
+IsWithin packet rest =
+    (rest.place ≤ length packet)
+    × IfSome rest.mark (λ mark. (rest.place ≤ mark) × (mark ≤ length packet))
 
 -- what is pending of the packet that was read last, if one was
 abbrev pub pending_of : Option (List ℕ) → Remainder → List Token
@@ -72,21 +75,30 @@ pub record Passes (packet : List ℕ) (old new : Remainder) (piece piece' : Piec
   pub mark : new.mark ≡ old.mark
   pub ended : sections_of_open piece'.known [] ≡ []
   pub passed : MatchOption old.mark (tokens_of packet new ≡ []) (λ mark. new.place ≡ mark)
-  pub ahead : (behind : Tokens) → sections_from piece.known (in_front true (tokens_of packet old) behind) ≡ sections_from piece'.known (in_front true (tokens_of packet new) behind)
+  pub ahead : (behind : Tokens)
+      → sections_from piece.known (in_front true (tokens_of packet old) behind)
+      ≡ sections_from piece'.known (in_front true (tokens_of packet new) behind)
 
 -- the section that was found is the first of those ahead
-pub record Finds (packet : List ℕ) (old new : Remainder) (piece piece' : PieceState) (found : Found) : Type 0 where
+pub record Finds (packet : List ℕ) (old new : Remainder) (piece piece' : PieceState) (found : Found)
+    : Type 0 where
   pub place : IsFoundIn packet found
-  pub ahead : (behind : Tokens) → sections_from piece.known (in_front true (tokens_of packet old) behind) ≡ section_of packet piece'.gathered found ∷ sections_from piece'.known (in_front true (tokens_of packet new) behind)
+  pub ahead : (behind : Tokens)
+      → sections_from piece.known (in_front true (tokens_of packet old) behind)
+      ≡ section_of packet piece'.gathered found
+      ∷ sections_from piece'.known (in_front true (tokens_of packet new) behind)
 
 -- all is taken in, and no section ended in it
 pub record Drains (packet : List ℕ) (old new : Remainder) (piece piece' : PieceState) : Type 0 where
   pub drained : tokens_of packet new ≡ []
   pub ended : sections_of_open piece'.known [] ≡ []
-  pub ahead : (behind : Tokens) → sections_from piece.known (in_front true (tokens_of packet old) behind) ≡ sections_from piece'.known behind
+  pub ahead : (behind : Tokens)
+      → sections_from piece.known (in_front true (tokens_of packet old) behind)
+      ≡ sections_from piece'.known behind
 
 -- all of the packet that was read last is taken in, and no section ended in it
-pub record Finishes (before : Option (List ℕ)) (old new : Remainder) (piece piece' : PieceState) : Type 0 where
+pub record Finishes (before : Option (List ℕ)) (old new : Remainder) (piece piece' : PieceState)
+    : Type 0 where
   pub taken : pending_of before new ≡ []
   pub ended : sections_of_open piece'.known [] ≡ []
   pub gives : HasGivenAll (state_of before old piece) (state_of before new piece')

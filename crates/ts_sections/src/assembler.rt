@@ -62,8 +62,8 @@ impl Assembler {
         }
     }
 
-    /// Hands in the next packet of the PID, in the stream's order. Packets of other PIDs are the caller's to
-    /// leave out.
+    /// Hands in the next packet of the PID, in the stream's order. Packets of other PIDs are the
+    /// caller's to leave out.
     pub fn push(&mut self, packet: &Packet)
         requires drained { IsDrained self.old }
         ensures stands { (packets given : List (List ℕ)) → StandsFor self.old packets given
@@ -85,9 +85,11 @@ impl Assembler {
         self.last = Some(*packet);
     }
 
-    /// The next section that ended in the packet pushed last, or `None` where there is no further one.
+    /// The next section that ended in the packet pushed last, or `None` where there is no further
+    /// one.
     pub fn next(&mut self) -> Option<&[u8]>
-        ensures* after { sem 𝓛 (Rests the_row self.entry (λ new. NextSection self.old new (option_copied result))) }
+        ensures* after { sem 𝓛 (Rests the_row self.entry
+            (λ new. NextSection self.old new (option_copied result))) }
     {
         let found = advance(&self.last, &mut self.rest, &mut self.piece);
         let assembler: &Assembler = self;
@@ -98,13 +100,16 @@ impl Assembler {
     }
 }
 
-/// Takes in bytes of the packet that was read last, up to the end of the next section that ends in it.
+/// Takes in bytes of the packet that was read last, up to the end of the next section that ends in
+/// it.
 fn advance(last: &Option<Packet>, rest: &mut Remainder, piece: &mut Piece) -> Option<Found>
     requires remainder { IsRemainder last.now rest.old piece.old }
     ensures remainder { IsRemainder last.now rest.new piece.new }
     ensures found { MatchOption result
         (Finishes last.now rest.old rest.new piece.old piece.new)
-        (λ found. GivesNext (state_of last.now rest.old piece.old) (state_of last.now rest.new piece.new)
+        (λ found. GivesNext
+        (state_of last.now rest.old piece.old)
+        (state_of last.now rest.new piece.new)
         (section_of (last_bytes last.now) piece.new.gathered found)) }
     ensures place { IfSome result (IsFoundIn (last_bytes last.now)) }
 {

@@ -1,4 +1,5 @@
-//! The piece that is being read: what stands between a mark and the next, and the section in the making.
+//! The piece that is being read: what stands between a mark and the next, and the section in the
+//! making.
 ghost use Rattle.std.specs.Prelude.{◌≡◌, ◌≢◌, ℕ, ◌+◌, ◌-◌, ◌*◌, ◌%◌, ◌<◌, ◌≤◌, true, false, List, [], ◌∷◌, ◌++◌, length, take, min, slice_index, Some, None, IsTrue, ◌↔◌};
 ghost use Rattle.ts_sections.specs.Sections.{section_size, begins_whole};
 ghost use Rattle.ts_sections.specs.Ahead.{sections_of_open};
@@ -7,7 +8,8 @@ ghost use Rattle.ts_sections.specs.Piece.{IsPart, Takes, ends_in};
 use arrayvec::ArrayVec;
 use std::marker::Model;
 
-/// Stands where a table_id would: what comes up to the next mark is stuffing (ISO/IEC 13818-1, 2.4.4).
+/// Stands where a table_id would: what comes up to the next mark is stuffing (ISO/IEC 13818-1,
+/// 2.4.4).
 const STUFFING: u8 = 0xFF;
 
 /// The bytes of a section up to the end of its section_length (ISO/IEC 13818-1, 2.4.4.11).
@@ -50,7 +52,10 @@ impl Model for Piece {
 
     ghost Value = { PieceState };
 
-    ghost view = { λ p. record { known = known_of p.stage p.buffer.items; gathered = p.buffer.items } };
+    ghost view = { λ p. record {
+      known = known_of p.stage p.buffer.items;
+      gathered = p.buffer.items;
+    } };
 
     ghost invariant = { λ p. IsSound p.stage p.buffer.items };
 }
@@ -204,14 +209,17 @@ fn size_in(high: u8, low: u8) -> usize
     HEADER_LENGTH + (high as usize % 16 * 256 + low as usize)
 }
 
-/// Appends to the first bytes of a section those that follow, up to its end, and says how many they are.
+/// Appends to the first bytes of a section those that follow, up to its end, and says how many they
+/// are.
 fn gather(buffer: &mut ArrayVec<u8, SECTION_LIMIT>, bytes: &[u8]) -> usize
     requires part { IsPart buffer.old.items }
     requires begun { 0 < length buffer.old.items }
     ensures within { result ≤ length bytes.now }
     ensures items { buffer.new.items ≡ buffer.old.items ++ take result bytes.now }
-    ensures whole { begins_whole buffer.new.items ≡ true → section_size buffer.new.items ≡ length buffer.new.items }
-    ensures part { begins_whole buffer.new.items ≡ false → (result ≡ length bytes.now) × IsPart buffer.new.items }
+    ensures whole { begins_whole buffer.new.items ≡ true
+        → section_size buffer.new.items ≡ length buffer.new.items }
+    ensures part { begins_whole buffer.new.items ≡ false
+        → (result ≡ length bytes.now) × IsPart buffer.new.items }
 {
     let header = fill(buffer, HEADER_LENGTH, bytes);
     if buffer.len() < HEADER_LENGTH {

@@ -40,7 +40,8 @@ impl Remainder {
         }
     }
 
-    /// What a payload that begins at `place` with a pointer field carries (ISO/IEC 13818-1, 2.4.4.1).
+    /// What a payload that begins at `place` with a pointer field carries (ISO/IEC 13818-1,
+    /// 2.4.4.1).
     fn of_unit(packet: &[u8], place: usize) -> Remainder
         requires within { place < length packet.now }
         ensures tokens { tokens_of packet.now result ≡ marked (drop place packet.now) }
@@ -84,7 +85,9 @@ impl Remainder {
     pub fn next_section(&mut self, packet: &[u8], piece: &mut Piece) -> Option<Found>
         requires within { IsWithin packet.now self.old }
         ensures within { IsWithin packet.now self.new }
-        ensures found { MatchOption result (Drains packet.now self.old self.new piece.old piece.new) (Finds packet.now self.old self.new piece.old piece.new) }
+        ensures found { MatchOption result
+            (Drains packet.now self.old self.new piece.old piece.new)
+            (Finds packet.now self.old self.new piece.old piece.new) }
     {
         match self.next_in_piece(packet, piece) {
             Some(found) => Some(found),
@@ -102,7 +105,9 @@ impl Remainder {
     fn next_in_piece(&mut self, packet: &[u8], piece: &mut Piece) -> Option<Found>
         requires within { IsWithin packet.now self.old }
         ensures within { IsWithin packet.now self.new }
-        ensures found { MatchOption result (Passes packet.now self.old self.new piece.old piece.new) (Finds packet.now self.old self.new piece.old piece.new) }
+        ensures found { MatchOption result
+            (Passes packet.now self.old self.new piece.old piece.new)
+            (Finds packet.now self.old self.new piece.old piece.new) }
     {
         let start = self.place;
         let end = self.mark.unwrap_or(packet.len());
