@@ -12,3 +12,6 @@ mod laws;
 
 pub use crate::demultiplexer::{CHANNEL_LIMIT, Demultiplexer};
 pub use crate::laws::{law_of_room, law_of_same_lists};
+
+#[cfg(test)]
+mod tests;
