@@ -10,7 +10,6 @@ use Rattle.std.proofs.lemmas.List.Quantifiers.{position-Some}
 use Rattle.std.proofs.lemmas.List.{length-take}
 use Rattle.std.proofs.lemmas.List.Elements.{filter-append}
 use Rattle.std.proofs.lemmas.Option.{slice_get_past, slice_get-get_or}
-use Rattle.ts_sections.specs.Sections.{sections}
 use Rattle.ts_sections.specs.Assembly.{AssemblerState}
 use Rattle.ts_sections.specs.Assembly as assembly
 use Rattle.section_demultiplexer.specs.declared.demultiplexer.Channel.{Channel}

@@ -1,14 +1,13 @@
 -- What a demultiplexer stands for, by what it keeps.
-use Rattle.std.proofs.Common.{◌≡◌, ◌≢◌, ◌≤◌, ℕ, Bool, true, false, eqb, List, [], ◌∷◌, ◌++◌, refl, sym, ap, ◌∙◌, subst, filter, ⊎_elim}
-use Rattle.std.specs.Prelude.{Option, Some, None, is_some, if◌then◌else◌}
-use Rattle.std.specs.List.{list_any}
-use Rattle.std.proofs.lemmas.Bool.{eqb-true, ne_eqb, eq-eqb, cases_eq}
+use Rattle.std.proofs.Common.{◌≡◌, ◌≢◌, ℕ, Bool, List, [], ◌∷◌, ◌++◌, refl, sym, ap, ◌∙◌, subst, filter, ⊎_elim}
+use Rattle.std.specs.Prelude.{Option, Some, None, is_some}
+use Rattle.std.proofs.lemmas.Bool.{ne_eqb, eq-eqb, cases_eq}
 use Rattle.ts_sections.specs.Sections.{sections, completed_by}
 use Rattle.ts_sections.specs.Assembly.{AssemblerState}
 use Rattle.ts_sections.specs.Assembly as assembly
 use Rattle.section_demultiplexer.specs.declared.demultiplexer.Channel.{Channel}
-use Rattle.section_demultiplexer.specs.Channels.{AreDistinct, AreKept, Continues, StandsIn, channel_on, has_channel, waiting_in}
-use Rattle.section_demultiplexer.specs.Demultiplexing.{DemultiplexerState, GivesNext, HasGivenAll, NextSection, StandsFor, is_followed, of_wanted, pid_limit, waiting_on, with_next}
+use Rattle.section_demultiplexer.specs.Channels.{AreDistinct, AreKept, Continues, StandsIn, channel_on, waiting_in}
+use Rattle.section_demultiplexer.specs.Demultiplexing.{DemultiplexerState, GivesNext, HasGivenAll, NextSection, StandsFor, of_wanted, waiting_on, with_next}
 use Rattle.section_demultiplexer.specs.Laws.{SameLists, WantedHaveRoom}
 use Rattle.section_demultiplexer.proofs.ChannelLaws.{IsWritten, can_have_wanted, distinct_kept, kept_none, kept_stands}
 

@@ -3,7 +3,7 @@
 -- sections of ISO/IEC 13818-1, 2.4.4.)
 use Rattle.std.specs.Prelude.{◌≡◌, ◌==◌, ◌||◌, nat_lt, ℕ, Bool, true, if◌then◌else◌, List, [], ◌∷◌, ◌++◌, length, Option, MatchOption}
 use Rattle.ts_sections.specs.Sections.{sections}
-use Rattle.section_demultiplexer.specs.Channels.{AreKept, channel_on, has_channel, waiting_in}
+use Rattle.section_demultiplexer.specs.Channels.{AreKept, has_channel}
 use Rattle.section_demultiplexer.specs.declared.demultiplexer.Channel.{Channel}
 
 -- a demultiplexer, as its callers see it

@@ -2,9 +2,8 @@
 use Rattle.std.proofs.Common.{◌≡◌, ℕ, Bool, true, false, not, ◌&&◌, List, [], ◌∷◌, ◌++◌, length, drop, map, refl, sym, ap, ◌∙◌, append_assoc, append-nil, Option, Some, None}
 use Rattle.std.specs.Prelude.{slice_range}
 use Rattle.std.proofs.Math.Seq.{drop-append_seam}
-use Rattle.std.proofs.lemmas.Bool.{false≢true}
 use Rattle.ts_packets.specs.Packet.{is_readable}
-use Rattle.ts_sections.specs.Sections.{Token, Byte, Mark, tokens_of_packet, begins_whole, sections_of_piece, sections, completed_by}
+use Rattle.ts_sections.specs.Sections.{Byte, Mark, tokens_of_packet, begins_whole, sections_of_piece, sections, completed_by}
 use Rattle.ts_sections.specs.Ahead.{Kept, Tokens, in_front, is_repeated, goes_on, tokens_behind, sections_of_open, sections_from, sections_ahead}
 use Rattle.ts_sections.specs.Assembly.{AssemblerState, StandsFor}
 use Rattle.ts_sections.specs.Piece.{ends_in}

@@ -1,7 +1,7 @@
-use Rattle.std.proofs.Common.{◌≡◌, ◌≤◌, ℕ, Bool, true, false, List, length, refl, sym, ap, ◌∙◌, arith}
+use Rattle.std.proofs.Common.{◌≡◌, ℕ, List, sym, ap, ◌∙◌, arith}
 use Rattle.std.specs.Prelude.{Option, Some, None, position}
 use Rattle.section_demultiplexer.specs.declared.demultiplexer.Channel.{Channel}
-use Rattle.section_demultiplexer.specs.Channels.{can_have, is_on}
+use Rattle.section_demultiplexer.specs.Channels.{is_on}
 use Rattle.section_demultiplexer.proofs.ChannelLaws.{continues_with, continues_fresh, has_with, distinct_with, position_with, place_found, has_place, no_place, place_left}
 use Rattle.section_demultiplexer.proofs.demultiplexer.place_for.Goals as goal
 

@@ -1,12 +1,11 @@
-use Rattle.std.proofs.Common.{◌≡◌, ℕ, List, [], ap, sym, subst, ◌∙◌, filter, rules}
+use Rattle.std.proofs.Common.{◌≡◌, [], ap, sym, subst, ◌∙◌, filter, rules}
 use Rattle.std.specs.Prelude.{if◌then◌else◌, ◌&&◌}
 use Rattle.std.proofs.lemmas.Fn.{filter_same}
 use Rattle.psi_tables.specs.Service.{wants}
 use Rattle.section_demultiplexer.specs.declared.demultiplexer.Channel.{Channel}
-use Rattle.section_demultiplexer.specs.Channels.{IsSound}
 use Rattle.section_demultiplexer.specs.Demultiplexing.{DemultiplexerState, StandsFor, is_followed}
 use Rattle.section_demultiplexer.proofs.ChannelLaws.{distinct_kept, kept_channels, kept_none, kept_waiting}
-use Rattle.section_demultiplexer.proofs.StandingLaws.{followed_stands, state_of}
+use Rattle.section_demultiplexer.proofs.StandingLaws.{followed_stands}
 use Rattle.section_demultiplexer.proofs.demultiplexer.Demultiplexer.follow.Goals as goal
 
 kept : (c : goal.After-retain) → c.retain.new.self.items ≡ filter (λ (channel : Channel). wants c.args.services.now channel.pid) c.self.inside.channels.items

@@ -1,4 +1,4 @@
-use Rattle.std.proofs.Common.{◌≡◌, ℕ, List, [], true, refl, ap, sym, ◌∙◌}
+use Rattle.std.proofs.Common.{◌≡◌, ℕ, List, refl, ap, sym, ◌∙◌}
 use Rattle.std.specs.Prelude.{Option, Some, None, position}
 use Rattle.section_demultiplexer.specs.declared.demultiplexer.Channel.{Channel}
 use Rattle.section_demultiplexer.specs.Channels.{channel_on, is_on, waiting_in}

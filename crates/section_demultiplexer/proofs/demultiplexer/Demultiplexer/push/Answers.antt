@@ -1,7 +1,6 @@
-use Rattle.std.proofs.Common.{◌≡◌, ◌≢◌, ℕ, Bool, true, List, [], ap, sym, subst, ◌∙◌, get_or, set}
+use Rattle.std.proofs.Common.{◌≡◌, ◌≢◌, ℕ, List, [], ap, sym, subst, ◌∙◌, get_or, set}
 use Rattle.std.specs.Prelude.{Option, Some, position, ◌||◌, ◌==◌}
 use Rattle.ts_packets.specs.Packet.{pid_of}
-use Rattle.ts_sections.specs.Sections.{completed_by}
 use Rattle.ts_sections.specs.Assembly.{AssemblerState}
 use Rattle.section_demultiplexer.specs.declared.demultiplexer.Channel.{Channel}
 use Rattle.section_demultiplexer.specs.Channels.{channel_on, is_on, waiting_in}
