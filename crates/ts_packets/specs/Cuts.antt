@@ -1,4 +1,4 @@
--- What the answers of a cutter give.
+-- What the answers of a cutter give. (This project's own.)
 use Rattle.std.specs.Prelude.{ℕ, List, [], ◌∷◌, ◌++◌}
 use Rattle.ts_packets.specs.declared.cutter.Cut.{Cut}
 use Rattle.ts_packets.specs.declared.cutter.Cut.TheVariants.{Packet, NeedMore, End}

@@ -47,9 +47,10 @@ counter_of packet = bits_of (slice_index packet 3) 0 4
 abbrev pub adaptation_length_of : List ℕ → ℕ
 adaptation_length_of packet = slice_index packet 4
 
--- the payload (2.4.3.3, data_byte): everything behind the four bytes of the header and the adaptation field.
--- There is none where the control says so, and, this project's reading, none where the adaptation field
--- leaves no byte or passes the packet's end: where both are there, its length is 0 to 182 (2.4.3.5).
+-- the payload (2.4.3.3, data_byte): everything behind the four bytes of the header and the
+-- adaptation field. There is none where the control says so, and, this project's reading, none
+-- where the adaptation field leaves no byte or passes the packet's end: where both are there, its
+-- length is 0 to 182 (2.4.3.5).
 abbrev pub payload_of : List ℕ → Option (List ℕ)
 payload_of packet =
     if adaptation_control_of packet == 1
@@ -58,6 +59,8 @@ payload_of packet =
     then Some (drop (5 + adaptation_length_of packet) packet)
     else None)
 
--- the packet says something: no error, not scrambled, and a payload, which then has at least one byte
+-- the packet says something: no error, not scrambled, and a payload, which then has at least one
+-- byte
 abbrev pub is_readable : List ℕ → Bool
-is_readable packet = not (has_error packet) && (not (is_scrambled packet) && is_some (payload_of packet))
+is_readable packet =
+    not (has_error packet) && (not (is_scrambled packet) && is_some (payload_of packet))

@@ -28,7 +28,8 @@ pub(crate) fn put(bytes: &mut [u8], place: usize, more: &[u8])
 /// The least place of what is held where a packet stands whatever follows.
 pub(crate) fn first_certain(held: &[u8], ended: bool) -> Option<usize>
     ensures found { IfSome result (IsFirstCertain (record { held = held.now; ended = ended })) }
-    ensures none { IsNone result → (place : ℕ) → ¬ (IsCertainAt (record { held = held.now; ended = ended }) place) }
+    ensures none { IsNone result
+        → (place : ℕ) → ¬ (IsCertainAt (record { held = held.now; ended = ended }) place) }
 {
     for place in 0..held.len().saturating_sub(PACKET_LENGTH) {
         if held[place] == SYNC_BYTE && held[place + PACKET_LENGTH] == SYNC_BYTE {
@@ -40,8 +41,10 @@ pub(crate) fn first_certain(held: &[u8], ended: bool) -> Option<usize>
 
 /// The place 188 bytes before the end, where the sync byte stands there.
 fn last_place(held: &[u8]) -> Option<usize>
-    ensures found { IfSome result (λ place. (length held.now ≡ place + 188) × (slice_index held.now place ≡ sync_byte)) }
-    ensures none { IsNone result → (place : ℕ) → length held.now ≡ place + 188 → slice_index held.now place ≢ sync_byte }
+    ensures found { IfSome result (λ place.
+        (length held.now ≡ place + 188) × (slice_index held.now place ≡ sync_byte)) }
+    ensures none { IsNone result
+        → (place : ℕ) → length held.now ≡ place + 188 → slice_index held.now place ≢ sync_byte }
 {
     if held.len() < PACKET_LENGTH {
         return None;

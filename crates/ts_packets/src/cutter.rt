@@ -35,8 +35,8 @@ pub enum Ahead {
 
 /// Cuts a stream that comes in pieces into packets. It holds up to 4,096 bytes in itself.
 ///
-/// A packet stands where the sync byte is, and again 188 bytes on, or the stream ends there; so a packet
-/// is given only once the byte behind it, or the end, is known.
+/// A packet stands where the sync byte is, and again 188 bytes on, or the stream ends there; so a
+/// packet is given only once the byte behind it, or the end, is known.
 #[derive(Drop)]
 pub struct Cutter {
     buffer: [u8; CAPACITY],
@@ -51,7 +51,10 @@ impl Model for Cutter {
 
     ghost Value = { CutterState };
 
-    ghost view = { λ c. record { held = take (c.end - c.start) (drop c.start c.buffer); ended = c.ended } };
+    ghost view = { λ c. record {
+      held = take (c.end - c.start) (drop c.start c.buffer);
+      ended = c.ended;
+    } };
 
     ghost invariant = { λ c. (c.start ≤ c.end) × (c.end ≤ 4096) };
 }
@@ -89,15 +92,16 @@ impl Cutter {
     }
 
     /// Takes as many of the bytes as there is room for, from the front, and answers their number.
-    /// After [`Cut::NeedMore`] there is room for 3,908 bytes and more. What is held is moved at most
-    /// once in a call, so feed pieces of many packets, and take all packets between two calls.
+    /// After [`Cut::NeedMore`] there is room for 3,908 bytes and more. What is held is moved at
+    /// most once in a call, so feed pieces of many packets, and take all packets between two calls.
     pub fn feed(&mut self, bytes: &[u8]) -> usize
         requires open_end { self.old.ended ≡ false }
         ensures count { result ≡ min (length bytes.now) (capacity - length self.old.held) }
         ensures held { self.new.held ≡ self.old.held ++ take result bytes.now }
         ensures ended { self.new.ended ≡ self.old.ended }
         ensures nothing { (result ≡ 0) ↔ ((length self.old.held ≡ capacity) ⊎ (bytes.now ≡ [])) }
-        ensures stands { (stream : List ℕ) (given : List (List ℕ)) → StandsFor self.old stream given → StandsFor self.new (stream ++ take result bytes.now) given }
+        ensures stands { (stream : List ℕ) (given : List (List ℕ)) → StandsFor self.old stream given
+            → StandsFor self.new (stream ++ take result bytes.now) given }
     {
         let count = bytes.len().min(CAPACITY - self.held_len());
         if self.end + count > CAPACITY {
@@ -115,7 +119,8 @@ impl Cutter {
     pub fn finish(&mut self)
         ensures held { self.new.held ≡ self.old.held }
         ensures ended { self.new.ended ≡ true }
-        ensures stands { (stream : List ℕ) (given : List (List ℕ)) → StandsFor self.old stream given → StandsFor self.new stream given }
+        ensures stands { (stream : List ℕ) (given : List (List ℕ)) → StandsFor self.old stream given
+            → StandsFor self.new stream given }
     {
         self.ended = true;
     }
@@ -124,7 +129,8 @@ impl Cutter {
     pub fn next(&mut self) -> Cut
         ensures gives { Gives self.old (packets_in result) self.new }
         ensures drops { DropsFront self.old self.new }
-        ensures stands { (stream : List ℕ) (given : List (List ℕ)) → StandsFor self.old stream given → StandsFor self.new stream (with_cut given result) }
+        ensures stands { (stream : List ℕ) (given : List (List ℕ)) → StandsFor self.old stream given
+            → StandsFor self.new stream (with_cut given result) }
 
         ensures packet { IsPacketCut result ↔ HoldsPacket self.old }
         ensures need_more { (result ≡ Cut.NeedMore) ↔ IsWaiting self.old }
@@ -133,7 +139,8 @@ impl Cutter {
         ensures takes { IsPacketCut result → length self.new.held + 188 ≤ length self.old.held }
         ensures room { result ≡ Cut.NeedMore → length self.new.held ≤ 188 }
         ensures empty { result ≡ Cut.End → self.new.held ≡ [] }
-        ensures whole { result ≡ Cut.End → (stream : List ℕ) (given : List (List ℕ)) → StandsFor self.old stream given → packets_of stream ≡ given }
+        ensures whole { result ≡ Cut.End → (stream : List ℕ) (given : List (List ℕ))
+            → StandsFor self.old stream given → packets_of stream ≡ given }
     {
         match self.seek() {
             Ahead::Packet => Cut::Packet(self.take_packet()),
@@ -148,7 +155,8 @@ impl Cutter {
     pub fn seek(&mut self) -> Ahead
         ensures gives { Gives self.old [] self.new }
         ensures drops { DropsFront self.old self.new }
-        ensures stands { (stream : List ℕ) (given : List (List ℕ)) → StandsFor self.old stream given → StandsFor self.new stream given }
+        ensures stands { (stream : List ℕ) (given : List (List ℕ)) → StandsFor self.old stream given
+            → StandsFor self.new stream given }
 
         ensures packet { (result ≡ Ahead.Packet) ↔ HoldsPacket self.old }
         ensures need_more { (result ≡ Ahead.NeedMore) ↔ IsWaiting self.old }
@@ -190,7 +198,8 @@ impl Cutter {
         ensures shorter { length self.new.held + 188 ≡ length self.old.held }
         ensures ended { self.new.ended ≡ self.old.ended }
         ensures gives { Gives self.old (result ∷ []) self.new }
-        ensures stands { (stream : List ℕ) (given : List (List ℕ)) → StandsFor self.old stream given → StandsFor self.new stream (given ++ result ∷ []) }
+        ensures stands { (stream : List ℕ) (given : List (List ℕ)) → StandsFor self.old stream given
+            → StandsFor self.new stream (given ++ result ∷ []) }
     {
         let packet = Packet::from_bytes(&self.buffer[self.start..self.start + PACKET_LENGTH]);
         self.start += PACKET_LENGTH;
@@ -204,7 +213,8 @@ impl Cutter {
         ensures shorter { length self.new.held + 188 ≡ length self.old.held }
         ensures ended { self.new.ended ≡ self.old.ended }
         ensures gives { Gives self.old (take 188 self.old.held ∷ []) self.new }
-        ensures stands { (stream : List ℕ) (given : List (List ℕ)) → StandsFor self.old stream given → StandsFor self.new stream (given ++ take 188 self.old.held ∷ []) }
+        ensures stands { (stream : List ℕ) (given : List (List ℕ)) → StandsFor self.old stream given
+            → StandsFor self.new stream (given ++ take 188 self.old.held ∷ []) }
     {
         self.start += PACKET_LENGTH;
     }

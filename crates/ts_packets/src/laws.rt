@@ -12,7 +12,8 @@ pub fn packets_are_computed()
 
 /// It gives the only ones: bytes have one list of packets.
 pub fn packets_are_unique()
-    ensures { (bytes : List ℕ) (packets : List (List ℕ)) → ArePackets bytes packets → packets ≡ packets_of bytes }
+    ensures { (bytes : List ℕ) (packets : List (List ℕ))
+        → ArePackets bytes packets → packets ≡ packets_of bytes }
 {}
 
 /// Each of them is a packet, and together they are no longer than the bytes.
@@ -23,10 +24,13 @@ pub fn packets_fit()
 
 /// Packets laid end to end, as ISO/IEC 13818-1 wants a stream, are cut into just these packets.
 pub fn packets_laid_end_to_end()
-    ensures { (packets : List (List ℕ)) → All IsPacket packets → packets_of (flat_map (λ packet. packet) packets) ≡ packets }
+    ensures { (packets : List (List ℕ))
+        → All IsPacket packets → packets_of (flat_map (λ packet. packet) packets) ≡ packets }
 {}
 
 /// A packet is certain where it stands whatever follows, and only there.
 pub fn certain_whatever_follows()
-    ensures { (state : CutterState) (place : ℕ) → IsCertainAt state place ↔ ((more : List ℕ) → MayFollow state more → StandsAt (state.held ++ more) place) }
+    ensures { (state : CutterState) (place : ℕ)
+        → IsCertainAt state place
+        ↔ ((more : List ℕ) → MayFollow state more → StandsAt (state.held ++ more) place) }
 {}

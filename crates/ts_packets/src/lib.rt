@@ -1,8 +1,8 @@
 //! Packets of an MPEG-2 transport stream (ISO/IEC 13818-1, 2.4.3).
 //!
-//! [`Cutter`] cuts a stream that comes in pieces of any size into its packets, and gives exactly those of
-//! the whole stream, whatever follows a piece. [`Packet`] is one of them, with the fields of its header.
-//! Nothing here takes memory.
+//! [`Cutter`] cuts a stream that comes in pieces of any size into its packets, and gives exactly
+//! those of the whole stream, whatever follows a piece. [`Packet`] is one of them, with the fields
+//! of its header. Nothing here takes memory.
 #![tactic(auto)]
 
 mod buffer;

@@ -63,7 +63,8 @@ impl Packet {
         self.bytes[1] & 0x80 != 0
     }
 
-    /// Whether a unit of the payload, as a section, starts in this packet (payload_unit_start_indicator).
+    /// Whether a unit of the payload, as a section, starts in this packet
+    /// (payload_unit_start_indicator).
     pub fn starts_unit(&self) -> bool
         ensures { result ≡ starts_unit self.now }
     {
@@ -85,11 +86,12 @@ impl Packet {
         self.bytes[3] & 0x0F
     }
 
-    /// The payload, at least one byte; `None` where the header says that there is none, and where the
-    /// adaptation field leaves no byte or passes the packet's end.
+    /// The payload, at least one byte; `None` where the header says that there is none, and where
+    /// the adaptation field leaves no byte or passes the packet's end.
     pub fn payload(&self) -> Option<&[u8]>
         ensures payload { option_copied result ≡ payload_of self.now }
-        ensures size { IfSome result (λ payload. (1 ≤ length payload.now) × (length payload.now ≤ 184)) }
+        ensures size { IfSome result
+            (λ payload. (1 ≤ length payload.now) × (length payload.now ≤ 184)) }
     {
         match (self.bytes[3] >> 4) & 0x03 {
             1 => Some(&self.bytes[4..]),

@@ -91,7 +91,8 @@ fn finds_the_packets(rt: HostRuntime) -> Result<(), Fail> {
             &[1],
         ),
         ("sync bytes alone", &[Fill(0x47, 565)], &[0x47, 0x47, 0x47]),
-        // 188 bytes after the first sync byte stands the last byte of the packet behind it, a sync byte too
+        // 188 bytes after the first sync byte stands the last byte of the packet behind it, a sync
+        // byte too
         (
             "a packet of sync bytes, found one byte early",
             &[Fill(0x47, 1), Whole(0x47), Whole(5)],
