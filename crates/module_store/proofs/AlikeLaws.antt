@@ -12,11 +12,10 @@ use Rattle.carousel_blocks.specs.InForce.{in_force, standing_of}
 use Rattle.carousel_blocks.specs.Held.{held}
 use Rattle.carousel_blocks.specs.Carousel as of_carousel
 use Rattle.multipart_entities.specs.declared.paths.Path.{Path}
-use Rattle.module_store.specs.declared.slot.Slot.{Slot}
 use Rattle.module_store.specs.Store.{Followed, Stored, component_in, messages_of_component, with_section, fed, changes_by, messages_on, messages_kept, followed_from, with_map}
 use Rattle.module_store.specs.Resources.{LooksAlike, look_by, look_behind, look_in, info_in_force, start_component, start_name, transaction_of, transaction_in}
-use Rattle.module_store.specs.Standing.{StandsFor, AreDistinct, has_tag, slot_in}
-use Rattle.module_store.specs.Slots.{AreAlike, TakesSection, AreAdded, kept_of}
+use Rattle.module_store.specs.Standing.{ComponentState, StandsFor, has_tag, component_with}
+use Rattle.module_store.specs.Slots.{AreDistinct, AreAlike, TakesSection, AreAdded, kept_of}
 use Rattle.module_store.proofs.FindLaws.{found_passes, find-map, if_passes}
 use Rattle.module_store.proofs.FeedLaws.{component_behind, extended, has_followed, its_component, changes_taken}
 use Rattle.module_store.proofs.MapLaws.{is_tagged, is_on, kept_at_tag, tag_of, has_components}
@@ -59,9 +58,9 @@ looks_alike one other each = record {
 abbrev messages_in : Option Followed → Option (List Message)
 messages_in component = option_map (λ c. c.messages) component
 
-module _ (slots : List Slot) (count new_count place tag : ℕ) (changed now_changed : Bool) (slot new : Slot) (section : List ℕ) (found : List Change) (stored : Stored)
+module _ (slots : List ComponentState) (count new_count place tag : ℕ) (changed now_changed : Bool) (slot new : ComponentState) (section : List ℕ) (found : List Change) (stored : Stored)
     (at : position (has_tag tag) slots ≡ Some place) (is : slot ≡ get_or slots place slot) (taken : TakesSection slot new count new_count section found)
-    (stands : StandsFor (record { slots = slots; count = count; changed = changed }) stored) where
+    (stands : StandsFor (record { components = slots; count = count; changed = changed }) stored) where
   its : (component : Followed) × (component_in stored.components tag ≡ Some component) × (component.tag ≡ tag) × of_carousel.StandsFor slot.carousel component.messages
   its =
       let c = its_component slots count new_count place tag changed now_changed slot new section found stored at is taken stands in
@@ -114,17 +113,17 @@ module _ (slots : List Slot) (count new_count place tag : ℕ) (changed now_chan
 
 -- ---- another component map
 
-module _ (components : List Component) (each : (tag : ℕ) → length (filter (is_tagged tag) components) ≤ 1) (slots added : List Slot) (distinct : AreDistinct slots) (a : AreAdded slots components added)
+module _ (components : List Component) (each : (tag : ℕ) → length (filter (is_tagged tag) components) ≤ 1) (slots added : List ComponentState) (distinct : AreDistinct slots) (a : AreAdded slots components added)
     (none : added ≡ []) (whole : kept_of components (slots ++ added) ≡ slots ++ added) (count : ℕ) (changed : Bool) (stored : Stored)
-    (stands : StandsFor (record { slots = slots; count = count; changed = changed }) stored) where
+    (stands : StandsFor (record { components = slots; count = count; changed = changed }) stored) where
   stay : slots ++ added ≡ slots
   stay = ap (λ l. slots ++ l) none ∙ append-nil slots
 
   all_kept : kept_of components slots ≡ slots
   all_kept = ap (λ l. kept_of components l) (sym stay) ∙ whole ∙ stay
 
-  same_tags : (tag : ℕ) → is_some (slot_in slots tag) ≡ is_some (find (is_tagged tag) components)
-  same_tags tag = ap (λ l. is_some (slot_in l tag)) (sym (whole ∙ stay)) ∙ has_components components each slots added distinct a tag
+  same_tags : (tag : ℕ) → is_some (component_with slots tag) ≡ is_some (find (is_tagged tag) components)
+  same_tags tag = ap (λ l. is_some (component_with l tag)) (sym (whole ∙ stay)) ∙ has_components components each slots added distinct a tag
 
   -- the components of the map, with their messages
   messages_mapped : (tag : ℕ) → messages_of_component (with_map components stored) tag ≡ option_map (messages_kept stored.components) (find (is_tagged tag) components)
@@ -135,17 +134,17 @@ module _ (components : List Component) (each : (tag : ℕ) → length (filter (i
       joined None = refl
       joined (Some c) = refl
 
-  its_pid : (o : Option Slot) (pid : ℕ) (slot : Slot) → option_and_then (if_passes (is_on pid)) o ≡ Some slot → slot.pid ≡ pid
+  its_pid : (o : Option ComponentState) (pid : ℕ) (slot : ComponentState) → option_and_then (if_passes (is_on pid)) o ≡ Some slot → slot.pid ≡ pid
   its_pid None pid slot e = absurd cc
   its_pid (Some s) pid slot e =
       let passes = cond_some (is_on pid s) s slot e in
-      ap (λ (x : Slot). x.pid) (sym passes.1) ∙ eqb-true s.pid pid passes.0
+      ap (λ (x : ComponentState). x.pid) (sym passes.1) ∙ eqb-true s.pid pid passes.0
 
-  same_messages : (tag : ℕ) (o : Option Slot) (p : Option Component) → slot_in slots tag ≡ o → find (is_tagged tag) components ≡ p → is_some o ≡ is_some p
+  same_messages : (tag : ℕ) (o : Option ComponentState) (p : Option Component) → component_with slots tag ≡ o → find (is_tagged tag) components ≡ p → is_some o ≡ is_some p
       → messages_of_component stored tag ≡ option_map (messages_kept stored.components) p
   same_messages tag None (Some c) looked mapped same = absurd cc
   same_messages tag (Some slot) None looked mapped same = absurd cc
-  same_messages tag None None looked mapped same = no_messages (component_in stored.components tag) (sym (stands.tags tag) ∙ ap (λ (o : Option Slot). is_some o) looked)
+  same_messages tag None None looked mapped same = no_messages (component_in stored.components tag) (sym (stands.tags tag) ∙ ap (λ (o : Option ComponentState). is_some o) looked)
     where
       no_messages : (o : Option Followed) → is_some o ≡ false → messages_in o ≡ None
       no_messages None e = refl
@@ -153,11 +152,11 @@ module _ (components : List Component) (each : (tag : ℕ) → length (filter (i
   same_messages tag (Some slot) (Some c) looked mapped same =
       let f = has_followed slots count changed stored stands tag slot looked in
       let tagged = tag_of components each slots added distinct a tag c mapped in
-      let placed = its_pid (slot_in slots tag) c.pid slot (sym (kept_at_tag components each tag c slots mapped (distinct tag)) ∙ ap (λ l. slot_in l tag) all_kept ∙ looked) in
+      let placed = its_pid (component_with slots tag) c.pid slot (sym (kept_at_tag components each tag c slots mapped (distinct tag)) ∙ ap (λ l. component_with l tag) all_kept ∙ looked) in
       let on : eqb f.0.pid c.pid ≡ true = eq-eqb f.0.pid c.pid (sym f.3.pid ∙ placed) in
       ap (λ o. messages_in o) f.1
       ∙ ap (λ (m : List Message). Some m) (sym (ap (λ t. messages_on c.pid (component_in stored.components t)) tagged ∙ ap (λ o. messages_on c.pid o) f.1 ∙ ap (λ b. cond b f.0.messages []) on))
 
   pub alike_mapped : LooksAlike stored (with_map components stored)
   alike_mapped = looks_alike stored (with_map components stored) (λ tag.
-      inl (same_messages tag (slot_in slots tag) (find (is_tagged tag) components) refl refl (same_tags tag) ∙ sym (messages_mapped tag)))
+      inl (same_messages tag (component_with slots tag) (find (is_tagged tag) components) refl refl (same_tags tag) ∙ sym (messages_mapped tag)))

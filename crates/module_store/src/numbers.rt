@@ -1,8 +1,9 @@
 //! The numbers of the deliveries of a component's modules.
 
-ghost use Rattle.std.specs.Prelude.{◌≡◌, ◌^◌, ◌≤◌, ◌-◌, ◌<◌, ℕ, List, length, min, slice_index, IfOk};
+ghost use Rattle.std.specs.Prelude.{◌≡◌, ◌^◌, ◌≤◌, ◌-◌, ◌<◌, ℕ, List, length, min, IfOk};
 ghost use Rattle.module_store.specs.Noted.{noted, noted_count, with_number};
 ghost use Rattle.module_store.specs.Store.{deliveries_of};
+ghost use Rattle.module_store.specs.Standing.{delivery_in};
 
 use bml_bytes::NoMemory;
 use carousel_blocks::{Change, ChangeLine};
@@ -21,10 +22,11 @@ pub struct Numbers {
 
 impl Model for Numbers {
     ghost use Rattle.std.specs.Prelude.{◌≡◌, ℕ, List, length};
+    ghost use Rattle.std.specs.List.{enumerate_from};
 
-    ghost Value = { List ℕ };
+    ghost Value = { List (ℕ × ℕ) };
 
-    ghost view = { λ n. n.table.items };
+    ghost view = { λ n. enumerate_from 0 n.table.items };
 
     ghost invariant = { λ n. length n.table.items ≡ 65536 };
 }
@@ -38,7 +40,7 @@ impl Numbers {
 
     /// The number of the last delivery of a module.
     pub fn of(&self, module: u16) -> u64
-        ensures { result ≡ slice_index self.now «module» }
+        ensures { result ≡ delivery_in self.now «module» }
     {
         self.table[usize::from(module)]
     }
@@ -46,7 +48,7 @@ impl Numbers {
     /// Gives numbers to the modules that these changes deliver, behind a count of deliveries, and answers the count with
     /// these. It stays at 2^64 - 1 once it is there.
     pub fn note(&mut self, count: u64, changes: &[Change]) -> u64
-        ensures numbers { (number : ℕ) → slice_index self.new number ≡ noted count (deliveries_of changes.now) (slice_index self.old) number }
+        ensures numbers { (number : ℕ) → delivery_in self.new number ≡ noted count (deliveries_of changes.now) (delivery_in self.old) number }
         ensures count { result ≡ noted_count count (deliveries_of changes.now) }
     {
         let mut last = count;
@@ -60,7 +62,7 @@ impl Numbers {
     }
 
     fn set(&mut self, module: u16, number: u64)
-        ensures { (other : ℕ) → slice_index self.new other ≡ with_number «module» number (slice_index self.old) other }
+        ensures { (other : ℕ) → delivery_in self.new other ≡ with_number «module» number (delivery_in self.old) other }
     {
         self.table[usize::from(module)] = number;
     }

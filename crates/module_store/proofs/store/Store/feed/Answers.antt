@@ -1,7 +1,7 @@
 use Rattle.std.proofs.Common.{◌≡◌, ◌∙◌, ℕ, eqb, false, true, position, Option, Result, List, Ok, Err, get_or, set, ap, sym, subst}
 use Rattle.std.specs.Prelude.{is_some, OnErr}
-use Rattle.module_store.specs.declared.slot.Slot.{Slot}
-use Rattle.module_store.specs.Standing.{StoreState, AreDistinct, has_tag, has_component, slot_in}
+use Rattle.module_store.specs.Standing.{ComponentState, StoreState, has_tag, has_component, component_with}
+use Rattle.module_store.specs.Slots.{AreDistinct}
 use Rattle.module_store.proofs.FindLaws.{is_some-position, length-filter-set}
 use Rattle.module_store.proofs.FeedLaws.{same_components, stands_taken, stands_kept, changes_taken}
 use Rattle.module_store.proofs.AlikeLaws.{alike_taken, quiet_taken}
@@ -10,15 +10,15 @@ use Rattle.module_store.proofs.store.Store.feed.Goals as goal
 pub unreachable-requires : goal.unreachable-requires
 unreachable-requires c =
     let slots = c.self.inside.slots.items in
-    let found : is_some (slot_in slots c.args.component) ≡ true = subst (λ (s : StoreState). has_component s c.args.component ≡ true) (sym c.self.view_is) c.requires.component in
+    let found : is_some (component_with slots c.args.component) ≡ true = subst (λ (s : StoreState). has_component s c.args.component ≡ true) (sym c.self.view_is) c.requires.component in
     let none : is_some (position (has_tag c.args.component) slots) ≡ false = ap (λ (o : Option ℕ). is_some o) (ap (λ l. position (has_tag c.args.component) l) (sym c.deref.ensures.value) ∙ sym c.place_of.ensures ∙ c.in_default.is) in
     let same = is_some-position (has_tag c.args.component) slots in
     cc
 
 -- a slot in place of one with the same tag
-still_distinct : (slots : List Slot) (place : ℕ) (slot new : Slot) → AreDistinct slots → new.tag ≡ slot.tag → slot ≡ get_or slots place slot → AreDistinct (set slots place new)
+still_distinct : (slots : List ComponentState) (place : ℕ) (slot new : ComponentState) → AreDistinct slots → new.tag ≡ slot.tag → slot ≡ get_or slots place slot → AreDistinct (set slots place new)
 still_distinct slots place slot new distinct tagged is tag =
-    let same = ap (λ u. eqb u tag) tagged ∙ ap (λ (s : Slot). has_tag tag s) is in
+    let same = ap (λ u. eqb u tag) tagged ∙ ap (λ (s : ComponentState). has_tag tag s) is in
     rw (length-filter-set (has_tag tag) slots place new slot same) (distinct tag)
 
 on_err : {A E : Type 0} (result : Result A E) (P : Type 0) → P → OnErr result P
