@@ -9,10 +9,10 @@ use Rattle.dsmcc_messages.specs.declared.dii.Dii.{Dii}
 use Rattle.carousel_blocks.specs.declared.changes.Change.{Change}
 use Rattle.carousel_blocks.specs.Message.{Message, messages_of}
 use Rattle.carousel_blocks.specs.InForce.{in_force, standing_of}
-use Rattle.carousel_blocks.specs.Held.{held}
+use Rattle.carousel_blocks.specs.Held.{bytes_held}
 use Rattle.carousel_blocks.specs.Carousel as of_carousel
 use Rattle.multipart_entities.specs.declared.paths.Path.{Path}
-use Rattle.module_store.specs.Store.{Followed, Stored, component_in, messages_of_component, with_section, fed, changes_by, messages_on, messages_kept, followed_from, with_map}
+use Rattle.module_store.specs.Store.{Followed, Stored, component_in, messages_of_component, followed_with, with_section, changes_by, messages_on, messages_kept, followed_from, with_map}
 use Rattle.module_store.specs.Resources.{LooksAlike, look_by, look_behind, look_in, info_in_force, start_component, start_name, transaction_of, transaction_in}
 use Rattle.module_store.specs.Standing.{ComponentState, StandsFor, has_tag, component_with}
 use Rattle.module_store.specs.Slots.{AreDistinct, AreAlike, TakesSection, AreAdded, kept_of}
@@ -26,7 +26,7 @@ use Rattle.module_store.proofs.MapLaws.{is_tagged, is_on, kept_at_tag, tag_of, h
 abbrev pub Alike : Option (List Message) → Option (List Message) → Type 0
 Alike one other = (one ≡ other) ⊎ ((before now : List Message) × (one ≡ Some before) × (other ≡ Some now) × AreAlike before now)
 
-looks_behind : (dii : Option Dii) (before now : List Message) (number : ℕ) (name : List ℕ) → held now number ≡ held before number → look_behind dii before number name ≡ look_behind dii now number name
+looks_behind : (dii : Option Dii) (before now : List Message) (number : ℕ) (name : List ℕ) → bytes_held now number ≡ bytes_held before number → look_behind dii before number name ≡ look_behind dii now number name
 looks_behind None before now number name e = refl
 looks_behind (Some dii) before now number name e = ap (λ o. look_by (standing_of (Some dii) number) o name) (sym e)
 
@@ -72,16 +72,16 @@ module _ (slots : List ComponentState) (count new_count place tag : ℕ) (change
   messages_before : messages_of_component stored tag ≡ Some its.0.messages
   messages_before = ap (λ o. messages_in o) its.1
 
-  messages_now : messages_of_component (fed tag section stored) tag ≡ Some (its.0.messages ++ messages_of (section ∷ []))
+  messages_now : messages_of_component (with_section tag section stored) tag ≡ Some (its.0.messages ++ messages_of (section ∷ []))
   messages_now =
-      ap (λ o. messages_in o) (component_behind tag tag section stored.components ∙ ap (λ (o : Option Followed). option_map (with_section tag section) o) its.1)
+      ap (λ o. messages_in o) (component_behind tag tag section stored.components ∙ ap (λ (o : Option Followed). option_map (followed_with tag section) o) its.1)
       ∙ ap (λ b. Some (cond b (extended section its.0) its.0).messages) (eq-eqb its.0.tag tag its.2)
 
   -- another component has the messages that it had
-  others : (t : ℕ) → eqb tag t ≡ false → messages_of_component stored t ≡ messages_of_component (fed tag section stored) t
+  others : (t : ℕ) → eqb tag t ≡ false → messages_of_component stored t ≡ messages_of_component (with_section tag section stored) t
   others t differ = by_component (component_in stored.components t) refl ∙ sym (ap (λ o. messages_in o) (component_behind tag t section stored.components))
     where
-      by_component : (o : Option Followed) → component_in stored.components t ≡ o → messages_in o ≡ messages_in (option_map (with_section tag section) o)
+      by_component : (o : Option Followed) → component_in stored.components t ≡ o → messages_in o ≡ messages_in (option_map (followed_with tag section) o)
       by_component None e = refl
       by_component (Some c) e =
           let tagged : c.tag ≡ t = eqb-true c.tag t (found_passes (λ c. eqb c.tag t) stored.components c e) in
@@ -89,21 +89,21 @@ module _ (slots : List ComponentState) (count new_count place tag : ℕ) (change
           ap (λ b. Some (cond b (extended section c) c).messages) (sym apart)
 
   pub alike_taken : found ≡ [] → ((messages now : List Message) → of_carousel.StandsFor slot.carousel messages → of_carousel.StandsFor new.carousel now → transaction_of now ≡ transaction_of messages)
-      → LooksAlike stored (fed tag section stored)
-  alike_taken none same = looks_alike stored (fed tag section stored) (λ t. by_tag t (eqb tag t) refl)
+      → LooksAlike stored (with_section tag section stored)
+  alike_taken none same = looks_alike stored (with_section tag section stored) (λ t. by_tag t (eqb tag t) refl)
     where
-      by_tag : (t : ℕ) (b : Bool) → eqb tag t ≡ b → Alike (messages_of_component stored t) (messages_of_component (fed tag section stored) t)
+      by_tag : (t : ℕ) (b : Bool) → eqb tag t ≡ b → Alike (messages_of_component stored t) (messages_of_component (with_section tag section stored) t)
       by_tag t false e = inl (others t e)
       by_tag t true e =
           let stands_now = taken.carousel its.0.messages its.3 in
           let a = taken.alike its.0.messages its.3 none (same its.0.messages (its.0.messages ++ messages_of (section ∷ [])) its.3 stands_now) in
-          subst (λ t. Alike (messages_of_component stored t) (messages_of_component (fed tag section stored) t)) (eqb-true tag t e)
+          subst (λ t. Alike (messages_of_component stored t) (messages_of_component (with_section tag section stored) t)) (eqb-true tag t e)
           (inr (its.0.messages, its.0.messages ++ messages_of (section ∷ []), messages_before, messages_now, a))
 
   -- nothing is told, and the DII in force is the same
   pub quiet_taken : (transaction now_transaction : Option ℕ) → ((messages : List Message) → of_carousel.StandsFor slot.carousel messages → transaction ≡ transaction_of messages)
       → ((messages : List Message) → of_carousel.StandsFor new.carousel messages → now_transaction ≡ transaction_of messages)
-      → changes_by tag section stored ≡ [] → transaction_in (fed tag section stored) tag ≡ transaction_in stored tag → (found ≡ []) × (now_transaction ≡ transaction)
+      → changes_by tag section stored ≡ [] → transaction_in (with_section tag section stored) tag ≡ transaction_in stored tag → (found ≡ []) × (now_transaction ≡ transaction)
   quiet_taken transaction now_transaction was will none same =
       let told = changes_taken slots count new_count place tag changed now_changed slot new section found stored at is taken stands in (
         told ∙ none,

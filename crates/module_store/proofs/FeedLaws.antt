@@ -11,9 +11,9 @@ use Rattle.std.proofs.lemmas.List.Folds.{find_past}
 use Rattle.std.proofs.lemmas.List.Quantifiers.{position-Some}
 use Rattle.carousel_blocks.specs.declared.changes.Change.{Change}
 use Rattle.carousel_blocks.specs.Message.{Message, messages_of}
-use Rattle.carousel_blocks.specs.Held.{held}
+use Rattle.carousel_blocks.specs.Held.{bytes_held}
 use Rattle.carousel_blocks.specs.Changes.{changes, number_bound}
-use Rattle.module_store.specs.Store.{Followed, Stored, component_in, changes_behind, changes_by, deliveries_of, with_section, fed, last_place_from, last_place, number_at}
+use Rattle.module_store.specs.Store.{Followed, Stored, component_in, changes_behind, changes_by, deliveries_of, followed_with, with_section, last_place_from, last_place, number_at}
 use Rattle.module_store.specs.Standing.{ComponentState, delivery_in, has_tag, component_with, Follows, StandsFor}
 use Rattle.module_store.specs.Slots.{TakesSection, KeepsSame}
 use Rattle.module_store.specs.Noted.{noted, noted_count}
@@ -56,13 +56,13 @@ module _ (slots : List ComponentState) (place tag : ℕ) (slot new : ComponentSt
       by_cases (inr h) = ap (λ (o : Option ComponentState). is_some o) h.1
 
 -- the component that is followed, with the messages of the section
-section_tag : (tag t : ℕ) (section : List ℕ) (component : Followed) → eqb (with_section tag section component).tag t ≡ eqb component.tag t
+section_tag : (tag t : ℕ) (section : List ℕ) (component : Followed) → eqb (followed_with tag section component).tag t ≡ eqb component.tag t
 section_tag tag t section component = ap (λ u. eqb u t) (elim (eqb component.tag tag) as (λ b. (cond b (record { tag = component.tag; pid = component.pid; messages = component.messages ++ messages_of (section ∷ []) }) component).tag ≡ component.tag) [ true ↦ refl | false ↦ refl ])
 
-pub component_behind : (tag t : ℕ) (section : List ℕ) (components : List Followed) → component_in (map (with_section tag section) components) t ≡ option_map (with_section tag section) (component_in components t)
+pub component_behind : (tag t : ℕ) (section : List ℕ) (components : List Followed) → component_in (map (followed_with tag section) components) t ≡ option_map (followed_with tag section) (component_in components t)
 component_behind tag t section components =
-    find-map (λ c. eqb c.tag t) (with_section tag section) components
-    ∙ ap (λ (o : Option Followed). option_map (with_section tag section) o) (find-ext (λ c. eqb (with_section tag section c).tag t) (λ c. eqb c.tag t) (section_tag tag t section) components)
+    find-map (λ c. eqb c.tag t) (followed_with tag section) components
+    ∙ ap (λ (o : Option Followed). option_map (followed_with tag section) o) (find-ext (λ c. eqb (followed_with tag section c).tag t) (λ c. eqb c.tag t) (section_tag tag t section) components)
 
 -- ---- the component of the section
 
@@ -80,10 +80,10 @@ last_place_behind tag number deliveries behind =
     last_place-append 1 tag number deliveries behind ∙ ap (λ n. option_or (last_place_from n tag number behind) (last_place tag number deliveries)) e
 
 -- a module that is held behind the section and isn't delivered by it was held before
-was_held : (before now : List Message) (number : ℕ) → number < number_bound → is_some (held now number) ≡ true → list_any (λ n. eqb n number) (deliveries_of (changes before now)) ≡ false → is_some (held before number) ≡ true
-was_held before now number low is none = by_held (held before number) refl
+was_held : (before now : List Message) (number : ℕ) → number < number_bound → is_some (bytes_held now number) ≡ true → list_any (λ n. eqb n number) (deliveries_of (changes before now)) ≡ false → is_some (bytes_held before number) ≡ true
+was_held before now number low is none = by_held (bytes_held before number) refl
   where
-    by_held : (o : Option (List ℕ)) → held before number ≡ o → is_some o ≡ true
+    by_held : (o : Option (List ℕ)) → bytes_held before number ≡ o → is_some o ≡ true
     by_held None e = let delivered = section_delivers before now number low e is in absurd cc
     by_held (Some bytes) e = refl
 
@@ -99,13 +99,13 @@ follows_taken slot new component deliveries count new_count tag section found ta
     later : ℕ → Option ℕ
     later number = last_place_from (length deliveries + 1) tag number (of_component tag (deliveries_of found))
 
-    before : (number : ℕ) → number < number_bound → is_some (held now number) ≡ true → is_some (later number) ≡ false → option_map number_at (last_place tag number deliveries) ≡ Some (delivery_in slot.deliveries number)
+    before : (number : ℕ) → number < number_bound → is_some (bytes_held now number) ≡ true → is_some (later number) ≡ false → option_map number_at (last_place tag number deliveries) ≡ Some (delivery_in slot.deliveries number)
     before number low is none =
         let changed : list_any (λ n. eqb n number) (deliveries_of (changes component.messages now)) ≡ false
         = ap (λ l. list_any (λ n. eqb n number) (deliveries_of l)) (sym (t.changes_are component.messages f.carousel)) ∙ sym (has_place (length deliveries + 1) tag number (deliveries_of found)) ∙ none in
         rw (← tagged) (f.numbers number low (was_held component.messages now number low is changed))
 
-    numbers : (number : ℕ) → number < number_bound → is_some (held now number) ≡ true
+    numbers : (number : ℕ) → number < number_bound → is_some (bytes_held now number) ≡ true
         → option_map number_at (last_place component.tag number (deliveries ++ of_component tag (deliveries_of found))) ≡ Some (delivery_in new.deliveries number)
     numbers number low is =
         ap (λ u. option_map number_at (last_place u number (deliveries ++ of_component tag (deliveries_of found)))) tagged
@@ -151,25 +151,25 @@ module _ (slots : List ComponentState) (count new_count place tag : ℕ) (change
   abbrev deliveries_now : List (ℕ × ℕ)
   deliveries_now = stored.deliveries ++ of_component tag (deliveries_of found)
 
-  follows_now : (t : ℕ) (now : ComponentState) (component : Followed) → component_with (set slots place new) t ≡ Some now → component_in (map (with_section tag section) stored.components) t ≡ Some component → Follows now component deliveries_now
+  follows_now : (t : ℕ) (now : ComponentState) (component : Followed) → component_with (set slots place new) t ≡ Some now → component_in (map (followed_with tag section) stored.components) t ≡ Some component → Follows now component deliveries_now
   follows_now t now component e h = by_cases (looked_up slots place tag slot new at is taken.tag t) (component_in stored.components t) refl (sym (component_behind tag t section stored.components) ∙ h)
     where
-      by_cases : LookedUp slots place tag slot new at is taken.tag t → (o : Option Followed) → component_in stored.components t ≡ o → option_map (with_section tag section) o ≡ Some component → Follows now component deliveries_now
+      by_cases : LookedUp slots place tag slot new at is taken.tag t → (o : Option Followed) → component_in stored.components t ≡ o → option_map (followed_with tag section) o ≡ Some component → Follows now component deliveries_now
       by_cases l None same h = absurd cc
       by_cases (inl l) (Some c) same h =
           let tagged : c.tag ≡ tag = eqb-true c.tag t (found_passes (λ c. eqb c.tag t) stored.components c same) ∙ sym l.0 in
-          let extends : extended section c ≡ component = ap (λ b. cond b (extended section c) c) (sym (eq-eqb c.tag tag tagged)) ∙ (let e : with_section tag section c ≡ component = cc in e) in
+          let extends : extended section c ≡ component = ap (λ b. cond b (extended section c) c) (sym (eq-eqb c.tag tag tagged)) ∙ (let e : followed_with tag section c ≡ component = cc in e) in
           let slot_is : new ≡ now = cc in
           subst (λ (s : ComponentState). Follows s component deliveries_now) slot_is (subst (λ f. Follows new f deliveries_now) extends
           (follows_taken slot new c stored.deliveries count new_count tag section found tagged stands.count (stands.components t slot c l.1 same) taken))
       by_cases (inr l) (Some c) same h =
           let tagged : c.tag ≡ t = eqb-true c.tag t (found_passes (λ c. eqb c.tag t) stored.components c same) in
           let differs : eqb c.tag tag ≡ false = ne_eqb c.tag tag (λ e. eqb-false tag t l.0 (sym e ∙ tagged)) in
-          let stays : c ≡ component = ap (λ b. cond b (extended section c) c) (sym differs) ∙ (let e : with_section tag section c ≡ component = cc in e) in
+          let stays : c ≡ component = ap (λ b. cond b (extended section c) c) (sym differs) ∙ (let e : followed_with tag section c ≡ component = cc in e) in
           let other : eqb tag c.tag ≡ false = ap (λ u. eqb tag u) tagged ∙ l.0 in
           subst (λ f. Follows now f deliveries_now) stays (follows_other now c stored.deliveries tag (deliveries_of found) other (stands.components t now c (sym l.1 ∙ e) same))
 
-  stands_now : StandsFor (record { components = set slots place new; count = new_count; changed = now_changed }) (record { components = map (with_section tag section) stored.components; deliveries = deliveries_now })
+  stands_now : StandsFor (record { components = set slots place new; count = new_count; changed = now_changed }) (record { components = map (followed_with tag section) stored.components; deliveries = deliveries_now })
   stands_now = record {
     count = taken.count_is ∙ ap (λ k. noted_count k (deliveries_of found)) stands.count ∙ noted_count_is (length stored.deliveries) (deliveries_of found)
         ∙ ap number_at (sym (length-append stored.deliveries (of_component tag (deliveries_of found)) ∙ ap (λ n. length stored.deliveries + n) (length-map (deliveries_of found) (λ number. (tag, number)))));
@@ -177,13 +177,13 @@ module _ (slots : List ComponentState) (count new_count place tag : ℕ) (change
     components = follows_now;
   }
     where
-      is_some_map : (o : Option Followed) → is_some (option_map (with_section tag section) o) ≡ is_some o
+      is_some_map : (o : Option Followed) → is_some (option_map (followed_with tag section) o) ≡ is_some o
       is_some_map None = refl
       is_some_map (Some c) = refl
 
-  pub stands_taken : StandsFor (record { components = set slots place new; count = new_count; changed = now_changed }) (fed tag section stored)
+  pub stands_taken : StandsFor (record { components = set slots place new; count = new_count; changed = now_changed }) (with_section tag section stored)
   stands_taken =
-      subst (λ l. StandsFor (record { components = set slots place new; count = new_count; changed = now_changed }) (record { components = map (with_section tag section) stored.components; deliveries = stored.deliveries ++ of_component tag (deliveries_of l) }))
+      subst (λ l. StandsFor (record { components = set slots place new; count = new_count; changed = now_changed }) (record { components = map (followed_with tag section) stored.components; deliveries = stored.deliveries ++ of_component tag (deliveries_of l) }))
       changes_taken stands_now
 
 -- where no memory was found for the section, everything stays

@@ -9,7 +9,7 @@ use Rattle.std.proofs.lemmas.List.Elements.{All-push, filter-append}
 use Rattle.std.proofs.lemmas.List.Folds.{find-append}
 use Rattle.psi_tables.specs.declared.components.Component.{Component}
 use Rattle.psi_tables.specs.Components.{AreApart}
-use Rattle.carousel_blocks.specs.Held.{held}
+use Rattle.carousel_blocks.specs.Held.{bytes_held}
 use Rattle.carousel_blocks.specs.Carousel as of_carousel
 use Rattle.module_store.specs.Store.{Followed, Stored, component_in, is_kept, messages_on, messages_kept, followed_from, with_map, last_place, number_at}
 use Rattle.module_store.specs.Standing.{ComponentState, StandsFor, Follows, has_tag, component_with}
@@ -70,8 +70,8 @@ one_of_each components apart tag =
     at_most_one AreApart (is_tagged tag) (λ x y differ e. ne_eqb y.tag tag (λ same. differ.0 (eqb-true x.tag tag e ∙ sym same))) components apart
 
 -- nothing is held before the first message
-nothing_held : (number : ℕ) → held [] number ≡ None
-unfolding held
+nothing_held : (number : ℕ) → bytes_held [] number ≡ None
+unfolding bytes_held
 nothing_held number = refl
 
 module _ (components : List Component) (each : (tag : ℕ) → length (filter (is_tagged tag) components) ≤ 1) where
@@ -247,7 +247,7 @@ module _ (components : List Component) (each : (tag : ℕ) → length (filter (i
           record {
             pid = placed;
             carousel = subst (λ m. of_carousel.StandsFor slot.carousel m) kept f.3.carousel;
-            numbers = λ number low is. ap (λ t. option_map number_at (last_place t number stored.deliveries)) (sym f.2) ∙ f.3.numbers number low (ap (λ m. is_some (held m number)) kept ∙ is);
+            numbers = λ number low is. ap (λ t. option_map number_at (last_place t number stored.deliveries)) (sym f.2) ∙ f.3.numbers number low (ap (λ m. is_some (bytes_held m number)) kept ∙ is);
           }
 
       -- every other begins with none
@@ -278,7 +278,7 @@ module _ (components : List Component) (each : (tag : ℕ) → length (filter (i
       begins c slot is empty none = record {
         pid = ap (λ (x : Component). x.pid) is;
         carousel = subst (λ m. of_carousel.StandsFor slot.carousel m) (sym none) empty;
-        numbers = λ number low held_now. let not_held = ap (λ m. is_some (held m number)) none ∙ ap (λ (o : Option (List ℕ)). is_some o) (nothing_held number) in absurd cc;
+        numbers = λ number low held_now. let not_held = ap (λ m. is_some (bytes_held m number)) none ∙ ap (λ (o : Option (List ℕ)). is_some o) (nothing_held number) in absurd cc;
       }
 
       follows_mapped : (tag : ℕ) (slot : ComponentState) (component : Followed) → component_with all_kept tag ≡ Some slot → component_in (map (followed_from stored.components) components) tag ≡ Some component → Follows slot component stored.deliveries

@@ -7,7 +7,7 @@ use Rattle.carousel_blocks.specs.declared.changes.Change.{Change}
 use Rattle.carousel_blocks.specs.Message.{Message, messages_of}
 use Rattle.carousel_blocks.specs.Changes.{changes}
 use Rattle.carousel_blocks.specs.InForce.{in_force}
-use Rattle.carousel_blocks.specs.Held.{held}
+use Rattle.carousel_blocks.specs.Held.{bytes_held}
 use Rattle.multipart_entities.specs.declared.parts.Part.{Part}
 use Rattle.module_store.specs.Store.{deliveries_of, is_kept}
 use Rattle.module_store.specs.Resources.{transaction_of}
@@ -55,7 +55,7 @@ AreDistinct slots = (tag : ℕ) → length (filter (has_tag tag) slots) ≤ 1
 -- the same DII is in force, and each module is held as before
 pub record AreAlike (before now : List Message) : Type 0 where
   pub in_force_is : in_force now ≡ in_force before
-  pub held_are : (number : ℕ) → held now number ≡ held before number
+  pub held_are : (number : ℕ) → bytes_held now number ≡ bytes_held before number
 
 -- The carousel takes the section, and the modules that it delivers get the next numbers.
 pub record TakesSection (old new : ComponentState) (count new_count : ℕ) (section : List ℕ) (found : List Change) : Type 0 where

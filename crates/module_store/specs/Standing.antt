@@ -2,7 +2,7 @@
 use Rattle.std.specs.Prelude.{◌≡◌, ◌<◌, ◌==◌, ℕ, nat_eq, Bool, true, List, length, find, Option, Some, is_some, option_map, unwrap_or}
 use Rattle.std.specs.Map.{lookup}
 use Rattle.carousel_blocks.specs.Changes.{number_bound}
-use Rattle.carousel_blocks.specs.Held.{held}
+use Rattle.carousel_blocks.specs.Held.{bytes_held}
 use Rattle.carousel_blocks.specs.Carousel as of_carousel
 use Rattle.module_store.specs.Store.{Followed, Stored, component_in, last_place, number_at}
 
@@ -38,7 +38,7 @@ delivery_in deliveries number = unwrap_or (lookup (nat_eq number) deliveries) 0
 pub record Follows (state : ComponentState) (component : Followed) (deliveries : List (ℕ × ℕ)) : Type 0 where
   pub pid : state.pid ≡ component.pid
   pub carousel : of_carousel.StandsFor state.carousel component.messages
-  pub numbers : (number : ℕ) → number < number_bound → is_some (held component.messages number) ≡ true
+  pub numbers : (number : ℕ) → number < number_bound → is_some (bytes_held component.messages number) ≡ true
       → option_map number_at (last_place component.tag number deliveries) ≡ Some (delivery_in state.deliveries number)
 
 -- a store stands for components and deliveries where it has what follows from them

@@ -2,10 +2,10 @@
 
 ghost use Rattle.std.specs.Prelude.{◌≡◌, ◌≤◌, List, Some, length, IfOk, OnErr, option_copied};
 ghost use Rattle.carousel_blocks.specs.Changes.{departures};
-ghost use Rattle.carousel_blocks.specs.Held.{held};
+ghost use Rattle.carousel_blocks.specs.Held.{bytes_held};
 ghost use Rattle.carousel_blocks.specs.Message.{Message};
 ghost use Rattle.carousel_blocks.specs.Carousel as of_carousel;
-ghost use Rattle.module_store.specs.Resources.{HasAtMost, info_in_force, look_in, seen, transaction_of};
+ghost use Rattle.module_store.specs.Resources.{HasAtMost, info_in_force, look_in, resource_of, transaction_of};
 ghost use Rattle.module_store.specs.Standing.{delivery_in, has_tag};
 ghost use Rattle.module_store.specs.Slots.{IsFresh, TakesSection, KeepsSame};
 
@@ -92,7 +92,7 @@ impl Slot {
     /// The bytes of a module, where it is held.
     pub fn bytes_of(&self, module: u16) -> Option<&[u8]>
         ensures { (messages : List Message) → of_carousel.StandsFor self.now.carousel messages
-            → option_copied result ≡ held messages «module» }
+            → option_copied result ≡ bytes_held messages «module» }
     {
         self.carousel.bytes_of(module)
     }
@@ -137,8 +137,8 @@ impl Slot {
     /// What is there under a name of a module. This takes no memory.
     pub fn resource(&self, module: u16, name: &Text) -> Look<'_>
         ensures look { (messages : List Message) → of_carousel.StandsFor self.now.carousel messages
-            → seen result ≡ look_in (Some messages) «module» name.now }
-        ensures bound { HasAtMost 1048576 (seen result) }
+            → resource_of result ≡ look_in (Some messages) «module» name.now }
+        ensures bound { HasAtMost 1048576 (resource_of result) }
     {
         law_of_held_sizes();
         if self.carousel.transaction().is_none() {

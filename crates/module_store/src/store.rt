@@ -4,8 +4,8 @@ ghost use Rattle.std.specs.Prelude.{◌≡◌, ◌≤◌, ◌++◌, [], ℕ, Lis
 ghost use Rattle.psi_tables.specs.Components.{AreApart, pid_in};
 ghost use Rattle.carousel_blocks.specs.Changes.{departures};
 ghost use Rattle.carousel_blocks.specs.Carousel as of_carousel;
-ghost use Rattle.module_store.specs.Store.{Followed, Stored, component_in, gone_with, at_start, changes_by, fed, with_map, gone_by, number_of, messages_of_component, pid_of, is_kept as kept_by};
-ghost use Rattle.module_store.specs.Resources.{HasAtMost, LooksAlike, look, seen, start_info, start_path, transaction_in};
+ghost use Rattle.module_store.specs.Store.{Followed, Stored, component_in, gone_with, at_start, changes_by, with_section, with_map, gone_by, number_of, messages_of_component, pid_of, is_kept as kept_by};
+ghost use Rattle.module_store.specs.Resources.{HasAtMost, LooksAlike, look, resource_of, start_info, start_path, transaction_in};
 ghost use Rattle.module_store.specs.Resources as resources;
 ghost use Rattle.module_store.specs.Standing.{ForStored, StandsFor, has_component, has_tag, component_with};
 ghost use Rattle.module_store.specs.Slots.{AreAdded, kept_of, is_followed as followed_by};
@@ -79,13 +79,13 @@ impl Store {
     pub fn feed(&mut self, component: u8, section: &[u8]) -> Result<Vec<Change>, NoMemory>
         requires section { 12 ≤ length section.now }
         requires component { has_component self.old component ≡ true }
-        ensures stands { OnOk result ((stored : Stored) → StandsFor self.old stored → StandsFor self.new (fed component section.now stored)) }
+        ensures stands { OnOk result ((stored : Stored) → StandsFor self.old stored → StandsFor self.new (with_section component section.now stored)) }
         ensures changes { IfOk result (λ found. (stored : Stored) → StandsFor self.old stored → found.items ≡ changes_by component section.now stored) }
         ensures before { OnErr result ((stored : Stored) → StandsFor self.old stored → StandsFor self.new stored) }
         ensures components { (tag : ℕ) → has_component self.new tag ≡ has_component self.old tag }
         ensures untold { OnErr result (self.new.changed ≡ self.old.changed) }
-        ensures alike { OnOk result (self.new.changed ≡ false → (stored : Stored) → StandsFor self.old stored → LooksAlike stored (fed component section.now stored)) }
-        ensures quiet { OnOk result ((stored : Stored) → StandsFor self.old stored → changes_by component section.now stored ≡ [] → transaction_in (fed component section.now stored) component ≡ transaction_in stored component → self.new.changed ≡ false) }
+        ensures alike { OnOk result (self.new.changed ≡ false → (stored : Stored) → StandsFor self.old stored → LooksAlike stored (with_section component section.now stored)) }
+        ensures quiet { OnOk result ((stored : Stored) → StandsFor self.old stored → changes_by component section.now stored ≡ [] → transaction_in (with_section component section.now stored) component ≡ transaction_in stored component → self.new.changed ≡ false) }
     {
         let Some(place) = place_of(&self.slots, component) else {
             unreachable!()
@@ -133,8 +133,8 @@ impl Store {
     /// `Missing` exactly where the path is neither found nor waited for. The cost is that of a few look-ups by hash, and
     /// this takes no memory.
     pub fn resource(&self, path: &Path) -> Look<'_>
-        ensures look { (stored : Stored) → StandsFor self.now stored → seen result ≡ look stored path.now }
-        ensures bound { HasAtMost 1048576 (seen result) }
+        ensures look { (stored : Stored) → StandsFor self.now stored → resource_of result ≡ look stored path.now }
+        ensures bound { HasAtMost 1048576 (resource_of result) }
     {
         match slot_of(&self.slots, path.component) {
             None => Look::Missing,
