@@ -18,3 +18,4 @@ pub mod FirstLaws
 pub mod HeldLaws
 pub mod CountLaws
 pub mod EntryPlaceLaws
+pub mod CarriedLaws

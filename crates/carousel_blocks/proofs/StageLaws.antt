@@ -108,7 +108,7 @@ whole-known h block =
 -- ---- the section
 
 -- a section that carries a DDB carries no DII
-carries_no_dii : (section : List ℕ) (block : DataBlock) → Ok block ≡ ddb_in section → (fault : TableFault) × (dii_in section ≡ Err fault)
+pub carries_no_dii : (section : List ℕ) (block : DataBlock) → Ok block ≡ ddb_in section → (fault : TableFault) × (dii_in section ≡ Err fault)
 unfolding fields_in
 carries_no_dii section block h =
     (Kind, by (slice_index section 0 == 0x3C) (slice_index section 0 == 0x3B) (agree (kind_bytes data_block) (body section)) (agree (kind_bytes indication) (body section)) (ok_or (message_at (body section) >>= data_block_at) Short) (ok_or (message_at (body section) >>= indication_at) Short) (λ a b. apart (slice_index section 0) a b) h) where

@@ -1,12 +1,12 @@
 -- One more section of a component.
-use Rattle.std.proofs.Common.{◌≡◌, ◌∙◌, ℕ, ◌+◌, ◌<◌, Bool, true, false, cond, eqb, List, [], ◌∷◌, ◌++◌, length, get_or, set, Option, Some, None, refl, sym, ap, subst, inl, inr, arith}
+use Rattle.std.proofs.Common.{◌≡◌, ◌∙◌, ℕ, ◌+◌, ◌<◌, Bool, true, false, cond, eqb, List, [], ◌∷◌, ◌++◌, length, get_or, set, Option, Some, None, refl, sym, ap, ap₂, subst, inl, inr, arith}
 use Rattle.std.specs.Prelude.{◌⊎◌, map, position, is_some, option_map}
 use Rattle.std.specs.Prelude.{Vec, Result, Ok, Err, IfOk, OnErr}
 use Rattle.std.specs.declared.alloc.Global.{Global}
 use Rattle.std.specs.Option.{option_or, option_map_or}
 use Rattle.std.specs.List.{list_any}
 use Rattle.std.proofs.lemmas.Bool.{eqb-true, eqb-false, eq-eqb, ne_eqb}
-use Rattle.std.proofs.lemmas.List.{length-append, length-map}
+use Rattle.std.proofs.lemmas.List.{append-nil, length-append, length-map}
 use Rattle.std.proofs.lemmas.List.Folds.{find_past}
 use Rattle.std.proofs.lemmas.List.Quantifiers.{position-Some}
 use Rattle.carousel_blocks.specs.declared.changes.Change.{Change}
@@ -63,6 +63,22 @@ pub component_behind : (tag t : ℕ) (section : List ℕ) (components : List Fol
 component_behind tag t section components =
     find-map (λ c. eqb c.tag t) (followed_with tag section) components
     ∙ ap (λ (o : Option Followed). option_map (followed_with tag section) o) (find-ext (λ c. eqb (followed_with tag section c).tag t) (λ c. eqb c.tag t) (section_tag tag t section) components)
+
+-- a section of a component that isn't there changes nothing
+pub absent_section : (tag : ℕ) (section : List ℕ) (stored : Stored) → component_in stored.components tag ≡ None → with_section tag section stored ≡ stored
+absent_section tag section stored none =
+    ap₂ (λ components behind. let s : Stored = record { components = components; deliveries = stored.deliveries ++ behind } in s) (same stored.components none)
+    (ap (λ (o : Option Followed). map (λ number. (tag, number)) (deliveries_of (changes_behind (option_map (λ c. c.messages) o) section))) none)
+    ∙ ap (λ deliveries. let s : Stored = record { components = stored.components; deliveries = deliveries } in s) (append-nil stored.deliveries)
+  where
+    same : (components : List Followed) → component_in components tag ≡ None → map (followed_with tag section) components ≡ components
+    same [] e = refl
+    same (c ∷ components) e = by_test (eqb c.tag tag) (same components) e
+      where
+        by_test : (b : Bool) → (component_in components tag ≡ None → map (followed_with tag section) components ≡ components) → cond b (Some c) (component_in components tag) ≡ None
+            → cond b (record { tag = c.tag; pid = c.pid; messages = c.messages ++ messages_of (section ∷ []) }) c ∷ map (followed_with tag section) components ≡ c ∷ components
+        by_test true again e = absurd cc
+        by_test false again e = ap (λ l. c ∷ l) (again e)
 
 -- ---- the component of the section
 
@@ -194,7 +210,7 @@ module _ (slots : List ComponentState) (count new_count place tag : ℕ) (change
   follows_kept component f = record {
     pid = kept.pid ∙ f.pid;
     carousel = kept.carousel component.messages f.carousel;
-    numbers = λ number low is. f.numbers number low is ∙ ap (λ l. Some (delivery_in l number)) (sym kept.deliveries);
+    numbers = λ number low is. f.numbers number low is ∙ ap (λ (n : ℕ). Some n) (sym (kept.deliveries number));
   }
 
   still_follows : (t : ℕ) (now : ComponentState) (component : Followed) → component_with (set slots place new) t ≡ Some now → component_in stored.components t ≡ Some component → Follows now component stored.deliveries

@@ -76,5 +76,5 @@ pub record KeepsSame (old new : ComponentState) (count new_count : ℕ) : Type 0
   pub tag : new.tag ≡ old.tag
   pub pid : new.pid ≡ old.pid
   pub carousel : (messages : List Message) → of_carousel.StandsFor old.carousel messages → of_carousel.StandsFor new.carousel messages
-  pub deliveries : new.deliveries ≡ old.deliveries
+  pub deliveries : (number : ℕ) → delivery_in new.deliveries number ≡ delivery_in old.deliveries number
   pub count_is : new_count ≡ count

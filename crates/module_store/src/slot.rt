@@ -44,18 +44,17 @@ impl Model for Slot {
 }
 
 impl Slot {
-    /// A component of which no section came. Memory is taken for its modules' numbers.
-    pub fn new(alloc: Global, component: Component) -> Result<Slot, NoMemory>
-        ensures { IfOk result (λ slot. IsFresh component slot) }
+    /// A component of which no section came. This takes no memory.
+    pub fn new(alloc: Global, component: Component) -> Slot
+        ensures { IsFresh component result }
     {
-        let numbers = Numbers::new(alloc)?;
-        Ok(Slot {
+        Slot {
             tag: component.tag,
             pid: component.pid,
             carousel: Carousel::new(alloc),
-            numbers,
+            numbers: Numbers::new(alloc),
             entities: Entities::new(alloc),
-        })
+        }
     }
 
     /// The component's tag.
@@ -127,6 +126,7 @@ impl Slot {
         ensures same { OnErr result (KeepsSame self.old self.new count.old count.new) }
     {
         law_of_messages();
+        self.numbers.make_room(alloc)?;
         stage(alloc, &mut self.carousel, &mut self.entities, section)?;
         let changes = self.carousel.take(section)?;
         *count = self.numbers.note(*count, changes.as_slice());

@@ -74,11 +74,10 @@ impl Store {
     }
 
     /// Takes the next intact section of a component, and tells what it changed in the component's modules, in ascending
-    /// module number. Each module that it delivers gets the next number. After `NoMemory` the store is as before, and
-    /// may be told the section once more.
+    /// module number. Each module that it delivers gets the next number. A component that isn't in the map has no
+    /// modules, and nothing changes. After `NoMemory` the store is as before, and may be told the section once more.
     pub fn feed(&mut self, component: u8, section: &[u8]) -> Result<Vec<Change>, NoMemory>
-        requires section { 12 ≤ length section.now }
-        requires component { has_component self.old component ≡ true }
+        requires { 12 ≤ length section.now }
         ensures stands { OnOk result ((stored : Stored) → StandsFor self.old stored → StandsFor self.new (with_section component section.now stored)) }
         ensures changes { IfOk result (λ found. (stored : Stored) → StandsFor self.old stored → found.items ≡ changes_by component section.now stored) }
         ensures before { OnErr result ((stored : Stored) → StandsFor self.old stored → StandsFor self.new stored) }
@@ -88,7 +87,8 @@ impl Store {
         ensures quiet { OnOk result ((stored : Stored) → StandsFor self.old stored → changes_by component section.now stored ≡ [] → transaction_in (with_section component section.now stored) component ≡ transaction_in stored component → self.new.changed ≡ false) }
     {
         let Some(place) = place_of(&self.slots, component) else {
-            unreachable!()
+            self.changed = false;
+            return Ok(Vec::new(self.alloc));
         };
         let slot = &mut self.slots[place];
         let before = slot.transaction();
@@ -261,7 +261,7 @@ fn added_to(alloc: Global, slots: &[Slot], components: &[Component]) -> Result<V
     let mut added = Vec::new(alloc);
     'components: for component in components {
         if !is_followed(slots, component) {
-            added.push(Slot::new(alloc, *component)?)?;
+            added.push(Slot::new(alloc, *component))?;
         }
     }
     Ok(added)

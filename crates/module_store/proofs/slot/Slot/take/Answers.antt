@@ -5,14 +5,15 @@ use Rattle.module_store.specs.Store.{deliveries_of}
 use Rattle.module_store.specs.Noted.{noted, noted_count}
 use Rattle.module_store.specs.Entities.{KeepsParts, parts_at, without_reset}
 use Rattle.module_store.specs.Standing.{delivery_in}
+use Rattle.module_store.proofs.NumberLaws.{noted_alike}
 use Rattle.module_store.proofs.SectionLaws.{parts_taken, parts_kept, alike}
 use Rattle.module_store.proofs.slot.Slot.take.Goals as goal
 
 stood : (old new : CarouselState) (messages : List Message) → new ≡ old → StandsFor old messages → StandsFor new messages
 stood old new messages same stands = subst (λ carousel. StandsFor carousel messages) (sym same) stands
 
-pub invariant_of-self : goal.invariant_of-self
-invariant_of-self c =
+pub invariant_of-self-in_err-stage : goal.invariant_of-self-in_err-stage
+invariant_of-self-in_err-stage c =
     let was = c.self.invariant in
     record {
       messages = was.messages;
@@ -52,7 +53,8 @@ returns-clause-taken c =
       pid = refl;
       carousel = λ messages stands. c.in_ok-changes.ensures.stands messages (stood c.self.inside.carousel c.stage.new.carousel messages same stands);
       changes_are = λ messages stands. c.in_ok-changes.ensures.changes messages (stood c.self.inside.carousel c.stage.new.carousel messages same stands);
-      numbers = λ number. c.note.ensures.numbers number ∙ ap (λ l. noted c.args.count.now (deliveries_of l) (delivery_in c.self.inside.numbers) number) c.as_slice.ensures.value;
+      numbers = λ number. c.note.ensures.numbers number ∙ ap (λ l. noted c.args.count.now (deliveries_of l) (delivery_in c.make_room.new.self) number) c.as_slice.ensures.value
+          ∙ noted_alike c.args.count.now (deliveries_of found) (delivery_in c.make_room.new.self) (delivery_in c.self.inside.numbers) c.make_room.ensures.same number;
       count_is = c.note.ensures.count ∙ ap (λ l. noted_count c.args.count.now (deliveries_of l)) c.as_slice.ensures.value;
       alike = λ messages stands none transaction.
           alike c.law_of_messages.ensures c.self.inside.entities c.stage.new.entities messages section (c.in_ok-stage.ensures.staged messages stands) found none
