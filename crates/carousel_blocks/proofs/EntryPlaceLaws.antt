@@ -235,3 +235,17 @@ absent_entry dii number = found_any (standings dii) ∙ numbers_taken dii dii.en
   found_any : (l : List Standing) → is_some (find (is_of_module number) l) ≡ list_any (is_of_module number) l
   found_any [] = refl
   found_any (s ∷ l) = elim (is_of_module number s) as (λ b. is_some (cond b (Some s) (find (is_of_module number) l)) ≡ (b || list_any (is_of_module number) l)) [ true ↦ refl | false ↦ found_any l ]
+
+-- the standing of a module has its number
+pub standing_number : (f : Option Dii) (n : ℕ) (s : Standing) → standing_of f n ≡ Some s → s.entry.id ≡ n
+standing_number None n s h = cc
+standing_number (Some dii) n s h = found (standings dii) h where
+  found : (l : List Standing) → find (is_of_module n) l ≡ Some s → s.entry.id ≡ n
+  found [] h = cc
+  found (x ∷ l) h = by (is_of_module n x) refl (found l) h where
+    same : (m : ℕ) → (m == n) ≡ true → m ≡ n
+    same m e = grind arith
+
+    by : (t : Bool) → is_of_module n x ≡ t → (find (is_of_module n) l ≡ Some s → s.entry.id ≡ n) → cond t (Some x) (find (is_of_module n) l) ≡ Some s → s.entry.id ≡ n
+    by true e again h = let q : x ≡ s = cc in ap (λ (z : Standing). z.entry.id) (sym q) ∙ same x.entry.id e
+    by false e again h = again h

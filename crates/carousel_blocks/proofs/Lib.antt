@@ -19,3 +19,4 @@ pub mod HeldLaws
 pub mod CountLaws
 pub mod EntryPlaceLaws
 pub mod CarriedLaws
+pub mod BackLaws

@@ -1,4 +1,4 @@
--- What one message makes of what a carousel keeps.
+-- A device of the proofs: what one message makes of what a carousel keeps. (This project's own.)
 use Rattle.std.specs.Prelude.{◌≡◌, ℕ, ◌==◌, Bool, false, ◌&&◌, if◌then◌else◌, List, find, slice_get, slice_set, Option, Some, None, is_some, option_map, option_and_then}
 use Rattle.std.specs.List.{filter_map, range_with_len}
 use Rattle.dsmcc_messages.specs.declared.dii.Dii.{Dii}
@@ -35,6 +35,10 @@ is_wanted k block = is_asked k.standing block && is_missing (slice_get k.blocks 
 abbrev pub with_block : DataBlock → Kept → Kept
 with_block block k = if is_wanted k block then record { standing = k.standing; blocks = slice_set k.blocks block.number (Some block.block) } else k
 
+-- without a block that is asked for
+abbrev pub without_block : DataBlock → Kept → Kept
+without_block block k = if is_asked k.standing block then record { standing = k.standing; blocks = slice_set k.blocks block.number None } else k
+
 -- what becomes of the block
 abbrev pub answer_kept : Kept → DataBlock → Put
 answer_kept k block =
@@ -49,6 +53,11 @@ pub record TakesBlock (old new : CarouselState) (block : DataBlock) (answer : Pu
   pub transaction : new.transaction ≡ old.transaction
   pub modules : (number : ℕ) → kept_in new number ≡ option_map (with_block block) (kept_in old number)
   pub answer_is : answer ≡ answer_to (kept_in old block.module) block
+
+-- a block is taken back
+pub record TakesBack (old new : CarouselState) (block : DataBlock) : Type 0 where
+  pub transaction : new.transaction ≡ old.transaction
+  pub modules : (number : ℕ) → kept_in new number ≡ option_map (without_block block) (kept_in old number)
 
 -- what a buffer makes of a block with the length that it has there
 abbrev pub with_block_in : ℕ → List ℕ → BufferState → BufferState
@@ -66,10 +75,6 @@ whole_kept k block =
 abbrev pub whole_to : Option Kept → DataBlock → Option (ℕ × List ℕ)
 whole_to None block = None
 whole_to (Some k) block = whole_kept k block
-
--- the bytes of the module that a buffer is for, with a block that it lacks
-abbrev pub whole_in : ℕ → List ℕ → BufferState → Option (List ℕ)
-whole_in number block buffer = if is_missing (slice_get buffer.blocks number) then joined_bytes (slice_set buffer.blocks number (Some block)) else None
 
 -- ---- what is told
 

@@ -1,10 +1,7 @@
 //! The modules of a DII, each with the key of its buffer.
 
-ghost use Rattle.std.specs.Prelude.{◌≡◌, ◌≤◌, ◌<◌, ℕ, List, Some, None, Option, IfOk, OnOk, nat_eq, option_copied, option_map, option_and_then, if◌then◌else◌, ◌==◌, length};
+ghost use Rattle.std.specs.Prelude.{◌≡◌, ◌≤◌, ◌<◌, ℕ, List, Some, None, Option, IfOk, OnOk, OnErr, nat_eq, option_copied, option_map, option_and_then, if◌then◌else◌, ◌==◌, length};
 ghost use Rattle.std.specs.HashMap.{get as value_at};
-ghost use Rattle.std.specs.Borrow.{sem};
-ghost use Rattle.std.specs.Io.BufRead.{Rests};
-ghost use Rattle.carousel_blocks.specs.contracts.buffer.Buffer.{the_row};
 ghost use Rattle.carousel_blocks.specs.Held.{Kept, unchanged};
 ghost use Rattle.carousel_blocks.specs.InForce.{with_entry, standings};
 ghost use Rattle.carousel_blocks.specs.Modules.{AreModules, Covers, Grows, KeepModules, IsBacked, blocks_at, blocks_for, kept_at, shape_of};
@@ -14,7 +11,7 @@ ghost use Rattle.dsmcc_messages.specs.Ddb.{fields_of};
 ghost use Rattle.carousel_blocks.specs.Drafts.{asked_key_of};
 ghost use Rattle.carousel_blocks.specs.Held.{bytes_kept};
 ghost use Rattle.carousel_blocks.specs.Buffers.{shape_length};
-ghost use Rattle.carousel_blocks.specs.Steps.{answer_in, answer_to, whole_in, with_block, with_block_in};
+ghost use Rattle.carousel_blocks.specs.Steps.{answer_in, answer_to, with_block, with_block_in, without_block};
 
 use crate::buffer::{Buffer, Shape};
 use crate::put::Put;
@@ -65,7 +62,7 @@ pub fn modules_of(
         modules: HashMap::new(alloc),
     };
     'entries: for entry in dii.entries.into_vec() {
-        draft.add(alloc, old, buffers, entry)?;
+        draft.add(old, buffers, entry)?;
     }
     let Draft { modules, .. } = draft;
     Ok(modules)
@@ -75,7 +72,6 @@ impl Draft {
     // Adds the module of the next entry. Of two entries with one number the first counts.
     fn add(
         &mut self,
-        alloc: Global,
         old: &Modules,
         buffers: &mut Slab<Buffer>,
         entry: Entry,
@@ -90,7 +86,7 @@ impl Draft {
             return Ok(());
         }
         let standing = Standing::of(self.download, self.block_size, self.size, entry);
-        let key = key_for(alloc, old, buffers, &standing)?;
+        let key = key_for(old, buffers, &standing)?;
         self.size += standing.counted_size();
         self.modules
             .insert(standing.entry.id, Module { standing, key })?;
@@ -100,7 +96,6 @@ impl Draft {
 
 // The key of a module's buffer: the one that it has where its entry is unchanged, else that of a new one.
 fn key_for(
-    alloc: Global,
     old: &Modules,
     buffers: &mut Slab<Buffer>,
     standing: &Standing,
@@ -117,8 +112,7 @@ fn key_for(
     let Some(shape) = shape_of(standing) else {
         return Ok(None);
     };
-    let buffer = Buffer::new(alloc, shape)?;
-    let key = buffers.insert(buffer)?;
+    let key = buffers.insert(Buffer::new(shape))?;
     Ok(Some(key))
 }
 
@@ -179,24 +173,50 @@ fn has_key(modules: &Modules, number: u16, key: usize) -> bool
     }
 }
 
-/// Puts a block into the buffer of the module that asks for it, where one does.
-pub fn put_block(modules: &Modules, buffers: &mut Slab<Buffer>, ddb: &Ddb<'_>) -> Put
+/// Puts a block into the buffer of the module that asks for it, where one does. After `NoMemory` the modules have what
+/// they had.
+pub fn put_block(
+    alloc: Global,
+    modules: &Modules,
+    buffers: &mut Slab<Buffer>,
+    ddb: &Ddb<'_>,
+) -> Result<Put, NoMemory>
     requires { AreModules modules.now buffers.old }
     ensures are { AreModules modules.now buffers.new }
-    ensures kept { (number : ℕ) → kept_at modules.now buffers.new number ≡ option_map (with_block (fields_of ddb.now)) (kept_at modules.now buffers.old number) }
-    ensures answer { result ≡ answer_to (kept_at modules.now buffers.old ddb.now.«module») (fields_of ddb.now) }
+    ensures kept { OnOk result ((number : ℕ) → kept_at modules.now buffers.new number
+        ≡ option_map (with_block (fields_of ddb.now)) (kept_at modules.now buffers.old number)) }
+    ensures answer { IfOk result (λ put.
+        put ≡ answer_to (kept_at modules.now buffers.old ddb.now.«module») (fields_of ddb.now)) }
+    ensures same { OnErr result ((number : ℕ)
+        → kept_at modules.now buffers.new number ≡ kept_at modules.now buffers.old number) }
 {
     let Some(key) = asked_key(modules, ddb) else {
-        return Put::Ignored;
+        return Ok(Put::Ignored);
     };
     match buffers.get_mut(key) {
-        None => Put::Ignored,
-        Some(buffer) => put_in(buffer, ddb.number, ddb.block),
+        None => Ok(Put::Ignored),
+        Some(buffer) => put_in(alloc, buffer, ddb.number, ddb.block),
     }
 }
 
-/// The key of the buffer of the module that asks for a block, where one does.
-pub fn asked_key(modules: &Modules, ddb: &Ddb<'_>) -> Option<usize>
+/// Takes a block back from the module that asks for it, where one does.
+pub fn take_back(modules: &Modules, buffers: &mut Slab<Buffer>, ddb: &Ddb<'_>)
+    requires { AreModules modules.now buffers.old }
+    ensures are { AreModules modules.now buffers.new }
+    ensures kept { (number : ℕ) → kept_at modules.now buffers.new number
+        ≡ option_map (without_block (fields_of ddb.now)) (kept_at modules.now buffers.old number) }
+{
+    let Some(key) = asked_key(modules, ddb) else {
+        return;
+    };
+    match buffers.get_mut(key) {
+        None => {}
+        Some(buffer) => buffer.take_back(ddb.number),
+    }
+}
+
+// The key of the buffer of the module that asks for a block, where one does.
+fn asked_key(modules: &Modules, ddb: &Ddb<'_>) -> Option<usize>
     ensures { result ≡ asked_key_of (value_at nat_eq modules.now ddb.now.«module») (fields_of ddb.now) }
 {
     let module = modules.get(&ddb.module)?;
@@ -207,33 +227,26 @@ pub fn asked_key(modules: &Modules, ddb: &Ddb<'_>) -> Option<usize>
 }
 
 // Puts a block into the buffer, where none came for its number.
-fn put_in(buffer: &mut Buffer, number: u16, block: &[u8]) -> Put
+fn put_in(
+    alloc: Global,
+    buffer: &mut Buffer,
+    number: u16,
+    block: &[u8],
+) -> Result<Put, NoMemory>
     requires { length block.now ≡ shape_length buffer.old.shape number }
-    ensures block { buffer.new ≡ with_block_in number block.now buffer.old }
-    ensures answer { result ≡ answer_in number block.now buffer.old }
+    ensures block { OnOk result (buffer.new ≡ with_block_in number block.now buffer.old) }
+    ensures answer { IfOk result (λ put. put ≡ answer_in number block.now buffer.old) }
+    ensures same { OnErr result (buffer.new ≡ buffer.old) }
 {
     if !buffer.lacks(number) {
-        return Put::Ignored;
+        return Ok(Put::Ignored);
     }
-    buffer.put(number, block);
+    buffer.put(alloc, number, block)?;
     if buffer.is_complete() {
-        Put::Completed(buffer.number())
+        Ok(Put::Completed(buffer.number()))
     } else {
-        Put::Kept
+        Ok(Put::Kept)
     }
-}
-
-/// Writes a block into the buffer, where none came for its number, and marks it not. The module's bytes, where each
-/// other block came.
-pub fn stage_in<'a>(buffer: &'a mut Buffer, number: u16, block: &[u8]) -> Option<&'a [u8]>
-    requires { length block.now ≡ shape_length buffer.old.shape number }
-    ensures* same { sem 𝓛 (Rests the_row buffer.entry (λ new. new ≡ buffer.old)) }
-    ensures whole { option_copied result ≡ whole_in number block.now buffer.old }
-{
-    if buffer.lacks(number) {
-        return buffer.stage(number, block);
-    }
-    None
 }
 
 /// What the DII says of a module, where it has it.

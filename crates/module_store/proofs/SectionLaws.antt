@@ -22,7 +22,7 @@ use Rattle.multipart_entities.specs.Lines.{lines_of}
 use Rattle.multipart_entities.specs.Entities.{entity}
 use Rattle.multipart_entities.specs.Parts.{named_parts}
 use Rattle.module_store.specs.Resources.{holds_entity, info_in_force, transaction_of}
-use Rattle.module_store.specs.Entities.{ArePartsOf, KeepsParts, StagesParts, parts_at, is_reset, without_reset}
+use Rattle.module_store.specs.Entities.{ArePartsOf, HasLowNumber, KeepsParts, StagesParts, parts_at, is_reset, without_reset}
 use Rattle.module_store.specs.Carousels.{MessageLaws}
 use Rattle.module_store.specs.Slots.{AreAlike}
 
@@ -113,7 +113,7 @@ pub no_parts : ArePartsOf [] None
 no_parts = record { are = sym no_entity; inside = tt }
 
 -- what a section makes whole, by its message
-made_by : (messages : List Message) (section : List ℕ) (message : Option Message) → message_of section ≡ message → made_whole messages section ≡ whole_with messages message
+pub made_by : (messages : List Message) (section : List ℕ) (message : Option Message) → message_of section ≡ message → made_whole messages section ≡ whole_with messages message
 unfolding made_whole
 made_by messages section message e = ap (λ o. whole_with messages o) e
 
@@ -177,7 +177,7 @@ module _ (laws : MessageLaws) (old staged : List (ℕ × List Part)) (messages :
               let made = made_by messages section (Some message) e ∙ whole.2 in
               let told_before = sym (laws.info messages message number c change status) ∙ told in
               unless_reset number bytes (is_reset ∙ ap (λ (s : Option ℕ). is_some s) status)
-              (subst (λ b. ArePartsOf b (parts_at staged number)) same (stages.whole number info whole.0 made told_before holds))
+              (subst (λ b. ArePartsOf b (parts_at staged number)) same (stages.whole number info whole.0 low made told_before holds))
           by_status (Some s) status =
               let is_new = ap (λ (s : Option ℕ). is_some s) status in
               let empty = laws.new messages message number c bytes change is_new is_held in
@@ -223,7 +223,7 @@ completes number (Some s) was now change e = by_test (same_standing s s) (standi
     by_test true h true e = let is : completed number s.entry ≡ change = cc in ap (λ (c : Change). c.status) (sym is)
     by_test true h false e = absurd cc
 
-module _ (laws : MessageLaws) (old staged : List (ℕ × List Part)) (messages : List Message) (section : List ℕ) (stages : StagesParts old staged messages section) (found : List Change) (none : found ≡ []) where
+module _ (laws : MessageLaws) (messages : List Message) (section : List ℕ) (numbered : HasLowNumber section) (found : List Change) (none : found ≡ []) where
   alike_without : (now : List Message) → now ≡ messages → AreAlike messages now
   alike_without now same = record { in_force_is = ap (λ m. in_force m) same; held_are = λ number. ap (λ m. bytes_held m number) same }
 
@@ -239,7 +239,7 @@ module _ (laws : MessageLaws) (old staged : List (ℕ × List Part)) (messages :
         let status = completes number (standing_of (in_force messages) number) (bytes_held messages number) (bytes_held (messages ++ message ∷ []) number) c
         (ap (λ o. change_of number (standing_of (in_force messages) number) o (bytes_held messages number) (bytes_held (messages ++ message ∷ []) number)) (sym same) ∙ change) in
         let whole = laws.whole messages message number c change status in
-        let low = stages.low number whole.0 (made_by messages section (Some message) e ∙ whole.2) in
+        let low = numbered messages number whole.0 (made_by messages section (Some message) e ∙ whole.2) in
         let contrary = sym (none_told messages (messages ++ message ∷ []) number low (sym are ∙ none)) ∙ change in
         absurd cc
 

@@ -1,4 +1,4 @@
--- What is kept of the entities that modules hold: the parts of each.
+-- A device of the proofs: what is kept of the entities that modules hold, the parts of each. (This project's own.)
 use Rattle.std.specs.Prelude.{◌≡◌, ◌≤◌, ◌<◌, ℕ, nat_eq, ◌==◌, Bool, true, ◌&&◌, if◌then◌else◌, List, length, All, IfSome, Option, Some, None, is_some}
 use Rattle.std.specs.List.{list_any}
 use Rattle.std.specs.Map.{lookup}
@@ -44,9 +44,16 @@ is_reset number changes = list_any (λ change. (change.module == number) && is_s
 abbrev pub without_reset : List Change → (ℕ → Option (List Part)) → ℕ → Option (List Part)
 without_reset changes kept_module number = if is_reset number changes then None else kept_module number
 
+-- a module that the section makes whole has a number of two bytes
+abbrev pub HasLowNumber : List ℕ → Type 0
+HasLowNumber section = (messages : List Message) (number : ℕ) (bytes : List ℕ) → made_whole messages section ≡ Some (number, bytes) → number < number_bound
+
+-- the section makes a module whole
+abbrev pub MakesWhole : List Message → List ℕ → Type 0
+MakesWhole messages section = (number : ℕ) × (bytes : List ℕ) × (made_whole messages section ≡ Some (number, bytes))
+
 -- The parts of the module that the section makes whole are there, where it holds an entity, and those of others stay.
 pub record StagesParts (old new : List (ℕ × List Part)) (messages : List Message) (section : List ℕ) : Type 0 where
-  pub low : (number : ℕ) (bytes : List ℕ) → made_whole messages section ≡ Some (number, bytes) → number < number_bound
-  pub whole : (number : ℕ) (info bytes : List ℕ) → made_whole messages section ≡ Some (number, bytes) → info_in_force messages number ≡ Some info → holds_entity info ≡ true
+  pub whole : (number : ℕ) (info bytes : List ℕ) → number < number_bound → made_whole messages section ≡ Some (number, bytes) → info_in_force messages number ≡ Some info → holds_entity info ≡ true
       → ArePartsOf bytes (parts_at new number)
   pub others : (number : ℕ) → ((bytes : List ℕ) → made_whole messages section ≡ Some (number, bytes) → ⊥) → parts_at new number ≡ parts_at old number

@@ -13,7 +13,7 @@ use crate::entities::{Entities, named};
 use crate::laws::law_of_messages;
 use crate::numbers::Numbers;
 use crate::resources::Look;
-use crate::staging::stage;
+use crate::staging::take_section;
 use bml_bytes::{NoMemory, Text};
 use carousel_blocks::{Carousel, Change, law_of_held_sizes};
 use psi_tables::Component;
@@ -127,8 +127,7 @@ impl Slot {
     {
         law_of_messages();
         self.numbers.make_room(alloc)?;
-        stage(alloc, &mut self.carousel, &mut self.entities, section)?;
-        let changes = self.carousel.take(section)?;
+        let changes = take_section(alloc, &mut self.carousel, &mut self.entities, section)?;
         *count = self.numbers.note(*count, changes.as_slice());
         self.entities.drop_reset(changes.as_slice());
         Ok(changes)

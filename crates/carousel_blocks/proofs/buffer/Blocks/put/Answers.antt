@@ -2,7 +2,7 @@ use Rattle.std.proofs.Common.{◌∙◌, ◌≡◌, ℕ, List, ap, ap₂, true, 
 use Rattle.std.specs.Prelude.{slice_get, slice_set}
 use Rattle.carousel_blocks.specs.Buffers.{is_unmarked, overwritten, with_block_at}
 use Rattle.carousel_blocks.proofs.BufferLaws.{viewed, unmarked_by, room_by, ends_within, missing_in-marked, sound_with, view_with, within_marks}
-use Rattle.carousel_blocks.proofs.buffer.Buffer.put.Goals as goal
+use Rattle.carousel_blocks.proofs.buffer.Blocks.put.Goals as goal
 
 pub write_block-requires : goal.write_block-requires
 write_block-requires c =

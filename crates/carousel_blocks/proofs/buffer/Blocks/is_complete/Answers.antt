@@ -1,7 +1,7 @@
 use Rattle.std.proofs.Common.{ap, ◌∙◌, nat_eq}
 use Rattle.carousel_blocks.specs.Buffers.{all_came}
 use Rattle.carousel_blocks.proofs.BufferLaws.{complete_by_missing}
-use Rattle.carousel_blocks.proofs.buffer.Buffer.is_complete.Goals as goal
+use Rattle.carousel_blocks.proofs.buffer.Blocks.is_complete.Goals as goal
 
 pub returns : goal.returns
 returns c =

@@ -2,7 +2,7 @@ use Rattle.std.proofs.Common.{ap, ap₂, sym, ◌∙◌}
 use Rattle.std.specs.Prelude.{slice_get}
 use Rattle.carousel_blocks.specs.Buffers.{is_missing, is_unmarked}
 use Rattle.carousel_blocks.proofs.BufferLaws.{is_missing-blocks_in}
-use Rattle.carousel_blocks.proofs.buffer.Buffer.lacks.Goals as goal
+use Rattle.carousel_blocks.proofs.buffer.Blocks.lacks.Goals as goal
 
 pub returns : goal.returns
 returns c =

@@ -3,7 +3,7 @@ use Rattle.std.specs.Prelude.{Some}
 use Rattle.carousel_blocks.specs.Held.{joined_bytes}
 use Rattle.carousel_blocks.specs.Buffers.{all_came, missing_in}
 use Rattle.carousel_blocks.proofs.BufferLaws.{complete_by_missing, joined_none, joined_all}
-use Rattle.carousel_blocks.proofs.buffer.Buffer.whole.Goals as goal
+use Rattle.carousel_blocks.proofs.buffer.Blocks.whole.Goals as goal
 
 pub returns-then-self-gt0 : goal.returns-then-self-gt0
 returns-then-self-gt0 c =

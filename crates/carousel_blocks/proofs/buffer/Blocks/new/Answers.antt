@@ -3,7 +3,7 @@ use Rattle.std.proofs.lemmas.List.{length-replicate}
 use Rattle.std.specs.Prelude.{Option, None}
 use Rattle.carousel_blocks.specs.Buffers.{BufferState, blocks_in, missing_in}
 use Rattle.carousel_blocks.proofs.BufferLaws.{blocks_in-unmarked, missing_in-unmarked}
-use Rattle.carousel_blocks.proofs.buffer.Buffer.new.Goals as goal
+use Rattle.carousel_blocks.proofs.buffer.Blocks.new.Goals as goal
 
 pub invariant_of-result : goal.invariant_of-result
 invariant_of-result c =
