@@ -20,8 +20,8 @@ ghost use Rattle.carousel_blocks.specs.Order.{AreConsistent, OnlyRepeats, SameBl
 ghost use Rattle.carousel_blocks.specs.Staging.{IsSameModule, whole_with};
 
 use crate::put::Put;
-use dsmcc_messages::{law_of_ddb, law_of_dii};
 use crate::standing::SkipCause;
+use dsmcc_messages::{law_of_ddb, law_of_dii};
 
 /// The message of a section is the one that the relation between its bytes and the message's fields tells.
 pub fn law_of_messages()

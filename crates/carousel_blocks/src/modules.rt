@@ -227,12 +227,7 @@ fn asked_key(modules: &Modules, ddb: &Ddb<'_>) -> Option<usize>
 }
 
 // Puts a block into the buffer, where none came for its number.
-fn put_in(
-    alloc: Global,
-    buffer: &mut Buffer,
-    number: u16,
-    block: &[u8],
-) -> Result<Put, NoMemory>
+fn put_in(alloc: Global, buffer: &mut Buffer, number: u16, block: &[u8]) -> Result<Put, NoMemory>
     requires { length block.now ≡ shape_length buffer.old.shape number }
     ensures block { OnOk result (buffer.new ≡ with_block_in number block.now buffer.old) }
     ensures answer { IfOk result (λ put. put ≡ answer_in number block.now buffer.old) }
