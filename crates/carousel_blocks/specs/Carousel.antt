@@ -1,4 +1,4 @@
--- For which messages a carousel stands, and what it answers.
+-- For which messages a carousel stands, and what it answers. (This project's own.)
 use Rattle.std.specs.Prelude.{◌≡◌, ℕ, nat_eq, Bool, not, ◌||◌, if◌then◌else◌, List, [], ◌∷◌, ◌++◌, Option, None, is_some, option_map, option_and_then}
 use Rattle.std.specs.Map.{lookup}
 use Rattle.dsmcc_messages.specs.Ddb.{DataBlock}
@@ -22,6 +22,10 @@ kept_in c number = lookup (nat_eq number) c.modules
 pub record StandsFor (c : CarouselState) (messages : List Message) : Type 0 where
   pub transaction : c.transaction ≡ option_map (λ dii. dii.transaction) (in_force messages)
   pub modules : (number : ℕ) → kept_in c number ≡ kept_module messages number
+
+-- a fact for each list of messages for which the carousel stands
+abbrev pub ForMessages : CarouselState → (List Message → Type 0) → Type 0
+ForMessages c P = (messages : List Message) → StandsFor c messages → P messages
 
 -- a carousel keeps the same as before
 pub record KeepsSame (old new : CarouselState) : Type 0 where

@@ -38,7 +38,8 @@ impl Model for Carousel {
 
     ghost Value = { CarouselState };
 
-    ghost view = { λ c. record { transaction = c.transaction; modules = entries_kept c.modules c.buffers } };
+    ghost view = { λ c. record { transaction = c.transaction;
+        modules = entries_kept c.modules c.buffers } };
 
     ghost invariant = { λ c. AreModules c.modules c.buffers };
 }
@@ -47,7 +48,7 @@ impl Carousel {
     ghost use Rattle.carousel_blocks.specs.Message.{Message, Indication, Data, data_in, messages_of};
     ghost use Rattle.carousel_blocks.specs.InForce.{in_force, standing_of};
     ghost use Rattle.carousel_blocks.specs.Held.{bytes_held};
-    ghost use Rattle.carousel_blocks.specs.Carousel.{CarouselState, StandsFor, KeepsSame, kept_in};
+    ghost use Rattle.carousel_blocks.specs.Carousel.{CarouselState, ForMessages, StandsFor, KeepsSame, kept_in};
     ghost use Rattle.carousel_blocks.specs.Carousel.{entry_in_force, skip_in_force, put_after};
     ghost use Rattle.carousel_blocks.specs.Changes.{changes, departures, number_bound};
     ghost use Rattle.carousel_blocks.specs.Steps.{TakesDii, TakesBlock, is_in_force, TakesBack, entry_changes, block_change};
@@ -72,16 +73,16 @@ impl Carousel {
     /// After `NoMemory` the carousel is as before, and may be told the section once more.
     pub fn take(&mut self, section: &[u8]) -> Result<Vec<Change>, NoMemory>
         requires { 12 ≤ length section.now }
-        ensures stands { OnOk result ((messages : List Message) → StandsFor self.old messages
-            → StandsFor self.new (messages ++ messages_of (section.now ∷ []))) }
-        ensures changes { IfOk result (λ found. (messages : List Message) → StandsFor self.old messages
-            → found.items ≡ changes messages (messages ++ messages_of (section.now ∷ []))) }
+        ensures stands { OnOk result (ForMessages self.old
+            (λ messages. StandsFor self.new (messages ++ messages_of (section.now ∷ [])))) }
+        ensures changes { IfOk result (λ found. ForMessages self.old (λ messages. found.items
+            ≡ changes messages (messages ++ messages_of (section.now ∷ [])))) }
         // The module that the section makes whole has a number of two bytes.
         ensures number { OnOk result ((messages : List Message) (number : ℕ) (bytes : List ℕ)
             → made_whole messages section.now ≡ Some (number, bytes) → number < number_bound) }
         ensures same { OnErr result (KeepsSame self.old self.new) }
-        ensures before { OnErr result ((messages : List Message) → StandsFor self.old messages
-            → StandsFor self.new messages) }
+        ensures before { OnErr result (ForMessages self.old
+            (λ messages. StandsFor self.new messages)) }
     {
         match read_dii(self.alloc, section) {
             Ok(dii) => self.take_dii(dii),
@@ -96,7 +97,8 @@ impl Carousel {
         requires { 12 ≤ length section.now }
         ensures { (messages : List Message) (number : ℕ) (bytes : List ℕ)
             → made_whole messages section.now ≡ Some (number, bytes)
-            → StandsFor self.old (messages ++ messages_of (section.now ∷ [])) → StandsFor self.new messages }
+            → StandsFor self.old (messages ++ messages_of (section.now ∷ []))
+            → StandsFor self.new messages }
     {
         match read_ddb(section) {
             Ok(ddb) => self.take_block_back(&ddb),
@@ -106,8 +108,8 @@ impl Carousel {
 
     /// What goes where the component leaves: each module of the DII in force, in ascending number.
     pub fn departures(&self) -> Result<Vec<Change>, NoMemory>
-        ensures { IfOk result (λ found. (messages : List Message) → StandsFor self.now messages
-            → found.items ≡ departures messages) }
+        ensures { IfOk result (λ found. ForMessages self.now (λ messages. found.items
+            ≡ departures messages)) }
     {
         let none = HashMap::new(self.alloc);
         changes_between(self.alloc, &self.modules, &none, &self.buffers)
@@ -117,11 +119,11 @@ impl Carousel {
     ///
     /// After `NoMemory` everything is as before.
     pub fn set_dii(&mut self, dii: Dii) -> Result<(), NoMemory>
-        ensures stands { OnOk result ((messages : List Message) → StandsFor self.old messages
-            → StandsFor self.new (messages ++ Indication dii ∷ [])) }
+        ensures stands { OnOk result (ForMessages self.old
+            (λ messages. StandsFor self.new (messages ++ Indication dii ∷ []))) }
         ensures same { OnErr result (KeepsSame self.old self.new) }
-        ensures before { OnErr result ((messages : List Message) → StandsFor self.old messages
-            → StandsFor self.new messages) }
+        ensures before { OnErr result (ForMessages self.old
+            (λ messages. StandsFor self.new messages)) }
     {
         let _changes = self.take_dii(dii)?;
         Ok(())
@@ -132,27 +134,29 @@ impl Carousel {
     ///
     /// After `NoMemory` everything is as before.
     pub fn put(&mut self, ddb: &Ddb<'_>) -> Result<Put, NoMemory>
-        ensures stands { OnOk result ((messages : List Message) → StandsFor self.old messages
-            → StandsFor self.new (messages ++ Data (fields_of ddb.now) ∷ [])) }
-        ensures answer { IfOk result (λ put. (messages : List Message) → StandsFor self.old messages
-            → put ≡ put_after messages (fields_of ddb.now)) }
+        ensures stands { OnOk result (ForMessages self.old
+            (λ messages. StandsFor self.new (messages ++ Data (fields_of ddb.now) ∷ []))) }
+        ensures answer { IfOk result (λ put. ForMessages self.old (λ messages. put
+            ≡ put_after messages (fields_of ddb.now))) }
         ensures same { OnErr result (KeepsSame self.old self.new) }
-        ensures before { OnErr result ((messages : List Message) → StandsFor self.old messages
-            → StandsFor self.new messages) }
+        ensures before { OnErr result (ForMessages self.old
+            (λ messages. StandsFor self.new messages)) }
     {
         self.put_block(ddb)
     }
 
     /// The transactionId of the DII in force; None where no DII came.
     pub fn transaction(&self) -> Option<u32>
-        ensures { (messages : List Message) → StandsFor self.now messages → result ≡ option_map (λ dii. dii.transaction) (in_force messages) }
+        ensures { ForMessages self.now (λ messages. result
+            ≡ option_map (λ dii. dii.transaction) (in_force messages)) }
     {
         self.transaction
     }
 
     /// The entry of a module in the DII in force; None where there is none.
     pub fn entry(&self, module: u16) -> Option<&Entry>
-        ensures { (messages : List Message) → StandsFor self.now messages → option_copied result ≡ entry_in_force messages «module» }
+        ensures { ForMessages self.now (λ messages. option_copied result
+            ≡ entry_in_force messages «module») }
     {
         let module = self.modules.get(&module)?;
         Some(&module.standing.entry)
@@ -160,7 +164,7 @@ impl Carousel {
 
     /// Why a module is skipped; None where it isn't, or where the DII in force has no such module.
     pub fn skip_of(&self, module: u16) -> Option<SkipCause>
-        ensures { (messages : List Message) → StandsFor self.now messages → result ≡ skip_in_force messages «module» }
+        ensures { ForMessages self.now (λ messages. result ≡ skip_in_force messages «module») }
     {
         let module = self.modules.get(&module)?;
         module.standing.skip
@@ -168,7 +172,8 @@ impl Carousel {
 
     /// The bytes of a module; None where it isn't held.
     pub fn bytes_of(&self, module: u16) -> Option<&[u8]>
-        ensures { (messages : List Message) → StandsFor self.now messages → option_copied result ≡ bytes_held messages «module» }
+        ensures { ForMessages self.now (λ messages. option_copied result
+            ≡ bytes_held messages «module») }
     {
         whole_of(&self.modules, &self.buffers, module)
     }
@@ -176,10 +181,10 @@ impl Carousel {
     // Takes a section that carries no readable DII.
     fn take_data(&mut self, section: &[u8]) -> Result<Vec<Change>, NoMemory>
         requires { 12 ≤ length section.now }
-        ensures stands { OnOk result ((messages : List Message) → StandsFor self.old messages
-            → StandsFor self.new (messages ++ data_in section.now)) }
-        ensures changes { IfOk result (λ found. (messages : List Message) → StandsFor self.old messages
-            → found.items ≡ changes messages (messages ++ data_in section.now)) }
+        ensures stands { OnOk result (ForMessages self.old
+            (λ messages. StandsFor self.new (messages ++ data_in section.now))) }
+        ensures changes { IfOk result (λ found. ForMessages self.old (λ messages. found.items
+            ≡ changes messages (messages ++ data_in section.now))) }
         ensures number { (messages : List Message) (number : ℕ) (bytes : List ℕ)
             → made_whole messages section.now ≡ Some (number, bytes) → number < number_bound }
         ensures same { OnErr result (KeepsSame self.old self.new) }
@@ -191,10 +196,10 @@ impl Carousel {
     }
 
     fn take_dii(&mut self, dii: Dii) -> Result<Vec<Change>, NoMemory>
-        ensures stands { OnOk result ((messages : List Message) → StandsFor self.old messages
-            → StandsFor self.new (messages ++ Indication dii ∷ [])) }
-        ensures changes { IfOk result (λ found. (messages : List Message) → StandsFor self.old messages
-            → found.items ≡ changes messages (messages ++ Indication dii ∷ [])) }
+        ensures stands { OnOk result (ForMessages self.old
+            (λ messages. StandsFor self.new (messages ++ Indication dii ∷ []))) }
+        ensures changes { IfOk result (λ found. ForMessages self.old (λ messages. found.items
+            ≡ changes messages (messages ++ Indication dii ∷ []))) }
         ensures same { OnErr result (KeepsSame self.old self.new) }
     {
         if self.is_in_force(dii.transaction) {
@@ -205,10 +210,10 @@ impl Carousel {
 
     // A block is kept only where its change is told: where there is no memory for this, it is taken back.
     fn take_ddb(&mut self, ddb: Ddb<'_>) -> Result<Vec<Change>, NoMemory>
-        ensures stands { OnOk result ((messages : List Message) → StandsFor self.old messages
-            → StandsFor self.new (messages ++ Data (fields_of ddb.entry) ∷ [])) }
-        ensures changes { IfOk result (λ found. (messages : List Message) → StandsFor self.old messages
-            → found.items ≡ changes messages (messages ++ Data (fields_of ddb.entry) ∷ [])) }
+        ensures stands { OnOk result (ForMessages self.old
+            (λ messages. StandsFor self.new (messages ++ Data (fields_of ddb.entry) ∷ []))) }
+        ensures changes { IfOk result (λ found. ForMessages self.old (λ messages. found.items
+            ≡ changes messages (messages ++ Data (fields_of ddb.entry) ∷ []))) }
         ensures low { ddb.entry.«module» < 2 ^ 16 }
         ensures same { OnErr result (KeepsSame self.old self.new) }
     {
@@ -227,8 +232,8 @@ impl Carousel {
 
     // What is told of a block, by what became of it.
     fn change_by(&self, put: Put) -> Option<Change>
-        ensures told { (messages : List Message) → StandsFor self.now messages
-            → result ≡ block_change (standing_of (in_force messages)) put }
+        ensures told { ForMessages self.now (λ messages. result
+            ≡ block_change (standing_of (in_force messages)) put) }
         ensures completed { IfSome result (λ change. put ≡ Put.Completed change.«module») }
     {
         let Put::Completed(number) = put else {
@@ -247,7 +252,8 @@ impl Carousel {
     // Puts the modules of another DII in place of those of the one in force, and tells what changed.
     fn replace(&mut self, dii: Dii) -> Result<Vec<Change>, NoMemory>
         ensures taken { OnOk result (TakesDii self.old self.new dii) }
-        ensures changes { IfOk result (λ found. found.items ≡ entry_changes (kept_in self.old) (kept_in self.new)) }
+        ensures changes { IfOk result (λ found. found.items
+            ≡ entry_changes (kept_in self.old) (kept_in self.new)) }
         ensures same { OnErr result (KeepsSame self.old self.new) }
     {
         let transaction = dii.transaction;
@@ -269,7 +275,8 @@ impl Carousel {
     fn put_block(&mut self, ddb: &Ddb<'_>) -> Result<Put, NoMemory>
         ensures taken { IfOk result (λ put. TakesBlock self.old self.new (fields_of ddb.now) put) }
         ensures same { OnErr result (KeepsSame self.old self.new) }
-        ensures back { IfOk result (λ put. (number : ℕ) (later : CarouselState) → put ≡ Put.Completed number
+        ensures back { IfOk result (λ put. (number : ℕ) (later : CarouselState)
+            → put ≡ Put.Completed number
             → TakesBack self.new later (fields_of ddb.now) → KeepsSame self.old later) }
     {
         put_block(self.alloc, &self.modules, &mut self.buffers, ddb)

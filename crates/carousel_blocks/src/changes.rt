@@ -128,7 +128,8 @@ pub fn next_modules(
 ) -> Result<(Modules, Vec<Change>), NoMemory>
     requires { AreModules old.now buffers.old }
     ensures keeps { KeepModules old.now buffers.old buffers.new }
-    ensures modules { IfOk result (λ next. AreModulesOf dii (kept_at old.now buffers.old) next.0 buffers.new) }
+    ensures modules { IfOk result
+        (λ next. AreModulesOf dii (kept_at old.now buffers.old) next.0 buffers.new) }
     ensures changes { IfOk result (λ next. next.1.items
         ≡ entry_changes (kept_at old.now buffers.old) (kept_at next.0 buffers.new)) }
 {

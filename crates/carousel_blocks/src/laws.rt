@@ -7,7 +7,7 @@ ghost use Rattle.dsmcc_messages.specs.declared.dii.Dii.{Dii};
 ghost use Rattle.dsmcc_messages.specs.Ddb.{DataBlock};
 ghost use Rattle.bml_bytes.specs.Codes.{AreBytes};
 ghost use Rattle.carousel_blocks.specs.Message.{Message, Indication, Data, CarriesMessage, message_of};
-ghost use Rattle.carousel_blocks.specs.InForce.{in_force, standing_of, block_count, is_compressed};
+ghost use Rattle.carousel_blocks.specs.InForce.{in_force, standing_of, block_count, size_limit, is_compressed};
 ghost use Rattle.carousel_blocks.specs.Entries.{CountsAsEntry, IsLargeAt, skip_in};
 ghost use Rattle.dsmcc_messages.specs.declared.entry.Entry.{Entry};
 ghost use Rattle.std.specs.List.{list_any};
@@ -35,7 +35,9 @@ pub fn law_of_messages()
 /// The blocks that count are those that stand at a place of the messages where they are asked for by an entry that
 /// stays unchanged from there on.
 pub fn law_of_counting()
-    ensures { (messages : List Message) (number : ℕ) (block : DataBlock) → Contains (counting_blocks None number messages) block ↔ ((place : ℕ) × CountsAt messages number block place) }
+    ensures { (messages : List Message) (number : ℕ) (block : DataBlock)
+        → Contains (counting_blocks None number messages) block
+        ↔ ((place : ℕ) × CountsAt messages number block place) }
 {}
 
 /// Of the blocks that count with one number the first counts: the one at the least place.
@@ -74,7 +76,11 @@ pub fn law_of_entries()
 /// and let no two blocks that the module's entry asks for have one number and different bytes. Then the module is
 /// held behind both with the same bytes, or behind neither.
 pub fn law_of_block_order()
-    ensures { (messages first second : List Message) (dii : Dii) (number : ℕ) → in_force messages ≡ Some dii → OnlyRepeats dii.transaction first → OnlyRepeats dii.transaction second → SameBlocks first second → AreConsistent (standing_of (Some dii) number) first → bytes_held (messages ++ first) number ≡ bytes_held (messages ++ second) number }
+    ensures { (messages first second : List Message) (dii : Dii) (number : ℕ)
+        → in_force messages ≡ Some dii → OnlyRepeats dii.transaction first
+        → OnlyRepeats dii.transaction second → SameBlocks first second
+        → AreConsistent (standing_of (Some dii) number) first
+        → bytes_held (messages ++ first) number ≡ bytes_held (messages ++ second) number }
 {}
 
 /// What stays isn't told: the DII in force once more changes nothing, and neither does a block that is held or isn't
@@ -82,8 +88,10 @@ pub fn law_of_block_order()
 pub fn law_of_no_change()
     ensures same { (messages : List Message) → changes messages messages ≡ [] }
     ensures repeated { (messages : List Message) (dii other : Dii) → in_force messages ≡ Some dii
-        → other.transaction ≡ dii.transaction → changes messages (messages ++ Indication other ∷ []) ≡ [] }
-    ensures ignored { (messages : List Message) (block : DataBlock) → put_after messages block ≡ Put.Ignored
+        → other.transaction ≡ dii.transaction
+        → changes messages (messages ++ Indication other ∷ []) ≡ [] }
+    ensures ignored { (messages : List Message) (block : DataBlock)
+        → put_after messages block ≡ Put.Ignored
         → changes messages (messages ++ Data block ∷ []) ≡ [] }
 {}
 
@@ -96,19 +104,22 @@ pub fn law_of_block_change()
 
 /// Changes come in ascending module number, at most one a module.
 pub fn law_of_change_order()
-    ensures { (before now : List Message) → IsStrictlyIncreasing (map (λ change. change.«module») (changes before now)) }
+    ensures { (before now : List Message)
+        → IsStrictlyIncreasing (map (λ change. change.«module») (changes before now)) }
 {}
 
 /// A module of which no change is told when a message comes is the same as before.
 pub fn law_of_same_modules()
-    ensures { (messages : List Message) (message : Message) (number : ℕ) → change_at messages (messages ++ message ∷ []) number ≡ None
+    ensures { (messages : List Message) (message : Message) (number : ℕ)
+        → change_at messages (messages ++ message ∷ []) number ≡ None
         → IsSameModule messages (messages ++ message ∷ []) number }
 {}
 
 /// A module whose entry is new or another one, and that is held at once, has no bytes.
 pub fn law_of_new_entries()
     ensures { (messages : List Message) (message : Message) (number : ℕ) (change : Change) (bytes : List ℕ)
-        → change_at messages (messages ++ message ∷ []) number ≡ Some change → is_some change.status ≡ true
+        → change_at messages (messages ++ message ∷ []) number ≡ Some change
+        → is_some change.status ≡ true
         → bytes_held (messages ++ message ∷ []) number ≡ Some bytes → bytes ≡ [] }
 {}
 
@@ -134,10 +145,12 @@ pub fn law_of_completed_modules()
 
 /// The bytes of a module that is held are as many as its entry says, and at most 1,048,576.
 pub fn law_of_held_sizes()
-    ensures size { (messages : List Message) (number : ℕ) (bytes : List ℕ) → bytes_held messages number ≡ Some bytes
+    ensures size { (messages : List Message) (number : ℕ) (bytes : List ℕ)
+        → bytes_held messages number ≡ Some bytes
         → option_map (λ entry. entry.size) (entry_in_force messages number) ≡ Some (length bytes) }
-    ensures limit { (messages : List Message) (number : ℕ) (bytes : List ℕ) → bytes_held messages number ≡ Some bytes
-        → length bytes ≤ 1048576 }
+    ensures limit { (messages : List Message) (number : ℕ) (bytes : List ℕ)
+        → bytes_held messages number ≡ Some bytes
+        → length bytes ≤ size_limit }
 {}
 
 /// The DII in force stays the same DII as long as its transactionId does.

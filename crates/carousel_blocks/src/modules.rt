@@ -3,7 +3,7 @@
 ghost use Rattle.std.specs.Prelude.{◌≡◌, ◌≤◌, ◌<◌, ℕ, List, Some, None, Option, IfOk, OnOk, OnErr, nat_eq, option_copied, option_map, option_and_then, if◌then◌else◌, ◌==◌, length};
 ghost use Rattle.std.specs.HashMap.{get as value_at};
 ghost use Rattle.carousel_blocks.specs.Held.{Kept, unchanged};
-ghost use Rattle.carousel_blocks.specs.InForce.{with_entry, standings};
+ghost use Rattle.carousel_blocks.specs.InForce.{with_entry, standings, sum_limit};
 ghost use Rattle.carousel_blocks.specs.Modules.{AreModules, Covers, Grows, KeepModules, IsBacked, blocks_at, blocks_for, kept_at, shape_of};
 ghost use Rattle.carousel_blocks.specs.Drafts.{IsDraft, AreModulesOf, carried_of};
 ghost use Rattle.carousel_blocks.specs.Drafts.{key_of, is_key};
@@ -53,7 +53,8 @@ pub fn modules_of(
 ) -> Result<Modules, NoMemory>
     requires { AreModules old.now buffers.old }
     ensures keeps { KeepModules old.now buffers.old buffers.new }
-    ensures modules { IfOk result (λ modules. AreModulesOf dii (kept_at old.now buffers.old) modules buffers.new) }
+    ensures modules { IfOk result
+        (λ modules. AreModulesOf dii (kept_at old.now buffers.old) modules buffers.new) }
 {
     let mut draft = Draft {
         download: dii.download,
@@ -77,10 +78,14 @@ impl Draft {
         entry: Entry,
     ) -> Result<(), NoMemory>
         requires modules { AreModules old.now buffers.old }
-        requires size { self.old.size ≤ 33554432 }
+        requires size { self.old.size ≤ sum_limit }
         ensures keeps { KeepModules old.now buffers.old buffers.new }
-        ensures size { OnOk result (self.new.size ≤ 33554432) }
-        ensures added { OnOk result ((dii : Dii) (kept : ℕ → Option Kept) (before : List Standing) → ((number : ℕ) → kept_at old.now buffers.old number ≡ kept number) → IsDraft dii kept before self.old buffers.old → IsDraft dii kept (with_entry dii before entry) self.new buffers.new) }
+        ensures size { OnOk result (self.new.size ≤ sum_limit) }
+        ensures added { OnOk result ((dii : Dii) (kept : ℕ
+            → Option Kept) (before : List Standing) → ((number : ℕ)
+            → kept_at old.now buffers.old number ≡ kept number)
+            → IsDraft dii kept before self.old buffers.old
+            → IsDraft dii kept (with_entry dii before entry) self.new buffers.new) }
     {
         if self.modules.contains_key(&entry.id) {
             return Ok(());
@@ -104,7 +109,8 @@ fn key_for(
     requires covers { Covers standing.now }
     ensures grows { Grows buffers.old buffers.new }
     ensures backed { IfOk result (IsBacked buffers.new standing.now) }
-    ensures kept { IfOk result (λ key. blocks_at buffers.new key ≡ blocks_for (kept_at old.now buffers.old standing.now.entry.id) standing.now) }
+    ensures kept { IfOk result (λ key. blocks_at buffers.new key
+        ≡ blocks_for (kept_at old.now buffers.old standing.now.entry.id) standing.now) }
 {
     if let Some(module) = carried(old, standing) {
         return Ok(module.key);
@@ -118,7 +124,8 @@ fn key_for(
 
 // The module that keeps its buffer, where its entry is unchanged.
 fn carried<'a>(old: &'a Modules, standing: &Standing) -> Option<&'a Module>
-    ensures { option_copied result ≡ carried_of (value_at nat_eq old.now standing.now.entry.id) standing.now }
+    ensures { option_copied result
+        ≡ carried_of (value_at nat_eq old.now standing.now.entry.id) standing.now }
 {
     let module = old.get(&standing.entry.id)?;
     if !module.standing.is_same(standing) {
@@ -246,7 +253,8 @@ fn put_in(alloc: Global, buffer: &mut Buffer, number: u16, block: &[u8]) -> Resu
 
 /// What the DII says of a module, where it has it.
 pub fn standing_at(modules: &Modules, number: u16) -> Option<&Standing>
-    ensures { option_copied result ≡ option_map (λ m. m.standing) (value_at nat_eq modules.now number) }
+    ensures { option_copied result
+        ≡ option_map (λ m. m.standing) (value_at nat_eq modules.now number) }
 {
     let module = modules.get(&number)?;
     Some(&module.standing)
@@ -255,7 +263,8 @@ pub fn standing_at(modules: &Modules, number: u16) -> Option<&Standing>
 /// The bytes of a module, where it isn't skipped and each block came.
 pub fn whole_of<'a>(modules: &Modules, buffers: &'a Slab<Buffer>, number: u16) -> Option<&'a [u8]>
     requires { AreModules modules.now buffers.now }
-    ensures { option_copied result ≡ option_and_then bytes_kept (kept_at modules.now buffers.now number) }
+    ensures { option_copied result
+        ≡ option_and_then bytes_kept (kept_at modules.now buffers.now number) }
 {
     let module = modules.get(&number)?;
     let buffer = buffers.get(module.key?)?;

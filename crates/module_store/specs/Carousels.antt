@@ -1,4 +1,4 @@
--- What the store rests on of a carousel.
+-- A device of the proofs: what the store rests on of a carousel. (This project's own.)
 use Rattle.std.specs.Prelude.{◌≡◌, ℕ, true, List, [], ◌∷◌, ◌++◌, Some, None, is_some}
 use Rattle.carousel_blocks.specs.declared.changes.Change.{Change}
 use Rattle.carousel_blocks.specs.Message.{Message}

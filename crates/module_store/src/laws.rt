@@ -31,9 +31,11 @@ pub fn law_of_messages()
 pub fn law_of_found_resources()
     ensures sections { (stored : Stored) (component : ℕ) (section : List ℕ) (path : Path) (bytes : List ℕ) → path.«module» < 2 ^ 16
         → look stored path ≡ Found bytes
-        → (component ≡ path.component → tells_of path.«module» (changes_by component section stored) ≡ false)
+        → (component ≡ path.component
+        → tells_of path.«module» (changes_by component section stored) ≡ false)
         → look (with_section component section stored) path ≡ Found bytes }
-    ensures maps { (stored : Stored) (components : List Component) (path : Path) (bytes : List ℕ) → path.component < 2 ^ 8 → path.«module» < 2 ^ 16
+    ensures maps { (stored : Stored) (components : List Component) (path : Path) (bytes : List ℕ)
+        → path.component < 2 ^ 8 → path.«module» < 2 ^ 16
         → AllPairs AreApart components → look stored path ≡ Found bytes
         → is_gone path.component path.«module» (gone_by components stored) ≡ false
         → look (with_map components stored) path ≡ Found bytes }
@@ -43,10 +45,12 @@ pub fn law_of_found_resources()
 
 /// Where something is found under the start path, this stays the start path until a change of its module is told.
 pub fn law_of_start_paths()
-    ensures sections { (stored : Stored) (component : ℕ) (section : List ℕ) (bytes : List ℕ) → look stored (start_path stored) ≡ Found bytes
+    ensures sections { (stored : Stored) (component : ℕ) (section : List ℕ) (bytes : List ℕ)
+        → look stored (start_path stored) ≡ Found bytes
         → (component ≡ start_component → tells_of 0 (changes_by component section stored) ≡ false)
         → start_path (with_section component section stored) ≡ start_path stored }
-    ensures maps { (stored : Stored) (components : List Component) (bytes : List ℕ) → AllPairs AreApart components → look stored (start_path stored) ≡ Found bytes
+    ensures maps { (stored : Stored) (components : List Component) (bytes : List ℕ)
+        → AllPairs AreApart components → look stored (start_path stored) ≡ Found bytes
         → is_gone start_component 0 (gone_by components stored) ≡ false
         → start_path (with_map components stored) ≡ start_path stored }
 {

@@ -67,7 +67,9 @@ impl Numbers {
     /// these. It stays at 2^64 - 1 once it is there.
     pub fn note(&mut self, count: u64, changes: &[Change]) -> u64
         requires { HasRoom self.old }
-        ensures numbers { (number : ℕ) → delivery_in self.new number ≡ noted count (deliveries_of changes.now) (delivery_in self.old) number }
+        ensures numbers { (number : ℕ)
+            → delivery_in self.new number
+            ≡ noted count (deliveries_of changes.now) (delivery_in self.old) number }
         ensures count { result ≡ noted_count count (deliveries_of changes.now) }
     {
         let mut last = count;
@@ -83,7 +85,9 @@ impl Numbers {
     fn set(&mut self, module: u16, number: u64)
         requires { HasRoom self.old }
         ensures room { HasRoom self.new }
-        ensures number { (other : ℕ) → delivery_in self.new other ≡ with_number «module» number (delivery_in self.old) other }
+        ensures number { (other : ℕ)
+            → delivery_in self.new other
+            ≡ with_number «module» number (delivery_in self.old) other }
     {
         self.table[usize::from(module)] = number;
     }

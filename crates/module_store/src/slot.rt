@@ -2,6 +2,7 @@
 
 ghost use Rattle.std.specs.Prelude.{◌≡◌, ◌≤◌, List, Some, length, IfOk, OnErr, option_copied};
 ghost use Rattle.carousel_blocks.specs.Changes.{departures};
+ghost use Rattle.carousel_blocks.specs.InForce.{size_limit};
 ghost use Rattle.carousel_blocks.specs.Held.{bytes_held};
 ghost use Rattle.carousel_blocks.specs.Message.{Message};
 ghost use Rattle.carousel_blocks.specs.Carousel as of_carousel;
@@ -38,7 +39,8 @@ impl Model for Slot {
 
     ghost Value = { ComponentState };
 
-    ghost view = { λ s. record { tag = s.tag; pid = s.pid; carousel = s.carousel; deliveries = s.numbers } };
+    ghost view = { λ s. record { tag = s.tag; pid = s.pid; carousel = s.carousel;
+        deliveries = s.numbers } };
 
     ghost invariant = { λ s. IsSound s.carousel s.entities };
 }
@@ -106,7 +108,8 @@ impl Slot {
     /// What goes where the component leaves.
     pub fn departures(&self) -> Result<Vec<Change>, NoMemory>
         ensures { IfOk result (λ found. (messages : List Message)
-            → of_carousel.StandsFor self.now.carousel messages → found.items ≡ departures messages) }
+            → of_carousel.StandsFor self.now.carousel messages
+            → found.items ≡ departures messages) }
     {
         self.carousel.departures()
     }
@@ -137,7 +140,7 @@ impl Slot {
     pub fn resource(&self, module: u16, name: &Text) -> Look<'_>
         ensures look { (messages : List Message) → of_carousel.StandsFor self.now.carousel messages
             → resource_of result ≡ look_in (Some messages) «module» name.now }
-        ensures bound { HasAtMost 1048576 (resource_of result) }
+        ensures bound { HasAtMost size_limit (resource_of result) }
     {
         law_of_held_sizes();
         if self.carousel.transaction().is_none() {

@@ -26,7 +26,8 @@ pub fn take_section(
     requires { 12 ≤ length section.now }
     ensures stands { OnOk result ((messages : List Message) → StandsFor carousel.old messages
         → StandsFor carousel.new (messages ++ messages_of (section.now ∷ []))) }
-    ensures changes { IfOk result (λ found. (messages : List Message) → StandsFor carousel.old messages
+    ensures changes { IfOk result (λ found. (messages : List Message)
+        → StandsFor carousel.old messages
         → found.items ≡ changes messages (messages ++ messages_of (section.now ∷ []))) }
     ensures parts { OnOk result ((messages : List Message) → StandsFor carousel.old messages
         → StagesParts entities.old entities.new messages section.now) }
@@ -79,7 +80,8 @@ fn keep_parts(
 
 // The module that was completed by a block, where one was: its change has no status.
 fn completed_by(changes: &[Change]) -> Option<u16>
-    ensures { result ≡ option_map (λ change. change.«module») (find (λ change. is_none change.status) changes.now) }
+    ensures { result ≡ option_map (λ change. change.«module») (find
+        (λ change. is_none change.status) changes.now) }
 {
     let change = changes.iter().find(|change| change.status.is_none())?;
     Some(change.module)
@@ -87,7 +89,8 @@ fn completed_by(changes: &[Change]) -> Option<u16>
 
 // Whether a module is announced and holds an entity.
 fn is_entity(carousel: &Carousel, module: u16) -> bool
-    ensures { (messages : List Message) → StandsFor carousel.now messages → result ≡ option_map_or holds_entity (info_in_force messages «module») false }
+    ensures { (messages : List Message) → StandsFor carousel.now messages
+        → result ≡ option_map_or holds_entity (info_in_force messages «module») false }
 {
     match carousel.entry(module) {
         None => false,
