@@ -158,8 +158,10 @@ impl Model for Blocks {
 
     ghost Value = { BufferState };
 
-    ghost view = { λ b. record { shape = b.shape;
-        blocks = blocks_in b.shape.block_size b.marks.items b.bytes.items } };
+    ghost view = { λ b. record {
+      shape = b.shape;
+      blocks = blocks_in b.shape.block_size b.marks.items b.bytes.items;
+    } };
 
     ghost invariant = { λ b. IsSound b.shape.block_size b.shape.size b.bytes.items b.marks.items b.missing };
 }

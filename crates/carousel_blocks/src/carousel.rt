@@ -38,8 +38,10 @@ impl Model for Carousel {
 
     ghost Value = { CarouselState };
 
-    ghost view = { λ c. record { transaction = c.transaction;
-        modules = entries_kept c.modules c.buffers } };
+    ghost view = { λ c. record {
+      transaction = c.transaction;
+      modules = entries_kept c.modules c.buffers;
+    } };
 
     ghost invariant = { λ c. AreModules c.modules c.buffers };
 }

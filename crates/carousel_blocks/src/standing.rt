@@ -44,8 +44,12 @@ impl Standing {
     /// The standing of an entry, behind unskipped entries of its DII with `before` bytes together.
     pub fn of(download: u32, block_size: u16, before: u64, entry: Entry) -> Standing
         requires { before ≤ sum_limit }
-        ensures { result ≡ record { download = download; block_size = block_size; entry = entry;
-            skip = skip_standing block_size before entry } }
+        ensures { result ≡ record {
+          download = download;
+          block_size = block_size;
+          entry = entry;
+          skip = skip_standing block_size before entry;
+        } }
     {
         let skip = skip_of(block_size, before, &entry);
         Standing {

@@ -39,8 +39,12 @@ impl Model for Slot {
 
     ghost Value = { ComponentState };
 
-    ghost view = { λ s. record { tag = s.tag; pid = s.pid; carousel = s.carousel;
-        deliveries = s.numbers } };
+    ghost view = { λ s. record {
+      tag = s.tag;
+      pid = s.pid;
+      carousel = s.carousel;
+      deliveries = s.numbers;
+    } };
 
     ghost invariant = { λ s. IsSound s.carousel s.entities };
 }

@@ -48,8 +48,11 @@ impl Model for Store {
 
     ghost Value = { StoreState };
 
-    ghost view = { λ s. record { components = s.slots.items; count = s.count;
-        changed = s.changed } };
+    ghost view = { λ s. record {
+      components = s.slots.items;
+      count = s.count;
+      changed = s.changed;
+    } };
 
     ghost invariant = { λ s. AreDistinct s.slots.items };
 }
@@ -93,8 +96,8 @@ impl Store {
             (λ stored. LooksAlike stored (with_section component section.now stored))) }
         ensures quiet { OnOk result (ForStored self.old
             (λ stored. changes_by component section.now stored ≡ []
-                → transaction_in (with_section component section.now stored) component
-                ≡ transaction_in stored component → self.new.changed ≡ false)) }
+            → transaction_in (with_section component section.now stored) component
+            ≡ transaction_in stored component → self.new.changed ≡ false)) }
     {
         let Some(place) = place_of(&self.slots, component) else {
             self.changed = false;

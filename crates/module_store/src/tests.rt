@@ -409,7 +409,10 @@ fn an_entity_has_at_most_512_parts(rt: HostRuntime) -> Result<(), Fail> {
         let entity = entity_of(alloc, count)?;
         assert_eq!(rt; delivered(alloc, &mut store, entity.as_slice())?, 1);
         assert_eq!(rt; store.delivery_number(0x40, 0), Some(1));
-        assert!(rt; store.resource(&path(alloc, 0x40, 0, b"")?) == look, "{count} parts");
+        assert!(rt;
+            store.resource(&path(alloc, 0x40, 0, b"")?) == look,
+            "{count} parts"
+        );
     }
     Ok(())
 }
