@@ -163,7 +163,8 @@ impl Model for Blocks {
       blocks = blocks_in b.shape.block_size b.marks.items b.bytes.items;
     } };
 
-    ghost invariant = { λ b. IsSound b.shape.block_size b.shape.size b.bytes.items b.marks.items b.missing };
+    ghost invariant = { λ b.
+        IsSound b.shape.block_size b.shape.size b.bytes.items b.marks.items b.missing };
 }
 
 impl Blocks {

@@ -117,7 +117,8 @@ pub fn law_of_same_modules()
 
 /// A module whose entry is new or another one, and that is held at once, has no bytes.
 pub fn law_of_new_entries()
-    ensures { (messages : List Message) (message : Message) (number : ℕ) (change : Change) (bytes : List ℕ)
+    ensures { (messages : List Message) (message : Message) (number : ℕ) (change : Change)
+        (bytes : List ℕ)
         → change_at messages (messages ++ message ∷ []) number ≡ Some change
         → is_some change.status ≡ true
         → bytes_held (messages ++ message ∷ []) number ≡ Some bytes → bytes ≡ [] }

@@ -224,7 +224,8 @@ pub fn take_back(modules: &Modules, buffers: &mut Slab<Buffer>, ddb: &Ddb<'_>)
 
 // The key of the buffer of the module that asks for a block, where one does.
 fn asked_key(modules: &Modules, ddb: &Ddb<'_>) -> Option<usize>
-    ensures { result ≡ asked_key_of (value_at nat_eq modules.now ddb.now.«module») (fields_of ddb.now) }
+    ensures { result
+        ≡ asked_key_of (value_at nat_eq modules.now ddb.now.«module») (fields_of ddb.now) }
 {
     let module = modules.get(&ddb.module)?;
     if !module.standing.asks_for(ddb) {

@@ -109,7 +109,8 @@ pub fn named<'a>(
 fn part_named<'a>(parts: &Parts, bytes: &'a [u8], name: &Text) -> Option<&'a [u8]>
     ensures named { All (IsInside (length bytes.now)) parts.now
         → option_copied result
-        ≡ option_map (λ place. slice_range bytes.now place.0 place.1) (place_of name.now parts.now) }
+        ≡ option_map (λ place. slice_range bytes.now place.0 place.1)
+        (place_of name.now parts.now) }
     ensures within { IfSome result (λ found. length found.now ≤ length bytes.now) }
 {
     let (start, end) = parts.find(name)?;

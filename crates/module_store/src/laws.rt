@@ -29,7 +29,8 @@ pub fn law_of_messages()
 
 /// What is found under a path stays there, with the same bytes, until a change of its module is told.
 pub fn law_of_found_resources()
-    ensures sections { (stored : Stored) (component : ℕ) (section : List ℕ) (path : Path) (bytes : List ℕ) → path.«module» < 2 ^ 16
+    ensures sections { (stored : Stored) (component : ℕ) (section : List ℕ) (path : Path)
+        (bytes : List ℕ) → path.«module» < 2 ^ 16
         → look stored path ≡ Found bytes
         → (component ≡ path.component
         → tells_of path.«module» (changes_by component section stored) ≡ false)
