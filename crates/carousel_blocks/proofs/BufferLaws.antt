@@ -1,12 +1,12 @@
 -- Laws of the blocks in a buffer.
-use Rattle.std.proofs.Common.{◌≡◌, ℕ, zero, suc, ◌+◌, ◌-◌, ◌*◌, ◌/◌, ◌%◌, ◌<◌, ◌≤◌, ◌==◌, min, Bool, true, false, List, [], ◌∷◌, ◌++◌, length, take, drop, replicate, refl, sym, ap, ap₂, ◌∙◌, arith, append-nil, length-set, length-take, length-drop, length-append, ◌⊎◌, inl, inr}
+use Rattle.std.proofs.Common.{◌≡◌, ℕ, zero, suc, ◌+◌, ◌-◌, ◌*◌, ◌/◌, ◌%◌, ◌<◌, ◌≤◌, ◌==◌, nat_lt, min, Bool, true, false, List, [], ◌∷◌, ◌++◌, length, take, drop, replicate, refl, sym, ap, ap₂, ◌∙◌, arith, append-nil, length-set, length-take, length-drop, length-append, ◌⊎◌, inl, inr}
 use Rattle.std.specs.Prelude.{slice_get, slice_set, Option, Some, None, is_some, option_map}
 use Rattle.std.proofs.lemmas.List.{take-append-drop, take_at, drop_at, take_all, drop_all, take-append-le, drop-append-le, take-take, drop-take, drop-drop, length-take-le}
 use Rattle.std.proofs.Math.Nat.{le-div_iff_mul-le, mul_comm}
 use Rattle.carousel_blocks.specs.declared.buffer.Shape.{Shape}
 use Rattle.carousel_blocks.specs.InForce.{block_count}
-use Rattle.carousel_blocks.specs.Held.{joined}
-use Rattle.carousel_blocks.specs.Buffers.{blocks_in, missing_in, is_unmarked, is_missing, all_came, overwritten, IsSound, BufferState, shape_length, with_block_at}
+use Rattle.carousel_blocks.specs.Held.{joined_bytes}
+use Rattle.carousel_blocks.specs.Buffers.{blocks_in, missing_in, is_marked, is_unmarked, buffer_of, IsBuffer, shape_count, without_blocks, without_block_at, is_missing, all_came, overwritten, IsSound, BufferState, shape_length, with_block_at}
 
 pub complete_by_missing : (size : ℕ) (marks : List Bool) (bytes : List ℕ) → (missing_in marks == 0) ≡ all_came (blocks_in size marks bytes)
 complete_by_missing size [] bytes = refl
@@ -170,21 +170,21 @@ room_by shape marks bytes missing n block v e sound h l =
 
 -- ---- all blocks
 
-pub is_some-joined : (blocks : List (Option (List ℕ))) → is_some (joined blocks) ≡ all_came blocks
+pub is_some-joined : (blocks : List (Option (List ℕ))) → is_some (joined_bytes blocks) ≡ all_came blocks
 is_some-joined [] = refl
 is_some-joined (None ∷ blocks) = refl
-is_some-joined (Some block ∷ blocks) = mapped (joined blocks) ∙ is_some-joined blocks where
+is_some-joined (Some block ∷ blocks) = mapped (joined_bytes blocks) ∙ is_some-joined blocks where
   mapped : (x : Option (List ℕ)) → is_some (option_map (λ behind. block ++ behind) x) ≡ is_some x
   mapped None = refl
   mapped (Some y) = refl
 
-pub joined_none : (blocks : List (Option (List ℕ))) → all_came blocks ≡ false → None ≡ joined blocks
-joined_none blocks h = absent (joined blocks) (is_some-joined blocks ∙ h) where
+pub joined_none : (blocks : List (Option (List ℕ))) → all_came blocks ≡ false → None ≡ joined_bytes blocks
+joined_none blocks h = absent (joined_bytes blocks) (is_some-joined blocks ∙ h) where
   absent : (x : Option (List ℕ)) → is_some x ≡ false → None ≡ x
   absent None h = refl
   absent (Some y) h = cc
 
-pub joined_all : (size : ℕ) (marks : List Bool) (bytes : List ℕ) → missing_in marks ≡ 0 → length bytes ≤ length marks * size → joined (blocks_in size marks bytes) ≡ Some bytes
+pub joined_all : (size : ℕ) (marks : List Bool) (bytes : List ℕ) → missing_in marks ≡ 0 → length bytes ≤ length marks * size → joined_bytes (blocks_in size marks bytes) ≡ Some bytes
 joined_all size [] bytes h l = nothing bytes (omega arith) where
   nothing : (xs : List ℕ) → length xs ≤ 0 → ◌≡◌ {A = Option (List ℕ)} (Some []) (Some xs)
   nothing [] l = refl
@@ -200,74 +200,76 @@ joined_all size (true ∷ marks) bytes h l =
     shorter : (count : ℕ) → length (drop size bytes) ≤ length marks * size
     shorter count = let e = suc_times (length marks) size in let d = length-drop size bytes in omega arith
 
--- ---- a block is written, but not marked
+-- ---- a block is taken back
 
-pub blocks_in-staged : (size : ℕ) (marks : List Bool) (bytes block : List ℕ) (place start : ℕ) → is_unmarked (slice_get marks place) ≡ true → start ≡ place * size → start ≤ length bytes → length block ≡ min size (length bytes - start) → blocks_in size marks (overwritten start block bytes) ≡ blocks_in size marks bytes
-blocks_in-staged size [] bytes block place start h s within l = refl
-blocks_in-staged size (true ∷ marks) bytes block zero start h s within l = cc
-blocks_in-staged size (false ∷ marks) bytes block zero start h s within l =
-    let z : start ≡ 0 = omega arith in
-    let w = written_first size block bytes (let e : length block ≡ min size (length bytes) = omega arith in e) in
-    let o : overwritten start block bytes ≡ block ++ drop (length block) bytes = ap (λ k. overwritten k block bytes) z ∙ ap (λ k. block ++ drop k bytes) (let e : 0 + length block ≡ length block = omega arith in e) in
-    ap (λ (x : List ℕ). None ∷ blocks_in size marks (drop size x)) o ∙ ap (λ x. None ∷ blocks_in size marks x) w.1
-blocks_in-staged size (true ∷ marks) bytes block (suc place) start h s within l =
-    let e : start ≡ size + place * size = s ∙ suc_times place size in
-    let a = take-overwritten size start block bytes (omega arith) within in
-    let b = drop-overwritten size (place * size) start block bytes e within in
-    let again = blocks_in-staged size marks (drop size bytes) block place (place * size) h refl (omega (arith, length-drop size bytes)) (let m : length block ≡ min size (length (drop size bytes) - place * size) = omega (arith, length-drop size bytes) in m) in
-    ap₂ (λ x y. Some x ∷ blocks_in size marks y) a b ∙ ap (λ (x : List (Option (List ℕ))). Some (take size bytes) ∷ x) again
-  where
-    suc_times : (p n : ℕ) → suc p * n ≡ n + p * n
-    suc_times p n = grind arith
-blocks_in-staged size (false ∷ marks) bytes block (suc place) start h s within l =
-    let e : start ≡ size + place * size = s ∙ suc_times place size in
-    let b = drop-overwritten size (place * size) start block bytes e within in
-    let again = blocks_in-staged size marks (drop size bytes) block place (place * size) h refl (omega (arith, length-drop size bytes)) (let m : length block ≡ min size (length (drop size bytes) - place * size) = omega (arith, length-drop size bytes) in m) in
-    ap (λ y. None ∷ blocks_in size marks y) b ∙ ap (λ (x : List (Option (List ℕ))). None ∷ x) again
-  where
-    suc_times : (p n : ℕ) → suc p * n ≡ n + p * n
-    suc_times p n = grind arith
+pub blocks_in-taken : (size : ℕ) (marks : List Bool) (bytes : List ℕ) (place : ℕ) → blocks_in size (slice_set marks place false) bytes ≡ slice_set (blocks_in size marks bytes) place None
+blocks_in-taken size [] bytes place = refl
+blocks_in-taken size (true ∷ marks) bytes zero = refl
+blocks_in-taken size (false ∷ marks) bytes zero = refl
+blocks_in-taken size (true ∷ marks) bytes (suc place) = ap (λ (x : List (Option (List ℕ))). Some (take size bytes) ∷ x) (blocks_in-taken size marks (drop size bytes) place)
+blocks_in-taken size (false ∷ marks) bytes (suc place) = ap (λ (x : List (Option (List ℕ))). None ∷ x) (blocks_in-taken size marks (drop size bytes) place)
 
-pub sound_staged : (shape : Shape) (bytes : List ℕ) (marks : List Bool) (missing number : ℕ) (block : List ℕ) → IsSound shape.block_size shape.size bytes marks missing → HasRoom shape bytes number block → IsSound shape.block_size shape.size (overwritten (number * shape.block_size) block bytes) marks missing
-sound_staged shape bytes marks missing number block sound room =
-    record {
-      size_is = length-overwritten (number * shape.block_size) block bytes (ends_within shape bytes number block room) ∙ sound.size_is;
-      count = sound.count;
-      missing_is = sound.missing_is;
-      covers = sound.covers;
-    }
+-- an unset mark stays unset
+pub not_marked : (marks : List Bool) (place : ℕ) → is_marked (slice_get marks place) ≡ false → slice_set marks place false ≡ marks
+not_marked [] place h = refl
+not_marked (true ∷ marks) zero h = cc
+not_marked (false ∷ marks) zero h = refl
+not_marked (true ∷ marks) (suc place) h = ap (λ x. true ∷ x) (not_marked marks place h)
+not_marked (false ∷ marks) (suc place) h = ap (λ x. false ∷ x) (not_marked marks place h)
 
-pub view_staged : (shape : Shape) (bytes : List ℕ) (marks : List Bool) (number : ℕ) (block : List ℕ) → HasRoom shape bytes number block → is_unmarked (slice_get marks number) ≡ true
-    → ◌≡◌ {A = BufferState} (record { shape = shape; blocks = blocks_in shape.block_size marks (overwritten (number * shape.block_size) block bytes) })
-    (record { shape = shape; blocks = blocks_in shape.block_size marks bytes })
-view_staged shape bytes marks number block room unmarked =
-    ap (λ (l : List (Option (List ℕ))). let k : BufferState = record { shape = shape; blocks = l } in k)
-    (blocks_in-staged shape.block_size marks bytes block number (number * shape.block_size) unmarked refl room.start room.size)
+pub missing_in-taken : (marks : List Bool) (place : ℕ) → is_marked (slice_get marks place) ≡ true → missing_in (slice_set marks place false) ≡ missing_in marks + 1
+missing_in-taken [] place h = cc
+missing_in-taken (true ∷ marks) zero h = refl
+missing_in-taken (false ∷ marks) zero h = cc
+missing_in-taken (true ∷ marks) (suc place) h = missing_in-taken marks place h
+missing_in-taken (false ∷ marks) (suc place) h = ap (λ n. n + 1) (missing_in-taken marks place h)
 
--- the bytes, where no block is missing
-pub joined_sound : (size total : ℕ) (bytes : List ℕ) (marks : List Bool) (missing : ℕ) → IsSound size total bytes marks missing → missing ≡ 0 → joined (blocks_in size marks bytes) ≡ Some bytes
-joined_sound size total bytes marks missing sound none =
-    joined_all size marks bytes (let m = sound.missing_is in omega arith) (let s = sound.size_is in let k = sound.covers in rw sound.count (omega arith))
+pub missing_in-at_most : (marks : List Bool) → missing_in marks ≤ length marks
+missing_in-at_most [] = omega arith
+missing_in-at_most (true ∷ marks) = let e = missing_in-at_most marks in omega arith
+missing_in-at_most (false ∷ marks) = let e = missing_in-at_most marks in omega arith
 
--- no bytes, where one is
-pub joined_unsound : (size total : ℕ) (bytes : List ℕ) (marks : List Bool) (missing : ℕ) → IsSound size total bytes marks missing → 0 < missing → None ≡ joined (blocks_in size marks bytes)
-joined_unsound size total bytes marks missing sound some =
-    joined_none (blocks_in size marks bytes) (sym (complete_by_missing size marks bytes) ∙ more (missing_in marks) (let m = sound.missing_is in omega arith)) where
-      more : (n : ℕ) → 0 < n → (n == 0) ≡ false
-      more n h = grind arith
+pub marked_within : (marks : List Bool) (place : ℕ) → is_marked (slice_get marks place) ≡ true → place < length marks
+marked_within [] place h = cc
+marked_within (mark ∷ marks) zero h = omega arith
+marked_within (mark ∷ marks) (suc place) h = let l = marked_within marks place h in omega arith
 
--- the bytes with the block, where it is the only one that is missing
-pub whole_staged : (shape : Shape) (bytes : List ℕ) (marks : List Bool) (missing number : ℕ) (block : List ℕ) → IsSound shape.block_size shape.size bytes marks missing → HasRoom shape bytes number block → is_unmarked (slice_get marks number) ≡ true → missing ≤ 1
-    → Some (overwritten (number * shape.block_size) block bytes) ≡ joined (slice_set (blocks_in shape.block_size marks bytes) number (Some block))
-whole_staged shape bytes marks missing number block sound room unmarked last =
-    sym (joined_sound shape.block_size shape.size (overwritten (number * shape.block_size) block bytes) (slice_set marks number true) (missing - 1) (sound_with shape bytes marks missing number block sound room unmarked) (omega arith))
-    ∙ ap (λ b. joined b.blocks) (view_with shape bytes marks number block room unmarked)
+-- ---- no blocks
 
-pub part_staged : (shape : Shape) (bytes : List ℕ) (marks : List Bool) (missing number : ℕ) (block : List ℕ) → IsSound shape.block_size shape.size bytes marks missing → HasRoom shape bytes number block → is_unmarked (slice_get marks number) ≡ true → 1 < missing
-    → None ≡ joined (slice_set (blocks_in shape.block_size marks bytes) number (Some block))
-part_staged shape bytes marks missing number block sound room unmarked more =
-    joined_unsound shape.block_size shape.size (overwritten (number * shape.block_size) block bytes) (slice_set marks number true) (missing - 1) (sound_with shape bytes marks missing number block sound room unmarked) (omega arith)
-    ∙ ap (λ b. joined b.blocks) (view_with shape bytes marks number block room unmarked)
+pub missing_none : (count place : ℕ) → is_missing (slice_get (replicate count None) place) ≡ nat_lt place count
+missing_none zero place = below place where
+  below : (m : ℕ) → false ≡ nat_lt m 0
+  below m = grind arith
+missing_none (suc count) zero = above count where
+  above : (n : ℕ) → true ≡ nat_lt 0 (suc n)
+  above n = grind arith
+missing_none (suc count) (suc place) = missing_none count place ∙ one_less place count where
+  one_less : (m n : ℕ) → nat_lt m n ≡ nat_lt (suc m) (suc n)
+  one_less m n = grind arith
+
+pub none_came : (count : ℕ) → all_came (replicate count None) ≡ (count == 0)
+none_came zero = refl
+none_came (suc count) = above count where
+  above : (n : ℕ) → false ≡ (suc n == 0)
+  above n = grind arith
+
+pub joined_nothing : (count : ℕ) → 0 < count → None ≡ joined_bytes (replicate count None)
+joined_nothing zero h = absurd (omega arith)
+joined_nothing (suc count) h = refl
+
+pub taken_none : (count place : ℕ) → ◌≡◌ {A = List (Option (List ℕ))} (slice_set (replicate count None) place None) (replicate count None)
+taken_none zero place = refl
+taken_none (suc count) zero = refl
+taken_none (suc count) (suc place) = ap (λ (l : List (Option (List ℕ))). None ∷ l) (taken_none count place)
+
+-- nothing is taken back where nothing came
+pub back_none : (shape : Shape) (n : ℕ) (v : BufferState) → without_blocks shape ≡ v → v ≡ without_block_at n v
+back_none shape n v e =
+    sym (ap (without_block_at n) (sym e) ∙ ap (λ (l : List (Option (List ℕ))). let k : BufferState = record { shape = shape; blocks = l } in k) (taken_none (shape_count shape) n) ∙ e)
+
+pub buffer_shape : (shape : Shape) (blocks : Option BufferState) → IsBuffer shape blocks → (buffer_of shape blocks).shape ≡ shape
+buffer_shape shape None sound = refl
+buffer_shape shape (Some state) sound = sound.same state refl
 
 -- so many blocks of that size are at least as many bytes
 pub covered : (block_size size : ℕ) → size ≤ block_count (suc block_size) size * suc block_size

@@ -14,3 +14,9 @@ pub mod SectionLaws
 pub mod StageLaws
 pub mod EntryLaws
 pub mod SizeLaws
+pub mod FirstLaws
+pub mod HeldLaws
+pub mod CountLaws
+pub mod EntryPlaceLaws
+pub mod CarriedLaws
+pub mod BackLaws

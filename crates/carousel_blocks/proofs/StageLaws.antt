@@ -15,16 +15,16 @@ use Rattle.dsmcc_messages.specs.Reading.{agree, message_at, indication_at, data_
 use Rattle.carousel_blocks.specs.declared.put.Put.TheVariants as puts
 use Rattle.carousel_blocks.specs.declared.modules.Module.{Module}
 use Rattle.carousel_blocks.specs.Message.{Message, Data, message_with, message_of}
-use Rattle.carousel_blocks.specs.Held.{Kept, kept, is_asked, joined, bytes_by, bytes_kept, held}
+use Rattle.carousel_blocks.specs.Held.{Kept, kept_module, is_asked, joined_bytes, bytes_by, bytes_kept, bytes_held}
 use Rattle.carousel_blocks.specs.Buffers.{BufferState, is_missing, all_came}
 use Rattle.carousel_blocks.specs.Modules.{Buffers, blocks_of, blocks_at, module_kept, kept_at}
-use Rattle.carousel_blocks.specs.Steps.{is_wanted, with_block, answer_to, whole_in, whole_kept, whole_to}
-use Rattle.carousel_blocks.specs.Carousel.{CarouselState, kept_in, StandsFor, put_after}
+use Rattle.carousel_blocks.specs.Steps.{is_wanted, with_block, answer_to, whole_to}
+use Rattle.carousel_blocks.specs.Carousel.{put_after}
 use Rattle.carousel_blocks.specs.Staging.{whole_by, whole_with, made_whole}
 use Rattle.carousel_blocks.proofs.BufferLaws.{joined_none}
-use Rattle.carousel_blocks.proofs.PutLaws.{Meets, asks}
-use Rattle.carousel_blocks.proofs.HistoryLaws.{kept-data, answer-put}
-use Rattle.carousel_blocks.proofs.ToldLaws.{viewed, kept_at-known, unskipped}
+use Rattle.carousel_blocks.proofs.PutLaws.{asks}
+use Rattle.carousel_blocks.proofs.HistoryLaws.{kept_module-data, answer-put}
+use Rattle.carousel_blocks.proofs.ToldLaws.{unskipped}
 
 -- ---- the buffer that the block goes into
 
@@ -38,58 +38,24 @@ pub same_slab : (buffers : Buffers) (key : ℕ) (was now : BufferState) → Some
 same_slab buffers key was now h same =
     ap (with_value buffers key) same ∙ ap (λ (slots : List (Option BufferState)). let s : Buffers = record { slots = slots; vacant_key = buffers.vacant_key; capacity = buffers.capacity } in s) (same_slots buffers.slots key was h)
 
--- ---- the module that the block is of
-
-not_whole : (k : Kept) (block : DataBlock) → is_asked k.standing block ≡ false → None ≡ whole_kept k block
-not_whole k block h =
-    sym (ap (λ (t : Bool). if t && is_missing (slice_get k.blocks block.number) then option_map {U = ℕ × List ℕ} (λ bytes. (block.«module», bytes)) (joined (slice_set k.blocks block.number (Some block.block))) else None) h)
-
-module _ {S : Type 0} where
-  -- no module asks for the block
-  pub whole_without : (modules : HashMap ℕ Module S) (buffers : Buffers) (block : DataBlock) → ((number : ℕ) (m : Module) → value_at nat_eq modules number ≡ Some m → is_asked m.standing block ≡ false)
-      → None ≡ whole_to (kept_at modules buffers block.«module») block
-  whole_without modules buffers block none = by (value_at nat_eq modules block.«module») refl where
-    by : (x : Option Module) → value_at nat_eq modules block.«module» ≡ x → None ≡ whole_to (option_map (module_kept buffers) x) block
-    by None e = refl
-    by (Some m) e = not_whole (module_kept buffers m) block (none block.«module» m e)
-
-  -- the module that asks for the block has its buffer
-  pub whole_staged_with : (modules : HashMap ℕ Module S) (buffers : Buffers) (block : DataBlock) (key : ℕ) (was : BufferState) → Meets modules buffers block key → Some was ≡ get buffers key
-      → option_map {U = ℕ × List ℕ} (λ bytes. (block.«module», bytes)) (whole_in block.number block.block was) ≡ whole_to (kept_at modules buffers block.«module») block
-  whole_staged_with modules buffers block key was k h =
-      let blocks_then : blocks_at buffers k.m.key ≡ was.blocks = ap (blocks_at buffers) k.key_is ∙ ap blocks_of (sym h) in
-      mapped (is_missing (slice_get was.blocks block.number)) (joined (slice_set was.blocks block.number (Some block.block)))
-      ∙ ap (λ (t : Bool). if t && is_missing (slice_get was.blocks block.number) then option_map {U = ℕ × List ℕ} (λ bytes. (block.«module», bytes)) (joined (slice_set was.blocks block.number (Some block.block))) else None) (sym k.asked)
-      ∙ ap (λ (l : List (Option (List ℕ))). whole_kept (record { standing = k.m.standing; blocks = l }) block) (sym blocks_then)
-      ∙ ap (λ x. whole_to (option_map (module_kept buffers) x) block) (sym k.there)
-    where
-      mapped : (t : Bool) (x : Option (List ℕ)) → option_map {U = ℕ × List ℕ} (λ bytes. (block.«module», bytes)) (if t then x else None) ≡ (if t then option_map (λ bytes. (block.«module», bytes)) x else None)
-      mapped true x = refl
-      mapped false x = refl
-
-  -- the same by the fields
-  pub whole_by_fields : (transaction : Option ℕ) (modules : HashMap ℕ Module S) (buffers : Buffers) (v : CarouselState) → viewed transaction modules buffers ≡ v → (block : DataBlock)
-      → whole_to (kept_at modules buffers block.«module») block ≡ whole_to (kept_in v block.«module») block
-  whole_by_fields transaction modules buffers v e block = ap (λ k. whole_to k block) (kept_at-known transaction modules buffers v e block.«module»)
-
 -- ---- what is to be kept
 
 first : (a b : Bool) → (a && b) ≡ true → a ≡ true
 first true b h = refl
 first false b h = h
 
-pub held_is : (h : List Message) (number : ℕ) → held h number ≡ option_and_then bytes_kept (kept h number)
-unfolding held
+pub held_is : (h : List Message) (number : ℕ) → bytes_held h number ≡ option_and_then bytes_kept (kept_module h number)
+unfolding bytes_held
 held_is h number = refl
 
 -- the module that a block makes whole, by what is kept and becomes of the block
-pub whole-known : (h : List Message) (block : DataBlock) → whole_to (kept h block.«module») block ≡ whole_by h block (put_after h block)
+pub whole-known : (h : List Message) (block : DataBlock) → whole_to (kept_module h block.«module») block ≡ whole_by h block (put_after h block)
 whole-known h block =
-    by (kept h block.«module») (kept (h ++ Data block ∷ []) block.«module») refl (kept-data h block block.«module») ∙ ap (whole_by h block) (answer-put h block)
+    by (kept_module h block.«module») (kept_module (h ++ Data block ∷ []) block.«module») refl (kept_module-data h block block.«module») ∙ ap (whole_by h block) (answer-put h block)
   where
-    told : (k : Kept) (t : Bool) → is_wanted k block ≡ true → kept (h ++ Data block ∷ []) block.«module» ≡ Some (record { standing = k.standing; blocks = slice_set k.blocks block.number (Some block.block) })
+    told : (k : Kept) (t : Bool) → is_wanted k block ≡ true → kept_module (h ++ Data block ∷ []) block.«module» ≡ Some (record { standing = k.standing; blocks = slice_set k.blocks block.number (Some block.block) })
         → all_came (slice_set k.blocks block.number (Some block.block)) ≡ t
-        → option_map {U = ℕ × List ℕ} (λ bytes. (block.«module», bytes)) (joined (slice_set k.blocks block.number (Some block.block))) ≡ whole_by h block (if t then puts.Completed block.«module» else puts.Kept)
+        → option_map {U = ℕ × List ℕ} (λ bytes. (block.«module», bytes)) (joined_bytes (slice_set k.blocks block.number (Some block.block))) ≡ whole_by h block (if t then puts.Completed block.«module» else puts.Kept)
     told k true w e came =
         let skip = unskipped k.standing k.standing.skip block.number (asks k.standing block (first (is_asked k.standing block) (is_missing (slice_get k.blocks block.number)) w)).place in
         sym (ap (option_map {U = ℕ × List ℕ} (λ bytes. (block.«module», bytes))) (held_is (h ++ Data block ∷ []) block.«module» ∙ ap (option_and_then bytes_kept) e
@@ -97,20 +63,20 @@ whole-known h block =
     told k false w e came = sym (ap (option_map {U = ℕ × List ℕ} (λ bytes. (block.«module», bytes))) (joined_none (slice_set k.blocks block.number (Some block.block)) came))
 
     each : (k : Kept) (t : Bool) → is_wanted k block ≡ t
-        → kept (h ++ Data block ∷ []) block.«module» ≡ Some (if t then (let with : Kept = record { standing = k.standing; blocks = slice_set k.blocks block.number (Some block.block) } in with) else k)
-        → (if t then option_map {U = ℕ × List ℕ} (λ bytes. (block.«module», bytes)) (joined (slice_set k.blocks block.number (Some block.block))) else None)
+        → kept_module (h ++ Data block ∷ []) block.«module» ≡ Some (if t then (let with : Kept = record { standing = k.standing; blocks = slice_set k.blocks block.number (Some block.block) } in with) else k)
+        → (if t then option_map {U = ℕ × List ℕ} (λ bytes. (block.«module», bytes)) (joined_bytes (slice_set k.blocks block.number (Some block.block))) else None)
         ≡ whole_by h block (if t then (if all_came (slice_set k.blocks block.number (Some block.block)) then puts.Completed block.«module» else puts.Kept) else puts.Ignored)
     each k true w e = told k (all_came (slice_set k.blocks block.number (Some block.block))) w e refl
     each k false w e = refl
 
-    by : (k after : Option Kept) → kept (h ++ Data block ∷ []) block.«module» ≡ after → after ≡ option_map (with_block block) k → whole_to k block ≡ whole_by h block (answer_to k block)
+    by : (k after : Option Kept) → kept_module (h ++ Data block ∷ []) block.«module» ≡ after → after ≡ option_map (with_block block) k → whole_to k block ≡ whole_by h block (answer_to k block)
     by None after there e = refl
     by (Some k) after there e = each k (is_wanted k block) refl (there ∙ e)
 
 -- ---- the section
 
 -- a section that carries a DDB carries no DII
-carries_no_dii : (section : List ℕ) (block : DataBlock) → Ok block ≡ ddb_in section → (fault : TableFault) × (dii_in section ≡ Err fault)
+pub carries_no_dii : (section : List ℕ) (block : DataBlock) → Ok block ≡ ddb_in section → (fault : TableFault) × (dii_in section ≡ Err fault)
 unfolding fields_in
 carries_no_dii section block h =
     (Kind, by (slice_index section 0 == 0x3C) (slice_index section 0 == 0x3B) (agree (kind_bytes data_block) (body section)) (agree (kind_bytes indication) (body section)) (ok_or (message_at (body section) >>= data_block_at) Short) (ok_or (message_at (body section) >>= indication_at) Short) (λ a b. apart (slice_index section 0) a b) h) where
@@ -122,18 +88,36 @@ carries_no_dii section block h =
       by true false c d x y both e = refl
       by false b c d x y both e = cc
 
-pub made_whole-block : (section : List ℕ) (block : DataBlock) → Ok block ≡ ddb_in section → (c : CarouselState) (x : Option (ℕ × List ℕ)) → x ≡ whole_to (kept_in c block.«module») block
-    → (h : List Message) → StandsFor c h → x ≡ made_whole h section
+-- what a section with a DDB makes whole
+pub whole_of_block : (section : List ℕ) (block : DataBlock) → Ok block ≡ ddb_in section → (h : List Message) → made_whole h section ≡ whole_by h block (put_after h block)
 unfolding made_whole message_of
-made_whole-block section block carried c x e h s =
+whole_of_block section block carried h =
     let none = carries_no_dii section block carried in
-    e ∙ ap (λ k. whole_to k block) (s.modules block.«module») ∙ whole-known h block
-    ∙ ap₂ (λ (r : Result Dii TableFault) (q : Result DataBlock TableFault). whole_with h (message_with r q)) (sym none.1) carried
+    sym (ap₂ (λ (r : Result Dii TableFault) (q : Result DataBlock TableFault). whole_with h (message_with r q)) (sym none.1) carried)
 
-pub made_whole-nothing : (section : List ℕ) (fault : TableFault) → Err fault ≡ ddb_in section → (h : List Message) → None ≡ made_whole h section
+pub whole_of_none : (section : List ℕ) (fault : TableFault) → Err fault ≡ ddb_in section → (h : List Message) → None ≡ made_whole h section
 unfolding made_whole message_of
-made_whole-nothing section fault carried h =
+whole_of_none section fault carried h =
     by (dii_in section) ∙ ap (λ (q : Result DataBlock TableFault). whole_with h (message_with (dii_in section) q)) carried where
       by : (r : Result Dii TableFault) → None ≡ whole_with h (message_with {F = TableFault} r (Err fault))
       by (Ok dii) = refl
       by (Err other) = refl
+
+pub whole_of_dii : (section : List ℕ) (dii : Dii) → dii_in section ≡ Ok dii → (h : List Message) → None ≡ made_whole h section
+unfolding made_whole message_of
+whole_of_dii section dii e h = sym (ap (λ (r : Result Dii TableFault). whole_with h (message_with r (ddb_in section))) e)
+
+-- the module that a block makes whole is its module
+pub whole_number : (h : List Message) (block : DataBlock) (number : ℕ) (bytes : List ℕ) → whole_by h block (put_after h block) ≡ Some (number, bytes) → block.«module» ≡ number
+whole_number h block number bytes e = by (kept_module h block.«module») (whole-known h block ∙ e) where
+  mapped : (x : Option (List ℕ)) → option_map {U = ℕ × List ℕ} (λ b. (block.«module», b)) x ≡ Some (number, bytes) → block.«module» ≡ number
+  mapped None e = cc
+  mapped (Some b) e = let q : ◌≡◌ {A = ℕ × List ℕ} (block.«module», b) (number, bytes) = cc in ap (λ (p : ℕ × List ℕ). p.0) q
+
+  wanted : (k : Kept) (t : Bool) → (if t then option_map {U = ℕ × List ℕ} (λ b. (block.«module», b)) (joined_bytes (slice_set k.blocks block.number (Some block.block))) else None) ≡ Some (number, bytes) → block.«module» ≡ number
+  wanted k true e = mapped (joined_bytes (slice_set k.blocks block.number (Some block.block))) e
+  wanted k false e = cc
+
+  by : (k : Option Kept) → whole_to k block ≡ Some (number, bytes) → block.«module» ≡ number
+  by None e = cc
+  by (Some k) e = wanted k (is_wanted k block) e

@@ -1,4 +1,4 @@
--- How a buffer holds the blocks of a module.
+-- A device of the proofs: how a buffer holds the blocks of a module. (This project's own.)
 use Rattle.std.specs.Prelude.{◌≡◌, ◌≤◌, ℕ, ◌+◌, ◌-◌, ◌*◌, min, Bool, true, false, List, [], ◌∷◌, ◌++◌, length, take, drop, replicate, slice_set, Option, Some, None, is_some}
 use Rattle.std.specs.List.{list_all}
 use Rattle.carousel_blocks.specs.declared.buffer.Shape.{Shape}
@@ -20,6 +20,11 @@ missing_in (false ∷ marks) = missing_in marks + 1
 abbrev pub is_unmarked : Option Bool → Bool
 is_unmarked (Some false) = true
 is_unmarked _ = false
+
+-- there is a mark, and it is set
+abbrev pub is_marked : Option Bool → Bool
+is_marked (Some true) = true
+is_marked _ = false
 
 -- no block came for the place yet
 abbrev pub is_missing : Option (Option (List ℕ)) → Bool
@@ -60,3 +65,17 @@ without_blocks shape = record { shape = shape; blocks = replicate (shape_count s
 -- with a block more
 abbrev pub with_block_at : ℕ → List ℕ → BufferState → BufferState
 with_block_at number block buffer = record { shape = buffer.shape; blocks = slice_set buffer.blocks number (Some block) }
+
+-- without the block of that number
+abbrev pub without_block_at : ℕ → BufferState → BufferState
+without_block_at number buffer = record { shape = buffer.shape; blocks = slice_set buffer.blocks number None }
+
+-- what a buffer holds where it may have no room yet
+abbrev pub buffer_of : Shape → Option BufferState → BufferState
+buffer_of shape None = without_blocks shape
+buffer_of shape (Some blocks) = blocks
+
+-- the blocks make up the module, and the room is of its shape
+pub record IsBuffer (shape : Shape) (blocks : Option BufferState) : Type 0 where
+  pub covers : shape.size ≤ shape_count shape * shape.block_size
+  pub same : (state : BufferState) → blocks ≡ Some state → state.shape ≡ shape

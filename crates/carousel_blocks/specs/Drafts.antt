@@ -1,4 +1,4 @@
--- How the modules of a DII are made of its entries.
+-- A device of the proofs: how the modules of a DII are made of its entries. (This project's own.)
 use Rattle.std.specs.Prelude.{◌≡◌, ℕ, ◌==◌, Bool, false, if◌then◌else◌, List, find, Option, Some, None, option_map}
 use Rattle.std.specs.HashMap.{HashMap}
 use Rattle.dsmcc_messages.specs.declared.dii.Dii.{Dii}

@@ -1,4 +1,4 @@
--- How a carousel keeps its modules: each has a key in the slab of buffers, where it isn't skipped.
+-- A device of the proofs: how a carousel keeps its modules: each has a key in the slab of buffers, where it isn't skipped. (This project's own.)
 use Rattle.std.specs.Prelude.{◌≡◌, ◌≤◌, ◌*◌, ℕ, nat_eq, if◌then◌else◌, List, [], map, replicate, Option, Some, None, option_map}
 use Rattle.std.specs.HashMap.{HashMap, get as value_at}
 use Rattle.slab.specs.Slab.{Slab, get}

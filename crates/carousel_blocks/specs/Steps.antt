@@ -1,4 +1,4 @@
--- What one message makes of what a carousel keeps.
+-- A device of the proofs: what one message makes of what a carousel keeps. (This project's own.)
 use Rattle.std.specs.Prelude.{◌≡◌, ℕ, ◌==◌, Bool, false, ◌&&◌, if◌then◌else◌, List, find, slice_get, slice_set, Option, Some, None, is_some, option_map, option_and_then}
 use Rattle.std.specs.List.{filter_map, range_with_len}
 use Rattle.dsmcc_messages.specs.declared.dii.Dii.{Dii}
@@ -8,7 +8,7 @@ use Rattle.carousel_blocks.specs.declared.put.Put.TheVariants as puts
 use Rattle.carousel_blocks.specs.declared.standing.Standing.{Standing}
 use Rattle.carousel_blocks.specs.declared.changes.Change.{Change}
 use Rattle.carousel_blocks.specs.InForce.{is_of_module, standings}
-use Rattle.carousel_blocks.specs.Held.{Kept, is_asked, same_standing, bytes_kept, joined}
+use Rattle.carousel_blocks.specs.Held.{Kept, is_asked, same_standing, bytes_kept, joined_bytes}
 use Rattle.carousel_blocks.specs.Buffers.{BufferState, is_missing, all_came, with_block_at}
 use Rattle.carousel_blocks.specs.Modules.{kept_for, standing_kept}
 use Rattle.carousel_blocks.specs.Changes.{line_by, gone, changed, appeared, completed, number_bound}
@@ -35,6 +35,10 @@ is_wanted k block = is_asked k.standing block && is_missing (slice_get k.blocks 
 abbrev pub with_block : DataBlock → Kept → Kept
 with_block block k = if is_wanted k block then record { standing = k.standing; blocks = slice_set k.blocks block.number (Some block.block) } else k
 
+-- without a block that is asked for
+abbrev pub without_block : DataBlock → Kept → Kept
+without_block block k = if is_asked k.standing block then record { standing = k.standing; blocks = slice_set k.blocks block.number None } else k
+
 -- what becomes of the block
 abbrev pub answer_kept : Kept → DataBlock → Put
 answer_kept k block =
@@ -50,6 +54,11 @@ pub record TakesBlock (old new : CarouselState) (block : DataBlock) (answer : Pu
   pub modules : (number : ℕ) → kept_in new number ≡ option_map (with_block block) (kept_in old number)
   pub answer_is : answer ≡ answer_to (kept_in old block.module) block
 
+-- a block is taken back
+pub record TakesBack (old new : CarouselState) (block : DataBlock) : Type 0 where
+  pub transaction : new.transaction ≡ old.transaction
+  pub modules : (number : ℕ) → kept_in new number ≡ option_map (without_block block) (kept_in old number)
+
 -- what a buffer makes of a block with the length that it has there
 abbrev pub with_block_in : ℕ → List ℕ → BufferState → BufferState
 with_block_in number block buffer = if is_missing (slice_get buffer.blocks number) then with_block_at number block buffer else buffer
@@ -61,15 +70,11 @@ answer_in number block buffer =
 -- the module that the block completes, and the bytes that it has then
 abbrev pub whole_kept : Kept → DataBlock → Option (ℕ × List ℕ)
 whole_kept k block =
-    if is_wanted k block then option_map (λ bytes. (block.module, bytes)) (joined (slice_set k.blocks block.number (Some block.block))) else None
+    if is_wanted k block then option_map (λ bytes. (block.module, bytes)) (joined_bytes (slice_set k.blocks block.number (Some block.block))) else None
 
 abbrev pub whole_to : Option Kept → DataBlock → Option (ℕ × List ℕ)
 whole_to None block = None
 whole_to (Some k) block = whole_kept k block
-
--- the bytes of the module that a buffer is for, with a block that it lacks
-abbrev pub whole_in : ℕ → List ℕ → BufferState → Option (List ℕ)
-whole_in number block buffer = if is_missing (slice_get buffer.blocks number) then joined (slice_set buffer.blocks number (Some block)) else None
 
 -- ---- what is told
 

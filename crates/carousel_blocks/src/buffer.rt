@@ -1,9 +1,9 @@
 //! The bytes of one module, as its blocks come.
 
-ghost use Rattle.std.specs.Prelude.{◌≡◌, ◌≤◌, ◌+◌, ◌*◌, true, IfOk, length, slice_get, slice_set, Some, option_copied};
-ghost use Rattle.std.specs.Borrow.{sem};
-ghost use Rattle.std.specs.Io.BufRead.{Rests};
-ghost use Rattle.carousel_blocks.specs.Buffers.{is_unmarked, overwritten};
+ghost use Rattle.std.specs.Prelude.{◌≡◌, ◌≤◌, ◌+◌, ◌*◌, true, IfOk, OnOk, OnErr, length, slice_get, option_copied, replicate, None};
+ghost use Rattle.carousel_blocks.specs.Held.{joined_bytes};
+ghost use Rattle.carousel_blocks.specs.Buffers.{is_marked, is_unmarked, overwritten};
+ghost use Rattle.carousel_blocks.specs.Buffers.{shape_count, shape_length, without_blocks, with_block_at, without_block_at, is_missing, all_came};
 
 use crate::standing::block_count;
 use bml_bytes::NoMemory;
@@ -27,47 +27,43 @@ impl Shape {
     {
         usize::from(number) * usize::from(self.block_size)
     }
+
+    // The number of the module's blocks.
+    fn count(&self) -> usize
+        ensures { result ≡ shape_count self.now }
+    {
+        block_count(self.block_size, self.size)
+    }
 }
 
-/// A module with the blocks that came for it so far. Its bytes lie in one piece.
+/// A module with the blocks that came for it so far. It takes memory with the first.
 #[derive(Drop)]
 pub struct Buffer {
     shape: Shape,
-    /// The blocks, each at its place.
-    bytes: Vec<u8>,
-    /// Which of them came.
-    marks: Vec<bool>,
-    /// How many of them didn't come yet.
-    missing: usize,
+    /// The blocks, once one came.
+    blocks: Option<Blocks>,
 }
 
 impl Model for Buffer {
-    ghost use Rattle.carousel_blocks.specs.Buffers.{BufferState, blocks_in, IsSound};
+    ghost use Rattle.carousel_blocks.specs.Buffers.{BufferState, buffer_of, IsBuffer};
 
     ghost Value = { BufferState };
 
-    ghost view = { λ b. record { shape = b.shape; blocks = blocks_in b.shape.block_size b.marks.items b.bytes.items } };
+    ghost view = { λ b. buffer_of b.shape b.blocks };
 
-    ghost invariant = { λ b. IsSound b.shape.block_size b.shape.size b.bytes.items b.marks.items b.missing };
+    ghost invariant = { λ b. IsBuffer b.shape b.blocks };
 }
 
 impl Buffer {
-    ghost use Rattle.carousel_blocks.specs.contracts.buffer.Buffer.{the_row};
-    ghost use Rattle.carousel_blocks.specs.Held.{joined};
-    ghost use Rattle.carousel_blocks.specs.Buffers.{shape_count, shape_length, without_blocks, with_block_at, is_missing, all_came};
-
-    /// A buffer for a module, to which no block came. All of its memory is taken here.
-    pub fn new(alloc: Global, shape: Shape) -> Result<Buffer, NoMemory>
+    /// A buffer for a module, to which no block came. This takes no memory.
+    pub fn new(shape: Shape) -> Buffer
         requires { shape.size ≤ shape_count shape * shape.block_size }
-        ensures { IfOk result (λ buffer. buffer ≡ without_blocks shape) }
+        ensures { result ≡ without_blocks shape }
     {
-        let count = block_count(shape.block_size, shape.size);
-        Ok(Buffer {
+        Buffer {
             shape,
-            bytes: vec![in alloc; 0; shape.size as usize]?,
-            marks: vec![in alloc; false; count]?,
-            missing: count,
-        })
+            blocks: None,
+        }
     }
 
     /// The module's number.
@@ -81,18 +77,127 @@ impl Buffer {
     pub fn lacks(&self, number: u16) -> bool
         ensures { result ≡ is_missing (slice_get self.now.blocks number) }
     {
-        is_unmarked(&self.marks, usize::from(number))
+        match &self.blocks {
+            None => usize::from(number) < self.shape.count(),
+            Some(blocks) => blocks.lacks(number),
+        }
     }
 
     /// Whether each block came.
     pub fn is_complete(&self) -> bool
         ensures { result ≡ all_came self.now.blocks }
     {
+        match &self.blocks {
+            None => self.shape.count() == 0,
+            Some(blocks) => blocks.is_complete(),
+        }
+    }
+
+    /// Takes a block that didn't come yet. After `NoMemory` everything is as before.
+    pub fn put(&mut self, alloc: Global, number: u16, block: &[u8]) -> Result<(), NoMemory>
+        requires missing { is_missing (slice_get self.old.blocks number) ≡ true }
+        requires length { length block.now ≡ shape_length self.old.shape number }
+        ensures ok { OnOk result (self.new ≡ with_block_at number block.now self.old) }
+        ensures err { OnErr result (self.new ≡ self.old) }
+    {
+        if let Some(blocks) = &mut self.blocks {
+            blocks.put(number, block);
+            return Ok(());
+        }
+        let mut blocks = Blocks::new(alloc, self.shape)?;
+        blocks.put(number, block);
+        self.blocks = Some(blocks);
+        Ok(())
+    }
+
+    /// Takes a block back, as if it hadn't come.
+    pub fn take_back(&mut self, number: u16)
+        ensures { self.new ≡ without_block_at number self.old }
+    {
+        if let Some(blocks) = &mut self.blocks {
+            blocks.take_back(number);
+            return;
+        }
+    }
+
+    /// The module's bytes, once each block came.
+    pub fn whole(&self) -> Option<&[u8]>
+        ensures { option_copied result ≡ joined_bytes self.now.blocks }
+    {
+        match &self.blocks {
+            None => nothing(self.shape.count()),
+            Some(blocks) => blocks.whole(),
+        }
+    }
+}
+
+// The bytes of no blocks, where there are to be none.
+fn nothing(count: usize) -> Option<&'static [u8]>
+    ensures { option_copied result ≡ joined_bytes (replicate count None) }
+{
+    if count > 0 {
+        return None;
+    }
+    Some(&[])
+}
+
+// The blocks of a module, once one came. The module's bytes lie in one piece.
+#[derive(Drop)]
+struct Blocks {
+    shape: Shape,
+    /// The blocks, each at its place.
+    bytes: Vec<u8>,
+    // Which of them came.
+    marks: Vec<bool>,
+    // How many of them didn't come yet.
+    missing: usize,
+}
+
+impl Model for Blocks {
+    ghost use Rattle.carousel_blocks.specs.Buffers.{BufferState, blocks_in, IsSound};
+
+    ghost Value = { BufferState };
+
+    ghost view = { λ b. record {
+      shape = b.shape;
+      blocks = blocks_in b.shape.block_size b.marks.items b.bytes.items;
+    } };
+
+    ghost invariant = { λ b.
+        IsSound b.shape.block_size b.shape.size b.bytes.items b.marks.items b.missing };
+}
+
+impl Blocks {
+    // Room for a module's blocks, of which none came. All of its memory is taken here.
+    fn new(alloc: Global, shape: Shape) -> Result<Blocks, NoMemory>
+        requires { shape.size ≤ shape_count shape * shape.block_size }
+        ensures { IfOk result (λ buffer. buffer ≡ without_blocks shape) }
+    {
+        let count = block_count(shape.block_size, shape.size);
+        Ok(Blocks {
+            shape,
+            bytes: vec![in alloc; 0; shape.size as usize]?,
+            marks: vec![in alloc; false; count]?,
+            missing: count,
+        })
+    }
+
+    // Whether no block with that number came yet.
+    fn lacks(&self, number: u16) -> bool
+        ensures { result ≡ is_missing (slice_get self.now.blocks number) }
+    {
+        is_unmarked(&self.marks, usize::from(number))
+    }
+
+    // Whether each block came.
+    fn is_complete(&self) -> bool
+        ensures { result ≡ all_came self.now.blocks }
+    {
         self.missing == 0
     }
 
-    /// Takes a block that didn't come yet.
-    pub fn put(&mut self, number: u16, block: &[u8])
+    // Takes a block that didn't come yet.
+    fn put(&mut self, number: u16, block: &[u8])
         requires missing { is_missing (slice_get self.old.blocks number) ≡ true }
         requires length { length block.now ≡ shape_length self.old.shape number }
         ensures { self.new ≡ with_block_at number block.now self.old }
@@ -104,30 +209,35 @@ impl Buffer {
         self.missing -= 1;
     }
 
-    /// Writes a block that didn't come yet into its place, where it counts for nothing until `put` is told it. The
-    /// module's bytes, where it is the only one that didn't come.
-    pub fn stage(&mut self, number: u16, block: &[u8]) -> Option<&[u8]>
-        requires missing { is_missing (slice_get self.old.blocks number) ≡ true }
-        requires length { length block.now ≡ shape_length self.old.shape number }
-        ensures* same { sem 𝓛 (Rests the_row self.entry (λ new. new ≡ self.old)) }
-        ensures whole { option_copied result ≡ joined (slice_set self.old.blocks number (Some block.now)) }
+    // Takes a block back, as if it hadn't come.
+    fn take_back(&mut self, number: u16)
+        ensures { self.new ≡ without_block_at number self.old }
     {
-        let start = self.shape.start_of(number);
-        write_block(&mut self.bytes, start, block);
-        if self.missing > 1 {
-            return None;
+        let place = usize::from(number);
+        if is_marked(&self.marks, place) {
+            self.marks[place] = false;
+            self.missing += 1;
         }
-        Some(self.bytes.as_slice())
     }
 
-    /// The module's bytes, once each block came.
-    pub fn whole(&self) -> Option<&[u8]>
-        ensures { option_copied result ≡ joined self.now.blocks }
+    // The module's bytes, once each block came.
+    fn whole(&self) -> Option<&[u8]>
+        ensures { option_copied result ≡ joined_bytes self.now.blocks }
     {
         if self.missing > 0 {
             return None;
         }
         Some(self.bytes.as_slice())
+    }
+}
+
+// Whether there is a block of that place, and it came.
+fn is_marked(marks: &[bool], place: usize) -> bool
+    ensures { result ≡ is_marked (slice_get marks.now place) }
+{
+    match marks.get(place) {
+        None => false,
+        Some(mark) => *mark,
     }
 }
 

@@ -1,15 +1,13 @@
 //! The carousel of one component.
 
-ghost use Rattle.std.specs.Prelude.{◌≡◌, ◌≤◌, ◌++◌, [], ◌∷◌, List, length, Option, option_copied, option_map};
-ghost use Rattle.std.specs.Prelude.{Ok, IsOk, IfOk, OnOk, OnErr};
-ghost use Rattle.std.specs.Borrow.{sem};
-ghost use Rattle.std.specs.Io.BufRead.{Rests};
+ghost use Rattle.std.specs.Prelude.{◌≡◌, ◌<◌, ◌≤◌, ◌^◌, ◌++◌, [], ◌∷◌, ℕ, List, length, Option, Some, option_copied, option_map};
+ghost use Rattle.std.specs.Prelude.{IfOk, IfSome, OnOk, OnErr};
 ghost use Rattle.dsmcc_messages.specs.Ddb.{fields_of};
 
 use crate::buffer::Buffer;
 use crate::changes::{Change, changes_between, next_modules};
 use crate::modules::{
-    Module, Modules, asked_key, give_back_unused, put_block, stage_in, standing_at, whole_of,
+    Module, Modules, give_back_unused, put_block, standing_at, take_back, whole_of,
 };
 use crate::put::Put;
 use crate::standing::SkipCause;
@@ -40,7 +38,10 @@ impl Model for Carousel {
 
     ghost Value = { CarouselState };
 
-    ghost view = { λ c. record { transaction = c.transaction; modules = entries_kept c.modules c.buffers } };
+    ghost view = { λ c. record {
+      transaction = c.transaction;
+      modules = entries_kept c.modules c.buffers;
+    } };
 
     ghost invariant = { λ c. AreModules c.modules c.buffers };
 }
@@ -48,13 +49,12 @@ impl Model for Carousel {
 impl Carousel {
     ghost use Rattle.carousel_blocks.specs.Message.{Message, Indication, Data, data_in, messages_of};
     ghost use Rattle.carousel_blocks.specs.InForce.{in_force, standing_of};
-    ghost use Rattle.carousel_blocks.specs.Held.{held};
-    ghost use Rattle.carousel_blocks.specs.Carousel.{StandsFor, KeepsSame, kept_in};
+    ghost use Rattle.carousel_blocks.specs.Held.{bytes_held};
+    ghost use Rattle.carousel_blocks.specs.Carousel.{CarouselState, ForMessages, StandsFor, KeepsSame, kept_in};
     ghost use Rattle.carousel_blocks.specs.Carousel.{entry_in_force, skip_in_force, put_after};
-    ghost use Rattle.carousel_blocks.specs.Changes.{changes, departures};
-    ghost use Rattle.carousel_blocks.specs.Steps.{TakesDii, TakesBlock, is_in_force, entry_changes, block_change, whole_to};
+    ghost use Rattle.carousel_blocks.specs.Changes.{changes, departures, number_bound};
+    ghost use Rattle.carousel_blocks.specs.Steps.{TakesDii, TakesBlock, is_in_force, TakesBack, entry_changes, block_change};
     ghost use Rattle.carousel_blocks.specs.Staging.{made_whole};
-    ghost use Rattle.carousel_blocks.specs.contracts.carousel.Carousel.{the_row};
 
     /// A carousel of which no message came.
     pub fn new(alloc: Global) -> Carousel
@@ -75,13 +75,16 @@ impl Carousel {
     /// After `NoMemory` the carousel is as before, and may be told the section once more.
     pub fn take(&mut self, section: &[u8]) -> Result<Vec<Change>, NoMemory>
         requires { 12 ≤ length section.now }
-        ensures stands { OnOk result ((messages : List Message) → StandsFor self.old messages
-            → StandsFor self.new (messages ++ messages_of (section.now ∷ []))) }
-        ensures changes { IfOk result (λ found. (messages : List Message) → StandsFor self.old messages
-            → found.items ≡ changes messages (messages ++ messages_of (section.now ∷ []))) }
+        ensures stands { OnOk result (ForMessages self.old
+            (λ messages. StandsFor self.new (messages ++ messages_of (section.now ∷ [])))) }
+        ensures changes { IfOk result (λ found. ForMessages self.old (λ messages. found.items
+            ≡ changes messages (messages ++ messages_of (section.now ∷ [])))) }
+        // The module that the section makes whole has a number of two bytes.
+        ensures number { OnOk result ((messages : List Message) (number : ℕ) (bytes : List ℕ)
+            → made_whole messages section.now ≡ Some (number, bytes) → number < number_bound) }
         ensures same { OnErr result (KeepsSame self.old self.new) }
-        ensures before { OnErr result ((messages : List Message) → StandsFor self.old messages
-            → StandsFor self.new messages) }
+        ensures before { OnErr result (ForMessages self.old
+            (λ messages. StandsFor self.new messages)) }
     {
         match read_dii(self.alloc, section) {
             Ok(dii) => self.take_dii(dii),
@@ -90,64 +93,72 @@ impl Carousel {
         }
     }
 
-    /// Readies the next section: where its block is the last that is missing of a module, tells the module, and the
-    /// bytes that it has once [`take`](Carousel::take) was told the section. Nothing is kept by it, and this takes no
-    /// memory.
-    pub fn stage(&mut self, section: &[u8]) -> Option<(u16, &[u8])>
+    /// Takes the section back that was taken last, where its block made a module whole: the carousel is as if it hadn't
+    /// come. So a caller that finds no memory for what it has to keep of that module leaves everything as before.
+    pub fn take_back(&mut self, section: &[u8])
         requires { 12 ≤ length section.now }
-        ensures* same { sem 𝓛 (Rests the_row self.entry (λ new. new ≡ self.old)) }
-        ensures whole { (messages : List Message) → StandsFor self.old messages
-            → option_map (λ found. (found.0, found.1.now)) result ≡ made_whole messages section.now }
+        ensures { (messages : List Message) (number : ℕ) (bytes : List ℕ)
+            → made_whole messages section.now ≡ Some (number, bytes)
+            → StandsFor self.old (messages ++ messages_of (section.now ∷ []))
+            → StandsFor self.new messages }
     {
         match read_ddb(section) {
-            Ok(ddb) => self.stage_block(&ddb),
-            Err(_) => None,
+            Ok(ddb) => self.take_block_back(&ddb),
+            Err(_) => {}
         }
     }
 
     /// What goes where the component leaves: each module of the DII in force, in ascending number.
     pub fn departures(&self) -> Result<Vec<Change>, NoMemory>
-        ensures { IfOk result (λ found. (messages : List Message) → StandsFor self.now messages
-            → found.items ≡ departures messages) }
+        ensures { IfOk result (λ found. ForMessages self.now (λ messages. found.items
+            ≡ departures messages)) }
     {
         let none = HashMap::new(self.alloc);
         changes_between(self.alloc, &self.modules, &none, &self.buffers)
     }
 
-    /// Takes the next DII. Modules whose entries are unchanged keep their blocks. Memory is taken for the others that
-    /// aren't skipped, and given back for those that are gone or changed.
+    /// Takes the next DII. Modules whose entries are unchanged keep their blocks, and what the others had is given back.
     ///
     /// After `NoMemory` everything is as before.
     pub fn set_dii(&mut self, dii: Dii) -> Result<(), NoMemory>
-        ensures stands { OnOk result ((messages : List Message) → StandsFor self.old messages
-            → StandsFor self.new (messages ++ Indication dii ∷ [])) }
+        ensures stands { OnOk result (ForMessages self.old
+            (λ messages. StandsFor self.new (messages ++ Indication dii ∷ []))) }
         ensures same { OnErr result (KeepsSame self.old self.new) }
-        ensures before { OnErr result ((messages : List Message) → StandsFor self.old messages
-            → StandsFor self.new messages) }
+        ensures before { OnErr result (ForMessages self.old
+            (λ messages. StandsFor self.new messages)) }
     {
         let _changes = self.take_dii(dii)?;
         Ok(())
     }
 
-    /// Takes the next DDB, and says what became of its block. This takes no memory.
+    /// Takes the next DDB, and says what became of its block. Memory is taken for a module with the first of its blocks
+    /// that is kept.
+    ///
+    /// After `NoMemory` everything is as before.
     pub fn put(&mut self, ddb: &Ddb<'_>) -> Result<Put, NoMemory>
-        ensures ok { IsOk result }
-        ensures stands { (messages : List Message) → StandsFor self.old messages → StandsFor self.new (messages ++ Data (fields_of ddb.now) ∷ []) }
-        ensures answer { (messages : List Message) → StandsFor self.old messages → result ≡ Ok (put_after messages (fields_of ddb.now)) }
+        ensures stands { OnOk result (ForMessages self.old
+            (λ messages. StandsFor self.new (messages ++ Data (fields_of ddb.now) ∷ []))) }
+        ensures answer { IfOk result (λ put. ForMessages self.old (λ messages. put
+            ≡ put_after messages (fields_of ddb.now))) }
+        ensures same { OnErr result (KeepsSame self.old self.new) }
+        ensures before { OnErr result (ForMessages self.old
+            (λ messages. StandsFor self.new messages)) }
     {
-        Ok(self.put_block(ddb))
+        self.put_block(ddb)
     }
 
     /// The transactionId of the DII in force; None where no DII came.
     pub fn transaction(&self) -> Option<u32>
-        ensures { (messages : List Message) → StandsFor self.now messages → result ≡ option_map (λ dii. dii.transaction) (in_force messages) }
+        ensures { ForMessages self.now (λ messages. result
+            ≡ option_map (λ dii. dii.transaction) (in_force messages)) }
     {
         self.transaction
     }
 
     /// The entry of a module in the DII in force; None where there is none.
     pub fn entry(&self, module: u16) -> Option<&Entry>
-        ensures { (messages : List Message) → StandsFor self.now messages → option_copied result ≡ entry_in_force messages «module» }
+        ensures { ForMessages self.now (λ messages. option_copied result
+            ≡ entry_in_force messages «module») }
     {
         let module = self.modules.get(&module)?;
         Some(&module.standing.entry)
@@ -155,7 +166,7 @@ impl Carousel {
 
     /// Why a module is skipped; None where it isn't, or where the DII in force has no such module.
     pub fn skip_of(&self, module: u16) -> Option<SkipCause>
-        ensures { (messages : List Message) → StandsFor self.now messages → result ≡ skip_in_force messages «module» }
+        ensures { ForMessages self.now (λ messages. result ≡ skip_in_force messages «module») }
     {
         let module = self.modules.get(&module)?;
         module.standing.skip
@@ -163,7 +174,8 @@ impl Carousel {
 
     /// The bytes of a module; None where it isn't held.
     pub fn bytes_of(&self, module: u16) -> Option<&[u8]>
-        ensures { (messages : List Message) → StandsFor self.now messages → option_copied result ≡ held messages «module» }
+        ensures { ForMessages self.now (λ messages. option_copied result
+            ≡ bytes_held messages «module») }
     {
         whole_of(&self.modules, &self.buffers, module)
     }
@@ -171,10 +183,12 @@ impl Carousel {
     // Takes a section that carries no readable DII.
     fn take_data(&mut self, section: &[u8]) -> Result<Vec<Change>, NoMemory>
         requires { 12 ≤ length section.now }
-        ensures stands { OnOk result ((messages : List Message) → StandsFor self.old messages
-            → StandsFor self.new (messages ++ data_in section.now)) }
-        ensures changes { IfOk result (λ found. (messages : List Message) → StandsFor self.old messages
-            → found.items ≡ changes messages (messages ++ data_in section.now)) }
+        ensures stands { OnOk result (ForMessages self.old
+            (λ messages. StandsFor self.new (messages ++ data_in section.now))) }
+        ensures changes { IfOk result (λ found. ForMessages self.old (λ messages. found.items
+            ≡ changes messages (messages ++ data_in section.now))) }
+        ensures number { (messages : List Message) (number : ℕ) (bytes : List ℕ)
+            → made_whole messages section.now ≡ Some (number, bytes) → number < number_bound }
         ensures same { OnErr result (KeepsSame self.old self.new) }
     {
         match read_ddb(section) {
@@ -184,10 +198,10 @@ impl Carousel {
     }
 
     fn take_dii(&mut self, dii: Dii) -> Result<Vec<Change>, NoMemory>
-        ensures stands { OnOk result ((messages : List Message) → StandsFor self.old messages
-            → StandsFor self.new (messages ++ Indication dii ∷ [])) }
-        ensures changes { IfOk result (λ found. (messages : List Message) → StandsFor self.old messages
-            → found.items ≡ changes messages (messages ++ Indication dii ∷ [])) }
+        ensures stands { OnOk result (ForMessages self.old
+            (λ messages. StandsFor self.new (messages ++ Indication dii ∷ []))) }
+        ensures changes { IfOk result (λ found. ForMessages self.old (λ messages. found.items
+            ≡ changes messages (messages ++ Indication dii ∷ []))) }
         ensures same { OnErr result (KeepsSame self.old self.new) }
     {
         if self.is_in_force(dii.transaction) {
@@ -196,26 +210,33 @@ impl Carousel {
         self.replace(dii)
     }
 
-    // The room for its change is taken first, so that a block is kept only where its change is told.
+    // A block is kept only where its change is told: where there is no memory for this, it is taken back.
     fn take_ddb(&mut self, ddb: Ddb<'_>) -> Result<Vec<Change>, NoMemory>
-        ensures stands { OnOk result ((messages : List Message) → StandsFor self.old messages
-            → StandsFor self.new (messages ++ Data (fields_of ddb.entry) ∷ [])) }
-        ensures changes { IfOk result (λ found. (messages : List Message) → StandsFor self.old messages
-            → found.items ≡ changes messages (messages ++ Data (fields_of ddb.entry) ∷ [])) }
+        ensures stands { OnOk result (ForMessages self.old
+            (λ messages. StandsFor self.new (messages ++ Data (fields_of ddb.entry) ∷ []))) }
+        ensures changes { IfOk result (λ found. ForMessages self.old (λ messages. found.items
+            ≡ changes messages (messages ++ Data (fields_of ddb.entry) ∷ []))) }
+        ensures low { ddb.entry.«module» < 2 ^ 16 }
         ensures same { OnErr result (KeepsSame self.old self.new) }
     {
-        let mut changes = Vec::with_capacity(self.alloc, 1)?;
-        let put = self.put_block(&ddb);
-        if let Some(change) = self.change_by(put) {
-            changes.push_reserved(change);
+        let put = self.put_block(&ddb)?;
+        let Some(change) = self.change_by(put) else {
+            return Ok(Vec::new(self.alloc));
+        };
+        match list_of(self.alloc, change) {
+            Ok(changes) => Ok(changes),
+            Err(error) => {
+                self.take_block_back(&ddb);
+                Err(error)
+            }
         }
-        Ok(changes)
     }
 
     // What is told of a block, by what became of it.
     fn change_by(&self, put: Put) -> Option<Change>
-        ensures { (messages : List Message) → StandsFor self.now messages
-            → result ≡ block_change (standing_of (in_force messages)) put }
+        ensures told { ForMessages self.now (λ messages. result
+            ≡ block_change (standing_of (in_force messages)) put) }
+        ensures completed { IfSome result (λ change. put ≡ Put.Completed change.«module») }
     {
         let Put::Completed(number) = put else {
             return None;
@@ -233,7 +254,8 @@ impl Carousel {
     // Puts the modules of another DII in place of those of the one in force, and tells what changed.
     fn replace(&mut self, dii: Dii) -> Result<Vec<Change>, NoMemory>
         ensures taken { OnOk result (TakesDii self.old self.new dii) }
-        ensures changes { IfOk result (λ found. found.items ≡ entry_changes (kept_in self.old) (kept_in self.new)) }
+        ensures changes { IfOk result (λ found. found.items
+            ≡ entry_changes (kept_in self.old) (kept_in self.new)) }
         ensures same { OnErr result (KeepsSame self.old self.new) }
     {
         let transaction = dii.transaction;
@@ -251,21 +273,28 @@ impl Carousel {
         }
     }
 
-    // Writes a block into the buffer of the module that asks for it, and marks it not. The module and its bytes, where
-    // each other block came.
-    fn stage_block(&mut self, ddb: &Ddb<'_>) -> Option<(u16, &[u8])>
-        ensures* same { sem 𝓛 (Rests the_row self.entry (λ new. new ≡ self.old)) }
-        ensures whole { option_map (λ found. (found.0, found.1.now)) result ≡ whole_to (kept_in self.old ddb.now.«module») (fields_of ddb.now) }
+    // Puts the block of a DDB. It can be taken back where it completed its module.
+    fn put_block(&mut self, ddb: &Ddb<'_>) -> Result<Put, NoMemory>
+        ensures taken { IfOk result (λ put. TakesBlock self.old self.new (fields_of ddb.now) put) }
+        ensures same { OnErr result (KeepsSame self.old self.new) }
+        ensures back { IfOk result (λ put. (number : ℕ) (later : CarouselState)
+            → put ≡ Put.Completed number
+            → TakesBack self.new later (fields_of ddb.now) → KeepsSame self.old later) }
     {
-        let key = asked_key(&self.modules, ddb)?;
-        let buffer = self.buffers.get_mut(key)?;
-        let bytes = stage_in(buffer, ddb.number, ddb.block)?;
-        Some((ddb.module, bytes))
+        put_block(self.alloc, &self.modules, &mut self.buffers, ddb)
     }
 
-    fn put_block(&mut self, ddb: &Ddb<'_>) -> Put
-        ensures { TakesBlock self.old self.new (fields_of ddb.now) result }
+    fn take_block_back(&mut self, ddb: &Ddb<'_>)
+        ensures { TakesBack self.old self.new (fields_of ddb.now) }
     {
-        put_block(&self.modules, &mut self.buffers, ddb)
+        take_back(&self.modules, &mut self.buffers, ddb);
     }
+}
+
+fn list_of(alloc: Global, change: Change) -> Result<Vec<Change>, NoMemory>
+    ensures { IfOk result (λ list. list.items ≡ change ∷ []) }
+{
+    let mut list = Vec::new(alloc);
+    list.push(change)?;
+    Ok(list)
 }

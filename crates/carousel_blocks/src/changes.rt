@@ -128,7 +128,8 @@ pub fn next_modules(
 ) -> Result<(Modules, Vec<Change>), NoMemory>
     requires { AreModules old.now buffers.old }
     ensures keeps { KeepModules old.now buffers.old buffers.new }
-    ensures modules { IfOk result (λ next. AreModulesOf dii (kept_at old.now buffers.old) next.0 buffers.new) }
+    ensures modules { IfOk result
+        (λ next. AreModulesOf dii (kept_at old.now buffers.old) next.0 buffers.new) }
     ensures changes { IfOk result (λ next. next.1.items
         ≡ entry_changes (kept_at old.now buffers.old) (kept_at next.0 buffers.new)) }
 {
@@ -186,7 +187,8 @@ fn changes_at(
 ) -> Result<Vec<Change>, NoMemory>
     requires { AreModules new.now buffers.now }
     ensures changes { IfOk result (λ found. found.items
-        ≡ filter_map (entry_change_at (kept_at old.now buffers.now) (kept_at new.now buffers.now)) numbers.now) }
+        ≡ filter_map (entry_change_at (kept_at old.now buffers.now) (kept_at new.now buffers.now))
+        numbers.now) }
     // The numbers have two bytes.
     ensures fit { OnOk result (All (λ number. number < number_bound) numbers.now) }
 {
@@ -201,7 +203,8 @@ fn changes_at(
 
 fn change_at(number: u16, old: &Modules, new: &Modules, buffers: &Slab<Buffer>) -> Option<Change>
     requires { AreModules new.now buffers.now }
-    ensures { result ≡ entry_change_at (kept_at old.now buffers.now) (kept_at new.now buffers.now) number }
+    ensures { result
+        ≡ entry_change_at (kept_at old.now buffers.now) (kept_at new.now buffers.now) number }
 {
     let is_held = is_held(new, buffers, number);
     change_of(
@@ -214,7 +217,8 @@ fn change_at(number: u16, old: &Modules, new: &Modules, buffers: &Slab<Buffer>) 
 
 fn is_held(modules: &Modules, buffers: &Slab<Buffer>, number: u16) -> bool
     requires { AreModules modules.now buffers.now }
-    ensures { result ≡ is_some (option_and_then bytes_kept (kept_at modules.now buffers.now number)) }
+    ensures { result
+        ≡ is_some (option_and_then bytes_kept (kept_at modules.now buffers.now number)) }
 {
     whole_of(modules, buffers, number).is_some()
 }
@@ -226,7 +230,8 @@ fn change_of(
     new: Option<&Standing>,
     is_held: bool,
 ) -> Option<Change>
-    ensures { result ≡ entry_change number (option_copied old.entry) (option_copied new.entry) is_held }
+    ensures { result
+        ≡ entry_change number (option_copied old.entry) (option_copied new.entry) is_held }
 {
     match (old, new) {
         (None, None) => None,

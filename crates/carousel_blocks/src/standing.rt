@@ -38,13 +38,18 @@ pub struct Standing {
 }
 
 impl Standing {
-    ghost use Rattle.carousel_blocks.specs.InForce.{skip_standing, counted_size};
+    ghost use Rattle.carousel_blocks.specs.InForce.{skip_standing, counted_size, sum_limit};
     ghost use Rattle.carousel_blocks.specs.Held.{block_length, count_of, is_asked, same_standing};
 
     /// The standing of an entry, behind unskipped entries of its DII with `before` bytes together.
     pub fn of(download: u32, block_size: u16, before: u64, entry: Entry) -> Standing
-        requires { before ≤ 33554432 }
-        ensures { result ≡ record { download = download; block_size = block_size; entry = entry; skip = skip_standing block_size before entry } }
+        requires { before ≤ sum_limit }
+        ensures { result ≡ record {
+          download = download;
+          block_size = block_size;
+          entry = entry;
+          skip = skip_standing block_size before entry;
+        } }
     {
         let skip = skip_of(block_size, before, &entry);
         Standing {
@@ -123,10 +128,10 @@ fn same_skip(new: Option<SkipCause>, old: Option<SkipCause>) -> bool
     new == old
 }
 
-ghost use Rattle.carousel_blocks.specs.InForce.{block_count, is_compressed, is_large, skip_standing};
+ghost use Rattle.carousel_blocks.specs.InForce.{block_count, sum_limit, is_compressed, is_large, skip_standing};
 
 fn skip_of(block_size: u16, before: u64, entry: &Entry) -> Option<SkipCause>
-    requires { before ≤ 33554432 }
+    requires { before ≤ sum_limit }
     ensures { result ≡ skip_standing block_size before entry.now }
 {
     if is_compressed(entry) {
@@ -159,8 +164,8 @@ fn is_large(block_size: u16, size: u32) -> bool
 }
 
 fn passes_sum(before: u64, size: u32) -> bool
-    requires { before ≤ 33554432 }
-    ensures { result ≡ nat_lt 33554432 (before + size) }
+    requires { before ≤ sum_limit }
+    ensures { result ≡ nat_lt sum_limit (before + size) }
 {
     before + u64::from(size) > SUM_LIMIT
 }

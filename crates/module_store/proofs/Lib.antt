@@ -1,8 +1,9 @@
 pub mod FindLaws
-pub mod StandsLaws
+pub mod NumberLaws
 pub mod ResourceLaws
 pub mod WholeLaws
 pub mod SectionLaws
+pub mod CompletedLaws
 pub mod DeliveryLaws
 pub mod FeedLaws
 pub mod DeliveryNumber

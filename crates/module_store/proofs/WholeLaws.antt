@@ -4,25 +4,20 @@ use Rattle.std.specs.Prelude.{option_map}
 use Rattle.std.specs.Option.{option_map_or}
 use Rattle.std.proofs.lemmas.Bool.{eq-eqb, ne_eqb}
 use Rattle.carousel_blocks.specs.Message.{Message}
-use Rattle.carousel_blocks.specs.Changes.{number_bound}
 use Rattle.carousel_blocks.specs.Staging.{made_whole}
 use Rattle.multipart_entities.specs.declared.parts.Part.{Part}
 use Rattle.module_store.specs.Resources.{holds_entity, info_in_force}
 use Rattle.module_store.specs.Entities.{ArePartsOf, StagesParts, parts_at, with_parts}
 
-module _ (old new : List (ℕ × List Part)) (messages : List Message) (section : List ℕ) (number : ℕ) (low : number < number_bound)
+module _ (old new : List (ℕ × List Part)) (messages : List Message) (section : List ℕ) (number : ℕ)
     (is : Some number ≡ option_map (λ whole. whole.0) (made_whole messages section)) where
   its_number : (whole : ℕ × List ℕ) → made_whole messages section ≡ Some whole → number ≡ whole.0
   its_number whole e = let h : Some number ≡ Some whole.0 = is ∙ ap (λ o. option_map (λ whole. whole.0) o) e in cc
 
-  is_low : (other : ℕ) (bytes : List ℕ) → made_whole messages section ≡ Some (other, bytes) → other < number_bound
-  is_low other bytes e = subst (λ n. n < number_bound) (its_number (other, bytes) e) low
-
   -- it holds no entity
   pub stages_none : false ≡ option_map_or holds_entity (info_in_force messages number) false → StagesParts old old messages section
   stages_none no_entity = record {
-    low = is_low;
-    whole = λ other info bytes e told holds.
+    whole = λ other info bytes low e told holds.
         let told_here = ap (λ n. info_in_force messages n) (its_number (other, bytes) e) ∙ told in
         let contrary : false ≡ true = no_entity ∙ ap (λ o. option_map_or holds_entity o false) told_here ∙ holds in
         absurd cc;
@@ -42,8 +37,7 @@ module _ (old new : List (ℕ × List Part)) (messages : List Message) (section 
   pub stages_put : (parts : Option (List Part)) → ((other : ℕ) (bytes : List ℕ) → made_whole messages section ≡ Some (other, bytes) → ArePartsOf bytes parts)
       → ((other : ℕ) → parts_at new other ≡ with_parts number parts (parts_at old) other) → StagesParts old new messages section
   stages_put parts are put = record {
-    low = is_low;
-    whole = λ other info bytes e told holds.
+    whole = λ other info bytes low e told holds.
         let same = eq-eqb number other (its_number (other, bytes) e) in
         subst (λ o. ArePartsOf bytes o) (sym (put other ∙ ap (λ b. cond b parts (parts_at old other)) same)) (are other bytes e);
     others = λ other differ. put other ∙ ap (λ b. cond b parts (parts_at old other)) (ne_eqb number other (apart other differ));

@@ -46,7 +46,8 @@ impl Entities {
 
     /// Keeps these parts for a module, or none. After `NoMemory` everything is as before.
     pub fn put(&mut self, module: u16, parts: Option<Parts>) -> Result<(), NoMemory>
-        ensures ok { OnOk result ((number : ℕ) → parts_at self.new number ≡ with_parts «module» parts (parts_at self.old) number) }
+        ensures ok { OnOk result ((number : ℕ)
+            → parts_at self.new number ≡ with_parts «module» parts (parts_at self.old) number) }
         ensures err { OnErr result (self.new ≡ self.old) }
     {
         match parts {
@@ -62,7 +63,8 @@ impl Entities {
 
     /// Drops the parts of the modules whose entries went, changed or came.
     pub fn drop_reset(&mut self, changes: &[Change])
-        ensures { (number : ℕ) → parts_at self.new number ≡ without_reset changes.now (parts_at self.old) number }
+        ensures { (number : ℕ)
+            → parts_at self.new number ≡ without_reset changes.now (parts_at self.old) number }
     {
         'changes: for change in changes {
             if change.status.is_some() {
@@ -91,7 +93,9 @@ pub fn named<'a>(
     bytes: &'a [u8],
     name: &Text,
 ) -> Option<&'a [u8]>
-    ensures named { (resources.holds_entity info.now ≡ true → ArePartsOf bytes.now (option_copied parts.entry)) → option_copied result ≡ resources.named_in info.now bytes.now name.now }
+    ensures named { (resources.holds_entity info.now ≡ true
+        → ArePartsOf bytes.now (option_copied parts.entry))
+        → option_copied result ≡ resources.named_in info.now bytes.now name.now }
     ensures within { IfSome result (λ found. length found.now ≤ length bytes.now) }
 {
     if holds_entity(info) {
@@ -103,7 +107,10 @@ pub fn named<'a>(
 
 // The bytes of a part of an entity.
 fn part_named<'a>(parts: &Parts, bytes: &'a [u8], name: &Text) -> Option<&'a [u8]>
-    ensures named { All (IsInside (length bytes.now)) parts.now → option_copied result ≡ option_map (λ place. slice_range bytes.now place.0 place.1) (place_of name.now parts.now) }
+    ensures named { All (IsInside (length bytes.now)) parts.now
+        → option_copied result
+        ≡ option_map (λ place. slice_range bytes.now place.0 place.1)
+        (place_of name.now parts.now) }
     ensures within { IfSome result (λ found. length found.now ≤ length bytes.now) }
 {
     let (start, end) = parts.find(name)?;

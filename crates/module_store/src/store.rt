@@ -2,12 +2,13 @@
 
 ghost use Rattle.std.specs.Prelude.{◌≡◌, ◌≤◌, ◌++◌, [], ℕ, List, true, false, length, AllPairs, Some, position, IfOk, OnOk, OnErr, MatchOption, is_some, map, option_copied};
 ghost use Rattle.psi_tables.specs.Components.{AreApart, pid_in};
+ghost use Rattle.carousel_blocks.specs.InForce.{size_limit};
 ghost use Rattle.carousel_blocks.specs.Changes.{departures};
 ghost use Rattle.carousel_blocks.specs.Carousel as of_carousel;
-ghost use Rattle.module_store.specs.Store.{Followed, Stored, component_in, gone_with, at_start, changes_by, fed, with_map, gone_by, number_of, messages_of_component, pid_of, is_kept as kept_by};
-ghost use Rattle.module_store.specs.Resources.{HasAtMost, LooksAlike, look, seen, start_info, start_path, transaction_in};
+ghost use Rattle.module_store.specs.Store.{Followed, Stored, component_in, gone_with, at_start, changes_by, with_section, with_map, gone_by, number_of, messages_of_component, pid_of, is_kept as kept_by};
+ghost use Rattle.module_store.specs.Resources.{HasAtMost, LooksAlike, look, resource_of, start_info, start_path, transaction_in};
 ghost use Rattle.module_store.specs.Resources as resources;
-ghost use Rattle.module_store.specs.Standing.{StandsFor, has_component, has_tag, slot_in};
+ghost use Rattle.module_store.specs.Standing.{ForStored, StandsFor, has_component, has_tag, component_with};
 ghost use Rattle.module_store.specs.Slots.{AreAdded, kept_of, is_followed as followed_by};
 
 use crate::resources::{Look, holds_entity};
@@ -42,11 +43,16 @@ pub struct Store {
 }
 
 impl Model for Store {
-    ghost use Rattle.module_store.specs.Standing.{StoreState, AreDistinct};
+    ghost use Rattle.module_store.specs.Standing.{StoreState};
+    ghost use Rattle.module_store.specs.Slots.{AreDistinct};
 
     ghost Value = { StoreState };
 
-    ghost view = { λ s. record { slots = s.slots.items; count = s.count; changed = s.changed } };
+    ghost view = { λ s. record {
+      components = s.slots.items;
+      count = s.count;
+      changed = s.changed;
+    } };
 
     ghost invariant = { λ s. AreDistinct s.slots.items };
 }
@@ -67,32 +73,40 @@ impl Store {
     /// Whether the component is one of those in the last component map.
     pub fn has_component(&self, component: u8) -> bool
         ensures has { result ≡ has_component self.now component }
-        ensures stands { (stored : Stored) → StandsFor self.now stored → result ≡ is_some (messages_of_component stored component) }
+        ensures stands { ForStored self.now (λ stored. result
+            ≡ is_some (messages_of_component stored component)) }
     {
         place_of(&self.slots, component).is_some()
     }
 
     /// Takes the next intact section of a component, and tells what it changed in the component's modules, in ascending
-    /// module number. Each module that it delivers gets the next number. After `NoMemory` the store is as before, and
-    /// may be told the section once more.
+    /// module number. Each module that it delivers gets the next number. A component that isn't in the map has no
+    /// modules, and nothing changes. After `NoMemory` the store is as before, and may be told the section once more.
     pub fn feed(&mut self, component: u8, section: &[u8]) -> Result<Vec<Change>, NoMemory>
-        requires section { 12 ≤ length section.now }
-        requires component { has_component self.old component ≡ true }
-        ensures stands { OnOk result ((stored : Stored) → StandsFor self.old stored → StandsFor self.new (fed component section.now stored)) }
-        ensures changes { IfOk result (λ found. (stored : Stored) → StandsFor self.old stored → found.items ≡ changes_by component section.now stored) }
-        ensures before { OnErr result ((stored : Stored) → StandsFor self.old stored → StandsFor self.new stored) }
+        requires { 12 ≤ length section.now }
+        ensures stands { OnOk result (ForStored self.old
+            (λ stored. StandsFor self.new (with_section component section.now stored))) }
+        ensures changes { IfOk result (λ found. ForStored self.old (λ stored. found.items
+            ≡ changes_by component section.now stored)) }
+        ensures before { OnErr result (ForStored self.old (λ stored. StandsFor self.new stored)) }
         ensures components { (tag : ℕ) → has_component self.new tag ≡ has_component self.old tag }
         ensures untold { OnErr result (self.new.changed ≡ self.old.changed) }
-        ensures alike { OnOk result (self.new.changed ≡ false → (stored : Stored) → StandsFor self.old stored → LooksAlike stored (fed component section.now stored)) }
-        ensures quiet { OnOk result ((stored : Stored) → StandsFor self.old stored → changes_by component section.now stored ≡ [] → transaction_in (fed component section.now stored) component ≡ transaction_in stored component → self.new.changed ≡ false) }
+        ensures alike { OnOk result (self.new.changed ≡ false
+            → ForStored self.old
+            (λ stored. LooksAlike stored (with_section component section.now stored))) }
+        ensures quiet { OnOk result (ForStored self.old
+            (λ stored. changes_by component section.now stored ≡ []
+            → transaction_in (with_section component section.now stored) component
+            ≡ transaction_in stored component → self.new.changed ≡ false)) }
     {
         let Some(place) = place_of(&self.slots, component) else {
-            unreachable!()
+            self.changed = false;
+            return Ok(Vec::new(self.alloc));
         };
         let slot = &mut self.slots[place];
-        let before = slot.carousel.transaction();
+        let before = slot.transaction();
         let changes = slot.take(self.alloc, &mut self.count, section)?;
-        self.changed = may_differ(changes.as_slice(), before, slot.carousel.transaction());
+        self.changed = may_differ(changes.as_slice(), before, slot.transaction());
         Ok(changes)
     }
 
@@ -100,12 +114,17 @@ impl Store {
     /// without. Tells each entry of a component that left the map or got another PID as gone, with the component, in
     /// ascending component and then module number. After `NoMemory` the store is as before.
     pub fn set_components(&mut self, services: &Services) -> Result<Vec<(u8, Change)>, NoMemory>
-        ensures stands { OnOk result ((stored : Stored) → StandsFor self.old stored → StandsFor self.new (with_map services.now.map stored)) }
-        ensures gone { IfOk result (λ found. (stored : Stored) → StandsFor self.old stored → found.items ≡ gone_by services.now.map stored) }
+        ensures stands { OnOk result (ForStored self.old
+            (λ stored. StandsFor self.new (with_map services.now.map stored))) }
+        ensures gone { IfOk result (λ found. ForStored self.old (λ stored. found.items
+            ≡ gone_by services.now.map stored)) }
         ensures same { OnErr result (self.new ≡ self.old) }
-        ensures components { OnOk result ((tag : ℕ) → has_component self.new tag ≡ is_some (pid_in services.now.map tag)) }
-        ensures alike { OnOk result (self.new.changed ≡ false → (stored : Stored) → StandsFor self.old stored → LooksAlike stored (with_map services.now.map stored)) }
-        ensures quiet { OnOk result ((stored : Stored) → StandsFor self.old stored → ((tag : ℕ) → pid_in services.now.map tag ≡ pid_of stored tag) → self.new.changed ≡ false) }
+        ensures components { OnOk result ((tag : ℕ)
+            → has_component self.new tag ≡ is_some (pid_in services.now.map tag)) }
+        ensures alike { OnOk result (self.new.changed ≡ false
+            → ForStored self.old (λ stored. LooksAlike stored (with_map services.now.map stored))) }
+        ensures quiet { OnOk result (ForStored self.old (λ stored. ((tag : ℕ)
+            → pid_in services.now.map tag ≡ pid_of stored tag) → self.new.changed ≡ false)) }
     {
         let components = services.components();
         let gone = self.gone_by(components)?;
@@ -120,11 +139,11 @@ impl Store {
     /// The number of the delivery that brought a module which is held, counted from 1 over all components; None where
     /// the module isn't held. The count stays at 2^64 - 1 once it is there. This takes no memory.
     pub fn delivery_number(&self, component: u8, module: u16) -> Option<u64>
-        ensures { (stored : Stored) → StandsFor self.now stored → result ≡ number_of stored component «module» }
+        ensures { ForStored self.now (λ stored. result ≡ number_of stored component «module») }
     {
         let slot = slot_of(&self.slots, component)?;
-        slot.carousel.bytes_of(module)?;
-        Some(slot.numbers.of(module))
+        slot.bytes_of(module)?;
+        Some(slot.number_of(module))
     }
 
     /// What is there under a path: `Found` with the resource's very bytes, at most 1,048,576; `Waiting` exactly where the
@@ -132,8 +151,8 @@ impl Store {
     /// `Missing` exactly where the path is neither found nor waited for. The cost is that of a few look-ups by hash, and
     /// this takes no memory.
     pub fn resource(&self, path: &Path) -> Look<'_>
-        ensures look { (stored : Stored) → StandsFor self.now stored → seen result ≡ look stored path.now }
-        ensures bound { HasAtMost 1048576 (seen result) }
+        ensures look { ForStored self.now (λ stored. resource_of result ≡ look stored path.now) }
+        ensures bound { HasAtMost size_limit (resource_of result) }
     {
         match slot_of(&self.slots, path.component) {
             None => Look::Missing,
@@ -144,7 +163,7 @@ impl Store {
     /// The path of the start document: module 0000 of component 0x40 as a whole, where its entry in force says that it
     /// holds no entity, and else its part `startup.bml`. Memory is taken for the name.
     pub fn start_path(&self) -> Result<Path, NoMemory>
-        ensures { IfOk result (λ path. (stored : Stored) → StandsFor self.now stored → path ≡ start_path stored) }
+        ensures { IfOk result (λ path. ForStored self.now (λ stored. path ≡ start_path stored)) }
     {
         let name = Text::of_bytes(self.alloc, start_name(self.start_info()))?;
         Ok(Path {
@@ -164,16 +183,16 @@ impl Store {
 
     // The info of the start document's module, where it has an entry.
     fn start_info(&self) -> Option<&[u8]>
-        ensures { (stored : Stored) → StandsFor self.now stored → option_copied result ≡ start_info stored }
+        ensures { ForStored self.now (λ stored. option_copied result ≡ start_info stored) }
     {
         let slot = slot_of(&self.slots, START_COMPONENT)?;
-        let entry = slot.carousel.entry(START_MODULE)?;
-        Some(entry.info.as_slice())
+        slot.info_of(START_MODULE)
     }
 
     // What goes with the components that leave, in ascending component.
     fn gone_by(&self, components: &[Component]) -> Result<Vec<(u8, Change)>, NoMemory>
-        ensures { IfOk result (λ found. (stored : Stored) → StandsFor self.now stored → found.items ≡ gone_by components.now stored) }
+        ensures { IfOk result (λ found. ForStored self.now (λ stored. found.items
+            ≡ gone_by components.now stored)) }
     {
         let mut gone = Vec::new(self.alloc);
         'tags: for tag in 0..=u8::MAX {
@@ -189,7 +208,8 @@ impl Store {
         components: &[Component],
         tag: u8,
     ) -> Result<(), NoMemory>
-        ensures { OnOk result ((stored : Stored) → StandsFor self.now stored → gone.new.items ≡ gone.old.items ++ gone_with components.now (component_in stored.components tag)) }
+        ensures { OnOk result (ForStored self.now (λ stored. gone.new.items
+            ≡ gone.old.items ++ gone_with components.now (component_in stored.components tag))) }
     {
         match slot_of(&self.slots, tag) {
             None => Ok(()),
@@ -220,20 +240,20 @@ fn may_differ(changes: &[Change], before: Option<u32>, now: Option<u32>) -> bool
 fn place_of(slots: &[Slot], tag: u8) -> Option<usize>
     ensures { result ≡ position (has_tag tag) slots.now }
 {
-    slots.iter().position(|slot| slot.tag == tag)
+    slots.iter().position(|slot| slot.tag() == tag)
 }
 
 fn slot_of(slots: &[Slot], tag: u8) -> Option<&Slot>
-    ensures { option_copied result ≡ slot_in slots.now tag }
+    ensures { option_copied result ≡ component_with slots.now tag }
 {
-    slots.iter().find(|slot| slot.tag == tag)
+    slots.iter().find(|slot| slot.tag() == tag)
 }
 
 // Whether the map has the component on the same PID.
 fn is_kept(components: &[Component], slot: &Slot) -> bool
     ensures { result ≡ kept_by components.now slot.now.tag slot.now.pid }
 {
-    components.iter().any(|component| component.tag == slot.tag && component.pid == slot.pid)
+    components.iter().any(|component| component.tag == slot.tag() && component.pid == slot.pid())
 }
 
 // Gives back what is kept of components that the map doesn't have on the same PID, and answers whether there were any.
@@ -251,7 +271,7 @@ fn keep(slots: &mut Vec<Slot>, components: &[Component]) -> bool
 fn is_followed(slots: &[Slot], component: &Component) -> bool
     ensures { result ≡ followed_by slots.now component.now }
 {
-    slots.iter().any(|slot| slot.tag == component.tag && slot.pid == component.pid)
+    slots.iter().any(|slot| slot.tag() == component.tag && slot.pid() == component.pid)
 }
 
 // The components that aren't followed on the same PID, without sections.
@@ -261,7 +281,7 @@ fn added_to(alloc: Global, slots: &[Slot], components: &[Component]) -> Result<V
     let mut added = Vec::new(alloc);
     'components: for component in components {
         if !is_followed(slots, component) {
-            added.push(Slot::new(alloc, *component)?)?;
+            added.push(Slot::new(alloc, *component))?;
         }
     }
     Ok(added)
@@ -273,13 +293,16 @@ fn add_departures(
     components: &[Component],
     slot: &Slot,
 ) -> Result<(), NoMemory>
-    ensures { OnOk result ((component : Followed) → component.tag ≡ slot.now.tag → component.pid ≡ slot.now.pid → of_carousel.StandsFor slot.now.carousel component.messages → gone.new.items ≡ gone.old.items ++ gone_with components.now (Some component)) }
+    ensures { OnOk result ((component : Followed) → component.tag ≡ slot.now.tag
+        → component.pid ≡ slot.now.pid
+        → of_carousel.StandsFor slot.now.carousel component.messages
+        → gone.new.items ≡ gone.old.items ++ gone_with components.now (Some component)) }
 {
     if is_kept(components, slot) {
         return Ok(());
     }
-    let departures = slot.carousel.departures()?;
-    add_changes(gone, slot.tag, departures.as_slice())
+    let departures = slot.departures()?;
+    add_changes(gone, slot.tag(), departures.as_slice())
 }
 
 // Adds changes of a component.
@@ -288,7 +311,8 @@ fn add_changes(
     component: u8,
     more: &[Change],
 ) -> Result<(), NoMemory>
-    ensures { OnOk result (changes.new.items ≡ changes.old.items ++ map (λ change. (component, change)) more.now) }
+    ensures { OnOk result (changes.new.items
+        ≡ changes.old.items ++ map (λ change. (component, change)) more.now) }
 {
     'more: for change in more {
         changes.push((component, *change))?;

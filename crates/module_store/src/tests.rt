@@ -105,8 +105,8 @@ const STEPS: &[Step] = &[
 
 // Takes a section of a component, once more where memory was wanting.
 fn fed(store: &mut Store, component: u8, section: &[u8]) -> Result<Vec<Change>, Fail> {
-    if section.len() < 12 || !store.has_component(component) {
-        return Err(Fail::from("short, or no such component"));
+    if section.len() < 12 {
+        return Err(Fail::from("short"));
     }
     match store.feed(component, section) {
         Ok(changes) => Ok(changes),
@@ -376,5 +376,54 @@ fn data_on_a_pid(rt: HostRuntime) -> Result<(), Fail> {
     assert!(rt; mapped(&mut store, &services)?.is_empty());
     assert!(rt; store.has_component(0x40));
     assert!(rt; !store.has_component(0x41));
+    Ok(())
+}
+
+// An entity of so many parts, each `x` without a name.
+fn entity_of(alloc: Global, count: usize) -> Result<Vec<u8>, Fail> {
+    let mut entity = Vec::new(alloc);
+    entity.extend_from_slice(b"Content-Type: multipart/mixed; boundary=b\r\n\r\n")?;
+    for _part in 0..count {
+        entity.extend_from_slice(b"--b\r\n\r\nx\r\n")?;
+    }
+    entity.extend_from_slice(b"--b--\r\n")?;
+    Ok(entity)
+}
+
+// Feeds module 0 of component 0x40 with these bytes, and answers how many changes its last section told.
+fn delivered(alloc: Global, store: &mut Store, bytes: &[u8]) -> Result<usize, Fail> {
+    let dii = sections::dii(alloc, 1, &[Listed(0, 1, u32::try_from(bytes.len())?, &[])])?;
+    let mut told = fed(store, 0x40, dii.as_slice())?.len();
+    for (number, piece) in bytes.chunks(64).enumerate() {
+        let block = sections::block(alloc, 0, 1, u16::try_from(number)?, piece)?;
+        told = fed(store, 0x40, block.as_slice())?.len();
+    }
+    Ok(told)
+}
+
+#[test]
+fn an_entity_has_at_most_512_parts(rt: HostRuntime) -> Result<(), Fail> {
+    let alloc = rt.alloc();
+    for (count, look) in [(512, Look::Found(b"x")), (513, Look::Missing)] {
+        let (_services, mut store) = two_components(alloc)?;
+        let entity = entity_of(alloc, count)?;
+        assert_eq!(rt; delivered(alloc, &mut store, entity.as_slice())?, 1);
+        assert_eq!(rt; store.delivery_number(0x40, 0), Some(1));
+        assert!(rt;
+            store.resource(&path(alloc, 0x40, 0, b"")?) == look,
+            "{count} parts"
+        );
+    }
+    Ok(())
+}
+
+#[test]
+fn a_component_that_is_not_there_has_no_modules(rt: HostRuntime) -> Result<(), Fail> {
+    let alloc = rt.alloc();
+    let (_services, mut store) = two_components(alloc)?;
+    let dii = section_of(alloc, Sent::Dii(1, AT_ONCE))?;
+    assert!(rt; fed(&mut store, 0x42, dii.as_slice())?.is_empty());
+    assert!(rt; !store.has_changed());
+    assert!(rt; store.resource(&path(alloc, 0x42, 1, b"")?) == Look::Missing);
     Ok(())
 }

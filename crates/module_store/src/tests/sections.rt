@@ -73,7 +73,7 @@ pub fn dii(alloc: Global, transaction: u32, listed: &[Listed]) -> Result<Vec<u8>
     section(alloc, 0x3B, 0x1002, transaction, payload.as_slice())
 }
 
-fn block(
+pub fn block(
     alloc: Global,
     module: u16,
     version: u8,
