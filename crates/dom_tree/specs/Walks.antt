@@ -1,6 +1,6 @@
 -- Where one node stands to the others: children, siblings, the path to the root, and the node of an id
 -- (DOM level 1: Node and Document).
-use Rattle.std.specs.Prelude.{◌≡◌, ℕ, zero, suc, ◌+◌, ◌-◌, ◌<◌, ◌≤◌, List, [], ◌∷◌, Option, Some, None, Bool, if◌then◌else◌, ◌==◌, length, take, nat_eq, Contains, IsSomeAnd}
+use Rattle.std.specs.Prelude.{◌≡◌, ℕ, zero, suc, ◌+◌, ◌-◌, ◌<◌, ◌≤◌, ◌↔◌, List, [], ◌∷◌, Option, Some, None, Bool, if◌then◌else◌, ◌==◌, length, take, nat_eq, Contains, IsSomeAnd}
 use Rattle.std.specs.Option.{option_map_or, option_eq}
 use Rattle.dom_tree.specs.Items.{Item, parent_of, tag_of, IsElement, has_id}
 
@@ -53,6 +53,12 @@ path_within (suc count) items node = node ∷ option_map_or (path_within count i
 abbrev pub path_of : List Item → ℕ → List ℕ
 path_of items node = path_within (node + 1) items node
 
+-- The nodes of these numbers, from the node on, are those that stand in it at any depth, itself among them:
+-- the node is on their paths to the root, and on no other path.
+abbrev pub IsEndOf : List Item → ℕ → ℕ → Type 0
+IsEndOf items node end =
+    (other : ℕ) → other < length items → Contains (path_of items other) node ↔ ((node ≤ other) × (other < end))
+
 -- the node is on the path from the last node to the root, so that what is added to it stands last in document order
 abbrev pub IsOpen : List Item → ℕ → Type 0
 IsOpen items node = Contains (path_of items (length items - 1)) node
@@ -81,9 +87,12 @@ pub record Extends (old new : List Item) (up : ℕ) : Type 0 where
   pub open_still : (node : ℕ) → Contains (path_of old up) node → IsOpen new node
   pub opened : IsOpen new (length old)
 
--- The new nodes are the old ones with other texts or attributes: tags and paths to the root stay.
+-- The new nodes are the old ones with other texts or attributes: tags, parents, children and paths to the
+-- root stay.
 pub record KeepsPlaces (old new : List Item) : Type 0 where
   pub count : length new ≡ length old
   pub tags : (node : ℕ) → tag_of new node ≡ tag_of old node
+  pub parents : (node : ℕ) → parent_of new node ≡ parent_of old node
+  pub children : (node : ℕ) → children_of new node ≡ children_of old node
   pub paths : (node : ℕ) → path_of new node ≡ path_of old node
   pub open_still : (node : ℕ) → IsOpen old node → IsOpen new node

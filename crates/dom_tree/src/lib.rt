@@ -17,6 +17,9 @@ mod nodes;
 mod tests;
 mod trees;
 
-pub use crate::laws::{list_has_each_node, nested_nodes_are_a_tree};
+pub use crate::laws::{
+    law_of_attribute_changes, law_of_children, law_of_nested_nodes, law_of_parents, law_of_paths,
+    law_of_text_changes,
+};
 pub use crate::node_ids::NodeId;
 pub use crate::trees::{MOST_NODES, Tree};

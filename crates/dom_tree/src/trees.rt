@@ -1,9 +1,10 @@
 //! The tree of a document, and the walks over it.
 
-ghost use Rattle.std.specs.Prelude.{◌≡◌, ◌<◌, ◌↔◌, ◌∷◌, ℕ, Some, [], length, slice_get, option_map, option_copied, IsTrue, IfSome};
+ghost use Rattle.std.specs.Prelude.{◌≡◌, ◌<◌, ◌≤◌, ◌+◌, ◌↔◌, ◌∷◌, ℕ, Some, [], length, slice_get, option_map, option_copied, IsTrue, IfNone, IfSome, IsSomeAnd};
+ghost use Rattle.std.specs.Bool.{OnTrue, OnFalse};
 ghost use Rattle.std.specs.Option.{option_map_or};
 ghost use Rattle.dom_tree.specs.Items.{IsElement, parent_of, tag_of, text_of, attributes_of, value_of};
-ghost use Rattle.dom_tree.specs.Walks.{first, last, after, before, children_of, siblings_of, path_of, node_of_id, IsOpen, IsTree};
+ghost use Rattle.dom_tree.specs.Walks.{first, last, after, before, children_of, siblings_of, path_of, node_of_id, IsEndOf, IsOpen, IsTree};
 
 mod building;
 mod changes;
@@ -64,6 +65,7 @@ impl Tree {
         requires { node.0 < length self.now }
         ensures parent { number_of result ≡ parent_of self.now node.0 }
         ensures before { IfSome result (λ up. (up.0 < node.0) × IsElement self.now up.0) }
+        ensures root { IfNone result (node.0 ≡ 0) }
         ensures path { path_of self.now node.0 ≡ node.0 ∷ option_map_or (path_of self.now) (parent_of self.now node.0) [] }
         ensures open { IsOpen self.now node.0 → IfSome result (λ up. IsOpen self.now up.0) }
     {
@@ -104,6 +106,23 @@ impl Tree {
         ensures before { IfSome result (λ previous. previous.0 < node.0) }
     {
         self.at(node).previous_sibling
+    }
+
+    /// The number behind the last node that stands in this one: the nodes from this one up to that
+    /// number are those that stand in it at any depth, itself among them. The cost is their number.
+    pub fn subtree_end(&self, node: NodeId) -> u32
+        requires { node.0 < length self.now }
+        ensures end { IsEndOf self.now node.0 result }
+        ensures behind { node.0 < result }
+        ensures within { result ≤ length self.now }
+    {
+        let count = self.node_count();
+        'behind: for number in node.0 + 1..count {
+            if self.hangs_before(NodeId(number), node) {
+                return number;
+            }
+        }
+        count
     }
 
     /// The first element in document order whose attribute `id` is this text, case and white included
@@ -160,6 +179,23 @@ impl Tree {
                 None => None,
             },
             NodeKind::Text(_) => None,
+        }
+    }
+
+    // Whether a node, which isn't the root, hangs in one that stands before a node.
+    fn hangs_before(&self, node: NodeId, place: NodeId) -> bool
+        requires within { node.0 < length self.now }
+        requires not_root { 0 < node.0 }
+        ensures before {
+            OnTrue result (IsSomeAnd (parent_of self.now node.0) (λ up. up < place.0))
+        }
+        ensures behind {
+            OnFalse result (IsSomeAnd (parent_of self.now node.0) (λ up. place.0 ≤ up))
+        }
+    {
+        match self.parent(node) {
+            Some(up) => up.0 < place.0,
+            None => false,
         }
     }
 
