@@ -8,7 +8,7 @@ ghost use Rattle.display_list.specs.Show.{box_line, child_line, clock_line, elem
 
 use crate::places::{Place, standings_of};
 use bml_bytes::{NoMemory, Text, push_decimal};
-use dom_tree::{NodeId, Tree};
+use dom_tree::{NodeId, Tree, law_of_children, law_of_parents};
 
 /// Appends the display list of a document at a time of the clock, in milliseconds: a line for the clock, one
 /// for each element that is drawn, and one for each text in such an element.
@@ -58,6 +58,8 @@ fn push_element(tree: &Tree, node: NodeId, place: Place, out: &mut Vec<u8>) -> R
     requires place { place ≡ place_of tree.now node.0 }
     ensures { OnOk result (out.new.items ≡ out.old.items ++ element_lines tree.now node.0) }
 {
+    law_of_children();
+    law_of_parents();
     push_box(place, out)?;
     let mut next = tree.first_child(node);
     'children: while let Some(child) = next {

@@ -6,7 +6,8 @@ use std::alloc::Global;
 use std::process::Abort;
 use std::test::Fail;
 
-// `<bml><body id="a"><p id="a">x</p>y<p/></body></bml>`, node by node: 0 bml, 1 body, 2 p, 3 x, 4 y, 5 p.
+// `<bml><body id="a"><p id="a">x</p>y<p/></body></bml>`, node by node: 0 bml, 1 body, 2 p, 3 x, 4
+// y, 5 p.
 fn small_document(rt: &impl Abort, alloc: Global) -> Tree {
     let tree = Tree::with_root(alloc, word(rt, alloc, b"bml"));
     let mut tree = tree.expect(rt, "memory");
