@@ -6,7 +6,7 @@ use Rattle.std.proofs.lemmas.Bool.{eq-eqb, eqb-true}
 use Rattle.std.proofs.lemmas.List.{length-append}
 use Rattle.std.proofs.Math.Seq.{take-append_seam}
 use Rattle.bml_reader.specs.Bytes.{front, behind, stripped}
-use Rattle.bml_reader.specs.Parts.{EndsAtFirst}
+use Rattle.bml_reader.specs.Markup.{EndsAtFirst}
 use Rattle.bml_reader.specs.Lexing.{Found, found, up_to}
 
 pub both : (a b : Bool) → (a && b) ≡ true → (a ≡ true) × (b ≡ true)

@@ -10,8 +10,8 @@ use Rattle.dom_tree.specs.Items.Content.{Element as ElementContent, Text as Text
 use Rattle.dom_tree.specs.Walks.{most_nodes}
 use Rattle.bml_reader.specs.Bytes.{is_white}
 use Rattle.bml_reader.specs.References.{read_references}
-use Rattle.bml_reader.specs.Parts.{Part}
-use Rattle.bml_reader.specs.Parts.Part.{StartTag, EndTag, Run, Cdata, Remark, Doctype}
+use Rattle.bml_reader.specs.Markup.{Markup}
+use Rattle.bml_reader.specs.Markup.Markup.{StartTag, EndTag, Run, Cdata, Remark, Doctype}
 use Rattle.bml_reader.specs.Grammar.{is_left_out}
 use Rattle.bml_reader.specs.Faults.{most_levels}
 use Rattle.bml_reader.specs.Machine.{State, Opened, Kept, kept_of, innermost, items_with_text, phase_of, opened, started, step, IsSound, IsSoundIn}
@@ -92,7 +92,7 @@ tags_of elements = map (λ o. o.tag) elements
 abbrev numbers_of : List Opened → List ℕ
 numbers_of elements = map (λ o. o.number) elements
 
--- One part
+-- One piece
 
 opens : (tag text : List ℕ) (o : Opened) (outer : List Opened) (kept : Option Kept) (other deep : Bool) (e : Bool) (n : ℕ) → seen (phase_of (opened e tag n (o ∷ outer))) (tags_of (opened e tag n (o ∷ outer))) text kept other deep ≡ seen (phase_of_tags (tags_with e tag (tags_of (o ∷ outer)))) (tags_with e tag (tags_of (o ∷ outer))) text kept other deep
 opens tag text o outer kept other deep true n = refl
@@ -161,7 +161,7 @@ white true s = refl
 white false s = refl
 
 -- what the reader keeps follows what is known
-seen-at : (phase : Phase) (elements : List Opened) (text : List ℕ) (items : List Item) (deep : Bool) (p : Part) → IsSoundIn phase (state phase elements text items deep) → option_map seen_of (step p (state phase elements text items deep)) ≡ seen_step p (seen_of (state phase elements text items deep))
+seen-at : (phase : Phase) (elements : List Opened) (text : List ℕ) (items : List Item) (deep : Bool) (p : Markup) → IsSoundIn phase (state phase elements text items deep) → option_map seen_of (step p (state phase elements text items deep)) ≡ seen_step p (seen_of (state phase elements text items deep))
 unfolding step seen_step
 seen-at BeforeDoctype elements text items deep (StartTag tag attributes e) h = at_start BeforeDoctype elements text items deep tag attributes e h.0 h.1 h.2
 seen-at BeforeDoctype elements text items deep (EndTag tag) h = refl
@@ -189,7 +189,7 @@ seen-at Behind elements text items deep (Cdata bytes) h = refl
 seen-at Behind elements text items deep Remark h = refl
 seen-at Behind elements text items deep Doctype h = refl
 
-pub seen-follows : (p : Part) (s : State) → IsSound s → option_map seen_of (step p s) ≡ seen_step p (seen_of s)
+pub seen-follows : (p : Markup) (s : State) → IsSound s → option_map seen_of (step p s) ≡ seen_step p (seen_of s)
 seen-follows p s h = seen-at s.phase s.elements s.text s.items s.is_deep p h
 
 -- What stays sound
@@ -208,7 +208,7 @@ sound-cond : (b : Bool) (s t : State) → IsSound s → cond b (Some s) None ≡
 sound-cond true s t h e = subst IsSound (some-same s t e) h
 sound-cond false s t h e = absurd (cc e)
 
-sound-at : (phase : Phase) (elements : List Opened) (text : List ℕ) (items : List Item) (deep : Bool) (p : Part) (t : State) → IsSoundIn phase (state phase elements text items deep) → step p (state phase elements text items deep) ≡ Some t → IsSound t
+sound-at : (phase : Phase) (elements : List Opened) (text : List ℕ) (items : List Item) (deep : Bool) (p : Markup) (t : State) → IsSoundIn phase (state phase elements text items deep) → step p (state phase elements text items deep) ≡ Some t → IsSound t
 unfolding step
 sound-at BeforeDoctype elements text items deep (StartTag tag attributes e) t h q = subst IsSound (some-same _ t q) (sound-start tag attributes e BeforeDoctype elements text items items deep)
 sound-at BeforeDoctype elements text items deep (EndTag tag) t h q = absurd (cc q)
@@ -236,7 +236,7 @@ sound-at Behind elements text items deep (Cdata bytes) t h q = absurd (cc q)
 sound-at Behind elements text items deep Remark t h q = subst IsSound (some-same (state Behind elements text items deep) t q) h
 sound-at Behind elements text items deep Doctype t h q = absurd (cc q)
 
-pub sound-step : (p : Part) (s t : State) → IsSound s → step p s ≡ Some t → IsSound t
+pub sound-step : (p : Markup) (s t : State) → IsSound s → step p s ≡ Some t → IsSound t
 sound-step p s t h q = sound-at s.phase s.elements s.text s.items s.is_deep p t h q
 
 if-kept : (P : Kept → Type 0) (k : Kept) (b : Bool) → P k → IfSome (cond b (Some k) None) P

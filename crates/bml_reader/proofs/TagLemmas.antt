@@ -9,7 +9,7 @@ use Rattle.bml_bytes.specs.Codes.{codes}
 use Rattle.dom_tree.specs.Items.{Attribute, value_in}
 use Rattle.bml_reader.specs.Bytes.{front, behind, stripped, is_white, is_letter, is_digit, is_name_start, is_name_byte, is_name, is_value_byte, is_quote}
 use Rattle.bml_reader.specs.References.{read_references}
-use Rattle.bml_reader.specs.Parts.{IsWhite, IsAttribute, SpellsAttributes, NamesDiffer, tag_end}
+use Rattle.bml_reader.specs.Markup.{IsWhite, IsAttribute, SpellsAttributes, NamesDiffer, tag_end}
 use Rattle.bml_reader.specs.Lexing.{Found, found, Written, Inner, name_at, equals_at, closed_value, value_at, value_of_name, attribute_at, attribute_of, tag_end_at, inner_at}
 use Rattle.bml_reader.proofs.ByteLemmas.{both, both-back, some-same, Ends, front-cons, front-run, behind-run, front-behind, front-all, behind-ends, stripped-append, stripped-is, mapped, chained, passed}
 
@@ -194,8 +194,8 @@ unfolding value_at
 value_at-found [] v e = absurd (cc e)
 value_at-found (q ∷ qs) v e = passed (is_quote q) (closed_value q qs) v e (λ i f. closed_value-found q qs v i f)
 
-attribute_at-parts : (c : ℕ) (cs : List ℕ) (n : Found (List ℕ)) (r1 : List ℕ) (v : Found (List ℕ)) → is_white c ≡ true → NameAt (behind is_white (c ∷ cs)) n → EqualsAt n.rest r1 → ValueAt r1 v → AttributeAt (c ∷ cs) (found (record { name = n.it; value = v.it }) v.rest)
-attribute_at-parts c cs n r1 v w h e q =
+attribute_at-markup : (c : ℕ) (cs : List ℕ) (n : Found (List ℕ)) (r1 : List ℕ) (v : Found (List ℕ)) → is_white c ≡ true → NameAt (behind is_white (c ∷ cs)) n → EqualsAt n.rest r1 → ValueAt r1 v → AttributeAt (c ∷ cs) (found (record { name = n.it; value = v.it }) v.rest)
+attribute_at-markup c cs n r1 v w h e q =
     let before : List ℕ = front is_white cs in
     let whites : front is_white (c ∷ cs) ≡ c ∷ before = front-cons is_white c cs w in
     let spelled : List ℕ = c ∷ (before ++ (n.it ++ (e.left ++ (61 ∷ (e.right ++ (q.quote ∷ (v.it ++ q.quote ∷ []))))))) in
@@ -235,7 +235,7 @@ attribute_at-is (c ∷ cs) f e =
     passed (is_white c) (option_and_then value_of_name (name_at (behind is_white (c ∷ cs)))) f e (λ w g.
     chained value_of_name (name_at (behind is_white (c ∷ cs))) f g (λ n p q.
     value_of_name-found n f q (λ r1 v s t u.
-    subst (AttributeAt (c ∷ cs)) u (attribute_at-parts c cs n r1 v w (name_at-is (behind is_white (c ∷ cs)) n p) s t))))
+    subst (AttributeAt (c ∷ cs)) u (attribute_at-markup c cs n r1 v w (name_at-is (behind is_white (c ∷ cs)) n p) s t))))
 
 -- The inside of a start tag
 

@@ -30,7 +30,8 @@ put_attributes attributes (Text text) = Text text
 
 -- the same element with these attributes behind its own; a text stays as it is
 abbrev pub with_attributes : List Attribute → Item → Item
-with_attributes attributes item = record { parent = item.parent; content = put_attributes attributes item.content }
+with_attributes attributes item =
+    record { parent = item.parent; content = put_attributes attributes item.content }
 
 -- the nodes stay where they are
 abbrev pub KeepsPlacesOf : Option (List Item) → Option (List Item) → Type 0

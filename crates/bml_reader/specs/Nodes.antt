@@ -16,11 +16,17 @@ path_with false number path = number ∷ path
 
 -- with one element more, which stays open unless it is empty
 abbrev pub kept_with_element : List ℕ → List Attribute → Bool → Kept → Option Kept
-kept_with_element tag attributes is_empty k = kept_of (k.items ++ record { parent = top_of k.path; content = Element tag attributes } ∷ []) (path_with is_empty (length k.items) k.path)
+kept_with_element tag attributes is_empty k =
+    kept_of (k.items
+    ++ record {
+      parent = top_of k.path;
+      content = Element tag attributes;
+    } ∷ []) (path_with is_empty (length k.items) k.path)
 
 -- with one text more
 abbrev pub kept_with_text : List ℕ → Kept → Option Kept
-kept_with_text text k = kept_of (k.items ++ record { parent = top_of k.path; content = Text text } ∷ []) k.path
+kept_with_text text k =
+    kept_of (k.items ++ record { parent = top_of k.path; content = Text text } ∷ []) k.path
 
 abbrev pub without_first : List ℕ → List ℕ
 without_first [] = []
@@ -33,7 +39,8 @@ kept_outside k = record { items = k.items; path = without_first k.path }
 -- the path's elements are open, from the innermost on
 abbrev pub AreOpen : List Item → List ℕ → Type 0
 AreOpen items [] = Unit {0}
-AreOpen items (n ∷ path) = (path_of items n ≡ n ∷ path) × IsElement items n × IsOpen items n × AreOpen items path
+AreOpen items (n ∷ path) =
+    (path_of items n ≡ n ∷ path) × IsElement items n × IsOpen items n × AreOpen items path
 
 -- only the root hangs in nothing
 abbrev pub IsRootNext : Kept → Type 0

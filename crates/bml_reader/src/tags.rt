@@ -15,8 +15,8 @@ use bml_bytes::{NoMemory, Text};
 use indexmap::IndexMap;
 use std::alloc::Global;
 
-/// What stands in a start tag behind its name: the attributes, in the order written, and whether the element
-/// ends with the tag.
+/// What stands in a start tag behind its name: the attributes, in the order written, and whether
+/// the element ends with the tag.
 #[derive(Drop)]
 pub struct Inside {
     pub attributes: IndexMap<Text, Text>,
@@ -36,7 +36,8 @@ pub fn name(bytes: &[u8]) -> Option<(&[u8], &[u8])>
 
 /// What stands in a start tag behind its name, and what stands behind the tag.
 pub fn inside_tag(alloc: Global, bytes: &[u8]) -> Result<Option<(Inside, &[u8])>, NoMemory>
-    ensures { IfOk result (λ found. option_map found_inner found ≡ inner_at (suc (length bytes.now)) [] bytes.now) }
+    ensures { IfOk result (λ found. option_map found_inner found
+        ≡ inner_at (suc (length bytes.now)) [] bytes.now) }
 {
     let mut attributes: IndexMap<Text, Text> = IndexMap::new(alloc);
     let mut rest = bytes;
@@ -71,8 +72,11 @@ fn add_attribute(
     name: Text,
     value: Text,
 ) -> Result<bool, NoMemory>
-    ensures new { IfOk result (λ added. is_some (value_in (attributes_in_map attributes.old) name) ≡ not added) }
-    ensures last { IfOk result (λ added. added ≡ true → attributes_in_map attributes.new ≡ attributes_in_map attributes.old ++ record { name = name; value = value } ∷ []) }
+    ensures new { IfOk result (λ added. is_some (value_in (attributes_in_map attributes.old) name)
+        ≡ not added) }
+    ensures last { IfOk result (λ added. added ≡ true
+        → attributes_in_map attributes.new
+        ≡ attributes_in_map attributes.old ++ record { name = name; value = value } ∷ []) }
 {
     match attributes.get(&name) {
         Some(_) => Ok(false),
@@ -97,7 +101,8 @@ fn tag_end(bytes: &[u8]) -> Option<(bool, &[u8])>
     Some((true, rest))
 }
 
-// The name and the value of the attribute at the front, which begins with white, and what stands behind it.
+// The name and the value of the attribute at the front, which begins with white, and what stands
+// behind it.
 #[tactic(auto, unfolding(crate::specs::Lexing::attribute_at, crate::specs::Lexing::value_of_name))]
 fn attribute(bytes: &[u8]) -> Option<(&[u8], &[u8], &[u8])>
     ensures { option_map found_written result ≡ attribute_at bytes.now }
