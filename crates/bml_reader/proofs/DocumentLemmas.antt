@@ -2,7 +2,8 @@
 use Rattle.std.proofs.Common.{◌≡◌, ℕ, Bool, true, false, cond, List, [], ◌∷◌, ◌++◌, length, Option, Some, None, refl, sym, ◌∙◌, ap, subst, append_assoc, append-nil}
 use Rattle.std.specs.Prelude.{◌||◌, nat_le}
 use Rattle.std.specs.List.{list_all}
-use Rattle.dom_tree.specs.Items.{Attribute, Item, is_same}
+use Rattle.bml_bytes.specs.Words.{is_same}
+use Rattle.dom_tree.specs.Items.{Attribute, Item}
 use Rattle.dom_tree.specs.Nested.{Nested, items_from, items_of}
 use Rattle.dom_tree.specs.Nested.Nested.{NoNodes, ElementNode}
 use Rattle.bml_reader.specs.Bytes.{is_white}

@@ -5,7 +5,8 @@ use Rattle.std.specs.List.{list_all}
 use Rattle.std.proofs.lemmas.Bool.Decides.{nat_tests}
 use Rattle.std.proofs.lemmas.List.{length-append}
 use Rattle.bml_bytes.specs.Codes.{codes}
-use Rattle.dom_tree.specs.Items.{Attribute, Item, is_same}
+use Rattle.bml_bytes.specs.Words.{is_same}
+use Rattle.dom_tree.specs.Items.{Attribute, Item}
 use Rattle.dom_tree.specs.Items.Content.{Element as ElementContent, Text as TextContent}
 use Rattle.dom_tree.specs.Walks.{most_nodes}
 use Rattle.bml_reader.specs.Bytes.{is_white}

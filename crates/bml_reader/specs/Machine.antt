@@ -5,7 +5,8 @@
 use Rattle.std.specs.Prelude.{◌≡◌, ◌≢◌, ℕ, nat_le, Bool, true, false, ◌||◌, if◌then◌else◌, List, [], ◌∷◌, ◌++◌, length, map, Option, Some, None, option_and_then}
 use Rattle.std.specs.List.{list_all}
 use Rattle.bml_bytes.specs.Codes.{codes}
-use Rattle.dom_tree.specs.Items.{Attribute, Item, is_same}
+use Rattle.bml_bytes.specs.Words.{is_same}
+use Rattle.dom_tree.specs.Items.{Attribute, Item}
 use Rattle.dom_tree.specs.Items.Content.{Element, Text}
 use Rattle.dom_tree.specs.Walks.{most_nodes}
 use Rattle.bml_reader.specs.Bytes.{is_white}

@@ -5,7 +5,8 @@
 -- `Machine` nor `Lexing`. (This project's own; the grammar is that of `Grammar`, the faults and
 -- their order those of `Faults`.)
 use Rattle.std.specs.Prelude.{◌≢◌, ℕ, zero, suc, nat_le, Bool, true, false, not, if◌then◌else◌, List, [], ◌∷◌, length, Option, Some, None, option_and_then, Result, Ok, Err, codes as ascii}
-use Rattle.dom_tree.specs.Items.{Item, is_same, tag_in}
+use Rattle.bml_bytes.specs.Words.{is_same}
+use Rattle.dom_tree.specs.Items.{Item, tag_in}
 use Rattle.dom_tree.specs.Walks.{most_nodes}
 use Rattle.bml_reader.specs.Faults.{HasFault, ReadsWell}
 use Rattle.bml_reader.specs.Markup.{Markup}

@@ -1,7 +1,7 @@
 //! Reading a document piece by piece.
 
 ghost use Rattle.std.specs.Prelude.{◌≡◌, not, codes as ascii};
-ghost use Rattle.dom_tree.specs.Items.{is_same};
+ghost use Rattle.bml_bytes.specs.Words.{is_same};
 ghost use Rattle.std.specs.List.{list_all};
 ghost use Rattle.bml_reader.specs.Bytes.{is_white as spec_is_white};
 ghost use Rattle.bml_reader.specs.Grammar.{is_left_out as spec_is_left_out, drops_white as spec_drops_white};
@@ -20,17 +20,6 @@ use std::alloc::Global;
 
 /// The most levels of elements.
 const MOST_LEVELS: usize = 64;
-
-// The tag of the root, and those of the other elements in which white text is no node.
-const BML: [u16; 3] = [0x62, 0x6D, 0x6C];
-
-const HEAD: [u16; 4] = [0x68, 0x65, 0x61, 0x64];
-
-const BODY: [u16; 4] = [0x62, 0x6F, 0x64, 0x79];
-
-const DIV: [u16; 3] = [0x64, 0x69, 0x76];
-
-const BEVENT: [u16; 6] = [0x62, 0x65, 0x76, 0x65, 0x6E, 0x74];
 
 /// What is known of a document once some of its pieces are read.
 #[derive(Drop)]
@@ -289,7 +278,7 @@ fn is_misc(markup: &Markup) -> bool
 fn is_other_root(tag: &Text) -> bool
     ensures { result ≡ not (is_same tag.now (ascii "bml")) }
 {
-    tag.codes() != BML.as_slice()
+    !tag.is_word("bml")
 }
 
 fn is_white(bytes: &[u8]) -> bool
@@ -309,10 +298,9 @@ fn is_left_out(tag: &Text, text: &[u8]) -> bool
 fn drops_white(tag: &Text) -> bool
     ensures { result ≡ spec_drops_white tag.now }
 {
-    let tag = tag.codes();
-    tag == BML.as_slice()
-        || tag == HEAD.as_slice()
-        || tag == BODY.as_slice()
-        || tag == DIV.as_slice()
-        || tag == BEVENT.as_slice()
+    tag.is_word("bml")
+        || tag.is_word("head")
+        || tag.is_word("body")
+        || tag.is_word("div")
+        || tag.is_word("bevent")
 }

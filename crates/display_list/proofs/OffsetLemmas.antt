@@ -7,7 +7,8 @@ use Rattle.std.specs.List.{filter, filter_map, cons_option, last_or, list_any, r
 use Rattle.std.proofs.lemmas.List.FromFn.{get_or-map-range_with_len}
 use Rattle.std.proofs.lemmas.Bool.Decides.{nat_tests}
 use Rattle.std.proofs.lemmas.Int.{ints}
-use Rattle.dom_tree.specs.Items.{Item, is_same, parent_of, value_of}
+use Rattle.bml_bytes.specs.Words.{is_same}
+use Rattle.dom_tree.specs.Items.{Item, parent_of, value_of}
 use Rattle.dom_tree.specs.Walks.{path_of, path_within}
 use Rattle.display_list.specs.Inline.{Declaration, declarations, declared_pixels, in_range, may_be_negative, measured, name_of, pixels, signed_pixels}
 use Rattle.display_list.specs.Places.{body_of, has_tag, is_drawn, is_drawn_tag, is_placed_tag, is_under_body, offset_of, own_measure, place_of, total}

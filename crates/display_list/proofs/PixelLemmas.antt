@@ -8,7 +8,7 @@ use Rattle.std.specs.List.{list_all}
 use Rattle.bml_bytes.specs.Numbers.{number_in}
 use Rattle.bml_bytes.specs.Numerals.{is_decimal_digit, decimal_number}
 use Rattle.bml_bytes.proofs.NumeralLaws.{decimal_number-more}
-use Rattle.dom_tree.specs.Items.{is_same}
+use Rattle.bml_bytes.specs.Words.{is_same}
 use Rattle.display_list.specs.Inline.{unit_of, without_unit, unsigned_pixels}
 use Rattle.display_list.specs.Views.{number_up_to, up_to, small_pixels}
 

@@ -4,7 +4,7 @@ use Rattle.std.specs.Prelude.{ℕ, ◌-◌, ◌==◌, nat_le, Bool, true, false,
 use Rattle.std.specs.List.{list_all, filter_map, last_or, prefix_len, suffix_len, before_first, after_first, slice_split}
 use Rattle.std.specs.Str.{str_to_ascii_lowercase}
 use Rattle.bml_bytes.specs.Numerals.{is_decimal_digit, decimal_number}
-use Rattle.dom_tree.specs.Items.{is_same}
+use Rattle.bml_bytes.specs.Words.{is_same}
 use Rattle.display_list.specs.declared.pixels.Measure.{Measure}
 use Rattle.display_list.specs.declared.pixels.Measure.TheVariants.{Left, Top, Width, Height}
 

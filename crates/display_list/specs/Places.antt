@@ -2,7 +2,8 @@
 use Rattle.std.specs.Prelude.{ℕ, ◌==◌, Bool, false, ◌&&◌, ◌||◌, ℤ, pos, ◌+ℤ◌, List, [], ◌∷◌, length, map, Option, codes}
 use Rattle.std.specs.Option.{option_map_or}
 use Rattle.std.specs.List.{list_any, filter, range_with_len}
-use Rattle.dom_tree.specs.Items.{Item, tag_in, tag_of, value_of, is_same}
+use Rattle.bml_bytes.specs.Words.{is_same}
+use Rattle.dom_tree.specs.Items.{Item, tag_in, tag_of, value_of}
 use Rattle.dom_tree.specs.Walks.{first, places, path_of}
 use Rattle.display_list.specs.Inline.{measured}
 use Rattle.display_list.specs.declared.places.Place.{Place}

@@ -7,7 +7,7 @@ ghost use Rattle.display_list.specs.Views.{declaration_seen, measures_of, measur
 
 use crate::comments::plain_text;
 use crate::pixels::Measure;
-use bml_bytes::NoMemory;
+use bml_bytes::{NoMemory, is_word};
 use std::alloc::Global;
 
 const COLON: u16 = 0x3A;
@@ -90,7 +90,7 @@ impl<'a> Declaration<'a> {
     fn pixels(&self, measure: Measure) -> Option<i16>
         ensures { result ≡ declared_pixels measure (declaration_seen self.now) }
     {
-        if self.name == measure.name() {
+        if is_word(self.name, measure.name()) {
             measure.pixels(self.value)
         } else {
             None

@@ -14,16 +14,6 @@ use bml_bytes::{NoMemory, Text};
 use dom_tree::{NodeId, Tree};
 use std::alloc::Global;
 
-const BODY: [u16; 4] = [0x62, 0x6F, 0x64, 0x79];
-
-const DIV: [u16; 3] = [0x64, 0x69, 0x76];
-
-const P: [u16; 1] = [0x70];
-
-const INPUT: [u16; 5] = [0x69, 0x6E, 0x70, 0x75, 0x74];
-
-const OBJECT: [u16; 6] = [0x6F, 0x62, 0x6A, 0x65, 0x63, 0x74];
-
 /// The box of an element, in pixels from the top left of the screen.
 #[derive(Clone, Copy, Debug, PartialEq, Eq)]
 pub struct Place {
@@ -189,7 +179,7 @@ fn is_body(tree: &Tree, node: NodeId) -> bool
     ensures { result ≡ has_tag is_body_tag tree.now node.0 }
 {
     match tree.tag(node) {
-        Some(tag) => tag.codes() == BODY.as_slice(),
+        Some(tag) => tag.is_word("body"),
         None => false,
     }
 }
@@ -200,7 +190,7 @@ fn is_box(tree: &Tree, node: NodeId) -> bool
     ensures { result ≡ has_tag spec_is_drawn_tag tree.now node.0 }
 {
     match tree.tag(node) {
-        Some(tag) => is_drawn_tag(tag.codes()),
+        Some(tag) => is_drawn_tag(tag),
         None => false,
     }
 }
@@ -211,19 +201,19 @@ fn is_placed(tree: &Tree, node: NodeId) -> bool
     ensures { result ≡ has_tag spec_is_placed_tag tree.now node.0 }
 {
     match tree.tag(node) {
-        Some(tag) => is_placed_tag(tag.codes()),
+        Some(tag) => is_placed_tag(tag),
         None => false,
     }
 }
 
-fn is_drawn_tag(tag: &[u16]) -> bool
+fn is_drawn_tag(tag: &Text) -> bool
     ensures { result ≡ spec_is_drawn_tag tag.now }
 {
-    tag == BODY.as_slice() || tag == DIV.as_slice() || tag == P.as_slice()
+    tag.is_word("body") || tag.is_word("div") || tag.is_word("p")
 }
 
-fn is_placed_tag(tag: &[u16]) -> bool
+fn is_placed_tag(tag: &Text) -> bool
     ensures { result ≡ spec_is_placed_tag tag.now }
 {
-    is_drawn_tag(tag) || tag == INPUT.as_slice() || tag == OBJECT.as_slice()
+    is_drawn_tag(tag) || tag.is_word("input") || tag.is_word("object")
 }

@@ -1,7 +1,8 @@
 -- The resources that a document needs (BML, ARIB STD-B24, volume 2; which attributes count is this project's own profile).
 use Rattle.std.specs.Prelude.{ℕ, if◌then◌else◌, List, Option, None, option_and_then, codes}
 use Rattle.std.specs.List.{filter_map}
-use Rattle.dom_tree.specs.Items.{Attribute, Content, Item, is_same, value_in}
+use Rattle.bml_bytes.specs.Words.{is_same}
+use Rattle.dom_tree.specs.Items.{Attribute, Content, Item, value_in}
 use Rattle.dom_tree.specs.Items.Content.{Element, Text}
 use Rattle.multipart_entities.specs.Paths.{resolved}
 use Rattle.multipart_entities.specs.declared.paths.Path.{Path}

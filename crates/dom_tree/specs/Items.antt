@@ -3,7 +3,7 @@
 -- list, from 0. Texts, tags and names are lists of codes.
 use Rattle.std.specs.Prelude.{ℕ, zero, suc, List, [], ◌∷◌, ◌++◌, Option, Some, None, Bool, false, if◌then◌else◌, slice_get, find, nat_eq, option_map, option_and_then, IsSome, codes}
 use Rattle.std.specs.Option.{option_map_or}
-use Rattle.std.specs.Cmp.Lexicographic.{pointwise}
+use Rattle.bml_bytes.specs.Words.{is_same}
 
 -- an attribute of an element
 pub record Attribute : Type 0 where
@@ -19,10 +19,6 @@ pub data Content : Type 0 where
 pub record Item : Type 0 where
   pub parent : Option ℕ
   pub content : Content
-
--- the two texts have the same codes
-abbrev pub is_same : List ℕ → List ℕ → Bool
-is_same a b = pointwise nat_eq a b
 
 -- the value of the attribute of this name
 abbrev pub value_in : List Attribute → List ℕ → Option (List ℕ)

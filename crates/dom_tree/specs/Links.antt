@@ -4,7 +4,8 @@ use Rattle.std.specs.Prelude.{◌≡◌, ℕ, ◌<◌, List, Option, Some, None,
 use Rattle.indexmap.specs.IndexMap.{get}
 use Rattle.std.specs.HashMap.{HashMap}
 use Rattle.dom_tree.specs.NodeNumbers.{number_of}
-use Rattle.dom_tree.specs.Items.{Attribute, Item, Content, IsElement, is_same, changed_at}
+use Rattle.bml_bytes.specs.Words.{is_same}
+use Rattle.dom_tree.specs.Items.{Attribute, Item, Content, IsElement, changed_at}
 use Rattle.dom_tree.specs.Items.Content.{Element, Text}
 use Rattle.dom_tree.specs.Walks.{first, last, after, before, children_of, siblings_of, node_of_id, IsTree}
 use Rattle.dom_tree.specs.declared.node_ids.NodeId.{NodeId}

@@ -4,7 +4,8 @@
 ghost use Rattle.std.specs.Prelude.{◌≡◌, ◌≢◌, ◌<◌, ◌≤◌, ◌↔◌, ◌∷◌, ◌++◌, ℕ, List, [], Option, Some, None, Contains, IsFalse, length, slice_get};
 ghost use Rattle.std.specs.List.Sorted.{IsStrictlyIncreasing};
 ghost use Rattle.std.specs.Option.{option_map_or};
-ghost use Rattle.dom_tree.specs.Items.{Attribute, IsElement, IsText, Item, attributes_of, changed_at, is_same, parent_of, text_of, value_of, with_attribute, with_text};
+ghost use Rattle.bml_bytes.specs.Words.{is_same};
+ghost use Rattle.dom_tree.specs.Items.{Attribute, IsElement, IsText, Item, attributes_of, changed_at, parent_of, text_of, value_of, with_attribute, with_text};
 ghost use Rattle.dom_tree.specs.Nested.{Nested, node_count, items_from, items_of};
 ghost use Rattle.dom_tree.specs.Nested.Nested.{NoNodes, ElementNode};
 ghost use Rattle.dom_tree.specs.Walks.{IsTree, KeepsPlaces, after, before, children_of, first, last, most_nodes, path_of, siblings_of};

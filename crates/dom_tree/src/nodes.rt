@@ -21,7 +21,8 @@ pub struct Node {
 impl Node {
     ghost use Rattle.std.specs.Prelude.{IsSome, OnOk, OnErr, IfOk, false};
     ghost use Rattle.std.specs.Option.{option_map_or};
-    ghost use Rattle.dom_tree.specs.Items.{is_same, tag_in, value_in, attributes_in, with_attribute};
+    ghost use Rattle.bml_bytes.specs.Words.{is_same};
+    ghost use Rattle.dom_tree.specs.Items.{tag_in, value_in, attributes_in, with_attribute};
     ghost use Rattle.dom_tree.specs.Links.{content_of, item_of, links_of};
 
     /// A node without children and with nothing behind it.

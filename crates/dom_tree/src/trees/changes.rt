@@ -1,7 +1,8 @@
 //! Changes of one text or one attribute.
 
 ghost use Rattle.std.specs.Prelude.{◌≡◌, ◌<◌, ◌↔◌, ◌≤◌, ◌∷◌, ◌++◌, ℕ, [], Some, None, length, slice_get, codes, IsTrue, IsNone, IfOk, IfSome, OnOk, OnErr, IsOk, option_map};
-ghost use Rattle.dom_tree.specs.Items.{IsElement, IsText, value_of, is_same, changed_at, with_text, with_attribute, with_last_attribute};
+ghost use Rattle.bml_bytes.specs.Words.{is_same};
+ghost use Rattle.dom_tree.specs.Items.{IsElement, IsText, value_of, changed_at, with_text, with_attribute, with_last_attribute};
 ghost use Rattle.std.specs.Prelude.{List, IsFalse, ◌+◌, min};
 ghost use Rattle.std.specs.Option.{option_map_or};
 ghost use Rattle.indexmap.specs.IndexMap.{get, spare};
@@ -14,9 +15,6 @@ use crate::node_ids::NodeId;
 use crate::nodes::{Node, NodeKind};
 use bml_bytes::{NoMemory, Text};
 use indexmap::IndexMap;
-
-// The name of the attribute by which an element is found.
-const ID: [u16; 2] = [0x69, 0x64];
 
 impl Tree {
     /// Gives a text node another text.
@@ -186,5 +184,5 @@ fn first_of_id(nodes: &[Node], name: &Text, id: &Text) -> Option<NodeId>
 fn is_id(name: &Text) -> bool
     ensures { result ≡ is_same name.now (codes "id") }
 {
-    name.codes() == ID.as_slice()
+    name.is_word("id")
 }

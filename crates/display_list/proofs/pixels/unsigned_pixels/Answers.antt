@@ -1,6 +1,6 @@
 use Rattle.std.proofs.Common.{◌≡◌, ◌<◌, length, sym, ap, ◌∙◌, arith}
 use Rattle.std.proofs.lemmas.Bool.Decides.{nat_tests}
-use Rattle.dom_tree.specs.Items.{is_same}
+use Rattle.bml_bytes.specs.Words.{is_same}
 use Rattle.display_list.specs.Inline.{without_unit}
 use Rattle.display_list.specs.Views.{number_up_to}
 use Rattle.display_list.proofs.PixelLemmas.{small-zero, small-no_unit, small-no_digits, small-digits}
