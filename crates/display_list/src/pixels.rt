@@ -1,10 +1,13 @@
 //! The pixels that a value stands for.
 
-ghost use Rattle.std.specs.Prelude.{◌≡◌, ◌≤◌, ◌-◌, length, is_some, IfSome};
+ghost use Rattle.std.specs.Prelude.{◌≡◌, ◌≤◌, ◌-◌, length, is_some, codes, IfSome, IsFalse, IsTrue, MatchOption};
 ghost use Rattle.std.specs.List.{list_all};
+ghost use Rattle.bml_bytes.specs.Words.{is_same};
 ghost use Rattle.bml_bytes.specs.Numerals.{is_decimal_digit};
-ghost use Rattle.display_list.specs.Inline.{may_be_negative as spec_may_be_negative, name_of, pixels};
+ghost use Rattle.display_list.specs.Inline.{may_be_negative as spec_may_be_negative, name_of, pixels, unit_of, without_unit};
 ghost use Rattle.display_list.specs.Views.{number_up_to, small_pixels, small_signed_pixels};
+
+use bml_bytes::{is_word, law_of_decimals};
 
 /// What a style gives an element, in pixels.
 #[derive(Clone, Copy, Debug, PartialEq, Eq)]
@@ -102,6 +105,7 @@ fn number_of(digits: &[u16]) -> Option<u32>
     ensures number { result ≡ number_up_to 32768 digits.now }
     ensures small { IfSome result (λ number. number ≤ 32768) }
 {
+    law_of_decimals();
     let mut number: u32 = 0;
     'digits: for digit in digits {
         number = (number * 10 + decimal_digit(*digit)?).min(TOO_MANY);

@@ -2,7 +2,8 @@
 use Rattle.std.specs.Prelude.{ℕ, if◌then◌else◌, List, [], ◌∷◌, Option, Some, None, option_map, option_and_then, codes as ascii}
 use Rattle.multipart_entities.specs.declared.paths.Path.{Path}
 use Rattle.multipart_entities.specs.declared.paths.FoundPath.{FoundPath}
-use Rattle.multipart_entities.specs.Paths.{hex_field, name_field, module_path, is_text}
+use Rattle.bml_bytes.specs.Words.{is_same}
+use Rattle.multipart_entities.specs.Paths.{hex_field, name_field, module_path}
 
 -- what is found of a path in a text
 abbrev pub path_of : FoundPath → Path
@@ -10,13 +11,13 @@ path_of found = record { component = found.component; «module» = found.module;
 
 -- the fields behind `/host/`
 unfoldable pub behind_host : List (List ℕ) → Option (List (List ℕ))
-behind_host (empty ∷ host ∷ field ∷ fields) = if is_text [] empty then Some (field ∷ fields) else None
+behind_host (empty ∷ host ∷ field ∷ fields) = if is_same empty [] then Some (field ∷ fields) else None
 behind_host fields = None
 
 -- the fields behind the slash that a path with a component begins with: `/`, or `arib-dc://host/`
 unfoldable pub behind_root : List (List ℕ) → Option (List (List ℕ))
 behind_root (front ∷ field ∷ fields) =
-    if is_text [] front then Some (field ∷ fields) else if is_text (ascii "arib-dc:") front then behind_host (field ∷ fields) else None
+    if is_same front [] then Some (field ∷ fields) else if is_same front (ascii "arib-dc:") then behind_host (field ∷ fields) else None
 behind_root fields = None
 
 -- a name, where there is one field
@@ -43,5 +44,5 @@ component_path_in [] = None
 -- `name` and `../mmmm/name`
 unfoldable pub relative_in : Path → List (List ℕ) → Option Path
 relative_in base (name ∷ []) = option_map (λ name. record { component = base.component; «module» = base.module; name = name }) (name_field name)
-relative_in base (front ∷ digits ∷ fields) = if is_text (ascii "..") front then resource_in base.component digits fields else None
+relative_in base (front ∷ digits ∷ fields) = if is_same front (ascii "..") then resource_in base.component digits fields else None
 relative_in base [] = None

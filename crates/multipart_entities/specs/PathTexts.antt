@@ -2,9 +2,11 @@
 use Rattle.std.specs.Prelude.{◌≡◌, ◌≢◌, ℕ, ◌≤◌, ◌<◌, false, List, [], ◌++◌, length, map, Option, Some, None, All, codes as ascii}
 use Rattle.std.specs.List.{AllPass}
 use Rattle.bml_bytes.specs.Codes.{bytes_of, codes}
+use Rattle.bml_bytes.specs.Escapes.{is_escaped}
 use Rattle.bml_bytes.specs.Numbers.{number_in}
+use Rattle.bml_bytes.specs.declared.line_fields.Escapes.TheVariants.{ControlsAndSpace}
 use Rattle.multipart_entities.specs.declared.paths.Path.{Path}
-use Rattle.multipart_entities.specs.Paths.{is_hex_digit, hex_value, is_escaped}
+use Rattle.multipart_entities.specs.Paths.{is_hex_digit, hex_value}
 
 -- the parts of a text: a field has no slash, a name has 1 to 64 codes besides, and digits are hexadecimal and so many
 abbrev pub IsField : List ℕ → Type 0
@@ -64,5 +66,5 @@ pub record IsPrintable (path : Path) : Type 0 where
   pub module_fits : path.module < 65536
   pub most : length path.name ≤ 64
   pub field : IsField path.name
-  pub plain : All (λ byte. is_escaped byte ≡ false) (bytes_of path.name)
+  pub plain : All (λ byte. is_escaped ControlsAndSpace byte ≡ false) (bytes_of path.name)
   pub pairs : codes (bytes_of path.name) ≡ path.name

@@ -7,6 +7,8 @@ ghost use Rattle.multipart_entities.specs.Paths.{component_of, printed, resolved
 ghost use Rattle.multipart_entities.specs.PathTexts.{AreDigits, IsPathText, IsPrintable, IsRoot, PathText, named_by, number_of, root_text, text_of};
 ghost use Rattle.multipart_entities.specs.declared.paths.Path.{Path};
 
+use bml_bytes::law_of_digits;
+
 /// The texts of the six forms resolve, each to the path that it spells, and every text that resolves is one of these.
 pub fn law_of_paths()
     ensures resolves { (base : Path) (text : PathText) → IsPathText text → resolved (text_of text) base ≡ Some (named_by base text) }
@@ -23,4 +25,6 @@ pub fn law_of_component_references()
 /// codes, or codes that its bytes aren't read as.
 pub fn law_of_printed_paths()
     ensures { (path base : Path) → IsPrintable path → resolved (codes (printed path)) base ≡ Some path }
-{}
+{
+    law_of_digits();
+}

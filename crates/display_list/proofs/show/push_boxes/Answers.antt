@@ -29,13 +29,13 @@ nodes-preserved c =
     elim c.if-standing.branch [
       | then-standing+in_ok-push_element w ↦
           ap (λ (v : Vec ℕ Global). v.items) w.out-is
-          ∙ lines_before-drawn items c.nodes.number c.args.out.now.items c.nodes.out.items w.push_element.new.out.items (sym drawn ∙ w.if-standing.true) c.nodes.invariant (w.in_ok-push_element.ensures {u = tt})
+          ∙ lines_before-drawn items c.nodes.number c.args.out.now.items c.nodes.out.items w.push_element.new.out.items (sym drawn ∙ w.if-standing.true) c.nodes.invariant (w.in_ok-push_element.ensures {u = tt}).ok
       | else-standing w ↦
           ap (λ (v : Vec ℕ Global). v.items) w.out-is
           ∙ lines_before-other items c.nodes.number c.args.out.now.items c.nodes.out.items (sym drawn ∙ w.if-standing.false) c.nodes.invariant
     ]
 
-pub returns : goal.returns
-returns c =
+pub returns-clause-ok : goal.returns-clause-ok
+returns-clause-ok c =
     let all : c.nodes.number ≡ length c.args.tree.now = omega arith in
     c.nodes.invariant ∙ ap (λ (n : ℕ). c.args.out.now.items ++ lines_before c.args.tree.now n) all ∙ ap (λ (l : List ℕ). c.args.out.now.items ++ l) (lines_before-all c.args.tree.now)
