@@ -1,4 +1,5 @@
--- The resources that a document needs (BML, ARIB STD-B24, volume 2; which attributes count is this project's own profile).
+-- The resources that a document needs (BML, ARIB STD-B24, volume 2; which attributes count is this
+-- project's own profile).
 use Rattle.std.specs.Prelude.{ℕ, if◌then◌else◌, List, Option, None, option_and_then, codes}
 use Rattle.std.specs.List.{filter_map}
 use Rattle.bml_bytes.specs.Words.{is_same}
@@ -7,8 +8,8 @@ use Rattle.dom_tree.specs.Items.Content.{Element, Text}
 use Rattle.multipart_entities.specs.Paths.{resolved}
 use Rattle.multipart_entities.specs.declared.paths.Path.{Path}
 
--- the text by which an element names a resource that it needs: a `link` by `href`, a `script` by `src`; tags and names compare
--- by case
+-- the text by which an element names a resource that it needs: a `link` by `href`, a `script` by
+-- `src`; tags and names compare by case
 abbrev pub reference_by : List ℕ → List Attribute → Option (List ℕ)
 reference_by tag attributes =
     if is_same tag (codes "link") then value_in attributes (codes "href")

@@ -48,7 +48,8 @@ fn need_of(
 ) -> Result<Option<Path>, NoMemory>
     requires node { node.0 < length tree.now }
     requires names { AreNames names.now }
-    ensures { IfOk result (λ need. need ≡ option_and_then (need_in base.now) (slice_get tree.now node.0)) }
+    ensures { IfOk result (λ need. need
+        ≡ option_and_then (need_in base.now) (slice_get tree.now node.0)) }
 {
     match reference_of(tree, node, names) {
         None => Ok(None),
@@ -60,7 +61,8 @@ fn need_of(
 fn reference_of<'a>(tree: &'a Tree, node: NodeId, names: &AttributeNames) -> Option<&'a Text>
     requires node { node.0 < length tree.now }
     requires names { AreNames names.now }
-    ensures { option_copied result ≡ option_and_then (λ item. reference_in item.content) (slice_get tree.now node.0) }
+    ensures { option_copied result
+        ≡ option_and_then (λ item. reference_in item.content) (slice_get tree.now node.0) }
 {
     let tag = tree.tag(node)?;
     if tag.is_word("link") {
