@@ -8,7 +8,7 @@ use Rattle.bml_bytes.specs.declared.line_fields.Escapes.TheVariants.{Controls}
 use Rattle.bml_bytes.specs.Numerals.{decimal_digits, signed_decimal_digits}
 use Rattle.dom_tree.specs.Items.{Item, text_of}
 use Rattle.dom_tree.specs.Walks.{children_of}
-use Rattle.display_list.specs.Places.{drawn, place_of}
+use Rattle.display_list.specs.Places.{drawn_nodes, place_of}
 use Rattle.display_list.specs.declared.places.Place.{Place}
 
 -- Lines
@@ -38,5 +38,5 @@ unfoldable pub element_lines : List Item → ℕ → List ℕ
 element_lines items node = box_line (place_of items node) ++ flat_map (child_line items (place_of items node)) (children_of items node)
 
 -- The display list of a document at a clock's time: the elements that are drawn, in document order.
-unfoldable pub shown : List Item → ℕ → List ℕ
-shown items clock = clock_line clock ++ flat_map (element_lines items) (drawn items)
+unfoldable pub display_lines : List Item → ℕ → List ℕ
+display_lines items clock = clock_line clock ++ flat_map (element_lines items) (drawn_nodes items)

@@ -3,10 +3,10 @@
 ghost use Rattle.std.specs.Prelude.{◌≡◌, ◌<◌, ◌++◌, length, OnOk};
 ghost use Rattle.std.specs.Io.{StartsWith};
 ghost use Rattle.std.specs.List.{flat_map};
-ghost use Rattle.display_list.specs.Places.{drawn, place_of};
-ghost use Rattle.display_list.specs.Show.{box_line, child_line, clock_line, element_lines, place_fields, shown, text_line};
+ghost use Rattle.display_list.specs.Places.{drawn_nodes, place_of};
+ghost use Rattle.display_list.specs.Show.{box_line, child_line, clock_line, element_lines, place_fields, display_lines, text_line};
 
-use crate::places::{Place, standings_of};
+use crate::places::{Place, node_places_of};
 use bml_bytes::{
     Escapes, NoMemory, Text, law_of_fronts, push_count, push_decimal, push_line_end, push_word,
 };
@@ -16,7 +16,7 @@ use dom_tree::{NodeId, Tree, law_of_children, law_of_parents};
 /// clock, one for each element that is drawn, and one for each text in such an element. After
 /// `NoMemory` a front of these lines may stand behind what `out` held.
 pub fn show_places(tree: &Tree, clock: u64, out: &mut Vec<u8>) -> Result<(), NoMemory>
-    ensures ok { OnOk result (out.new.items ≡ out.old.items ++ shown tree.now clock) }
+    ensures ok { OnOk result (out.new.items ≡ out.old.items ++ display_lines tree.now clock) }
     ensures grows { StartsWith out.new.items out.old.items }
 {
     push_clock_line(clock, out)?;
@@ -38,15 +38,15 @@ pub fn push_clock_line(clock: u64, out: &mut Vec<u8>) -> Result<(), NoMemory>
 // Appends the lines of each element that is drawn.
 fn push_boxes(tree: &Tree, out: &mut Vec<u8>) -> Result<(), NoMemory>
     ensures ok { OnOk result
-        (out.new.items ≡ out.old.items ++ flat_map (element_lines tree.now) (drawn tree.now)) }
+        (out.new.items ≡ out.old.items ++ flat_map (element_lines tree.now) (drawn_nodes tree.now)) }
     ensures grows { StartsWith out.new.items out.old.items }
 {
     law_of_fronts();
-    let standings = standings_of(*out.allocator(), tree)?;
+    let node_places = node_places_of(*out.allocator(), tree)?;
     'nodes: for number in 0..tree.node_count() {
-        let standing = &standings[number as usize];
-        if standing.is_drawn {
-            push_element(tree, NodeId(number), standing.place, out)?;
+        let node_place = &node_places[number as usize];
+        if node_place.is_drawn {
+            push_element(tree, NodeId(number), node_place.place, out)?;
         }
     }
     Ok(())

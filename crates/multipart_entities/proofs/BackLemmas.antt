@@ -14,7 +14,7 @@ use Rattle.multipart_entities.specs.PathForms.{behind_host, behind_root, compone
 use Rattle.multipart_entities.specs.PathTexts.{AreDigits, IsField, IsName, IsPathText, IsRoot, PathText, named_by, number_of, root_text, text_of}
 use Rattle.multipart_entities.specs.PathTexts.PathText.{ByName, InComponent, OfModule, OfResource}
 use Rattle.multipart_entities.proofs.FormLemmas.{behind_host-more, behind_host-one, behind_host-two, behind_root-more, behind_root-one, component_path_in-more, component_path_in-one, module_in-more, module_in-one, name_in-more, name_in-one, relative_in-more, relative_in-one, relative_in-two}
-use Rattle.multipart_entities.proofs.RootLemmas.{component_of-more, component_of-none, component_of-one, resolved-none, resolved-root}
+use Rattle.multipart_entities.proofs.RootLemmas.{component_of-more, component_of-none, component_of-one, path_of_text-none, path_of_text-root}
 use Rattle.multipart_entities.proofs.TextLemmas.{fields_of-at, fields_of-last}
 
 -- ---- what options are made of
@@ -246,10 +246,10 @@ spelled_relative base path codes (At front rest h same) e = spelled_fields base 
 
 -- the fields behind a root, told by what is found
 path_of_root : (base : Path) (codes : List ℕ) (fields : List (List ℕ)) → Rooted codes fields → behind_root (fields_of codes) ≡ Some fields → path_in base (fields_of codes) ≡ component_path_in fields
-path_of_root base codes fields h e = resolved-root base codes h.rest (sym (e ∙ ap Some h.behind)) ∙ ap component_path_in (sym h.behind)
+path_of_root base codes fields h e = path_of_text-root base codes h.rest (sym (e ∙ ap Some h.behind)) ∙ ap component_path_in (sym h.behind)
 
 spelled_by : (root : Option (List (List ℕ))) (base path : Path) (codes : List ℕ) → behind_root (fields_of codes) ≡ root → path_in base (fields_of codes) ≡ Some path → Spelled base path codes
-spelled_by None base path codes is e = spelled_relative base path codes (cut codes) (sym (resolved-none base codes (sym is)) ∙ e)
+spelled_by None base path codes is e = spelled_relative base path codes (cut codes) (sym (path_of_text-none base codes (sym is)) ∙ e)
 spelled_by (Some fields) base path codes is e =
     let found = rooted codes fields (cut codes) is in
     spelled_root base path codes fields found (sym (path_of_root base codes fields found is) ∙ e)

@@ -10,7 +10,7 @@ use Rattle.bml_bytes.specs.Numerals.{digit_character, hex_digits}
 use Rattle.bml_bytes.specs.Escapes.{escaped, escaped_byte, is_escaped}
 use Rattle.bml_bytes.specs.declared.line_fields.Escapes.TheVariants.{ControlsAndSpace}
 use Rattle.multipart_entities.specs.declared.paths.Path.{Path}
-use Rattle.multipart_entities.specs.Paths.{fields_of, is_hex_digit, hex_value, path_in, printed, printed_name}
+use Rattle.multipart_entities.specs.Paths.{fields_of, is_hex_digit, hex_value, path_in, path_text, name_text}
 use Rattle.multipart_entities.specs.PathTexts.{AreDigits, IsField, IsPrintable, number_of, text_of}
 use Rattle.multipart_entities.specs.PathTexts.PathText.{OfModule, OfResource}
 use Rattle.multipart_entities.proofs.TextLemmas.{text_resolves}
@@ -110,36 +110,36 @@ codes-none : codes [] ≡ []
 unfolding codes
 codes-none = refl
 
-module_codes : HexLaw → (component number : ℕ) → codes (printed (path_with component number [])) ≡ text_of (OfModule None (hex_digits 2 component) (hex_digits 4 number))
-unfolding printed
+module_codes : HexLaw → (component number : ℕ) → codes (path_text (path_with component number [])) ≡ text_of (OfModule None (hex_digits 2 component) (hex_digits 4 number))
+unfolding path_text
 module_codes law component number =
     front_codes law component number []
     ∙ ap (λ (digits : List ℕ). 47 ∷ (hex_digits 2 component ++ 47 ∷ digits)) (ap (λ (rest : List ℕ). hex_digits 4 number ++ rest) codes-none ∙ append-nil (hex_digits 4 number))
 
-resource_codes : HexLaw → (component number code : ℕ) (name : List ℕ) → All (λ byte. is_escaped ControlsAndSpace byte ≡ false) (bytes_of (code ∷ name)) → codes (bytes_of (code ∷ name)) ≡ code ∷ name → codes (printed (path_with component number (code ∷ name))) ≡ text_of (OfResource None (hex_digits 2 component) (hex_digits 4 number) (code ∷ name))
-unfolding printed
+resource_codes : HexLaw → (component number code : ℕ) (name : List ℕ) → All (λ byte. is_escaped ControlsAndSpace byte ≡ false) (bytes_of (code ∷ name)) → codes (bytes_of (code ∷ name)) ≡ code ∷ name → codes (path_text (path_with component number (code ∷ name))) ≡ text_of (OfResource None (hex_digits 2 component) (hex_digits 4 number) (code ∷ name))
+unfolding path_text
 resource_codes law component number code name plain pairs =
-    let shown = printed_name (code ∷ name) in
+    let shown = name_text (code ∷ name) in
     let bytes = plain_bytes (bytes_of (code ∷ name)) plain in
     let behind : codes shown ≡ 47 ∷ (code ∷ name) = codes-cons 47 (flat_map (escaped_byte ControlsAndSpace) (bytes_of (code ∷ name))) (omega arith) ∙ ap (λ (rest : List ℕ). 47 ∷ rest) (ap codes bytes ∙ pairs) in
     front_codes law component number shown
     ∙ ap (λ (rest : List ℕ). 47 ∷ (hex_digits 2 component ++ 47 ∷ (hex_digits 4 number ++ rest))) behind
 
-resolves_module : HexLaw → (base : Path) (component number : ℕ) → component < 256 → number < 65536 → path_in base (fields_of (codes (printed (path_with component number [])))) ≡ Some (path_with component number [])
+resolves_module : HexLaw → (base : Path) (component number : ℕ) → component < 256 → number < 65536 → path_in base (fields_of (codes (path_text (path_with component number [])))) ≡ Some (path_with component number [])
 resolves_module law base component number first second =
     ap (λ (text : List ℕ). path_in base (fields_of text)) (module_codes law component number)
     ∙ (text_resolves base (OfModule None (hex_digits 2 component) (hex_digits 4 number)) (tt, printed_digits law 2 component, printed_digits law 4 number)
     ∙ ap Some (same_path law component number [] first second))
 
-resolves_resource : HexLaw → (base : Path) (component number code : ℕ) (name : List ℕ) → component < 256 → number < 65536 → length (code ∷ name) ≤ 64 → IsField (code ∷ name) → All (λ byte. is_escaped ControlsAndSpace byte ≡ false) (bytes_of (code ∷ name)) → codes (bytes_of (code ∷ name)) ≡ code ∷ name → path_in base (fields_of (codes (printed (path_with component number (code ∷ name))))) ≡ Some (path_with component number (code ∷ name))
+resolves_resource : HexLaw → (base : Path) (component number code : ℕ) (name : List ℕ) → component < 256 → number < 65536 → length (code ∷ name) ≤ 64 → IsField (code ∷ name) → All (λ byte. is_escaped ControlsAndSpace byte ≡ false) (bytes_of (code ∷ name)) → codes (bytes_of (code ∷ name)) ≡ code ∷ name → path_in base (fields_of (codes (path_text (path_with component number (code ∷ name))))) ≡ Some (path_with component number (code ∷ name))
 resolves_resource law base component number code name first second most field plain pairs =
     ap (λ (text : List ℕ). path_in base (fields_of text)) (resource_codes law component number code name plain pairs)
     ∙ (text_resolves base (OfResource None (hex_digits 2 component) (hex_digits 4 number) (code ∷ name)) (tt, printed_digits law 2 component, printed_digits law 4 number, record { some = omega arith; most = most; field = field })
     ∙ ap Some (same_path law component number (code ∷ name) first second))
 
-resolves_named : HexLaw → (base : Path) (component number : ℕ) (name : List ℕ) → component < 256 → number < 65536 → length name ≤ 64 → IsField name → All (λ byte. is_escaped ControlsAndSpace byte ≡ false) (bytes_of name) → codes (bytes_of name) ≡ name → path_in base (fields_of (codes (printed (path_with component number name)))) ≡ Some (path_with component number name)
+resolves_named : HexLaw → (base : Path) (component number : ℕ) (name : List ℕ) → component < 256 → number < 65536 → length name ≤ 64 → IsField name → All (λ byte. is_escaped ControlsAndSpace byte ≡ false) (bytes_of name) → codes (bytes_of name) ≡ name → path_in base (fields_of (codes (path_text (path_with component number name)))) ≡ Some (path_with component number name)
 resolves_named law base component number [] first second most field plain pairs = resolves_module law base component number first second
 resolves_named law base component number (code ∷ name) first second most field plain pairs = resolves_resource law base component number code name first second most field plain pairs
 
-pub printed_resolves : HexLaw → (path base : Path) → IsPrintable path → path_in base (fields_of (codes (printed path))) ≡ Some path
+pub printed_resolves : HexLaw → (path base : Path) → IsPrintable path → path_in base (fields_of (codes (path_text path))) ≡ Some path
 printed_resolves law path base h = resolves_named law base path.component path.module path.name h.component_fits h.module_fits h.most h.field h.plain h.pairs

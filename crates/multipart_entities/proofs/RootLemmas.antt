@@ -135,8 +135,8 @@ path_in-by base [] = refl
 path_in-by base ([] ∷ fields) = path_in-rooted base fields
 path_in-by base ((code ∷ front) ∷ fields) = path_in-named base code front fields
 
-pub resolved-none : (base : Path) (codes : List ℕ) → None ≡ behind_root (fields_of codes) → path_in base (fields_of codes) ≡ relative_in base (fields_of codes)
-resolved-none base codes e = path_in-by base (fields_of codes) ∙ ap (path_by base (fields_of codes)) (sym e)
+pub path_of_text-none : (base : Path) (codes : List ℕ) → None ≡ behind_root (fields_of codes) → path_in base (fields_of codes) ≡ relative_in base (fields_of codes)
+path_of_text-none base codes e = path_in-by base (fields_of codes) ∙ ap (path_by base (fields_of codes)) (sym e)
 
-pub resolved-root : (base : Path) (codes rest : List ℕ) → Some (fields_of rest) ≡ behind_root (fields_of codes) → path_in base (fields_of codes) ≡ component_path_in (fields_of rest)
-resolved-root base codes rest e = path_in-by base (fields_of codes) ∙ ap (path_by base (fields_of codes)) (sym e)
+pub path_of_text-root : (base : Path) (codes rest : List ℕ) → Some (fields_of rest) ≡ behind_root (fields_of codes) → path_in base (fields_of codes) ≡ component_path_in (fields_of rest)
+path_of_text-root base codes rest e = path_in-by base (fields_of codes) ∙ ap (path_by base (fields_of codes)) (sym e)

@@ -2,7 +2,7 @@
 
 ghost use Rattle.std.specs.Prelude.{◌≡◌, ◌<◌, ◌≤◌, ◌^◌, ◌++◌, [], ◌∷◌, IfOk, IfSome, MatchOption, OnOk, is_some, option_copied, option_map, position};
 ghost use Rattle.std.specs.Io.{StartsWith};
-ghost use Rattle.multipart_entities.specs.Paths.{component_of, fields_of, hex_field, hex_value, is_hex_digit, is_slash, name_field, printed, printed_name, resolved};
+ghost use Rattle.multipart_entities.specs.Paths.{component_of, fields_of, hex_field, hex_value, is_hex_digit, is_slash, name_field, path_text, name_text, path_of_text};
 ghost use Rattle.multipart_entities.specs.PathForms.{behind_host as spec_behind_host, behind_root as spec_behind_root, component_path_in, module_in, name_in, path_of, relative_in, resource_in};
 
 use bml_bytes::{Escapes, NoMemory, Text, is_word, law_of_digits, push_hex, push_word};
@@ -13,8 +13,8 @@ const SLASH: u16 = 0x2F;
 /// How many codes a name has at most.
 const MOST_NAME_CODES: usize = 64;
 
-/// The path of a resource: the component_tag of its component, the number of its module, and the name of a part of the
-/// module, which is empty where the module is the resource.
+/// The path of a resource: the component_tag of its component, the number of its module, and the
+/// name of a part of the module, which is empty where the module is the resource.
 #[derive(Drop)]
 pub struct Path {
     pub component: u8,
@@ -31,11 +31,12 @@ struct FoundPath<'a> {
 }
 
 impl Path {
-    /// The path that a text names, seen from a base: `/cc/mmmm` and `/cc/mmmm/name`, these behind `arib-dc://` and codes
-    /// without `/`, `../mmmm/name` in the base's component, and `name` in the base's module. None exactly where the text is
-    /// of no such form. Memory is taken for the name alone.
+    /// The path that a text names, seen from a base: `/cc/mmmm` and `/cc/mmmm/name`, these behind
+    /// `arib-dc://` and codes without `/`, `../mmmm/name` in the base's component, and `name` in
+    /// the base's module. None exactly where the text is of no such form. Memory is taken for the
+    /// name alone.
     pub fn resolve(alloc: Global, text: &Text, base: &Path) -> Result<Option<Path>, NoMemory>
-        ensures { IfOk result (λ found. found ≡ resolved text.now base.now) }
+        ensures { IfOk result (λ found. found ≡ path_of_text text.now base.now) }
     {
         match found_path(text.codes(), base) {
             None => Ok(None),
@@ -50,10 +51,11 @@ impl Path {
         }
     }
 
-    /// Appends the path as it is printed: absolute, with digits in lower case, and the name with `%HH` for
-    /// the bytes 0x00 to 0x20, 0x7F and `%`. After `NoMemory` a front of it may stand behind what `out` held.
+    /// Appends the path as it is printed: absolute, with digits in lower case, and the name with
+    /// `%HH` for the bytes 0x00 to 0x20, 0x7F and `%`. After `NoMemory` a front of it may stand
+    /// behind what `out` held.
     pub fn push(&self, out: &mut Vec<u8>) -> Result<(), NoMemory>
-        ensures ok { OnOk result (out.new.items ≡ out.old.items ++ printed self.now) }
+        ensures ok { OnOk result (out.new.items ≡ out.old.items ++ path_text self.now) }
         ensures grows { StartsWith out.new.items out.old.items }
     {
         push_word("/", out)?;
@@ -65,8 +67,8 @@ impl Path {
     }
 }
 
-/// The component that a text names: `/cc`, or the same behind `arib-dc://` and codes without `/`. None exactly where the
-/// text is of no such form. This takes no memory.
+/// The component that a text names: `/cc`, or the same behind `arib-dc://` and codes without `/`.
+/// None exactly where the text is of no such form. This takes no memory.
 pub fn component_ref(text: &Text) -> Option<u8>
     ensures { result ≡ component_of text.now }
 {
@@ -78,7 +80,7 @@ pub fn component_ref(text: &Text) -> Option<u8>
 }
 
 fn found_path<'a>(codes: &'a [u16], base: &Path) -> Option<FoundPath<'a>>
-    ensures { option_map path_of result ≡ resolved codes.now base.now }
+    ensures { option_map path_of result ≡ path_of_text codes.now base.now }
 {
     match behind_root(codes) {
         None => relative_path(codes, base),
@@ -86,9 +88,11 @@ fn found_path<'a>(codes: &'a [u16], base: &Path) -> Option<FoundPath<'a>>
     }
 }
 
-// What stands behind the slash that a path with a component begins with: `/`, or `arib-dc://` with a host and a slash.
+// What stands behind the slash that a path with a component begins with: `/`, or `arib-dc://` with
+// a host and a slash.
 fn behind_root(codes: &[u16]) -> Option<&[u16]>
-    ensures { option_map (λ rest. fields_of rest.now) result ≡ spec_behind_root (fields_of codes.now) }
+    ensures { option_map (λ rest. fields_of rest.now) result
+        ≡ spec_behind_root (fields_of codes.now) }
 {
     let (front, rest) = split_at_slash(codes)?;
     if front.is_empty() {
@@ -102,7 +106,8 @@ fn behind_root(codes: &[u16]) -> Option<&[u16]>
 
 // The same behind `arib-dc:/`.
 fn behind_host(codes: &[u16]) -> Option<&[u16]>
-    ensures { option_map (λ rest. fields_of rest.now) result ≡ spec_behind_host (fields_of codes.now) }
+    ensures { option_map (λ rest. fields_of rest.now) result
+        ≡ spec_behind_host (fields_of codes.now) }
 {
     let (empty, rest) = split_at_slash(codes)?;
     let (_host, rest) = split_at_slash(rest)?;
@@ -193,7 +198,8 @@ fn short_name(field: &[u16]) -> Option<&[u16]>
 
 // What stands before the first slash and what stands behind it, and None where there is no slash.
 fn split_at_slash(codes: &[u16]) -> Option<(&[u16], &[u16])>
-    ensures { MatchOption result (fields_of codes.now ≡ codes.now ∷ []) (λ parts. fields_of codes.now ≡ parts.0.now ∷ fields_of parts.1.now) }
+    ensures { MatchOption result (fields_of codes.now
+        ≡ codes.now ∷ []) (λ parts. fields_of codes.now ≡ parts.0.now ∷ fields_of parts.1.now) }
 {
     let place = place_of_slash(codes)?;
     Some((&codes[..place], &codes[place + 1..]))
@@ -244,7 +250,7 @@ fn hex_digit(code: u16) -> Option<u16>
 
 // Appends a name behind a slash, and nothing where it is empty.
 fn push_name(name: &Text, out: &mut Vec<u8>) -> Result<(), NoMemory>
-    ensures ok { OnOk result (out.new.items ≡ out.old.items ++ printed_name name.now) }
+    ensures ok { OnOk result (out.new.items ≡ out.old.items ++ name_text name.now) }
     ensures grows { StartsWith out.new.items out.old.items }
 {
     if name.len() == 0 {

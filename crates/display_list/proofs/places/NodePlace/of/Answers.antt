@@ -1,9 +1,9 @@
 use Rattle.std.proofs.Common.{◌≡◌, ℕ, Bool, false, Option, nat_eq, ap, ◌∙◌}
 use Rattle.std.specs.Prelude.{◌||◌, ◌&&◌}
 use Rattle.std.specs.Option.{option_map_or}
-use Rattle.display_list.proofs.OffsetLemmas.{is_under_body-is, place_of-is, standing_of-parts, under-here, under-outer}
-use Rattle.display_list.proofs.places.Standing.of.Goals as goal
-use Rattle.display_list.proofs.places.Standing.of.Goals.{then-is_node, else-is_node}
+use Rattle.display_list.proofs.OffsetLemmas.{is_under_body-is, place_of-is, node_place_of-parts, under-here, under-outer}
+use Rattle.display_list.proofs.places.NodePlace.of.Goals as goal
+use Rattle.display_list.proofs.places.NodePlace.of.Goals.{then-is_node, else-is_node}
 
 pub returns-then-is_box : goal.returns-then-is_box
 returns-then-is_box c =
@@ -17,7 +17,7 @@ returns-then-is_box c =
     ] in
     let body = c.is_node.ensures ∙ ap (λ (o : Option ℕ). option_map_or (λ (b : ℕ). nat_eq c.args.node.0 b) o false) c.requires.body in
     let under = is_under_body-is items c.args.node.0 outer c.is_node.result c.if-is_node.is_under_body around.path around.outer body here in
-    standing_of-parts items c.args.node.0 c.inside-place.result c.if-is_node.is_under_body c.if-is_node.is_under_body place under (ap (λ (b : Bool). b && c.if-is_node.is_under_body) (c.if-is_box.ensures {u = tt}))
+    node_place_of-parts items c.args.node.0 c.inside-place.result c.if-is_node.is_under_body c.if-is_node.is_under_body place under (ap (λ (b : Bool). b && c.if-is_node.is_under_body) (c.if-is_box.ensures {u = tt}))
 
 pub returns-else-is_box : goal.returns-else-is_box
 returns-else-is_box c =
@@ -31,4 +31,4 @@ returns-else-is_box c =
     ] in
     let body = c.is_node.ensures ∙ ap (λ (o : Option ℕ). option_map_or (λ (b : ℕ). nat_eq c.args.node.0 b) o false) c.requires.body in
     let under = is_under_body-is items c.args.node.0 outer c.is_node.result c.if-is_node.is_under_body around.path around.outer body here in
-    standing_of-parts items c.args.node.0 c.inside-place.result c.if-is_node.is_under_body c.is_box-is_box.result place under (c.if-is_box.false ∙ ap (λ (b : Bool). b && c.if-is_node.is_under_body) (c.if-is_box.ensures {u = tt}))
+    node_place_of-parts items c.args.node.0 c.inside-place.result c.if-is_node.is_under_body c.is_box-is_box.result place under (c.if-is_box.false ∙ ap (λ (b : Bool). b && c.if-is_node.is_under_body) (c.if-is_box.ensures {u = tt}))

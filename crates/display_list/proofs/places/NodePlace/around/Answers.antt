@@ -1,12 +1,12 @@
 use Rattle.std.proofs.Common.{length, ap, ◌∙◌, arith}
 use Rattle.std.proofs.lemmas.List.FromFn.{length-map-range_with_len}
-use Rattle.display_list.specs.Views.{standing_of}
+use Rattle.display_list.specs.Views.{node_place_of}
 use Rattle.display_list.proofs.OffsetLemmas.{around-found, found-far}
-use Rattle.display_list.proofs.places.Standing.around.Goals as goal
+use Rattle.display_list.proofs.places.NodePlace.around.Goals as goal
 
 pub bounds-before-up : goal.bounds-before-up
 bounds-before-up c =
-    let long = ap length c.requires.before ∙ length-map-range_with_len (standing_of c.args.tree.now) 0 c.args.node.0 in
+    let long = ap length c.requires.before ∙ length-map-range_with_len (node_place_of c.args.tree.now) 0 c.args.node.0 in
     let low = (c.in-Some.ensures {u = tt}).before.0 in
     omega arith
 

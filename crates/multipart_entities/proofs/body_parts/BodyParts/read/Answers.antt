@@ -1,6 +1,6 @@
 use Rattle.std.proofs.Common.{refl, sym, ◌∙◌}
-use Rattle.multipart_entities.proofs.PieceLemmas.{on-ok, stand-skip, stand-some}
-use Rattle.multipart_entities.proofs.pieces.Pieces.read.Goals as goal
+use Rattle.multipart_entities.proofs.BodyPartLemmas.{on-ok, stand-skip, stand-some}
+use Rattle.multipart_entities.proofs.body_parts.BodyParts.read.Goals as goal
 
 pub returns-in-Some-clause-stands : goal.returns-in-Some-clause-stands
 returns-in-Some-clause-stands c = λ inside done h.
