@@ -206,8 +206,8 @@ closes (Remark ∷ ps) (o ∷ outer) text items deep f x e h =
     (Aside k.0, k.1, k.2, ap (λ z. Remark ∷ z) k.3, k.4)
 closes (Doctype ∷ ps) (o ∷ outer) text items deep f x e h = next Doctype ps (at_elements (o ∷ outer) text items deep) f None refl e (λ t q r. absurd (cc q))
 
-root-closed : (tag : List ℕ) (attributes : List Attribute) (ps : List Markup) (f : State) → steps ps (at_elements (opened_at tag 0 ∷ []) [] (element_item None tag attributes ∷ []) false) ≡ Some f → Ended f → (i c : Contents) × IsContent i × IsMisc c × (ps ≡ markup_of i ++ (EndTag tag ∷ markup_of c))
-root-closed tag attributes ps f e h =
+root-outside_element : (tag : List ℕ) (attributes : List Attribute) (ps : List Markup) (f : State) → steps ps (at_elements (opened_at tag 0 ∷ []) [] (element_item None tag attributes ∷ []) false) ≡ Some f → Ended f → (i c : Contents) × IsContent i × IsMisc c × (ps ≡ markup_of i ++ (EndTag tag ∷ markup_of c))
+root-outside_element tag attributes ps f e h =
     let k = closes ps (opened_at tag 0 ∷ []) [] (element_item None tag attributes ∷ []) false f (λ z. refl) e h in
     (k.0, k.4.0, k.2, k.4.1, k.3 ∙ ap (λ z. markup_of k.0 ++ (EndTag tag ∷ z)) k.4.2)
 
@@ -229,7 +229,7 @@ read-rooted (StartTag tag attributes true ∷ ps) f e h =
     (EmptyElement tag attributes k.0, k.1, ap (λ z. StartTag tag attributes true ∷ z) k.2)
 read-rooted (StartTag tag attributes false ∷ ps) f e h =
     let s = at_elements (opened_at tag 0 ∷ []) [] (element_item None tag attributes ∷ []) false in
-    let k = root-closed tag attributes ps f (sym (steps-one (StartTag tag attributes false) ps (before BeforeRoot) s refl) ∙ e) h in
+    let k = root-outside_element tag attributes ps f (sym (steps-one (StartTag tag attributes false) ps (before BeforeRoot) s refl) ∙ e) h in
     (Element tag attributes k.0 k.1, (k.2, k.3), ap (λ z. StartTag tag attributes false ∷ z) k.4)
 read-rooted (EndTag tag ∷ ps) f e h = next (EndTag tag) ps (before BeforeRoot) f None refl e (λ t q r. absurd (cc q))
 read-rooted (Cdata bytes ∷ ps) f e h = next (Cdata bytes) ps (before BeforeRoot) f None refl e (λ t q r. absurd (cc q))
@@ -256,7 +256,7 @@ read-document (StartTag tag attributes true ∷ ps) f e h =
     (EmptyElement tag attributes k.0, k.1, ap (λ z. StartTag tag attributes true ∷ z) k.2)
 read-document (StartTag tag attributes false ∷ ps) f e h =
     let s = at_elements (opened_at tag 0 ∷ []) [] (element_item None tag attributes ∷ []) false in
-    let k = root-closed tag attributes ps f (sym (steps-one (StartTag tag attributes false) ps (before BeforeDoctype) s refl) ∙ e) h in
+    let k = root-outside_element tag attributes ps f (sym (steps-one (StartTag tag attributes false) ps (before BeforeDoctype) s refl) ∙ e) h in
     (Element tag attributes k.0 k.1, (k.2, k.3), ap (λ z. StartTag tag attributes false ∷ z) k.4)
 read-document (EndTag tag ∷ ps) f e h = next (EndTag tag) ps (before BeforeDoctype) f None refl e (λ t q r. absurd (cc q))
 read-document (Cdata bytes ∷ ps) f e h = next (Cdata bytes) ps (before BeforeDoctype) f None refl e (λ t q r. absurd (cc q))

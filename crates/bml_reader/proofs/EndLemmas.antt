@@ -12,7 +12,7 @@ use Rattle.bml_reader.specs.Markup.Markup.{StartTag, EndTag, Run, Cdata, Remark,
 use Rattle.bml_reader.specs.Grammar.{Reads}
 use Rattle.bml_reader.specs.Faults.{ReadsWell, HasFault}
 use Rattle.bml_reader.specs.Lexing.{Found, found, markup_at}
-use Rattle.bml_reader.specs.Machine.{State, Kept, kept_of, start_state, step, IsSound, IsSoundIn}
+use Rattle.bml_reader.specs.Machine.{State, NodesSoFar, few_nodes, start_state, step, IsSound, IsSoundIn}
 use Rattle.bml_reader.specs.ReaderViews.{Seen, seen_of, seen_step, IsTaken, HasDifferentNames, Refuses}
 use Rattle.bml_reader.specs.declared.faults.DocFault.{DocFault}
 use Rattle.bml_reader.specs.declared.faults.DocFault.TheVariants.{Malformed, WrongRoot, TooDeep, TooManyNodes, NoMemory}
@@ -101,7 +101,7 @@ Keeps-end bytes r rest k e h =
 pub count-is : (tree : Nested) → length (items_of tree) ≡ node_count tree
 count-is tree = items_from-length None 0 tree
 
-few-by : (items found_items : List Item) (path : List ℕ) (b : Bool) → nat_le (length items) most_nodes ≡ b → option_map (λ (k : Kept). k.items) (cond b (Some (kept items path)) None) ≡ Some found_items → (length items ≤ most_nodes) × (found_items ≡ items)
+few-by : (items found_items : List Item) (path : List ℕ) (b : Bool) → nat_le (length items) most_nodes ≡ b → option_map (λ (k : NodesSoFar). k.items) (cond b (Some (kept items path)) None) ≡ Some found_items → (length items ≤ most_nodes) × (found_items ≡ items)
 few-by items found_items path true q e = let small : length items ≤ most_nodes = grind (arith, nat_tests) in (small, cc)
 few-by items found_items path false q e = absurd (cc e)
 
@@ -109,9 +109,9 @@ many-by : (items : List Item) (path : List ℕ) (b : Bool) → nat_le (length it
 many-by items path true q e = absurd (cc e)
 many-by items path false q e = grind (arith, nat_tests)
 
-pub AtEnd-well : (bytes : List ℕ) (r : Seen) (items : List Item) → AtEnd bytes r → r.has_other_root ≡ false → r.is_deep ≡ false → option_map (λ (k : Kept). k.items) r.kept ≡ Some items → ReadsWell bytes items
+pub AtEnd-well : (bytes : List ℕ) (r : Seen) (items : List Item) → AtEnd bytes r → r.has_other_root ≡ false → r.is_deep ≡ false → option_map (λ (k : NodesSoFar). k.items) r.kept ≡ Some items → ReadsWell bytes items
 AtEnd-well bytes r items a o d k =
-    let kept_is : option_map (λ (z : Kept). z.items) (kept_of (items_of a.tree) []) ≡ Some items = ap (λ (z : Seen). option_map (λ (w : Kept). w.items) z.kept) a.seen ∙ k in
+    let kept_is : option_map (λ (z : NodesSoFar). z.items) (few_nodes (items_of a.tree) []) ≡ Some items = ap (λ (z : Seen). option_map (λ (w : NodesSoFar). w.items) z.kept) a.seen ∙ k in
     let few = few-by (items_of a.tree) items [] (nat_le (length (items_of a.tree)) most_nodes) refl kept_is in
     record {
       tree = a.tree;

@@ -7,11 +7,11 @@ use Rattle.std.proofs.lemmas.Bool.Decides.{nat_tests}
 use Rattle.std.proofs.lemmas.List.{length-append}
 use Rattle.bml_bytes.specs.Codes.{codes}
 use Rattle.dom_tree.specs.Items.{Attribute}
-use Rattle.bml_reader.specs.Bytes.{front, behind, stripped, is_white, is_letter, is_digit, is_name_start, is_name_byte, is_name, is_text_byte, is_doctype_byte}
+use Rattle.bml_reader.specs.Bytes.{front, behind, behind_mark, is_white, is_letter, is_digit, is_name_start, is_name_byte, is_name, is_text_byte, is_doctype_byte}
 use Rattle.bml_reader.specs.Markup.{Markup, IsWhite, SpellsAttributes, NamesDiffer, tag_end, IsStartTag, IsEndTag, IsRun, EndsText, EndsAtFirst, IsMarked, IsRemark, IsDoctype, IsMarkup}
 use Rattle.bml_reader.specs.Markup.Markup.{StartTag, EndTag, Run, Cdata, Remark, Doctype}
 use Rattle.bml_reader.specs.Lexing.{Found, found, Inner, name_at, inner_at, up_to, start_tag_of_name, start_tag_at, end_tag_of_name, end_tag_at, comment_at, instruction_at, cdata_at, doctype_at, declaration_at, bracketed_at, markup_at}
-use Rattle.bml_reader.proofs.ByteLemmas.{both, some-same, Ends, front-cons, front-run, behind-run, front-behind, front-all, behind-ends, stripped-is, UpTo, up_to-first, up_to-is, mapped, chained}
+use Rattle.bml_reader.proofs.ByteLemmas.{both, some-same, Ends, front-cons, front-run, behind-run, front-behind, front-all, behind-ends, behind_mark-is, UpTo, up_to-first, up_to-is, mapped, chained}
 use Rattle.bml_reader.proofs.TagLemmas.{white-no-name, ends-white, ends-tag_end, name_at-name, name_at-is, spells-length, inner_at-spelled, InnerAt, inner_at-is}
 
 -- Bytes
@@ -127,7 +127,7 @@ end_tag-found : (name white more tag : List ℕ) → is_name name ≡ true → t
 unfolding end_tag_at end_tag_of_name
 end_tag-found name white more tag n t w =
     ap (option_and_then end_tag_of_name) (name_at-name name (white ++ (62 ∷ more)) n (ends-white white (62 ∷ more) w (name-gt more)))
-    ∙ (ap (λ z. option_map (found (EndTag (codes name))) (stripped (ascii ">") z)) (behind-run is_white white (62 ∷ more) w (white-gt more))
+    ∙ (ap (λ z. option_map (found (EndTag (codes name))) (behind_mark (ascii ">") z)) (behind-run is_white white (62 ∷ more) w (white-gt more))
     ∙ ap (λ z. Some (found (EndTag z) more)) (sym t))
 
 end_tag-markup : (tag s more : List ℕ) → IsEndTag tag s → markup_at (s ++ more) ≡ Some (found (EndTag tag) more)
@@ -187,7 +187,7 @@ remark-markup s more (inr (bytes, h)) =
 
 doctype-found : (bytes more : List ℕ) → list_all is_doctype_byte bytes ≡ true → doctype_at (bytes ++ (62 ∷ more)) ≡ Some (found Doctype more)
 unfolding doctype_at
-doctype-found bytes more h = ap (λ z. option_map (found Doctype) (stripped (ascii ">") z)) (behind-run is_doctype_byte bytes (62 ∷ more) h (doctype-gt more))
+doctype-found bytes more h = ap (λ z. option_map (found Doctype) (behind_mark (ascii ">") z)) (behind-run is_doctype_byte bytes (62 ∷ more) h (doctype-gt more))
 
 doctype-markup : (s more : List ℕ) → IsDoctype s → markup_at (s ++ more) ≡ Some (found Doctype more)
 doctype-markup s more h =
@@ -237,9 +237,9 @@ instruction-at r f e = mapped (λ (g : Found (List ℕ)). found Remark g.rest) (
 
 doctype-at : (r : List ℕ) (f : Found Markup) → doctype_at r ≡ Some f → MarkupAt (ascii "<!DOCTYPE" ++ r) f
 unfolding doctype_at
-doctype-at r f e = mapped (found Doctype) (stripped (ascii ">") (behind is_doctype_byte r)) f e (λ rest s q.
+doctype-at r f e = mapped (found Doctype) (behind_mark (ascii ">") (behind is_doctype_byte r)) f e (λ rest s q.
     let bytes = front is_doctype_byte r in
-    let same : r ≡ bytes ++ (62 ∷ rest) = front-behind is_doctype_byte r ∙ ap (λ z. bytes ++ z) (stripped-is (ascii ">") (behind is_doctype_byte r) rest s) in
+    let same : r ≡ bytes ++ (62 ∷ rest) = front-behind is_doctype_byte r ∙ ap (λ z. bytes ++ z) (behind_mark-is (ascii ">") (behind is_doctype_byte r) rest s) in
     let at_front : MarkupAt (ascii "<!DOCTYPE" ++ r) (found Doctype rest) = record {
       spelled = ascii "<!DOCTYPE" ++ (bytes ++ 62 ∷ []);
       is_it = ap (λ z. ascii "<!DOCTYPE" ++ z) (same ∙ sym (append_assoc bytes (62 ∷ []) rest)) ∙ sym (append_assoc (ascii "<!DOCTYPE") (bytes ++ 62 ∷ []) rest);
@@ -247,26 +247,26 @@ doctype-at r f e = mapped (found Doctype) (stripped (ascii ">") (behind is_docty
     } in
     subst (MarkupAt (ascii "<!DOCTYPE" ++ r)) q at_front)
 
-declaration-cdata : (r : List ℕ) (f : Found Markup) (s : Option (List ℕ)) → stripped (ascii "[CDATA[") r ≡ s → elim s [ Some rest ↦ cdata_at rest | None ↦ option_and_then doctype_at (stripped (ascii "DOCTYPE") r) ] ≡ Some f → MarkupAt (60 ∷ 33 ∷ r) f
-declaration-cdata r f (Some rest) q e = subst (λ z. MarkupAt (60 ∷ 33 ∷ z) f) (sym (stripped-is (ascii "[CDATA[") r rest q)) (cdata-at rest f e)
-declaration-cdata r f None q e = chained doctype_at (stripped (ascii "DOCTYPE") r) f e (λ rest s g.
-    subst (λ z. MarkupAt (60 ∷ 33 ∷ z) f) (sym (stripped-is (ascii "DOCTYPE") r rest s)) (doctype-at rest f g))
+declaration-cdata : (r : List ℕ) (f : Found Markup) (s : Option (List ℕ)) → behind_mark (ascii "[CDATA[") r ≡ s → elim s [ Some rest ↦ cdata_at rest | None ↦ option_and_then doctype_at (behind_mark (ascii "DOCTYPE") r) ] ≡ Some f → MarkupAt (60 ∷ 33 ∷ r) f
+declaration-cdata r f (Some rest) q e = subst (λ z. MarkupAt (60 ∷ 33 ∷ z) f) (sym (behind_mark-is (ascii "[CDATA[") r rest q)) (cdata-at rest f e)
+declaration-cdata r f None q e = chained doctype_at (behind_mark (ascii "DOCTYPE") r) f e (λ rest s g.
+    subst (λ z. MarkupAt (60 ∷ 33 ∷ z) f) (sym (behind_mark-is (ascii "DOCTYPE") r rest s)) (doctype-at rest f g))
 
-declaration-comment : (r : List ℕ) (f : Found Markup) (s : Option (List ℕ)) → stripped (ascii "--") r ≡ s → elim s [ Some rest ↦ comment_at rest | None ↦ elim (stripped (ascii "[CDATA[") r) [ Some rest ↦ cdata_at rest | None ↦ option_and_then doctype_at (stripped (ascii "DOCTYPE") r) ] ] ≡ Some f → MarkupAt (60 ∷ 33 ∷ r) f
-declaration-comment r f (Some rest) q e = subst (λ z. MarkupAt (60 ∷ 33 ∷ z) f) (sym (stripped-is (ascii "--") r rest q)) (comment-at rest f e)
-declaration-comment r f None q e = declaration-cdata r f (stripped (ascii "[CDATA[") r) refl e
+declaration-comment : (r : List ℕ) (f : Found Markup) (s : Option (List ℕ)) → behind_mark (ascii "--") r ≡ s → elim s [ Some rest ↦ comment_at rest | None ↦ elim (behind_mark (ascii "[CDATA[") r) [ Some rest ↦ cdata_at rest | None ↦ option_and_then doctype_at (behind_mark (ascii "DOCTYPE") r) ] ] ≡ Some f → MarkupAt (60 ∷ 33 ∷ r) f
+declaration-comment r f (Some rest) q e = subst (λ z. MarkupAt (60 ∷ 33 ∷ z) f) (sym (behind_mark-is (ascii "--") r rest q)) (comment-at rest f e)
+declaration-comment r f None q e = declaration-cdata r f (behind_mark (ascii "[CDATA[") r) refl e
 
 declaration-at : (r : List ℕ) (f : Found Markup) → declaration_at r ≡ Some f → MarkupAt (60 ∷ 33 ∷ r) f
 unfolding declaration_at
-declaration-at r f e = declaration-comment r f (stripped (ascii "--") r) refl e
+declaration-at r f e = declaration-comment r f (behind_mark (ascii "--") r) refl e
 
 end_tag-at : (r : List ℕ) (f : Found Markup) → end_tag_at r ≡ Some f → MarkupAt (60 ∷ 47 ∷ r) f
 unfolding end_tag_at end_tag_of_name
 end_tag-at r f e = chained end_tag_of_name (name_at r) f e (λ n p g.
-    mapped (found (EndTag (codes n.it))) (stripped (ascii ">") (behind is_white n.rest)) f g (λ rest s q.
+    mapped (found (EndTag (codes n.it))) (behind_mark (ascii ">") (behind is_white n.rest)) f g (λ rest s q.
     let h = name_at-is r n p in
     let white = front is_white n.rest in
-    let same : r ≡ n.it ++ (white ++ (62 ∷ rest)) = h.is_it ∙ ap (λ z. n.it ++ z) (front-behind is_white n.rest ∙ ap (λ z. white ++ z) (stripped-is (ascii ">") (behind is_white n.rest) rest s)) in
+    let same : r ≡ n.it ++ (white ++ (62 ∷ rest)) = h.is_it ∙ ap (λ z. n.it ++ z) (front-behind is_white n.rest ∙ ap (λ z. white ++ z) (behind_mark-is (ascii ">") (behind is_white n.rest) rest s)) in
     let laid : (60 ∷ 47 ∷ (n.it ++ (white ++ 62 ∷ []))) ++ rest ≡ 60 ∷ 47 ∷ (n.it ++ (white ++ (62 ∷ rest))) = simp append_assoc in
     let at_front : MarkupAt (60 ∷ 47 ∷ r) (found (EndTag (codes n.it)) rest) = record {
       spelled = 60 ∷ 47 ∷ (n.it ++ (white ++ 62 ∷ []));

@@ -11,8 +11,8 @@ use Rattle.bml_reader.specs.Markup.{Markup, Spells}
 use Rattle.bml_reader.specs.Grammar.{Reads, markup_of, tree_of}
 use Rattle.bml_reader.specs.Faults.{ReadsWell, HasFault, HasWrongRoot, IsTooDeep, HasTooManyNodes}
 use Rattle.bml_reader.specs.Lexing.{Found, found, markup_at}
-use Rattle.bml_reader.specs.Machine.{State, Kept, kept_of, start_state, step, steps}
-use Rattle.bml_reader.specs.Readings.{IsReading, read_markup, has_other_root, judged_nodes, judged, judged_where_read, reading_of}
+use Rattle.bml_reader.specs.Machine.{State, NodesSoFar, few_nodes, start_state, step, steps}
+use Rattle.bml_reader.specs.Readings.{IsReading, read_markup, has_other_root, result_of_nodes, result_of_state, result_where_read, reading_of}
 use Rattle.bml_reader.specs.ReaderViews.{seen_of, Refuses}
 use Rattle.bml_reader.specs.declared.faults.DocFault.{DocFault}
 use Rattle.bml_reader.specs.declared.faults.DocFault.TheVariants.{Malformed, WrongRoot, TooDeep, TooManyNodes, NoMemory}
@@ -75,18 +75,18 @@ spelled-read (suc most) (byte ∷ bytes) s t e =
 -- Bytes are read as their tree is judged, or are malformed
 
 -- a document's bytes
-pub reading-tree : (bytes : List ℕ) (tree : Nested) → Reads bytes tree → reading_of bytes ≡ judged (behind_tree tree)
+pub reading-tree : (bytes : List ℕ) (tree : Nested) → Reads bytes tree → reading_of bytes ≡ result_of_state (behind_tree tree)
 unfolding reading_of
 reading-tree bytes tree h =
     let all : read_markup (suc (length bytes)) bytes start_state ≡ steps (markup_of h.document) start_state = read-spelled (markup_of h.document) (suc (length bytes)) bytes start_state h.spelled (omega arith) in
-    ap judged_where_read (all ∙ (document h.document h.is_document ∙ ap (λ z. Some (behind_tree z)) (sym h.stands_for)))
+    ap result_where_read (all ∙ (document h.document h.is_document ∙ ap (λ z. Some (behind_tree z)) (sym h.stands_for)))
 
 -- the bytes are a document with that tree, or what they come to is that they are none
 data Comes (bytes : List ℕ) (r : Result (List Item) DocFault) : Type 0 where
   Stands : (tree : Nested) → Reads bytes tree → Comes bytes r
   Fails : r ≡ Err Malformed → Comes bytes r
 
-comes-read : (bytes : List ℕ) (s : State) (phase : Phase) → read_markup (suc (length bytes)) bytes start_state ≡ Some s → s.phase ≡ phase → Comes bytes (judged s)
+comes-read : (bytes : List ℕ) (s : State) (phase : Phase) → read_markup (suc (length bytes)) bytes start_state ≡ Some s → s.phase ≡ phase → Comes bytes (result_of_state s)
 comes-read bytes s Behind e q =
     let k = spelled-read (suc (length bytes)) bytes start_state s e in
     let d = read-document k.0 s k.2 q in
@@ -95,7 +95,7 @@ comes-read bytes s BeforeDoctype e q = Fails (rw q refl)
 comes-read bytes s BeforeRoot e q = Fails (rw q refl)
 comes-read bytes s Inside e q = Fails (rw q refl)
 
-comes-by : (bytes : List ℕ) (o : Option State) → read_markup (suc (length bytes)) bytes start_state ≡ o → Comes bytes (judged_where_read o)
+comes-by : (bytes : List ℕ) (o : Option State) → read_markup (suc (length bytes)) bytes start_state ≡ o → Comes bytes (result_where_read o)
 comes-by bytes None e = Fails refl
 comes-by bytes (Some s) e = comes-read bytes s s.phase e refl
 
@@ -111,11 +111,11 @@ Judged = Result (List Item) DocFault
 fault_is : (a b : DocFault) → ◌≡◌ {A = Judged} (Err a) (Err b) → a ≡ b
 fault_is a b e = cc
 
-judges-well-by : (nodes items : List Item) (within : Bool) → ◌≡◌ {A = Judged} (cond within (Ok nodes) (Err TooManyNodes)) (Ok items) → option_map (λ (k : Kept). k.items) (cond within (Some (kept nodes [])) None) ≡ Some items
+judges-well-by : (nodes items : List Item) (within : Bool) → ◌≡◌ {A = Judged} (cond within (Ok nodes) (Err TooManyNodes)) (Ok items) → option_map (λ (k : NodesSoFar). k.items) (cond within (Some (kept nodes [])) None) ≡ Some items
 judges-well-by nodes items true e = cc
 judges-well-by nodes items false e = absurd (cc e)
 
-judges-well : (other deep : Bool) (nodes items : List Item) → judged_nodes other deep nodes ≡ Ok items → (other ≡ false) × (deep ≡ false) × (option_map (λ (k : Kept). k.items) (kept_of nodes []) ≡ Some items)
+judges-well : (other deep : Bool) (nodes items : List Item) → result_of_nodes other deep nodes ≡ Ok items → (other ≡ false) × (deep ≡ false) × (option_map (λ (k : NodesSoFar). k.items) (few_nodes nodes []) ≡ Some items)
 judges-well true deep nodes items e = absurd (cc e)
 judges-well false true nodes items e = absurd (cc e)
 judges-well false false nodes items e = (refl, refl, judges-well-by nodes items (nat_le (length nodes) most_nodes) e)
@@ -124,13 +124,13 @@ refuses-by : (nodes : List Item) (fault : DocFault) (within : Bool) → ◌≡�
 refuses-by nodes fault true e = absurd (cc e)
 refuses-by nodes fault false e = subst (λ f. Refuses f false false None) (fault_is TooManyNodes fault e) (refl, refl, refl)
 
-refuses : (other deep : Bool) (nodes : List Item) (fault : DocFault) → judged_nodes other deep nodes ≡ Err fault → Refuses fault other deep (kept_of nodes [])
-refuses true deep nodes fault e = subst (λ f. Refuses f true deep (kept_of nodes [])) (fault_is WrongRoot fault e) refl
-refuses false true nodes fault e = subst (λ f. Refuses f false true (kept_of nodes [])) (fault_is TooDeep fault e) (refl, refl)
+refuses : (other deep : Bool) (nodes : List Item) (fault : DocFault) → result_of_nodes other deep nodes ≡ Err fault → Refuses fault other deep (few_nodes nodes [])
+refuses true deep nodes fault e = subst (λ f. Refuses f true deep (few_nodes nodes [])) (fault_is WrongRoot fault e) refl
+refuses false true nodes fault e = subst (λ f. Refuses f false true (few_nodes nodes [])) (fault_is TooDeep fault e) (refl, refl)
 refuses false false nodes fault e = refuses-by nodes fault (nat_le (length nodes) most_nodes) e
 
 -- where a document's bytes read as a fault, its tree has that fault
-tree-refuses : (bytes : List ℕ) (tree : Nested) (fault : DocFault) → Reads bytes tree → reading_of bytes ≡ Err fault → Refuses fault (has_other_root (items_of tree)) (goes_deep 0 tree) (kept_of (items_of tree) [])
+tree-refuses : (bytes : List ℕ) (tree : Nested) (fault : DocFault) → Reads bytes tree → reading_of bytes ≡ Err fault → Refuses fault (has_other_root (items_of tree)) (goes_deep 0 tree) (few_nodes (items_of tree) [])
 tree-refuses bytes tree fault h e = refuses (has_other_root (items_of tree)) (goes_deep 0 tree) (items_of tree) fault (sym (reading-tree bytes tree h) ∙ e)
 
 at_end : (bytes : List ℕ) (tree : Nested) → Reads bytes tree → AtEnd bytes (seen_of (behind_tree tree))
@@ -138,17 +138,17 @@ at_end bytes tree h = record { tree = tree; reads = h; seen = refl }
 
 -- And a tree is judged by the fault that it has
 
-judged-well : (other deep : Bool) (nodes : List Item) → other ≡ false → deep ≡ false → length nodes ≤ most_nodes → judged_nodes other deep nodes ≡ Ok nodes
-judged-well other deep nodes o d few = let within : nat_le (length nodes) most_nodes ≡ true = grind (arith, nat_tests) in rw (o, d, within) refl
+result_of_state-well : (other deep : Bool) (nodes : List Item) → other ≡ false → deep ≡ false → length nodes ≤ most_nodes → result_of_nodes other deep nodes ≡ Ok nodes
+result_of_state-well other deep nodes o d few = let within : nat_le (length nodes) most_nodes ≡ true = grind (arith, nat_tests) in rw (o, d, within) refl
 
-judged-root : (other deep : Bool) (nodes : List Item) → other ≡ true → judged_nodes other deep nodes ≡ Err WrongRoot
-judged-root other deep nodes o = rw o refl
+result_of_state-root : (other deep : Bool) (nodes : List Item) → other ≡ true → result_of_nodes other deep nodes ≡ Err WrongRoot
+result_of_state-root other deep nodes o = rw o refl
 
-judged-deep : (other deep : Bool) (nodes : List Item) → other ≡ false → deep ≡ true → judged_nodes other deep nodes ≡ Err TooDeep
-judged-deep other deep nodes o d = rw (o, d) refl
+result_of_state-deep : (other deep : Bool) (nodes : List Item) → other ≡ false → deep ≡ true → result_of_nodes other deep nodes ≡ Err TooDeep
+result_of_state-deep other deep nodes o d = rw (o, d) refl
 
-judged-many : (other deep : Bool) (nodes : List Item) → other ≡ false → deep ≡ false → most_nodes < length nodes → judged_nodes other deep nodes ≡ Err TooManyNodes
-judged-many other deep nodes o d many = let past : nat_le (length nodes) most_nodes ≡ false = grind (arith, nat_tests) in rw (o, d, past) refl
+result_of_state-many : (other deep : Bool) (nodes : List Item) → other ≡ false → deep ≡ false → most_nodes < length nodes → result_of_nodes other deep nodes ≡ Err TooManyNodes
+result_of_state-many other deep nodes o d many = let past : nat_le (length nodes) most_nodes ≡ false = grind (arith, nat_tests) in rw (o, d, past) refl
 
 root-kept : (tree : Nested) → (HasWrongRoot tree → ⊥) → has_other_root (items_of tree) ≡ false
 root-kept tree n = false_from_ne_true (has_other_root (items_of tree)) (λ e. n (wrong-root tree e))
@@ -182,7 +182,7 @@ reads-well bytes items e = reads-well-by bytes items (comes bytes) e
 well-reads : (bytes : List ℕ) (items : List Item) → ReadsWell bytes items → reading_of bytes ≡ Ok items
 well-reads bytes items h =
     reading-tree bytes h.tree h.reads
-    ∙ (judged-well (has_other_root (items_of h.tree)) (goes_deep 0 h.tree) (items_of h.tree) (root-kept h.tree h.root) (depth-kept h.tree h.depth) (count-kept h.tree h.count)
+    ∙ (result_of_state-well (has_other_root (items_of h.tree)) (goes_deep 0 h.tree) (items_of h.tree) (root-kept h.tree h.root) (depth-kept h.tree h.depth) (count-kept h.tree h.count)
     ∙ ap Ok (sym h.nodes))
 
 reads-fault-by : (bytes : List ℕ) (fault : DocFault) → Comes bytes (reading_of bytes) → reading_of bytes ≡ Err fault → HasFault bytes fault
@@ -202,11 +202,11 @@ malformed-reads bytes (Fails f) h = f
 pub fault-reads : (bytes : List ℕ) (fault : DocFault) → fault ≢ NoMemory → HasFault bytes fault → reading_of bytes ≡ Err fault
 fault-reads bytes Malformed n h = malformed-reads bytes (comes bytes) h
 fault-reads bytes WrongRoot n h =
-    reading-tree bytes h.tree h.reads ∙ judged-root (has_other_root (items_of h.tree)) (goes_deep 0 h.tree) (items_of h.tree) (root-missed h.tree h.root)
+    reading-tree bytes h.tree h.reads ∙ result_of_state-root (has_other_root (items_of h.tree)) (goes_deep 0 h.tree) (items_of h.tree) (root-missed h.tree h.root)
 fault-reads bytes TooDeep n h =
-    reading-tree bytes h.tree h.reads ∙ judged-deep (has_other_root (items_of h.tree)) (goes_deep 0 h.tree) (items_of h.tree) (root-kept h.tree h.root) (depth-missed h.tree h.depth)
+    reading-tree bytes h.tree h.reads ∙ result_of_state-deep (has_other_root (items_of h.tree)) (goes_deep 0 h.tree) (items_of h.tree) (root-kept h.tree h.root) (depth-missed h.tree h.depth)
 fault-reads bytes TooManyNodes n h =
-    reading-tree bytes h.tree h.reads ∙ judged-many (has_other_root (items_of h.tree)) (goes_deep 0 h.tree) (items_of h.tree) (root-kept h.tree h.root) (depth-kept h.tree h.depth) (count-missed h.tree h.count)
+    reading-tree bytes h.tree h.reads ∙ result_of_state-many (has_other_root (items_of h.tree)) (goes_deep 0 h.tree) (items_of h.tree) (root-kept h.tree h.root) (depth-kept h.tree h.depth) (count-missed h.tree h.count)
 fault-reads bytes NoMemory n h = absurd (n refl)
 
 no-memory-by : (bytes : List ℕ) → Comes bytes (reading_of bytes) → reading_of bytes ≡ Err NoMemory → ⊥

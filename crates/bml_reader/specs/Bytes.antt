@@ -56,7 +56,7 @@ behind test [] = []
 behind test (byte ∷ bytes) = if test byte then behind test bytes else byte ∷ bytes
 
 -- what stands behind the mark at the front, and none where it isn't there
-abbrev pub stripped : List ℕ → List ℕ → Option (List ℕ)
-stripped [] bytes = Some bytes
-stripped (m ∷ mark) [] = None
-stripped (m ∷ mark) (byte ∷ bytes) = if byte == m then stripped mark bytes else None
+abbrev pub behind_mark : List ℕ → List ℕ → Option (List ℕ)
+behind_mark [] bytes = Some bytes
+behind_mark (m ∷ mark) [] = None
+behind_mark (m ∷ mark) (byte ∷ bytes) = if byte == m then behind_mark mark bytes else None

@@ -4,7 +4,7 @@
 use Rattle.std.specs.Prelude.{ℕ, zero, suc, ◌==◌, Bool, true, false, is_some, if◌then◌else◌, List, [], ◌∷◌, ◌++◌, length, Option, Some, None, option_map, option_and_then, codes as ascii}
 use Rattle.bml_bytes.specs.Codes.{codes}
 use Rattle.dom_tree.specs.Items.{Attribute, value_in}
-use Rattle.bml_reader.specs.Bytes.{is_white, is_name_start, is_name_byte, is_text_byte, is_value_byte, is_quote, is_doctype_byte, front, behind, stripped}
+use Rattle.bml_reader.specs.Bytes.{is_white, is_name_start, is_name_byte, is_text_byte, is_value_byte, is_quote, is_doctype_byte, front, behind, behind_mark}
 use Rattle.bml_reader.specs.References.{read_references}
 use Rattle.bml_reader.specs.Markup.{Markup}
 use Rattle.bml_reader.specs.Markup.Markup.{StartTag, EndTag, Run, Cdata, Remark, Doctype}
@@ -19,9 +19,9 @@ found it rest = record { it = it; rest = rest }
 
 -- the bytes up to the mark, and what stands behind the mark
 unfoldable pub up_to : List ℕ → List ℕ → Option (Found (List ℕ))
-up_to mark [] = elim (stripped mark []) [ Some rest ↦ Some (found [] rest) | None ↦ None ]
+up_to mark [] = elim (behind_mark mark []) [ Some rest ↦ Some (found [] rest) | None ↦ None ]
 up_to mark (byte ∷ bytes) =
-    elim (stripped mark (byte ∷ bytes)) [
+    elim (behind_mark mark (byte ∷ bytes)) [
       | Some rest ↦ Some (found [] rest)
       | None ↦ option_map
           (λ (f : Found (List ℕ)). found (byte ∷ f.it) f.rest) (up_to mark bytes)
@@ -37,13 +37,13 @@ name_at (byte ∷ bytes) =
 
 -- `=` with white round it
 unfoldable pub equals_at : List ℕ → Option (List ℕ)
-equals_at bytes = option_map (behind is_white) (stripped (ascii "=") (behind is_white bytes))
+equals_at bytes = option_map (behind is_white) (behind_mark (ascii "=") (behind is_white bytes))
 
 -- what a value's closing quote leaves
 unfoldable pub closed_value : ℕ → List ℕ → Option (Found (List ℕ))
 closed_value quote bytes =
     option_map (found (front (is_value_byte quote) bytes))
-    (stripped (quote ∷ []) (behind (is_value_byte quote) bytes))
+    (behind_mark (quote ∷ []) (behind (is_value_byte quote) bytes))
 
 -- the value in quotes at the front
 unfoldable pub value_at : List ℕ → Option (Found (List ℕ))
@@ -77,11 +77,11 @@ attribute_of written =
 -- whether the end of a start tag is at the front, behind white, and that of an empty element
 unfoldable pub tag_end_at : List ℕ → Option (Found Bool)
 tag_end_at bytes =
-    elim (stripped (ascii ">") (behind is_white bytes)) [
+    elim (behind_mark (ascii ">") (behind is_white bytes)) [
       | Some rest ↦ Some
           (found false rest)
       | None ↦ option_map (found true)
-          (stripped (ascii "/>") (behind is_white bytes))
+          (behind_mark (ascii "/>") (behind is_white bytes))
     ]
 
 -- the attributes of a start tag and whether it is that of an empty element
@@ -116,7 +116,8 @@ start_tag_at bytes = option_and_then start_tag_of_name (name_at bytes)
 -- an end tag behind its `</`
 unfoldable pub end_tag_of_name : Found (List ℕ) → Option (Found Markup)
 end_tag_of_name name =
-    option_map (found (EndTag (codes name.it))) (stripped (ascii ">") (behind is_white name.rest))
+    option_map (found (EndTag (codes name.it)))
+    (behind_mark (ascii ">") (behind is_white name.rest))
 
 unfoldable pub end_tag_at : List ℕ → Option (Found Markup)
 end_tag_at bytes = option_and_then end_tag_of_name (name_at bytes)
@@ -135,16 +136,17 @@ cdata_at bytes =
     option_map (λ (f : Found (List ℕ)). found (Cdata f.it) f.rest) (up_to (ascii "]]>") bytes)
 
 unfoldable pub doctype_at : List ℕ → Option (Found Markup)
-doctype_at bytes = option_map (found Doctype) (stripped (ascii ">") (behind is_doctype_byte bytes))
+doctype_at bytes =
+    option_map (found Doctype) (behind_mark (ascii ">") (behind is_doctype_byte bytes))
 
 -- behind `<!`
 unfoldable pub declaration_at : List ℕ → Option (Found Markup)
 declaration_at bytes =
-    elim (stripped (ascii "--") bytes) [
+    elim (behind_mark (ascii "--") bytes) [
       | Some rest ↦ comment_at rest
-      | None ↦ elim (stripped (ascii "[CDATA[") bytes) [
+      | None ↦ elim (behind_mark (ascii "[CDATA[") bytes) [
         | Some rest ↦ cdata_at rest
-        | None ↦ option_and_then doctype_at (stripped (ascii "DOCTYPE") bytes)
+        | None ↦ option_and_then doctype_at (behind_mark (ascii "DOCTYPE") bytes)
       ]
     ]
 

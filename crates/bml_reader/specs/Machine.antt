@@ -53,23 +53,23 @@ abbrev pub phase_of : List Opened → Phase
 phase_of [] = Behind
 phase_of (_ ∷ _) = Inside
 
-abbrev pub opened : Bool → List ℕ → ℕ → List Opened → List Opened
-opened true tag number elements = elements
-opened false tag number elements = record { tag = tag; number = number } ∷ elements
+abbrev pub elements_with : Bool → List ℕ → ℕ → List Opened → List Opened
+elements_with true tag number elements = elements
+elements_with false tag number elements = record { tag = tag; number = number } ∷ elements
 
 -- behind a start tag, where these are the nodes in front of its element
-abbrev pub started : List ℕ → List Attribute → Bool → State → List Item → State
-started tag attributes is_empty s items = record {
-  phase = phase_of (opened is_empty tag (length items) s.elements);
-  elements = opened is_empty tag (length items) s.elements;
+abbrev pub after_start_tag : List ℕ → List Attribute → Bool → State → List Item → State
+after_start_tag tag attributes is_empty s items = record {
+  phase = phase_of (elements_with is_empty tag (length items) s.elements);
+  elements = elements_with is_empty tag (length items) s.elements;
   text = [];
   items = items ++ record { parent = innermost s.elements; content = Element tag attributes } ∷ [];
   is_deep = s.is_deep || nat_le most_levels (length s.elements);
 }
 
 -- once the innermost element has ended
-abbrev pub closed : Opened → List Opened → State → State
-closed o outer s = record s {
+abbrev pub outside_element : Opened → List Opened → State → State
+outside_element o outer s = record s {
   phase = phase_of outer;
   elements = outer;
   text = [];
@@ -77,9 +77,10 @@ closed o outer s = record s {
 }
 
 -- behind the end tag of the innermost element
-abbrev pub ended : List ℕ → List Opened → State → Option State
-ended tag [] s = None
-ended tag (o ∷ outer) s = if is_same tag o.tag then Some (closed o outer s) else None
+abbrev pub after_end_tag : List ℕ → List Opened → State → Option State
+after_end_tag tag [] s = None
+after_end_tag tag (o ∷ outer) s =
+    if is_same tag o.tag then Some (outside_element o outer s) else None
 
 abbrev pub with_more_text : List ℕ → State → State
 with_more_text bytes s = record s { text = s.text ++ bytes }
@@ -89,8 +90,8 @@ with_phase phase s = record s { phase = phase }
 
 abbrev pub step_inside : Markup → State → Option State
 step_inside (StartTag tag attributes is_empty) s =
-    Some (started tag attributes is_empty s (items_with_text s.elements s.text s.items))
-step_inside (EndTag tag) s = ended tag s.elements s
+    Some (after_start_tag tag attributes is_empty s (items_with_text s.elements s.text s.items))
+step_inside (EndTag tag) s = after_end_tag tag s.elements s
 step_inside (Run bytes) s = Some (with_more_text (read_references bytes) s)
 step_inside (Cdata bytes) s = Some (with_more_text bytes s)
 step_inside Remark s = Some s
@@ -98,7 +99,7 @@ step_inside Doctype s = None
 
 abbrev pub step_before_root : Markup → State → Option State
 step_before_root (StartTag tag attributes is_empty) s =
-    Some (started tag attributes is_empty s s.items)
+    Some (after_start_tag tag attributes is_empty s s.items)
 step_before_root (EndTag tag) s = None
 step_before_root (Run bytes) s = if list_all is_white bytes then Some s else None
 step_before_root (Cdata bytes) s = None
@@ -107,7 +108,7 @@ step_before_root Doctype s = None
 
 abbrev pub step_before_doctype : Markup → State → Option State
 step_before_doctype (StartTag tag attributes is_empty) s =
-    Some (started tag attributes is_empty s s.items)
+    Some (after_start_tag tag attributes is_empty s s.items)
 step_before_doctype (EndTag tag) s = None
 step_before_doctype (Run bytes) s = if list_all is_white bytes then Some s else None
 step_before_doctype (Cdata bytes) s = None
@@ -138,16 +139,16 @@ steps [] s = Some s
 steps (first ∷ others) s = option_and_then (steps others) (step first s)
 
 -- the nodes and the open elements' numbers, as far as the limit on nodes lets them be kept
-pub record Kept : Type 0 where
+pub record NodesSoFar : Type 0 where
   pub items : List Item
   pub path : List ℕ
 
-abbrev pub kept_of : List Item → List ℕ → Option Kept
-kept_of items path =
+abbrev pub few_nodes : List Item → List ℕ → Option NodesSoFar
+few_nodes items path =
     if nat_le (length items) most_nodes then Some (record { items = items; path = path }) else None
 
-abbrev pub kept_in : State → Option Kept
-kept_in s = kept_of s.items (map (λ o. o.number) s.elements)
+abbrev pub few_nodes_in : State → Option NodesSoFar
+few_nodes_in s = few_nodes s.items (map (λ o. o.number) s.elements)
 
 -- before the root nothing is open and there are no nodes; inside it something is open, and behind
 -- it nothing

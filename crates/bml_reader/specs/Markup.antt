@@ -5,7 +5,7 @@ use Rattle.std.specs.Prelude.{◌≡◌, ◌≢◌, ℕ, Bool, true, false, ◌�
 use Rattle.std.specs.List.{list_all}
 use Rattle.bml_bytes.specs.Codes.{codes}
 use Rattle.dom_tree.specs.Items.{Attribute, value_in}
-use Rattle.bml_reader.specs.Bytes.{is_white, is_name, is_text_byte, is_value_byte, is_quote, is_doctype_byte, stripped}
+use Rattle.bml_reader.specs.Bytes.{is_white, is_name, is_text_byte, is_value_byte, is_quote, is_doctype_byte, behind_mark}
 use Rattle.bml_reader.specs.References.{read_references}
 
 -- `<tag name="value">` or `<tag name="value"/>`; `</tag>`; bytes of text; `<![CDATA[bytes]]>`; a
@@ -96,7 +96,7 @@ pub record IsRun (bytes spelled more : List ℕ) : Type 0 where
 abbrev pub EndsAtFirst : List ℕ → List ℕ → Type 0
 EndsAtFirst mark [] = Unit {0}
 EndsAtFirst mark (byte ∷ bytes) =
-    (stripped mark (byte ∷ (bytes ++ mark)) ≡ None) × EndsAtFirst mark bytes
+    (behind_mark mark (byte ∷ (bytes ++ mark)) ≡ None) × EndsAtFirst mark bytes
 
 -- an opening mark, these bytes, and the closing mark at the first place where it stands behind the
 -- opening one

@@ -9,9 +9,9 @@ use Rattle.bml_reader.specs.Markup.Markup.{StartTag, EndTag, Run, Cdata, Remark,
 use Rattle.bml_reader.specs.Grammar.{is_left_out}
 use Rattle.bml_reader.specs.MarkupKinds.{is_misc}
 use Rattle.bml_reader.specs.Faults.{most_levels}
-use Rattle.bml_reader.specs.Machine.{State, Kept, kept_in}
+use Rattle.bml_reader.specs.Machine.{State, NodesSoFar, few_nodes_in}
 use Rattle.bml_reader.specs.Readings.{has_other_root}
-use Rattle.bml_reader.specs.Nodes.{kept_with_element, kept_with_text, kept_outside}
+use Rattle.bml_reader.specs.Nodes.{nodes_with_element, nodes_with_text, nodes_outside}
 use Rattle.bml_reader.specs.declared.faults.DocFault.{DocFault}
 use Rattle.bml_reader.specs.declared.faults.DocFault.TheVariants.{Malformed, WrongRoot, TooDeep, TooManyNodes, NoMemory}
 use Rattle.bml_reader.specs.declared.phases.Phase.{Phase}
@@ -25,7 +25,7 @@ pub record Seen : Type 0 where
   pub phase : Phase
   pub tags : List (List ℕ)
   pub text : List ℕ
-  pub kept : Option Kept
+  pub kept : Option NodesSoFar
   pub has_other_root : Bool
   pub is_deep : Bool
 
@@ -35,7 +35,7 @@ seen_of s =
       phase = s.phase;
       tags = map (λ o. o.tag) s.elements;
       text = s.text;
-      kept = kept_in s;
+      kept = few_nodes_in s;
       has_other_root = has_other_root s.items;
       is_deep = s.is_deep;
     }
@@ -51,14 +51,14 @@ seen_by r =
       is_deep = r.is_deep;
     }
 
-abbrev pub kept_with_text_of : List (List ℕ) → List ℕ → Option Kept → Option Kept
-kept_with_text_of [] text kept = kept
-kept_with_text_of (tag ∷ _) text kept =
-    if is_left_out tag text then kept else option_and_then (kept_with_text (codes text)) kept
+abbrev pub nodes_with_text_of : List (List ℕ) → List ℕ → Option NodesSoFar → Option NodesSoFar
+nodes_with_text_of [] text kept = kept
+nodes_with_text_of (tag ∷ _) text kept =
+    if is_left_out tag text then kept else option_and_then (nodes_with_text (codes text)) kept
 
 -- once the text in front of a tag is a node, or left out
 abbrev pub seen_flushed : Seen → Seen
-seen_flushed r = record r { text = []; kept = kept_with_text_of r.tags r.text r.kept }
+seen_flushed r = record r { text = []; kept = nodes_with_text_of r.tags r.text r.kept }
 
 abbrev pub phase_of_tags : List (List ℕ) → Phase
 phase_of_tags [] = Behind
@@ -73,7 +73,7 @@ abbrev pub seen_started : List ℕ → List Attribute → Bool → Seen → Seen
 seen_started tag attributes is_empty r = record r {
   phase = phase_of_tags (tags_with is_empty tag r.tags);
   tags = tags_with is_empty tag r.tags;
-  kept = option_and_then (kept_with_element tag attributes is_empty) r.kept;
+  kept = option_and_then (nodes_with_element tag attributes is_empty) r.kept;
   is_deep = r.is_deep || nat_le most_levels (length r.tags);
 }
 
@@ -86,7 +86,7 @@ seen_closed innermost outer r = record r {
   phase = phase_of_tags outer;
   tags = outer;
   text = [];
-  kept = option_map kept_outside (kept_with_text_of (innermost ∷ outer) r.text r.kept);
+  kept = option_map nodes_outside (nodes_with_text_of (innermost ∷ outer) r.text r.kept);
 }
 
 -- behind an end tag
@@ -169,7 +169,7 @@ HasDifferentNames Remark = Unit {0}
 HasDifferentNames Doctype = Unit {0}
 
 -- what is kept at the end tells the fault as the first one
-abbrev pub Refuses : DocFault → Bool → Bool → Option Kept → Type 0
+abbrev pub Refuses : DocFault → Bool → Bool → Option NodesSoFar → Type 0
 Refuses Malformed other deep kept = ⊥
 Refuses WrongRoot other deep kept = other ≡ true
 Refuses TooDeep other deep kept = (other ≡ false) × (deep ≡ true)

@@ -55,24 +55,24 @@ is_behind Behind = true
 -- a document with these nodes, whose root is another element than `bml` or not, and in which an
 -- element stands past the last level or not: the first fault that it has, or its nodes in document
 -- order
-abbrev pub judged_nodes : Bool → Bool → List Item → Result (List Item) DocFault
-judged_nodes other deep items =
+abbrev pub result_of_nodes : Bool → Bool → List Item → Result (List Item) DocFault
+result_of_nodes other deep items =
     if other then Err WrongRoot
     else (if deep then Err TooDeep
     else (if nat_le (length items) most_nodes then Ok items else Err TooManyNodes))
 
 -- what bytes come to that are read to their end, where this is known of them
-abbrev pub judged : State → Result (List Item) DocFault
-judged s =
-    if is_behind s.phase then judged_nodes (has_other_root s.items) s.is_deep s.items
+abbrev pub result_of_state : State → Result (List Item) DocFault
+result_of_state s =
+    if is_behind s.phase then result_of_nodes (has_other_root s.items) s.is_deep s.items
     else Err Malformed
 
 -- and where they are read to their end or not
-abbrev pub judged_where_read : Option State → Result (List Item) DocFault
-judged_where_read None = Err Malformed
-judged_where_read (Some s) = judged s
+abbrev pub result_where_read : Option State → Result (List Item) DocFault
+result_where_read None = Err Malformed
+result_where_read (Some s) = result_of_state s
 
 -- what bytes read as, which `law_of_readings` ties to `IsReading`; each piece has a byte, so that
 -- there are never more pieces than bytes
 unfoldable pub reading_of : List ℕ → Result (List Item) DocFault
-reading_of bytes = judged_where_read (read_markup (suc (length bytes)) bytes start_state)
+reading_of bytes = result_where_read (read_markup (suc (length bytes)) bytes start_state)

@@ -2,7 +2,7 @@
 -- entities and those to the characters 1 to 127 are read; that every other `&` stands for itself is
 -- this project's own rule.
 use Rattle.std.specs.Prelude.{ℕ, zero, suc, ◌+◌, ◌-◌, ◌*◌, nat_le, nat_lt, ◌==◌, Bool, ◌&&◌, if◌then◌else◌, List, [], ◌∷◌, length, Option, Some, None, codes as ascii}
-use Rattle.bml_reader.specs.Bytes.{is_digit, is_hex_digit, front, behind, stripped}
+use Rattle.bml_reader.specs.Bytes.{is_digit, is_hex_digit, front, behind, behind_mark}
 
 -- the character of a reference, and what stands behind it
 pub record Reference : Type 0 where
@@ -42,7 +42,7 @@ numeric_at (byte ∷ rest) =
 -- the name at the front stands for the character
 abbrev pub named_or : List ℕ → ℕ → List ℕ → Option Reference → Option Reference
 named_or name character bytes other =
-    elim (stripped name bytes) [
+    elim (behind_mark name bytes) [
       | Some rest ↦ Some (record {
         character = character;
         rest = rest;
@@ -56,7 +56,7 @@ reference_at bytes =
     named_or (ascii "lt;") 60 bytes
     (named_or (ascii "gt;") 62 bytes (named_or (ascii "amp;") 38 bytes
     (named_or (ascii "quot;") 34 bytes (named_or (ascii "apos;") 39 bytes
-    (elim (stripped (ascii "#") bytes) [ Some rest ↦ numeric_at rest | None ↦ None ])))))
+    (elim (behind_mark (ascii "#") bytes) [ Some rest ↦ numeric_at rest | None ↦ None ])))))
 
 -- the bytes with their references read, but for the first ones, which are left out
 unfoldable pub read_behind : ℕ → List ℕ → List ℕ

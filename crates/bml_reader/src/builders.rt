@@ -27,12 +27,12 @@ pub struct TreeBuilder {
 
 impl Model for TreeBuilder {
     ghost use Rattle.std.specs.Prelude.{Option};
-    ghost use Rattle.bml_reader.specs.Machine.{Kept};
-    ghost use Rattle.bml_reader.specs.BuilderViews.{kept_by, IsBuilding};
+    ghost use Rattle.bml_reader.specs.Machine.{NodesSoFar};
+    ghost use Rattle.bml_reader.specs.BuilderViews.{nodes_by, IsBuilding};
 
-    ghost Value = { Option Kept };
+    ghost Value = { Option NodesSoFar };
 
-    ghost view = { λ builder. kept_by builder.is_full builder.tree builder.path.items };
+    ghost view = { λ builder. nodes_by builder.is_full builder.tree builder.path.items };
 
     ghost invariant = { λ builder. IsBuilding builder.is_full builder.tree builder.path.items };
 }
@@ -40,7 +40,7 @@ impl Model for TreeBuilder {
 impl TreeBuilder {
     ghost use Rattle.std.specs.Prelude.{nat_le, true, IsNone};
     ghost use Rattle.std.specs.Option.{option_and_then};
-    ghost use Rattle.bml_reader.specs.Nodes.{kept_with_element, kept_with_text, kept_outside, IsRootNext};
+    ghost use Rattle.bml_reader.specs.Nodes.{nodes_with_element, nodes_with_text, nodes_outside, IsRootNext};
 
     /// No nodes.
     pub fn new(alloc: Global) -> TreeBuilder
@@ -66,7 +66,7 @@ impl TreeBuilder {
         requires root { IfSome self.old IsRootNext }
         ensures { OnOk result (self.new
             ≡ option_and_then
-            (kept_with_element tag (attributes_in_map attributes.now) is_empty) self.old) }
+            (nodes_with_element tag (attributes_in_map attributes.now) is_empty) self.old) }
     {
         if self.has_no_room() {
             self.let_go();
@@ -85,7 +85,7 @@ impl TreeBuilder {
     /// Adds a text as a child of the innermost open element.
     pub fn add_text(&mut self, text: Text) -> Result<(), NoMemory>
         requires { IfSome self.old (λ k. k.path ≢ []) }
-        ensures { OnOk result (self.new ≡ option_and_then (kept_with_text text) self.old) }
+        ensures { OnOk result (self.new ≡ option_and_then (nodes_with_text text) self.old) }
     {
         if self.has_no_room() {
             self.let_go();
@@ -96,7 +96,7 @@ impl TreeBuilder {
 
     /// Ends the innermost open element.
     pub fn close(&mut self)
-        ensures { self.new ≡ option_map kept_outside self.old }
+        ensures { self.new ≡ option_map nodes_outside self.old }
     {
         self.path.pop();
     }

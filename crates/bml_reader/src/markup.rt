@@ -5,7 +5,7 @@ ghost use Rattle.std.specs.Prelude.{◌≡◌, option_map, IfOk};
 ghost use Rattle.bml_reader.specs.Lexing.{markup_at, bracketed_at, declaration_at, comment_at, instruction_at, cdata_at, doctype_at, start_tag_at, end_tag_at};
 ghost use Rattle.bml_reader.specs.MarkupViews.{found_markup};
 
-use crate::bytes::{ByteClass, behind_run, split_at_mark, split_run, stripped};
+use crate::bytes::{ByteClass, behind_mark, behind_run, split_at_mark, split_run};
 use crate::tags::{Inside, inside_tag, name};
 use bml_bytes::{NoMemory, Text};
 use std::alloc::Global;
@@ -76,7 +76,7 @@ fn end_tag(bytes: &[u8]) -> Option<(Markup, &[u8])>
     ensures { option_map found_markup result ≡ end_tag_at bytes.now }
 {
     let (name, rest) = name(bytes)?;
-    let rest = stripped(behind_run(ByteClass::White, rest), b">")?;
+    let rest = behind_mark(behind_run(ByteClass::White, rest), b">")?;
     Some((Markup::EndTag(name), rest))
 }
 
@@ -85,15 +85,15 @@ fn end_tag(bytes: &[u8]) -> Option<(Markup, &[u8])>
 fn declaration(bytes: &[u8]) -> Option<(Markup, &[u8])>
     ensures { option_map found_markup result ≡ declaration_at bytes.now }
 {
-    match stripped(bytes, b"--") {
+    match behind_mark(bytes, b"--") {
         Some(rest) => return comment(rest),
         None => {}
     }
-    match stripped(bytes, b"[CDATA[") {
+    match behind_mark(bytes, b"[CDATA[") {
         Some(rest) => return cdata(rest),
         None => {}
     }
-    doctype(stripped(bytes, b"DOCTYPE")?)
+    doctype(behind_mark(bytes, b"DOCTYPE")?)
 }
 
 #[tactic(auto, unfolding(crate::specs::Lexing::comment_at))]
@@ -124,6 +124,6 @@ fn cdata(bytes: &[u8]) -> Option<(Markup, &[u8])>
 fn doctype(bytes: &[u8]) -> Option<(Markup, &[u8])>
     ensures { option_map found_markup result ≡ doctype_at bytes.now }
 {
-    let rest = stripped(behind_run(ByteClass::DoctypeByte, bytes), b">")?;
+    let rest = behind_mark(behind_run(ByteClass::DoctypeByte, bytes), b">")?;
     Some((Markup::Doctype, rest))
 }

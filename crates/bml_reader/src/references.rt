@@ -6,7 +6,7 @@ ghost use Rattle.bml_reader.specs.References.{read_references, read_behind, refe
 ghost use Rattle.bml_reader.specs.ReferenceViews.{found_reference};
 ghost use Rattle.bml_reader.specs.Views.{in_class};
 
-use crate::bytes::{ByteClass, split_run, stripped};
+use crate::bytes::{ByteClass, behind_mark, split_run};
 use bml_bytes::{NoMemory, Text};
 use std::alloc::Global;
 
@@ -52,27 +52,27 @@ fn character(bytes: &[u8]) -> Option<(u8, &[u8])>
 fn reference(bytes: &[u8]) -> Option<(u8, &[u8])>
     ensures { option_map found_reference result ≡ reference_at bytes.now }
 {
-    match stripped(bytes, b"lt;") {
+    match behind_mark(bytes, b"lt;") {
         Some(rest) => return Some((b'<', rest)),
         None => {}
     }
-    match stripped(bytes, b"gt;") {
+    match behind_mark(bytes, b"gt;") {
         Some(rest) => return Some((b'>', rest)),
         None => {}
     }
-    match stripped(bytes, b"amp;") {
+    match behind_mark(bytes, b"amp;") {
         Some(rest) => return Some((b'&', rest)),
         None => {}
     }
-    match stripped(bytes, b"quot;") {
+    match behind_mark(bytes, b"quot;") {
         Some(rest) => return Some((b'"', rest)),
         None => {}
     }
-    match stripped(bytes, b"apos;") {
+    match behind_mark(bytes, b"apos;") {
         Some(rest) => return Some((b'\'', rest)),
         None => {}
     }
-    match stripped(bytes, b"#") {
+    match behind_mark(bytes, b"#") {
         Some(rest) => numeric(rest),
         None => None,
     }
@@ -102,7 +102,7 @@ fn number(class: ByteClass, base: u32, bytes: &[u8]) -> Option<(u8, &[u8])>
     if digits.is_empty() {
         return None;
     }
-    closed(number_of(base, digits), rest)
+    outside_element(number_of(base, digits), rest)
 }
 
 // The number of some digits, or 128 where it isn't below that.
@@ -145,7 +145,7 @@ fn digit_value(digit: u8) -> u8
 
 // The character of this number, where there is one and `;` stands at the front.
 #[tactic(auto, unfolding(crate::specs::References::closed_by))]
-fn closed(number: u8, bytes: &[u8]) -> Option<(u8, &[u8])>
+fn outside_element(number: u8, bytes: &[u8]) -> Option<(u8, &[u8])>
     ensures { option_map found_reference result ≡ closed_by number bytes.now }
 {
     match bytes.split_first() {

@@ -9,7 +9,7 @@ ghost use Rattle.bml_reader.specs.Views.{found_bytes, found_written, found_flag}
 ghost use Rattle.bml_reader.specs.TagViews.{found_inner};
 ghost use Rattle.std.specs.Option.{option_copied};
 
-use crate::bytes::{ByteClass, behind_run, is_name_start, split_run, stripped};
+use crate::bytes::{ByteClass, behind_mark, behind_run, is_name_start, split_run};
 use crate::references::referring_text;
 use bml_bytes::{NoMemory, Text};
 use indexmap::IndexMap;
@@ -93,11 +93,11 @@ fn tag_end(bytes: &[u8]) -> Option<(bool, &[u8])>
     ensures { option_map found_flag result ≡ tag_end_at bytes.now }
 {
     let bytes = behind_run(ByteClass::White, bytes);
-    match stripped(bytes, b">") {
+    match behind_mark(bytes, b">") {
         Some(rest) => return Some((false, rest)),
         None => {}
     }
-    let rest = stripped(bytes, b"/>")?;
+    let rest = behind_mark(bytes, b"/>")?;
     Some((true, rest))
 }
 
@@ -121,7 +121,7 @@ fn attribute(bytes: &[u8]) -> Option<(&[u8], &[u8], &[u8])>
 fn equals(bytes: &[u8]) -> Option<&[u8]>
     ensures { option_copied result ≡ equals_at bytes.now }
 {
-    let rest = stripped(behind_run(ByteClass::White, bytes), b"=")?;
+    let rest = behind_mark(behind_run(ByteClass::White, bytes), b"=")?;
     Some(behind_run(ByteClass::White, rest))
 }
 
@@ -135,6 +135,6 @@ fn value(bytes: &[u8]) -> Option<(&[u8], &[u8])>
         return None;
     }
     let (value, rest) = split_run(ByteClass::ValueByte(*quote), rest);
-    let rest = stripped(rest, &[*quote])?;
+    let rest = behind_mark(rest, &[*quote])?;
     Some((value, rest))
 }

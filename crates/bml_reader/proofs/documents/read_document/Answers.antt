@@ -2,7 +2,7 @@ use Rattle.std.proofs.Common.{◌≡◌, ℕ, List, Bool, true, false, Some, Non
 use Rattle.std.specs.Prelude.{option_map}
 use Rattle.bml_reader.specs.Markup.{Markup}
 use Rattle.bml_reader.specs.Lexing.{Found, found, markup_at}
-use Rattle.bml_reader.specs.Machine.{Kept}
+use Rattle.bml_reader.specs.Machine.{NodesSoFar}
 use Rattle.bml_reader.specs.Faults.{ReadsWell, HasFault}
 use Rattle.bml_reader.specs.MarkupViews.{seen_markup, found_markup}
 use Rattle.bml_reader.specs.ReaderViews.{Seen, seen_by, seen_step, IsTaken, IsReady, Refuses}
@@ -70,7 +70,7 @@ returns-clause-ok c =
     let rest : List ℕ = c.markup.rest.now in
     let r : Seen = seen_by c.markup.reader in
     let end : AtEnd c.args.bytes.now r = Keeps-end c.args.bytes.now r rest c.markup.invariant (no-rest rest (c.markup-test.ensures {u = tt})) (c.is_whole.ensures.0 c.if-not-is_whole.false) in
-    ok-all c.finish.result (λ _. r.has_other_root ≡ false) (λ _. r.is_deep ≡ false) (λ tree. option_map (λ (k : Kept). k.items) r.kept ≡ Some tree) (λ tree. ReadsWell c.args.bytes.now tree) c.finish.ensures.root c.finish.ensures.depth c.finish.ensures.tree (λ tree a b d. AtEnd-well c.args.bytes.now r tree end a b d)
+    ok-all c.finish.result (λ _. r.has_other_root ≡ false) (λ _. r.is_deep ≡ false) (λ tree. option_map (λ (k : NodesSoFar). k.items) r.kept ≡ Some tree) (λ tree. ReadsWell c.args.bytes.now tree) c.finish.ensures.root c.finish.ensures.depth c.finish.ensures.tree (λ tree a b d. AtEnd-well c.args.bytes.now r tree end a b d)
 
 pub returns-clause-err : goal.returns-clause-err
 returns-clause-err c =
