@@ -1,4 +1,4 @@
--- What the builder of a tree stands for.
+-- A device of the proofs: what the builder of a tree stands for.
 use Rattle.std.specs.Prelude.{◌≡◌, ℕ, Bool, true, false, List, [], ◌++◌, Option, Some, None}
 use Rattle.dom_tree.specs.Items.{Attribute, Item, Content}
 use Rattle.dom_tree.specs.Items.Content.{Element, Text}

@@ -1,4 +1,4 @@
--- The grammar of a document:
+-- The grammar of a document (XML 1.0, 2.1, 2.4 to 2.8 and 3.1, in this project's own profile):
 --
 --     document = misc* [doctype misc*] element misc*
 --     misc     = white | remark

@@ -1,4 +1,4 @@
--- Pieces that may stand before and behind the root.
+-- A device of the proofs: which pieces may stand before and behind the root.
 use Rattle.std.specs.Prelude.{Bool, true, false}
 use Rattle.std.specs.List.{list_all}
 use Rattle.bml_reader.specs.Bytes.{is_white}

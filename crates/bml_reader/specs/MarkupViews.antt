@@ -1,4 +1,4 @@
--- What the pieces in the code stand for.
+-- A device of the proofs: what the pieces of markup in the code stand for.
 use Rattle.std.specs.Prelude.{ℕ, List}
 use Rattle.std.specs.Borrow.{Bor}
 use Rattle.bml_bytes.specs.Codes.{codes}

@@ -1,4 +1,5 @@
--- How the nodes and the path of open elements grow, as far as the limit on nodes lets them be kept.
+-- A device of the proofs: how the nodes and the path of open elements grow, as far as the limit on
+-- nodes lets them be kept.
 use Rattle.std.specs.Prelude.{◌≡◌, ℕ, Bool, true, false, List, [], ◌∷◌, ◌++◌, length, map, reverse, Option, Some, None}
 use Rattle.dom_tree.specs.Items.{Attribute, Item, IsElement}
 use Rattle.dom_tree.specs.Items.Content.{Element, Text}

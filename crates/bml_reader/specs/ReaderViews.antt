@@ -1,4 +1,4 @@
--- What the reader keeps of what is known, and how it changes with a piece.
+-- A device of the proofs: what the reader keeps of what is known, and how it changes with a piece.
 use Rattle.std.specs.Prelude.{◌≡◌, ◌≢◌, ℕ, nat_le, Bool, true, false, ◌||◌, not, if◌then◌else◌, List, [], ◌∷◌, ◌++◌, length, map, reverse, Option, Some, None, IfSome, option_map, option_and_then, codes as ascii}
 use Rattle.bml_bytes.specs.Codes.{codes}
 use Rattle.bml_bytes.specs.Words.{is_same}

@@ -1,4 +1,5 @@
--- The lines of a display list, each ended by a line feed, with one space between fields. (This project's own.)
+-- The lines of a display list, each ended by a line feed, with one space between fields. (This
+-- project's own.)
 use Rattle.std.specs.Prelude.{ℕ, List, [], ◌∷◌, ◌++◌, codes}
 use Rattle.std.specs.Option.{option_map_or}
 use Rattle.std.specs.List.{flat_map, join_with_byte}
@@ -19,15 +20,21 @@ clock_line clock = codes "show " ++ decimal_digits clock ++ codes "\n"
 
 -- `X Y W H`
 unfoldable pub place_fields : Place → List ℕ
-place_fields place = join_with_byte 32 (signed_decimal_digits place.x ∷ signed_decimal_digits place.y ∷ signed_decimal_digits place.width ∷ signed_decimal_digits place.height ∷ [])
+place_fields place =
+    join_with_byte 32
+    (signed_decimal_digits place.x ∷ signed_decimal_digits place.y ∷ signed_decimal_digits
+    place.width ∷ signed_decimal_digits place.height ∷ [])
 
--- `box X Y W H 8 0 7` of an element, whose background, border width and border colour are the initial ones
+-- `box X Y W H 8 0 7` of an element, whose background, border width and border colour are the
+-- initial ones
 unfoldable pub box_line : Place → List ℕ
 box_line place = codes "box " ++ place_fields place ++ codes " 8 0 7" ++ codes "\n"
 
 -- `text X Y W H 7 24 BYTES` of a text in an element, with the element's place
 unfoldable pub text_line : Place → List ℕ → List ℕ
-text_line place text = codes "text " ++ place_fields place ++ codes " 7 24 " ++ escaped Controls (bytes_of text) ++ codes "\n"
+text_line place text =
+    codes "text " ++ place_fields place ++ codes " 7 24 " ++ escaped Controls (bytes_of text)
+    ++ codes "\n"
 
 -- the line of a child, where it is a text
 unfoldable pub child_line : List Item → Place → ℕ → List ℕ
@@ -35,7 +42,9 @@ child_line items place child = option_map_or (text_line place) (text_of items ch
 
 -- an element's box, and then the texts that hang in the element itself, in order
 unfoldable pub element_lines : List Item → ℕ → List ℕ
-element_lines items node = box_line (place_of items node) ++ flat_map (child_line items (place_of items node)) (children_of items node)
+element_lines items node =
+    box_line (place_of items node)
+    ++ flat_map (child_line items (place_of items node)) (children_of items node)
 
 -- The display list of a document at a clock's time: the elements that are drawn, in document order.
 unfoldable pub display_lines : List Item → ℕ → List ℕ

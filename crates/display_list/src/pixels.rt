@@ -40,8 +40,9 @@ impl Measure {
         }
     }
 
-    /// The pixels that a value gives the measure, -32,768 to 32,767, and from 0 on for width and height. None
-    /// where the text isn't a value of it. The text is in lower case and without white at its ends.
+    /// The pixels that a value gives the measure, -32,768 to 32,767, and from 0 on for width and
+    /// height. None where the text isn't a value of it. The text is in lower case and without white
+    /// at its ends.
     pub fn pixels(self, value: &[u16]) -> Option<i16>
         ensures { result ≡ pixels self value.now }
     {
@@ -90,7 +91,8 @@ fn unsigned_pixels(value: &[u16]) -> Option<u32>
 
 // What stands before the unit, and None where the text has another end.
 fn before_unit(value: &[u16]) -> Option<&[u16]>
-    ensures { MatchOption result (IsFalse (is_same (unit_of value.now) (codes "px"))) (λ front. (front.now ≡ without_unit value.now) × IsTrue (is_same (unit_of value.now) (codes "px"))) }
+    ensures { MatchOption result (IsFalse (is_same (unit_of value.now) (codes "px"))) (λ front.
+        (front.now ≡ without_unit value.now) × IsTrue (is_same (unit_of value.now) (codes "px"))) }
 {
     let unit = value.len().saturating_sub(2);
     if is_word(&value[unit..], "px") {

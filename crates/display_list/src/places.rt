@@ -23,8 +23,8 @@ pub struct Place {
     pub height: i16,
 }
 
-/// Where a node stands: the sums of the offsets from the root down to it, its own size, and whether it is the
-/// body or stands under it.
+/// Where a node stands: the sums of the offsets from the root down to it, its own size, and whether
+/// it is the body or stands under it.
 #[derive(Clone, Copy, Debug, PartialEq, Eq)]
 pub struct NodePlace {
     pub place: Place,
@@ -34,7 +34,8 @@ pub struct NodePlace {
 
 /// Where each node stands, in document order.
 pub fn node_places_of(alloc: Global, tree: &Tree) -> Result<Vec<NodePlace>, NoMemory>
-    ensures { IfOk result (λ node_places. node_places.items ≡ map (node_place_of tree.now) (range_with_len 0 (length tree.now))) }
+    ensures { IfOk result (λ node_places. node_places.items
+        ≡ map (node_place_of tree.now) (range_with_len 0 (length tree.now))) }
 {
     let style = Text::of_bytes(alloc, b"style")?;
     let body = first_body(tree);
@@ -106,7 +107,8 @@ impl NodePlace {
         requires few { node.0 < most_nodes }
         requires before { before.now ≡ map (node_place_of tree.now) (range_with_len 0 node.0) }
         ensures outer { result ≡ node_place_around tree.now node.0 }
-        ensures path { path_of tree.now node.0 ≡ node.0 ∷ option_map_or (path_of tree.now) (parent_of tree.now node.0) [] }
+        ensures path { path_of tree.now node.0
+            ≡ node.0 ∷ option_map_or (path_of tree.now) (parent_of tree.now node.0) [] }
         ensures x { IsFar result.place.x }
         ensures y { IsFar result.place.y }
     {

@@ -38,7 +38,8 @@ pub fn push_clock_line(clock: u64, out: &mut Vec<u8>) -> Result<(), NoMemory>
 // Appends the lines of each element that is drawn.
 fn push_boxes(tree: &Tree, out: &mut Vec<u8>) -> Result<(), NoMemory>
     ensures ok { OnOk result
-        (out.new.items ≡ out.old.items ++ flat_map (element_lines tree.now) (drawn_nodes tree.now)) }
+        (out.new.items
+        ≡ out.old.items ++ flat_map (element_lines tree.now) (drawn_nodes tree.now)) }
     ensures grows { StartsWith out.new.items out.old.items }
 {
     law_of_fronts();

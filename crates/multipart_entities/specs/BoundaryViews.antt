@@ -1,4 +1,5 @@
--- Delimiter lines from a place on, and what the delimiter in the code stands for.
+-- A device of the proofs: delimiter lines from a place on, and what the delimiter in the code
+-- stands for.
 use Rattle.std.specs.Prelude.{ℕ, Bool, true, false, if◌then◌else◌, List, drop, Option, Some, None}
 use Rattle.multipart_entities.specs.declared.boundaries.Delimiter.{Delimiter as DelimiterInCode}
 use Rattle.multipart_entities.specs.Lines.{lines_of, placed_from}

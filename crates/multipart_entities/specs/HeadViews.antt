@@ -1,4 +1,4 @@
--- What is kept of a head, and what the head in the code stands for.
+-- A device of the proofs: what is read of a head, and what the head in the code stands for.
 use Rattle.std.specs.Prelude.{ℕ, Bool, true, if◌then◌else◌, List, [], Option, Some, None, option_copied, option_and_then, codes as ascii}
 use Rattle.std.specs.Option.{option_map_or, option_or}
 use Rattle.std.specs.List.{before_first, after_last}

@@ -1,4 +1,4 @@
--- Parts one by one, and what the body parts in the code stand for.
+-- A device of the proofs: parts one by one, and what the body parts in the code stand for.
 use Rattle.std.specs.Prelude.{ℕ, ◌+◌, ◌-◌, ◌^◌, ◌≤◌, ◌≡◌, min, if◌then◌else◌, List, [], ◌∷◌, ◌++◌, length, Option, Some, None, option_map, option_and_then, is_some, Result}
 use Rattle.std.specs.List.{filter_map}
 use Rattle.std.specs.Result.{result_map_both}

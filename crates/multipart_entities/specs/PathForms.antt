@@ -1,5 +1,5 @@
--- The forms of paths, field by field from the front. (These aren't the definition, which is
--- `Paths`; the code follows them.)
+-- A device of the proofs: the forms of paths, field by field from the front, as the code follows
+-- them. The definition is `Paths`.
 use Rattle.std.specs.Prelude.{ℕ, if◌then◌else◌, List, [], ◌∷◌, Option, Some, None, option_map, option_and_then, codes as ascii}
 use Rattle.multipart_entities.specs.declared.paths.Path.{Path}
 use Rattle.multipart_entities.specs.declared.paths.FoundPath.{FoundPath}
