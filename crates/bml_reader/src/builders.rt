@@ -64,8 +64,8 @@ impl TreeBuilder {
     ) -> Result<(), NoMemory>
         requires names { NamesDiffer [] (attributes_in_map attributes.now) }
         requires root { IfSome self.old IsRootNext }
-        ensures { OnOk result (self.new
-            ≡ option_and_then
+        ensures { OnOk result
+            (self.new ≡ option_and_then
             (nodes_with_element tag (attributes_in_map attributes.now) is_empty) self.old) }
     {
         if self.has_no_room() {
@@ -152,7 +152,8 @@ fn grow_element(
           parent = top_of (numbers_in path.old.items);
           content = Element tag (attributes_in_map attributes.now);
         } ∷ [])) }
-    ensures path { OnOk result (numbers_in path.new.items
+    ensures path { OnOk result
+        (numbers_in path.new.items
         ≡ path_with is_empty (length (items_or_none tree.old)) (numbers_in path.old.items)) }
     ensures still { IsGrown tree.new (numbers_in path.new.items) }
 {
@@ -174,8 +175,9 @@ fn grow(
     requires grown { IsGrown tree.old (numbers_in path.now) }
     requires root { numbers_in path.now ≡ [] → items_or_none tree.old ≡ [] }
     requires room { length (items_or_none tree.old) < most_nodes }
-    ensures added { OnOk result (tree.new
-        ≡ Some (items_or_none tree.old ++ element_in (top_of (numbers_in path.now)) tag ∷ [])) }
+    ensures added { OnOk result
+        (tree.new ≡ Some (items_or_none tree.old
+        ++ element_in (top_of (numbers_in path.now)) tag ∷ [])) }
     ensures number { IfOk result (λ node. node.0 ≡ length (items_or_none tree.old)) }
     ensures open { IfOk result (λ node. IsGrown tree.new (node.0 ∷ numbers_in path.now)) }
     ensures still { IsGrown tree.new (numbers_in path.now) }
@@ -199,8 +201,8 @@ fn grow_inside(
     requires grown { IsGrown tree.old (numbers_in path.now) }
     requires parent { top_of (numbers_in path.now) ≡ Some parent.0 }
     requires room { length (items_or_none tree.old) < most_nodes }
-    ensures added { OnOk result (tree.new
-        ≡ Some (items_or_none tree.old ++ element_in (Some parent.0) tag ∷ [])) }
+    ensures added { OnOk result
+        (tree.new ≡ Some (items_or_none tree.old ++ element_in (Some parent.0) tag ∷ [])) }
     ensures number { IfOk result (λ node. node.0 ≡ length (items_or_none tree.old)) }
     ensures open { IfOk result (λ node. IsGrown tree.new (node.0 ∷ numbers_in path.now)) }
     ensures still { IsGrown tree.new (numbers_in path.now) }
@@ -219,8 +221,9 @@ fn grow_text(tree: &mut Option<Tree>, path: &[NodeId], text: Text) -> Result<(),
     requires grown { IsGrown tree.old (numbers_in path.now) }
     requires open { numbers_in path.now ≢ [] }
     requires room { length (items_or_none tree.old) < most_nodes }
-    ensures added { OnOk result (tree.new
-        ≡ Some (items_or_none tree.old ++ text_node_in (top_of (numbers_in path.now)) text ∷ [])) }
+    ensures added { OnOk result
+        (tree.new ≡ Some (items_or_none tree.old
+        ++ text_node_in (top_of (numbers_in path.now)) text ∷ [])) }
     ensures open { IsGrown tree.new (numbers_in path.now) }
     ensures err { OnErr result (tree.new ≡ tree.old) }
 {
@@ -242,9 +245,9 @@ fn give_attributes(
     requires element { IfSome tree.old (λ items. IsElement items node.0) }
     requires plain { IfSome tree.old (λ items. attributes_of items node.0 ≡ []) }
     requires names { NamesDiffer [] (attributes_in_map attributes.now) }
-    ensures ok { OnOk result (tree.new
-        ≡ option_map (changed_at (with_attributes (attributes_in_map attributes.now)) node.0)
-        tree.old) }
+    ensures ok { OnOk result
+        (tree.new ≡ option_map
+        (changed_at (with_attributes (attributes_in_map attributes.now)) node.0) tree.old) }
     ensures places { KeepsPlacesOf tree.old tree.new }
 {
     match tree {
@@ -262,8 +265,9 @@ fn give_each(
     requires element { IsElement tree.old node.0 }
     requires plain { attributes_of tree.old node.0 ≡ [] }
     requires names { NamesDiffer [] (attributes_in_map attributes.now) }
-    ensures ok { OnOk result (tree.new
-        ≡ changed_at (with_attributes (attributes_in_map attributes.now)) node.0 tree.old) }
+    ensures ok { OnOk result
+        (tree.new ≡ changed_at
+        (with_attributes (attributes_in_map attributes.now)) node.0 tree.old) }
     ensures places { KeepsPlaces tree.old tree.new }
 {
     let mut place = 0;
@@ -278,7 +282,8 @@ fn give_each(
 // The attribute at a place in the order written.
 fn attribute_at(attributes: &IndexMap<Text, Text>, place: usize) -> Result<(Text, Text), NoMemory>
     requires { place < length (attributes_in_map attributes.now) }
-    ensures { IfOk result (λ entry. slice_get (attributes_in_map attributes.now) place
+    ensures { IfOk result
+        (λ entry. slice_get (attributes_in_map attributes.now) place
         ≡ Some (attribute_of_entry entry)) }
 {
     match attributes.get_index(place) {

@@ -22,8 +22,8 @@ use std::alloc::Global;
 pub fn read_document(alloc: Global, bytes: &[u8]) -> Result<Tree, DocFault>
     ensures ok { IfOk result (λ tree. ReadsWell bytes.now tree) }
     ensures err { IfErr result (λ fault. HasFault bytes.now fault) }
-    ensures reading { MatchResult result (λ tree. reading_of bytes.now
-        ≡ Ok tree) (λ fault. fault ≢ DocFault.NoMemory → reading_of bytes.now ≡ Err fault) }
+    ensures reading { MatchResult result (λ tree. reading_of bytes.now ≡ Ok tree)
+        (λ fault. fault ≢ DocFault.NoMemory → reading_of bytes.now ≡ Err fault) }
 {
     let mut reader = Reader::new(alloc);
     let mut rest = bytes;

@@ -44,7 +44,7 @@ impl Reader {
     ghost use Rattle.bml_reader.specs.Markup.{NamesDiffer};
     ghost use Rattle.bml_reader.specs.Nodes.{IsRootNext};
     ghost use Rattle.bml_reader.specs.declared.phases.Phase.TheVariants.{BeforeDoctype, BeforeRoot, Inside, Behind};
-    ghost use Rattle.bml_reader.specs.ReaderViews.{seen_of, seen_by, seen_step, seen_before_doctype, seen_before_root, seen_inside, seen_misc, seen_started, seen_flushed, seen_ended, with_root, seen_in_phase, phase_of_tags, IsTaken, IsReady, IsReadyIn, HasDifferentNames, Refuses};
+    ghost use Rattle.bml_reader.specs.ReaderViews.{seen_of, seen_by, seen_step, seen_before_doctype, seen_before_root, seen_inside, seen_started, seen_flushed, seen_ended, with_root, seen_in_phase, phase_of_tags, IsTaken, IsReady, IsReadyIn, HasDifferentNames, Refuses};
 
     /// Nothing is read yet.
     pub fn new(alloc: Global) -> Reader
@@ -66,8 +66,8 @@ impl Reader {
     pub fn take(&mut self, markup: Markup) -> Result<bool, NoMemory>
         requires ready { IsReady (seen_by self.old) }
         requires names { HasDifferentNames (seen_markup markup) }
-        ensures { IfOk result (λ taken.
-            IsTaken (seen_step (seen_markup markup.entry) (seen_by self.old)) taken
+        ensures { IfOk result
+            (λ taken. IsTaken (seen_step (seen_markup markup.entry) (seen_by self.old)) taken
             (seen_by self.new)) }
     {
         match self.phase {
@@ -91,8 +91,8 @@ impl Reader {
         ensures root { IfOk result (λ tree. self.has_other_root ≡ false) }
         ensures depth { IfOk result (λ tree. self.is_deep ≡ false) }
         ensures tree { IfOk result (λ tree. option_map (λ k. k.items) self.builder ≡ Some tree) }
-        ensures err { IfErr result (λ fault.
-            Refuses fault self.has_other_root self.is_deep self.builder) }
+        ensures err { IfErr result
+            (λ fault. Refuses fault self.has_other_root self.is_deep self.builder) }
     {
         if self.has_other_root {
             return Err(DocFault::WrongRoot);
@@ -109,8 +109,9 @@ impl Reader {
     fn take_before_doctype(&mut self, markup: Markup) -> Result<bool, NoMemory>
         requires ready { IsReadyIn BeforeRoot (seen_by self.old) }
         requires names { HasDifferentNames (seen_markup markup) }
-        ensures { IfOk result (λ taken.
-            IsTaken (seen_before_doctype (seen_markup markup.entry) (seen_by self.old)) taken
+        ensures { IfOk result
+            (λ taken. IsTaken
+            (seen_before_doctype (seen_markup markup.entry) (seen_by self.old)) taken
             (seen_by self.new)) }
     {
         match markup {
@@ -126,8 +127,8 @@ impl Reader {
     fn take_before_root(&mut self, markup: Markup) -> Result<bool, NoMemory>
         requires ready { IsReadyIn BeforeRoot (seen_by self.old) }
         requires names { HasDifferentNames (seen_markup markup) }
-        ensures { IfOk result (λ taken.
-            IsTaken (seen_before_root (seen_markup markup.entry) (seen_by self.old)) taken
+        ensures { IfOk result
+            (λ taken. IsTaken (seen_before_root (seen_markup markup.entry) (seen_by self.old)) taken
             (seen_by self.new)) }
     {
         match markup {
@@ -139,8 +140,8 @@ impl Reader {
     fn take_inside(&mut self, markup: Markup) -> Result<bool, NoMemory>
         requires ready { IsReadyIn Inside (seen_by self.old) }
         requires names { HasDifferentNames (seen_markup markup) }
-        ensures { IfOk result (λ taken.
-            IsTaken (seen_inside (seen_markup markup.entry) (seen_by self.old)) taken
+        ensures { IfOk result
+            (λ taken. IsTaken (seen_inside (seen_markup markup.entry) (seen_by self.old)) taken
             (seen_by self.new)) }
     {
         match markup {
@@ -166,9 +167,9 @@ impl Reader {
     fn start_root(&mut self, start: StartTag) -> Result<bool, NoMemory>
         requires ready { IsReadyIn BeforeRoot (seen_by self.old) }
         requires names { NamesDiffer [] (attributes_in_map start.inside.attributes) }
-        ensures { IfOk result (λ taken.
-            IsTaken (Some
-            (seen_started start.tag
+        ensures { IfOk result
+            (λ taken. IsTaken
+            (Some (seen_started start.tag
             (attributes_in_map start.inside.attributes) start.inside.is_empty
             (with_root start.tag (seen_by self.old)))) taken (seen_by self.new)) }
     {
@@ -181,9 +182,9 @@ impl Reader {
     fn start_inside(&mut self, start: StartTag) -> Result<bool, NoMemory>
         requires ready { IsReadyIn Inside (seen_by self.old) }
         requires names { NamesDiffer [] (attributes_in_map start.inside.attributes) }
-        ensures { IfOk result (λ taken.
-            IsTaken (Some
-            (seen_started start.tag
+        ensures { IfOk result
+            (λ taken. IsTaken
+            (Some (seen_started start.tag
             (attributes_in_map start.inside.attributes) start.inside.is_empty
             (seen_flushed (seen_by self.old)))) taken (seen_by self.new)) }
     {
@@ -196,7 +197,8 @@ impl Reader {
     fn start(&mut self, start: StartTag) -> Result<(), NoMemory>
         requires root { IfSome self.old.builder IsRootNext }
         requires names { NamesDiffer [] (attributes_in_map start.inside.attributes) }
-        ensures { OnOk result (seen_by self.new
+        ensures { OnOk result
+            (seen_by self.new
             ≡ seen_started start.tag
             (attributes_in_map start.inside.attributes) start.inside.is_empty (seen_by self.old)) }
     {
@@ -218,8 +220,8 @@ impl Reader {
     // Ends the innermost element, where this is its tag.
     fn end(&mut self, tag: Text) -> Result<bool, NoMemory>
         requires ready { IsReadyIn Inside (seen_by self.old) }
-        ensures { IfOk result (λ taken.
-            IsTaken (seen_ended tag (seen_by self.old).tags (seen_by self.old)) taken
+        ensures { IfOk result
+            (λ taken. IsTaken (seen_ended tag (seen_by self.old).tags (seen_by self.old)) taken
             (seen_by self.new)) }
     {
         match self.tags.last() {

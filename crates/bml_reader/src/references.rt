@@ -33,8 +33,8 @@ pub fn push_read(bytes: &[u8], out: &mut Vec<u8>) -> Result<(), NoMemory>
 
 // The first byte, or the character of the reference at the front, and what stands behind it.
 fn character(bytes: &[u8]) -> Option<(u8, &[u8])>
-    ensures read { MatchOption result (bytes.now ≡ []) (λ found. read_behind 0 bytes.now
-        ≡ found.0 ∷ read_behind 0 found.1.now) }
+    ensures read { MatchOption result (bytes.now ≡ [])
+        (λ found. read_behind 0 bytes.now ≡ found.0 ∷ read_behind 0 found.1.now) }
     ensures shorter { IfSome result (λ found. length found.1.now < length bytes.now) }
 {
     let (byte, more) = bytes.split_first()?;

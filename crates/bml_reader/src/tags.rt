@@ -4,7 +4,6 @@ ghost use Rattle.std.specs.Prelude.{◌≡◌, ◌∷◌, ◌++◌, option_map, 
 ghost use Rattle.dom_tree.specs.Items.{value_in};
 ghost use Rattle.bml_reader.specs.AttributeViews.{attributes_in_map};
 ghost use Rattle.bml_reader.specs.Lexing.{name_at, equals_at, value_at, closed_value, attribute_at, value_of_name, tag_end_at, inner_at};
-ghost use Rattle.bml_reader.specs.Bytes.{is_quote as spec_is_quote};
 ghost use Rattle.bml_reader.specs.Views.{found_bytes, found_written, found_flag};
 ghost use Rattle.bml_reader.specs.TagViews.{found_inner};
 ghost use Rattle.std.specs.Option.{option_copied};
@@ -36,8 +35,8 @@ pub fn name(bytes: &[u8]) -> Option<(&[u8], &[u8])>
 
 /// What stands in a start tag behind its name, and what stands behind the tag.
 pub fn inside_tag(alloc: Global, bytes: &[u8]) -> Result<Option<(Inside, &[u8])>, NoMemory>
-    ensures { IfOk result (λ found. option_map found_inner found
-        ≡ inner_at (suc (length bytes.now)) [] bytes.now) }
+    ensures { IfOk result
+        (λ found. option_map found_inner found ≡ inner_at (suc (length bytes.now)) [] bytes.now) }
 {
     let mut attributes: IndexMap<Text, Text> = IndexMap::new(alloc);
     let mut rest = bytes;
@@ -72,8 +71,8 @@ fn add_attribute(
     name: Text,
     value: Text,
 ) -> Result<bool, NoMemory>
-    ensures new { IfOk result (λ added. is_some (value_in (attributes_in_map attributes.old) name)
-        ≡ not added) }
+    ensures new { IfOk result
+        (λ added. is_some (value_in (attributes_in_map attributes.old) name) ≡ not added) }
     ensures last { IfOk result (λ added. added ≡ true
         → attributes_in_map attributes.new
         ≡ attributes_in_map attributes.old ++ record { name = name; value = value } ∷ []) }

@@ -1,6 +1,6 @@
 //! The declarations in the text of an attribute `style`.
 
-ghost use Rattle.std.specs.Prelude.{◌≡◌, [], map, pos, IfOk};
+ghost use Rattle.std.specs.Prelude.{◌≡◌, [], map, IfOk};
 ghost use Rattle.std.specs.List.{after_first, before_first, position, slice_split};
 ghost use Rattle.display_list.specs.Inline.{declared_pixels, declaration_of, is_colon, is_semicolon, is_white as spec_is_white, without_white as spec_without_white};
 ghost use Rattle.display_list.specs.Views.{declaration_seen, measures_of, measures_in, without_white_front as spec_without_white_front, with_declaration};

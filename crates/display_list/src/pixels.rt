@@ -1,7 +1,6 @@
 //! The pixels that a value stands for.
 
-ghost use Rattle.std.specs.Prelude.{◌≡◌, ◌≤◌, ◌-◌, length, is_some, codes, IfSome, IsFalse, IsTrue, MatchOption};
-ghost use Rattle.std.specs.List.{list_all};
+ghost use Rattle.std.specs.Prelude.{◌≡◌, ◌≤◌, ◌-◌, is_some, codes, IfSome, IsFalse, IsTrue, MatchOption};
 ghost use Rattle.bml_bytes.specs.Words.{is_same};
 ghost use Rattle.bml_bytes.specs.Numerals.{is_decimal_digit};
 ghost use Rattle.display_list.specs.Inline.{may_be_negative as spec_may_be_negative, name_of, pixels, unit_of, without_unit};
@@ -91,8 +90,9 @@ fn unsigned_pixels(value: &[u16]) -> Option<u32>
 
 // What stands before the unit, and None where the text has another end.
 fn before_unit(value: &[u16]) -> Option<&[u16]>
-    ensures { MatchOption result (IsFalse (is_same (unit_of value.now) (codes "px"))) (λ front.
-        (front.now ≡ without_unit value.now) × IsTrue (is_same (unit_of value.now) (codes "px"))) }
+    ensures { MatchOption result (IsFalse (is_same (unit_of value.now) (codes "px")))
+        (λ front. (front.now ≡ without_unit value.now)
+        × IsTrue (is_same (unit_of value.now) (codes "px"))) }
 {
     let unit = value.len().saturating_sub(2);
     if is_word(&value[unit..], "px") {

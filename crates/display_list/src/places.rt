@@ -34,7 +34,8 @@ pub struct NodePlace {
 
 /// Where each node stands, in document order.
 pub fn node_places_of(alloc: Global, tree: &Tree) -> Result<Vec<NodePlace>, NoMemory>
-    ensures { IfOk result (λ node_places. node_places.items
+    ensures { IfOk result
+        (λ node_places. node_places.items
         ≡ map (node_place_of tree.now) (range_with_len 0 (length tree.now))) }
 {
     let style = Text::of_bytes(alloc, b"style")?;

@@ -44,10 +44,10 @@ impl Model for Draft {
 /// Reads a document that lies at a path, and finds its needs. The faults are those of
 /// `read_document`, in its order.
 pub fn read_draft(alloc: Global, bytes: &[u8], path: &Path) -> Result<Draft, DocFault>
-    ensures reading { MatchResult result (λ draft. (items : List Item)
-        × (reading_of bytes.now ≡ Ok items)
-        × (draft ≡ draft_of path.now items)) (λ fault. fault ≢ DocFault.NoMemory
-        → reading_of bytes.now ≡ Err fault) }
+    ensures reading { MatchResult result
+        (λ draft. (items : List Item) × (reading_of bytes.now ≡ Ok items)
+        × (draft ≡ draft_of path.now items))
+        (λ fault. fault ≢ DocFault.NoMemory → reading_of bytes.now ≡ Err fault) }
 {
     let tree = read_document(alloc, bytes)?;
     let draft = Draft::open(alloc, tree, path)?;

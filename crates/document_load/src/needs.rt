@@ -1,6 +1,6 @@
 //! The resources that the nodes of a document need.
 
-ghost use Rattle.std.specs.Prelude.{◌≡◌, ◌<◌, IfOk, length, option_and_then, option_copied, slice_get, codes as ascii};
+ghost use Rattle.std.specs.Prelude.{◌≡◌, ◌<◌, IfOk, length, option_and_then, option_copied, slice_get};
 ghost use Rattle.document_load.specs.Needs.{need_in, needs_of, reference_in};
 ghost use Rattle.document_load.specs.NeedViews.{AreNames};
 
@@ -48,8 +48,8 @@ fn need_of(
 ) -> Result<Option<Path>, NoMemory>
     requires node { node.0 < length tree.now }
     requires names { AreNames names.now }
-    ensures { IfOk result (λ need. need
-        ≡ option_and_then (need_in base.now) (slice_get tree.now node.0)) }
+    ensures { IfOk result
+        (λ need. need ≡ option_and_then (need_in base.now) (slice_get tree.now node.0)) }
 {
     match reference_of(tree, node, names) {
         None => Ok(None),

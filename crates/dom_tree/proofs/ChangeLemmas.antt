@@ -1,11 +1,11 @@
 -- What a change of one text or one attribute leaves as it is.
-use Rattle.std.proofs.Common.{◌≡◌, ◌≢◌, ℕ, zero, suc, List, [], ◌∷◌, Option, Some, None, refl, sym, ◌∙◌, ap, subst}
+use Rattle.std.proofs.Common.{◌≡◌, ◌≢◌, ℕ, zero, suc, List, [], ◌∷◌, Option, Some, None, refl, sym, ◌∙◌, ap}
 use Rattle.std.specs.Prelude.{false, slice_get, option_map, option_and_then, IsSome}
 use Rattle.std.specs.Option.{option_map_or}
 use Rattle.bml_bytes.specs.Words.{is_same}
-use Rattle.dom_tree.specs.Items.{Attribute, Item, Content, IsElement, IsText, attributes_in, attributes_of, changed_at, put_text, put_value, tag_in, text_in, text_of, value_in, value_of, with_attribute, with_text, with_value}
+use Rattle.dom_tree.specs.Items.{Attribute, Item, Content, IsElement, IsText, attributes_in, attributes_of, changed_at, put_text, put_value, tag_in, text_in, text_of, value_in, value_of, with_attribute, with_text}
 use Rattle.dom_tree.specs.Items.Content.{Element, Text}
-use Rattle.dom_tree.proofs.PlaceLemmas.{slice_get-changed_at, slice_get-changed_at-each, slice_get-changed_at-other}
+use Rattle.dom_tree.proofs.PlaceLemmas.{slice_get-changed_at, slice_get-changed_at-other}
 use Rattle.dom_tree.proofs.EntryLemmas.{value_in-given, value_in-other}
 
 -- Another text

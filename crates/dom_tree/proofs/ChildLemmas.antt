@@ -1,8 +1,7 @@
 -- The children of an element, one after another.
-use Rattle.std.proofs.Common.{◌≡◌, ◌≢◌, ◌↔◌, ℕ, zero, suc, ◌+◌, ◌<◌, ◌≤◌, true, List, [], ◌∷◌, ◌++◌, length, get_or, Some, None, inl, inr, ◌⊎◌, refl, sym, ◌∙◌, ap, subst, arith}
-use Rattle.std.specs.Prelude.{Contains, slice_get, option_and_then}
+use Rattle.std.proofs.Common.{◌≡◌, ◌≢◌, ◌↔◌, ℕ, zero, suc, ◌+◌, ◌<◌, ◌≤◌, List, [], ◌∷◌, ◌++◌, length, get_or, Some, None, inl, inr, ◌⊎◌, refl, sym, ◌∙◌, ap, subst, arith}
+use Rattle.std.specs.Prelude.{Contains, option_and_then}
 use Rattle.std.specs.List.Sorted.{IsStrictlyIncreasing}
-use Rattle.std.proofs.lemmas.Option.{slice_get_within}
 use Rattle.dom_tree.specs.Items.{Item, parent_of}
 use Rattle.dom_tree.specs.Walks.{after, before, children_of, first, last, hangs_in, places, siblings_of}
 use Rattle.dom_tree.proofs.PlaceLemmas.{Ascends, Ascends-In, Ascends-places_from, In, In-places_from, eqb_false, eqb-same, slice_get-some}

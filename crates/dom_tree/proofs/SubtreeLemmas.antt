@@ -1,12 +1,12 @@
 -- The path to the root from node to node, and the end of a subtree.
-use Rattle.std.proofs.Common.{◌≡◌, ◌≢◌, ◌↔◌, ℕ, zero, suc, ◌+◌, ◌-◌, ◌<◌, ◌≤◌, List, [], ◌∷◌, length, take, Option, Some, None, ◌⊎◌, inl, inr, refl, sym, ◌∙◌, ap, subst, arith}
+use Rattle.std.proofs.Common.{◌≡◌, ℕ, zero, suc, ◌+◌, ◌-◌, ◌<◌, ◌≤◌, List, [], ◌∷◌, length, take, Option, Some, None, ◌⊎◌, inl, inr, refl, sym, ◌∙◌, ap, subst, arith}
 use Rattle.std.specs.Prelude.{slice_get, option_and_then, Contains, IsSomeAnd}
 use Rattle.std.specs.Option.{option_map_or}
 use Rattle.std.proofs.lemmas.Bool.{cases_eq, cases_lt}
 use Rattle.std.proofs.lemmas.List.{length-take}
 use Rattle.dom_tree.specs.Items.{Item, parent_of, IsElement}
 use Rattle.dom_tree.specs.Walks.{path_within, path_of, IsEndOf, IsOpen, IsTree}
-use Rattle.dom_tree.proofs.PathLemmas.{Falls, Falls-tree, IsSomeAnd-at, Contains-behind, Contains-cases, Contains-none, Contains-path, parent_of-within, path_of-first, path_of-step, path_within-of}
+use Rattle.dom_tree.proofs.PathLemmas.{Falls, Falls-tree, IsSomeAnd-at, Contains-behind, Contains-cases, Contains-none, Contains-path, path_of-first, path_of-step}
 
 -- Paths
 

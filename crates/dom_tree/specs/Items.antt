@@ -1,7 +1,7 @@
 -- A document's tree as the list of its nodes in document order (DOM level 1: elements with
 -- attributes, and texts; the list is this project's own form). A node's number is its place in the
 -- list, from 0. Texts, tags and names are lists of codes.
-use Rattle.std.specs.Prelude.{ℕ, zero, suc, List, [], ◌∷◌, ◌++◌, Option, Some, None, Bool, false, if◌then◌else◌, slice_get, find, nat_eq, option_map, option_and_then, IsSome, codes}
+use Rattle.std.specs.Prelude.{ℕ, zero, suc, List, [], ◌∷◌, ◌++◌, Option, Some, None, Bool, false, if◌then◌else◌, slice_get, find, option_map, option_and_then, IsSome, codes}
 use Rattle.std.specs.Option.{option_map_or}
 use Rattle.bml_bytes.specs.Words.{is_same}
 

@@ -1,7 +1,7 @@
 //! What the definitions of trees and walks say together. Each function is a law: its contract is
 //! what it is for, and it does nothing when it runs.
 
-ghost use Rattle.std.specs.Prelude.{◌≡◌, ◌≢◌, ◌<◌, ◌≤◌, ◌↔◌, ◌∷◌, ◌++◌, ℕ, List, [], Option, Some, None, Contains, IsFalse, length, slice_get};
+ghost use Rattle.std.specs.Prelude.{◌≡◌, ◌≢◌, ◌<◌, ◌≤◌, ◌↔◌, ◌∷◌, ◌++◌, ℕ, List, [], Option, Some, None, Contains, IsFalse, length};
 ghost use Rattle.std.specs.List.Sorted.{IsStrictlyIncreasing};
 ghost use Rattle.std.specs.Option.{option_map_or};
 ghost use Rattle.bml_bytes.specs.Words.{is_same};

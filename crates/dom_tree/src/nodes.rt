@@ -1,6 +1,6 @@
 //! One node of a tree, with the links to its neighbours.
 
-ghost use Rattle.std.specs.Prelude.{◌≡◌, ◌∷◌, [], None, map, option_map};
+ghost use Rattle.std.specs.Prelude.{◌≡◌, [], None};
 
 use crate::node_ids::NodeId;
 use bml_bytes::{NoMemory, Text};
@@ -50,8 +50,8 @@ impl Node {
     pub fn put_attribute(&mut self, name: Text, value: Text) -> Result<Option<Text>, NoMemory>
         requires { IsSome (tag_in (content_of self.old.kind)) }
         ensures ok { OnOk result (item_of self.new ≡ with_attribute name value (item_of self.old)) }
-        ensures had { IfOk result (λ had. had
-            ≡ value_in (attributes_in (content_of self.old.kind)) name) }
+        ensures had { IfOk result
+            (λ had. had ≡ value_in (attributes_in (content_of self.old.kind)) name) }
         ensures err { OnErr result (item_of self.new ≡ item_of self.old) }
         ensures links { links_of self.new ≡ links_of self.old }
     {
@@ -63,7 +63,8 @@ impl Node {
 
     /// Whether it is an element whose attribute of this name has this value.
     pub fn has_value(&self, name: &Text, value: &Text) -> bool
-        ensures { result ≡ option_map_or (is_same value.now)
+        ensures { result
+            ≡ option_map_or (is_same value.now)
             (value_in (attributes_in (content_of self.now.kind)) name.now) false }
     {
         match &self.kind {
@@ -120,12 +121,13 @@ impl ElementNode {
     /// Gives an attribute a value, and answers the value that it had.
     pub fn put_attribute(&mut self, name: Text, value: Text) -> Result<Option<Text>, NoMemory>
         ensures tag { self.new.tag ≡ self.old.tag }
-        ensures ok { OnOk result (attributes_in_map self.new.attributes
+        ensures ok { OnOk result
+            (attributes_in_map self.new.attributes
             ≡ with_value (attributes_in_map self.old.attributes) name value) }
-        ensures had { IfOk result (λ had. had
-            ≡ value_in (attributes_in_map self.old.attributes) name) }
-        ensures err { OnErr result (attributes_in_map self.new.attributes
-            ≡ attributes_in_map self.old.attributes) }
+        ensures had { IfOk result
+            (λ had. had ≡ value_in (attributes_in_map self.old.attributes) name) }
+        ensures err { OnErr result
+            (attributes_in_map self.new.attributes ≡ attributes_in_map self.old.attributes) }
     {
         Ok(self.attributes.insert(name, value)?)
     }

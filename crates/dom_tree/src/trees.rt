@@ -1,6 +1,6 @@
 //! The tree of a document, and the walks over it.
 
-ghost use Rattle.std.specs.Prelude.{◌≡◌, ◌<◌, ◌≤◌, ◌+◌, ◌↔◌, ◌∷◌, ℕ, Some, [], length, slice_get, option_map, option_copied, IsTrue, IfNone, IfSome, IsSomeAnd};
+ghost use Rattle.std.specs.Prelude.{◌≡◌, ◌<◌, ◌≤◌, ◌+◌, ◌↔◌, ◌∷◌, Some, [], length, slice_get, option_map, option_copied, IsTrue, IfNone, IfSome, IsSomeAnd};
 ghost use Rattle.std.specs.Bool.{OnTrue, OnFalse};
 ghost use Rattle.std.specs.Option.{option_map_or};
 ghost use Rattle.dom_tree.specs.Items.{IsElement, parent_of, tag_of, text_of, attributes_of, value_of};
@@ -130,8 +130,8 @@ impl Tree {
     /// included (HTML 4, 7.5.2). The cost is that of one look-up by the text's hash.
     pub fn by_id(&self, id: &Text) -> Option<NodeId>
         ensures first { number_of result ≡ node_of_id self.now id.now }
-        ensures element { IfSome result (λ node. (node.0 < length self.now)
-            × IsElement self.now node.0) }
+        ensures element { IfSome result
+            (λ node. (node.0 < length self.now) × IsElement self.now node.0) }
     {
         self.ids.get(id).copied()
     }

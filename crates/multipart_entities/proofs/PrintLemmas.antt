@@ -7,7 +7,7 @@ use Rattle.std.proofs.lemmas.List.Elements.{All-nil, All-cons, All-head, All-tai
 use Rattle.bml_bytes.specs.Codes.{bytes_of, codes, is_pair}
 use Rattle.bml_bytes.specs.Numbers.{digits_in, number_in}
 use Rattle.bml_bytes.specs.Numerals.{digit_character, hex_digits}
-use Rattle.bml_bytes.specs.Escapes.{escaped, escaped_byte, is_escaped}
+use Rattle.bml_bytes.specs.Escapes.{escaped_byte, is_escaped}
 use Rattle.bml_bytes.specs.declared.line_fields.Escapes.TheVariants.{ControlsAndSpace}
 use Rattle.multipart_entities.specs.declared.paths.Path.{Path}
 use Rattle.multipart_entities.specs.Paths.{fields_of, is_hex_digit, hex_value, path_in, path_text, name_text}

@@ -48,11 +48,14 @@ up_to_last [] = None
 up_to_last (one ∷ more) =
     if one.last then Some (one ∷ []) else option_map (λ behind. one ∷ behind) (up_to_last more)
 
--- The parts are those of the body parts that are parts. All body parts count against the limit
--- (this project's own), those left out too.
+-- the most body parts of an entity, those left out too; this project's own limit
+abbrev pub most_body_parts : ℕ
+most_body_parts = 512
+
+-- The parts are those that the body parts make, in order. All body parts count against the limit.
 abbrev pub parts_among : List ℕ → List BodyPart → Result (List Part) EntityFault
 parts_among bytes found =
-    if nat_lt 512 (length found) then Err TooManyParts
+    if nat_lt most_body_parts (length found) then Err TooManyParts
     else Ok (filter_map (λ body_part. part_between bytes body_part.start body_part.end) found)
 
 abbrev pub parts_up_to : List ℕ → Option (List Delimiter) → Result (List Part) EntityFault

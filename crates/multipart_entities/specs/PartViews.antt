@@ -6,7 +6,7 @@ use Rattle.multipart_entities.specs.declared.faults.EntityFault.{EntityFault}
 use Rattle.multipart_entities.specs.declared.parts.Part.{Part}
 use Rattle.multipart_entities.specs.declared.body_parts.BodyParts.{BodyParts}
 use Rattle.multipart_entities.specs.Boundaries.{is_multipart}
-use Rattle.multipart_entities.specs.Entities.{BodyPart, part_between, parts_by}
+use Rattle.multipart_entities.specs.Entities.{BodyPart, most_body_parts, part_between, parts_by}
 use Rattle.multipart_entities.specs.HeadViews.{HeadValues, part_name_by}
 use Rattle.multipart_entities.specs.Parts.{first_of_each, place_of}
 
@@ -43,10 +43,10 @@ parts_of bytes done =
     filter_map (λ body_part. part_between bytes body_part.start body_part.end) done
 
 -- their number, as far as it can be counted, and their parts by name, where they are no more than
--- 512
+-- the most
 pub record StandFor (bytes : List ℕ) (read : BodyParts) (done : List BodyPart) : Type 0 where
   pub count : read.count ≡ min (length done) (2 ^ 64 - 1)
-  pub parts : length done ≤ 512 → read.parts ≡ first_of_each (parts_of bytes done)
+  pub parts : length done ≤ most_body_parts → read.parts ≡ first_of_each (parts_of bytes done)
 
 -- ---- the parts by name
 

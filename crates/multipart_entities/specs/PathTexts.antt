@@ -7,7 +7,7 @@ use Rattle.bml_bytes.specs.Escapes.{is_escaped}
 use Rattle.bml_bytes.specs.Numbers.{number_in}
 use Rattle.bml_bytes.specs.declared.line_fields.Escapes.TheVariants.{ControlsAndSpace}
 use Rattle.multipart_entities.specs.declared.paths.Path.{Path}
-use Rattle.multipart_entities.specs.Paths.{is_hex_digit, hex_value}
+use Rattle.multipart_entities.specs.Paths.{hex_value, is_hex_digit, most_name_codes}
 
 -- the parts of a text: a field has no slash, a name has 1 to 64 codes besides, and digits are
 -- hexadecimal and so many
@@ -16,7 +16,7 @@ IsField field = All (λ code. code ≢ 47) field
 
 pub record IsName (name : List ℕ) : Type 0 where
   pub some : 1 ≤ length name
-  pub most : length name ≤ 64
+  pub most : length name ≤ most_name_codes
   pub field : IsField name
 
 pub record AreDigits (count : ℕ) (digits : List ℕ) : Type 0 where
@@ -75,7 +75,7 @@ named_by base (OfResource host component digits name) =
 pub record IsPrintable (path : Path) : Type 0 where
   pub component_fits : path.component < 256
   pub module_fits : path.module < 65536
-  pub most : length path.name ≤ 64
+  pub most : length path.name ≤ most_name_codes
   pub field : IsField path.name
   pub plain : All (λ byte. is_escaped ControlsAndSpace byte ≡ false) (bytes_of path.name)
   pub pairs : codes (bytes_of path.name) ≡ path.name

@@ -1,6 +1,6 @@
 -- Paths of resources (after the URIs of ARIB STD-B24, volume 2, in this project's own profile).
 -- Texts are lists of codes.
-use Rattle.std.specs.Prelude.{ℕ, ◌+◌, ◌-◌, ◌/◌, ◌%◌, ◌==◌, nat_eq, nat_le, nat_lt, Bool, ◌&&◌, ◌||◌, if◌then◌else◌, List, [], ◌∷◌, ◌++◌, length, map, Option, Some, None, option_map, option_and_then, codes as ascii}
+use Rattle.std.specs.Prelude.{ℕ, ◌+◌, ◌-◌, ◌/◌, ◌==◌, nat_le, Bool, ◌&&◌, ◌||◌, if◌then◌else◌, List, [], ◌∷◌, ◌++◌, length, map, Option, Some, None, option_map, option_and_then, codes as ascii}
 use Rattle.std.specs.List.{list_all, slice_split}
 use Rattle.bml_bytes.specs.Codes.{bytes_of}
 use Rattle.bml_bytes.specs.Escapes.{escaped}
@@ -28,9 +28,14 @@ hex_field count field =
     if (length field == count) && list_all is_hex_digit field
     then Some (number_in 16 (map hex_value field)) else None
 
--- 1 to 64 codes (without `/`, since it stands between slashes)
+-- the most codes of a name; this project's own limit
+abbrev pub most_name_codes : ℕ
+most_name_codes = 64
+
+-- at least one code, and no more than these (without `/`, since it stands between slashes)
 abbrev pub name_field : List ℕ → Option (List ℕ)
-name_field field = if nat_le 1 (length field) && nat_le (length field) 64 then Some field else None
+name_field field =
+    if nat_le 1 (length field) && nat_le (length field) most_name_codes then Some field else None
 
 -- ---- forms of paths
 

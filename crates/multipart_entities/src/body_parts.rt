@@ -1,7 +1,7 @@
 //! The body parts between the delimiter lines of an entity, and the parts that they are.
 
 ghost use Rattle.std.specs.Prelude.{◌≡◌, ◌≢◌, ◌<◌, ◌≤◌, ◌∷◌, ◌++◌, [], ℕ, List, length, All, IfOk, IfSome, MatchResult, Ok, Err, OnOk};
-ghost use Rattle.multipart_entities.specs.Entities.{BodyPart, part_between as spec_part_between};
+ghost use Rattle.multipart_entities.specs.Entities.{BodyPart, most_body_parts, part_between as spec_part_between};
 ghost use Rattle.multipart_entities.specs.PartViews.{IsWithin, StandFor, named_by};
 
 use crate::boundaries::next_delimiter;
@@ -30,8 +30,8 @@ pub fn parts_between_delimiters(
     place: usize,
     boundary: &[u8],
 ) -> Result<Parts, EntityFault>
-    ensures parts { MatchResult result (λ parts. named_by bytes.now place boundary.now
-        ≡ Ok parts) (λ fault. fault ≢ EntityFault.NoMemory
+    ensures parts { MatchResult result (λ parts. named_by bytes.now place boundary.now ≡ Ok parts)
+        (λ fault. fault ≢ EntityFault.NoMemory
         → named_by bytes.now place boundary.now ≡ Err fault) }
     ensures inside { IfOk result (λ parts. All (IsWithin bytes.now) parts) }
 {
@@ -89,9 +89,9 @@ impl BodyParts {
 
     // The parts, unless there are too many body parts.
     fn into_parts(self) -> Result<Parts, EntityFault>
-        ensures parts { MatchResult result (λ parts. (parts ≡ self.parts)
-            × (self.count ≤ 512)) (λ fault. (fault ≡ EntityFault.TooManyParts)
-            × (512 < self.count)) }
+        ensures parts { MatchResult result
+            (λ parts. (parts ≡ self.parts) × (self.count ≤ most_body_parts))
+            (λ fault. (fault ≡ EntityFault.TooManyParts) × (most_body_parts < self.count)) }
     {
         if self.count > MOST_BODY_PARTS {
             return Err(EntityFault::TooManyParts);

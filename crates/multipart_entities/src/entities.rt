@@ -19,10 +19,10 @@ use std::alloc::Global;
 /// its delimiter lines, up to the first last one. Each byte is read a bounded number of times, and
 /// no part is copied.
 pub fn entity_parts(alloc: Global, bytes: &[u8]) -> Result<Parts, EntityFault>
-    ensures parts { MatchResult result (λ parts. named_parts bytes.now
-        ≡ Ok parts) (λ fault. fault ≢ EntityFault.NoMemory → named_parts bytes.now ≡ Err fault) }
-    ensures inside { IfOk result (λ parts. All (λ part. (part.start ≤ part.end)
-        × (part.end ≤ length bytes.now)) parts) }
+    ensures parts { MatchResult result (λ parts. named_parts bytes.now ≡ Ok parts)
+        (λ fault. fault ≢ EntityFault.NoMemory → named_parts bytes.now ≡ Err fault) }
+    ensures inside { IfOk result
+        (λ parts. All (λ part. (part.start ≤ part.end) × (part.end ≤ length bytes.now)) parts) }
 {
     let Some(head) = read_head(bytes) else {
         return Err(EntityFault::Malformed);
@@ -45,8 +45,8 @@ fn multipart_media(head: Head) -> Option<&[u8]>
 
 // The part that the entity is as a whole, where it isn't one of several parts.
 fn only_part(alloc: Global, bytes: &[u8], head: Head) -> Result<Parts, NoMemory>
-    ensures parts { IfOk result (λ parts. parts
-        ≡ option_to_list (part_by 0 (length bytes.now) (seen_head head.entry))) }
+    ensures parts { IfOk result
+        (λ parts. parts ≡ option_to_list (part_by 0 (length bytes.now) (seen_head head.entry))) }
     ensures inside { head.entry.size ≤ length bytes.now
         → IfOk result (λ parts. All (IsWithin bytes.now) parts) }
 {

@@ -198,8 +198,8 @@ fn short_name(field: &[u16]) -> Option<&[u16]>
 
 // What stands before the first slash and what stands behind it, and None where there is no slash.
 fn split_at_slash(codes: &[u16]) -> Option<(&[u16], &[u16])>
-    ensures { MatchOption result (fields_of codes.now
-        ≡ codes.now ∷ []) (λ parts. fields_of codes.now ≡ parts.0.now ∷ fields_of parts.1.now) }
+    ensures { MatchOption result (fields_of codes.now ≡ codes.now ∷ [])
+        (λ parts. fields_of codes.now ≡ parts.0.now ∷ fields_of parts.1.now) }
 {
     let place = place_of_slash(codes)?;
     Some((&codes[..place], &codes[place + 1..]))

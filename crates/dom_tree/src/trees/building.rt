@@ -1,6 +1,6 @@
 //! How a tree is built: node by node, in document order.
 
-ghost use Rattle.std.specs.Prelude.{◌≡◌, ◌<◌, ◌↔◌, ◌∷◌, ◌++◌, ℕ, [], Some, None, length, slice_get, IsTrue, IsNone, IfOk, OnOk, OnErr, Contains};
+ghost use Rattle.std.specs.Prelude.{◌≡◌, ◌<◌, ◌↔◌, ◌∷◌, ◌++◌, [], Some, None, length, IsTrue, IfOk, OnOk, OnErr};
 ghost use Rattle.dom_tree.specs.Items.{IsElement, element_in, text_node_in, attributes_in, changed_at};
 ghost use Rattle.std.specs.Option.{ForSome};
 ghost use Rattle.dom_tree.specs.Walks.{most_nodes, IsOpen, Extends};
@@ -48,8 +48,8 @@ impl Tree {
         requires element { IsElement self.old parent.0 }
         requires open { IsOpen self.old parent.0 }
         requires room { length self.old < most_nodes }
-        ensures added { OnOk result (self.new
-            ≡ self.old ++ text_node_in (Some parent.0) text ∷ []) }
+        ensures added { OnOk result
+            (self.new ≡ self.old ++ text_node_in (Some parent.0) text ∷ []) }
         ensures number { IfOk result (λ node. node.0 ≡ length self.old) }
         ensures extends { OnOk result (Extends self.old self.new parent.0) }
         ensures err { OnErr result (self.new ≡ self.old) }

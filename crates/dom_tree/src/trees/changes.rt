@@ -1,6 +1,6 @@
 //! Changes of one text or one attribute.
 
-ghost use Rattle.std.specs.Prelude.{◌≡◌, ◌<◌, ◌↔◌, ◌≤◌, ◌∷◌, ◌++◌, ℕ, [], Some, None, length, slice_get, codes, IsTrue, IsNone, IfOk, IfSome, OnOk, OnErr, IsOk, option_map};
+ghost use Rattle.std.specs.Prelude.{◌≡◌, ◌<◌, ◌≤◌, ℕ, Some, None, length, codes, IsTrue, IfOk, IfSome, OnOk, OnErr};
 ghost use Rattle.bml_bytes.specs.Words.{is_same};
 ghost use Rattle.dom_tree.specs.Items.{IsElement, IsText, value_of, changed_at, with_text, with_attribute, with_last_attribute};
 ghost use Rattle.std.specs.Prelude.{List, IsFalse, ◌+◌, min};
@@ -30,8 +30,8 @@ impl Tree {
     pub fn add_attribute(&mut self, node: NodeId, name: Text, value: Text) -> Result<(), NoMemory>
         requires element { IsElement self.old node.0 }
         requires absent { value_of self.old node.0 name ≡ None }
-        ensures ok { OnOk result (self.new
-            ≡ changed_at (with_last_attribute name value) node.0 self.old) }
+        ensures ok { OnOk result
+            (self.new ≡ changed_at (with_last_attribute name value) node.0 self.old) }
         ensures err { OnErr result (self.new ≡ self.old) }
         ensures places { KeepsPlaces self.old self.new }
     {
@@ -46,8 +46,8 @@ impl Tree {
     /// a new one stands behind the others.
     pub fn set_attribute(&mut self, node: NodeId, name: &Text, value: Text) -> Result<(), NoMemory>
         requires { IsElement self.old node.0 }
-        ensures ok { OnOk result (self.new
-            ≡ changed_at (with_attribute name.now value) node.0 self.old) }
+        ensures ok { OnOk result
+            (self.new ≡ changed_at (with_attribute name.now value) node.0 self.old) }
         ensures err { OnErr result (self.new ≡ self.old) }
         ensures places { KeepsPlaces self.old self.new }
     {
@@ -64,8 +64,8 @@ impl Tree {
         requires element { IsElement self.old node.0 }
         requires absent { value_of self.old node.0 name ≡ None }
         requires name { IsTrue (is_same name (codes "id")) }
-        ensures ok { OnOk result (self.new
-            ≡ changed_at (with_last_attribute name value) node.0 self.old) }
+        ensures ok { OnOk result
+            (self.new ≡ changed_at (with_last_attribute name value) node.0 self.old) }
         ensures err { OnErr result (self.new ≡ self.old) }
         ensures places { KeepsPlaces self.old self.new }
     {
@@ -81,8 +81,8 @@ impl Tree {
     fn set_id(&mut self, node: NodeId, name: Text, value: Text) -> Result<(), NoMemory>
         requires element { IsElement self.old node.0 }
         requires name { IsTrue (is_same name (codes "id")) }
-        ensures ok { OnOk result (self.new
-            ≡ changed_at (with_attribute name value) node.0 self.old) }
+        ensures ok { OnOk result
+            (self.new ≡ changed_at (with_attribute name value) node.0 self.old) }
         ensures err { OnErr result (self.new ≡ self.old) }
         ensures places { KeepsPlaces self.old self.new }
     {
@@ -104,7 +104,8 @@ fn put_attribute(
     value: Text,
 ) -> Result<Option<Text>, NoMemory>
     requires { IsElement (items_in nodes.old.items) node.0 }
-    ensures ok { OnOk result (items_in nodes.new.items
+    ensures ok { OnOk result
+        (items_in nodes.new.items
         ≡ changed_at (with_attribute name value) node.0 (items_in nodes.old.items)) }
     ensures had { IfOk result (λ had. had ≡ value_of (items_in nodes.old.items) node.0 name) }
     ensures err { OnErr result (items_in nodes.new.items ≡ items_in nodes.old.items) }
@@ -134,8 +135,8 @@ fn index_had(ids: &mut IndexMap<Text, NodeId>, nodes: &[Node], name: &Text, had:
     requires room { 1 < spare ids.old }
     requires few { length nodes.now ≤ most_nodes }
     ensures room { 0 < spare ids.new }
-    ensures here { IfSome had (λ id. number_of (get is_same ids.new id)
-        ≡ node_of_id (items_in nodes.now) id) }
+    ensures here { IfSome had
+        (λ id. number_of (get is_same ids.new id) ≡ node_of_id (items_in nodes.now) id) }
     ensures others { (other : List ℕ) → IfSome had (λ id. IsFalse (is_same id other))
         → get is_same ids.new other ≡ get is_same ids.old other }
 {
