@@ -1,4 +1,4 @@
--- What the attributes in the code stand for.
+-- A device of the proofs: what the attributes in the code stand for.
 use Rattle.std.specs.Prelude.{ℕ, List, map}
 use Rattle.std.specs.HashMap.{HashMap}
 use Rattle.dom_tree.specs.Items.{Attribute}

@@ -1,4 +1,4 @@
--- What the values of the code that reads references stand for.
+-- A device of the proofs: what the values of the code that reads references stand for.
 use Rattle.std.specs.Prelude.{ℕ, List}
 use Rattle.std.specs.Borrow.{Bor}
 use Rattle.bml_reader.specs.References.{Reference}

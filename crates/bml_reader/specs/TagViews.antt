@@ -1,4 +1,4 @@
--- What the inside of a start tag in the code stands for.
+-- A device of the proofs: what the inside of a start tag in the code stands for.
 use Rattle.std.specs.Prelude.{ℕ, List}
 use Rattle.std.specs.Borrow.{Bor}
 use Rattle.bml_reader.specs.Lexing.{Found, found, Inner}

@@ -1,4 +1,4 @@
--- What the values that the reader's code keeps stand for.
+-- A device of the proofs: what the values that the reader's code keeps stand for.
 use Rattle.std.specs.Prelude.{ℕ, Bool, List}
 use Rattle.std.specs.Borrow.{Bor}
 use Rattle.bml_reader.specs.Bytes.{is_white, is_name_byte, is_text_byte, is_value_byte, is_doctype_byte, is_digit, is_hex_digit}

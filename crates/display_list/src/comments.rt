@@ -17,7 +17,8 @@ const SLASH: u16 = 0x2F;
 
 /// The text of a style in lower case, with each comment as one space.
 pub fn plain_text(alloc: Global, text: &[u16]) -> Result<Vec<u16>, NoMemory>
-    ensures { IfOk result (λ plain. plain.items ≡ str_to_ascii_lowercase (uncommented_from false text.now)) }
+    ensures { IfOk result
+        (λ plain. plain.items ≡ str_to_ascii_lowercase (uncommented_from false text.now)) }
 {
     let mut plain = Vec::with_capacity(alloc, text.len())?;
     let mut rest = text;
@@ -31,7 +32,8 @@ pub fn plain_text(alloc: Global, text: &[u16]) -> Result<Vec<u16>, NoMemory>
 // The first code, or a space in place of the comment that stands first, and what stands behind it.
 #[tactic(auto, using(crate::proofs::CommentLemmas::comment_steps))]
 fn next_code(text: &[u16]) -> Option<(u16, &[u16])>
-    ensures read { MatchOption result (text.now ≡ []) (λ found. uncommented_from false text.now ≡ found.0 ∷ uncommented_from false found.1.now) }
+    ensures read { MatchOption result (text.now ≡ [])
+        (λ found. uncommented_from false text.now ≡ found.0 ∷ uncommented_from false found.1.now) }
     ensures shorter { IfSome result (λ found. length found.1.now < length text.now) }
 {
     let (first, more) = text.split_first()?;

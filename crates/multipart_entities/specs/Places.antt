@@ -1,4 +1,4 @@
--- What the places in the code stand for.
+-- A device of the proofs: what the places in the code stand for.
 use Rattle.std.specs.Prelude.{ℕ, List}
 use Rattle.multipart_entities.specs.declared.parts.Part.{Part}
 

@@ -12,9 +12,9 @@ struct Case(
     &'static [(&'static [u8], Option<&'static [u8]>)],
 );
 
-// In the second entity: text before the first delimiter line and behind the last one, blanks behind both, a delimiter
-// in the middle of a line and one that goes on with other bytes, a CR and an LF alone, a part without a head's empty
-// line, and two parts with one name.
+// In the second entity: text before the first delimiter line and behind the last one, blanks behind
+// both, a delimiter in the middle of a line and one that goes on with other bytes, a CR and an LF
+// alone, a part without a head's empty line, and two parts with one name.
 const READ: [Case; 9] = [
     Case(
         b"Content-Type: multipart/mixed; boundary=\"b c\"\r\n\r\n--b c\r\nContent-Location: a.bml\r\n\r\nfirst\r\n--b c\r\nContent-Location: a/b/x.css\r\n\r\nsec\r\nond\r\n\r\n--b c--\r\n",
@@ -98,7 +98,7 @@ fn fault_of(alloc: Global, entity: &[u8]) -> Option<EntityFault> {
     }
 }
 
-// So many pieces of these bytes, and what ends the entity.
+// So many body parts of these bytes, and what ends the entity.
 fn repeated(alloc: Global, piece: &[u8], count: usize, back: &[u8]) -> Result<Vec<u8>, Fail> {
     let mut bytes = Vec::new(alloc);
     bytes.extend_from_slice(FRONT)?;
@@ -127,8 +127,47 @@ fn others_are_malformed(rt: HostRuntime) -> Result<(), Fail> {
     Ok(())
 }
 
+// The name of the part of a number: `p` and three digits.
+fn part_name(number: u16) -> [u8; 4] {
+    let digit = |place: u16| b'0' + (number / place % 10) as u8;
+    [b'p', digit(100), digit(10), digit(1)]
+}
+
+// An entity of so many parts, each with a name of its own, which is also what it has.
+fn with_names(alloc: Global, count: u16) -> Result<Vec<u8>, Fail> {
+    let mut bytes = Vec::new(alloc);
+    bytes.extend_from_slice(FRONT)?;
+    for number in 0..count {
+        bytes.extend_from_slice(b"--b\r\nContent-Location: ")?;
+        bytes.extend_from_slice(&part_name(number))?;
+        bytes.extend_from_slice(b"\r\n\r\n")?;
+        bytes.extend_from_slice(&part_name(number))?;
+        bytes.extend_from_slice(b"\r\n")?;
+    }
+    bytes.extend_from_slice(b"--b--")?;
+    Ok(bytes)
+}
+
 #[test]
-fn pieces_are_limited(rt: HostRuntime) -> Result<(), Fail> {
+fn as_many_parts_as_there_may_be(rt: HostRuntime) -> Result<(), Fail> {
+    let most = with_names(rt.alloc(), 512)?;
+    let parts = entity_parts(rt.alloc(), &most)?;
+    for number in 0..512 {
+        let name = part_name(number);
+        let found = parts.find(&Text::of_bytes(rt.alloc(), &name)?);
+        let bytes = found.and_then(|(start, end)| most.get(start..end));
+        assert!(rt; bytes == Some(name.as_slice()));
+    }
+    let more = with_names(rt.alloc(), 513)?;
+    assert_eq!(rt;
+        fault_of(rt.alloc(), &more),
+        Some(EntityFault::TooManyParts)
+    );
+    Ok(())
+}
+
+#[test]
+fn body_parts_are_limited(rt: HostRuntime) -> Result<(), Fail> {
     let piece = b"--b\r\nContent-Location: x\r\n\r\nall\r\n";
     let most = repeated(rt.alloc(), piece, 512, b"--b--")?;
     assert!(rt; is_part(rt.alloc(), &most, b"x", Some(b"all"))?);
