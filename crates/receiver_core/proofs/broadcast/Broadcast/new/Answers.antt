@@ -1,5 +1,5 @@
-use Rattle.receiver_core.proofs.ProgramLaws.{stands_first}
-use Rattle.receiver_core.proofs.program.Program.new.Goals as goal
+use Rattle.receiver_core.proofs.BroadcastLaws.{stands_first}
+use Rattle.receiver_core.proofs.broadcast.Broadcast.new.Goals as goal
 
 pub returns : goal.returns
 returns c =

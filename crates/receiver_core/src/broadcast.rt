@@ -1,14 +1,14 @@
-//! The program that is played: its tables, its modules, and its start document.
+//! The broadcast that is received: its tables, its modules, and its start document.
 
 ghost use Rattle.std.specs.Prelude.{◌≡◌, ◌≤◌, ◌++◌, ℕ, List, true, false, length, take, Some, IfOk, OnOk, OnErr};
 ghost use Rattle.psi_tables.specs.Components.{tag_in};
 ghost use Rattle.psi_tables.specs.Service.{reads_table};
 ghost use Rattle.receiver_core.specs.Outputs.{display_of};
 ghost use Rattle.receiver_core.specs.Dispatches.{turn};
-ghost use Rattle.receiver_core.specs.Programs.{Dispatches, LeavesLooks, StandsFor, Takes, Turns};
+ghost use Rattle.receiver_core.specs.Broadcasts.{Dispatches, LeavesLooks, StandsFor, Takes, Turns};
 ghost use Rattle.receiver_core.specs.Startups.{start_of};
 ghost use Rattle.receiver_core.specs.State.{opening};
-ghost use Rattle.receiver_core.specs.Turns.{turned_by, turned_by_component, turned_by_table, with_handled};
+ghost use Rattle.receiver_core.specs.Turns.{step_of_section, step_of_component, step_of_table, with_handled};
 
 use crate::laws::law_of_current_documents;
 use crate::lines::{push_change_lines, push_gone_lines};
@@ -22,31 +22,31 @@ use std::mem;
 
 /// Makes the turns of intact sections.
 #[derive(Drop)]
-pub struct Program {
+pub struct Broadcast {
     alloc: Global,
     services: Services,
     store: Store,
     startup: Startup,
 }
 
-impl Model for Program {
-    ghost use Rattle.receiver_core.specs.Programs.{ProgramState};
+impl Model for Broadcast {
+    ghost use Rattle.receiver_core.specs.Broadcasts.{BroadcastState};
 
-    ghost Value = { ProgramState };
+    ghost Value = { BroadcastState };
 
     ghost view = { λ p. record { services = p.services; store = p.store; startup = p.startup } };
 }
 
-impl Program {
-    /// The program that is asked for, before the first section. It keeps the allocator; with a data PID it takes memory
+impl Broadcast {
+    /// The service or the data that is asked for, before the first section. It keeps the allocator; with a data PID it takes memory
     /// for its component.
-    pub fn new(alloc: Global, selection: Selection) -> Result<Program, NoMemory>
-        ensures { IfOk result (λ program. StandsFor program (opening selection)) }
+    pub fn new(alloc: Global, selection: Selection) -> Result<Broadcast, NoMemory>
+        ensures { IfOk result (λ broadcast. (area : List ℕ) → StandsFor broadcast (opening selection area)) }
     {
         let services = Services::new(alloc, selection);
         let mut store = Store::new(alloc);
         store.set_components(&services)?;
-        Ok(Program {
+        Ok(Broadcast {
             alloc,
             services,
             store,
@@ -62,7 +62,7 @@ impl Program {
     }
 
     /// Makes the turn of the next intact section, which came on that PID, and appends what it prints. After `NoMemory`
-    /// nothing is said of the program, and what was appended stops anywhere.
+    /// nothing is said of it, and what was appended stops anywhere.
     pub fn turn(&mut self, pid: u16, section: &[u8], out: &mut Vec<u8>) -> Result<(), NoMemory>
         requires { 12 ≤ length section.now }
         ensures turned { OnOk result (Turns self.old self.new out.old.items out.new.items (turn pid section.now)) }
@@ -96,8 +96,8 @@ impl Program {
     // dispatch now.
     fn take(&mut self, pid: u16, section: &[u8], out: &mut Vec<u8>) -> Result<bool, NoMemory>
         requires { 12 ≤ length section.now }
-        ensures taken { OnOk result (Takes self.old self.new out.old.items out.new.items (turned_by pid section.now)) }
-        ensures looks { IfOk result (λ changed. changed ≡ false → LeavesLooks self.old (turned_by pid section.now)) }
+        ensures taken { OnOk result (Takes self.old self.new out.old.items out.new.items (step_of_section pid section.now)) }
+        ensures looks { IfOk result (λ changed. changed ≡ false → LeavesLooks self.old (step_of_section pid section.now)) }
         ensures grows { take (length out.old.items) out.new.items ≡ out.old.items }
     {
         if self.services.reads_table(pid) {
@@ -112,8 +112,8 @@ impl Program {
     // Takes a section as a table: the components become those of the map, and what left with others is told.
     fn take_table(&mut self, pid: u16, section: &[u8], out: &mut Vec<u8>) -> Result<bool, NoMemory>
         requires { 12 ≤ length section.now }
-        ensures taken { OnOk result (Takes self.old self.new out.old.items out.new.items (λ s. turned_by_table (with_handled pid section.now s))) }
-        ensures looks { IfOk result (λ changed. changed ≡ false → LeavesLooks self.old (λ s. turned_by_table (with_handled pid section.now s))) }
+        ensures taken { OnOk result (Takes self.old self.new out.old.items out.new.items (λ s. step_of_table (with_handled pid section.now s))) }
+        ensures looks { IfOk result (λ changed. changed ≡ false → LeavesLooks self.old (λ s. step_of_table (with_handled pid section.now s))) }
         ensures grows { take (length out.old.items) out.new.items ≡ out.old.items }
     {
         self.services.feed(pid, section)?;
@@ -136,8 +136,8 @@ impl Program {
         requires section { 12 ≤ length section.now }
         requires unread { reads_table self.old.services.selection self.old.services.service pid ≡ false }
         requires component { tag_in self.old.services.map pid ≡ Some component }
-        ensures taken { OnOk result (Takes self.old self.new out.old.items out.new.items (λ s. turned_by_component component section.now (with_handled pid section.now s))) }
-        ensures looks { IfOk result (λ changed. changed ≡ false → LeavesLooks self.old (λ s. turned_by_component component section.now (with_handled pid section.now s))) }
+        ensures taken { OnOk result (Takes self.old self.new out.old.items out.new.items (λ s. step_of_component component section.now (with_handled pid section.now s))) }
+        ensures looks { IfOk result (λ changed. changed ≡ false → LeavesLooks self.old (λ s. step_of_component component section.now (with_handled pid section.now s))) }
         ensures grows { take (length out.old.items) out.new.items ≡ out.old.items }
     {
         if !self.store.has_component(component) {

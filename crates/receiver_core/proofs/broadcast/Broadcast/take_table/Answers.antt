@@ -2,15 +2,15 @@ use Rattle.std.proofs.Common.{◌∙◌, ◌++◌, ap, List, ℕ}
 use Rattle.std.specs.List.{flat_map}
 use Rattle.carousel_blocks.specs.declared.changes.Change.{Change}
 use Rattle.receiver_core.specs.Lines.{line_of_change}
-use Rattle.receiver_core.specs.Programs.{ProgramState}
+use Rattle.receiver_core.specs.Broadcasts.{BroadcastState}
 use Rattle.receiver_core.specs.Startups.{following, went_with}
-use Rattle.receiver_core.proofs.ProgramLaws.{table_taken}
-use Rattle.receiver_core.proofs.program.Program.take_table.Goals as goal
+use Rattle.receiver_core.proofs.BroadcastLaws.{table_taken}
+use Rattle.receiver_core.proofs.broadcast.Broadcast.take_table.Goals as goal
 
 pub returns-clause-taken : goal.returns-clause-taken
 returns-clause-taken c =
     let inside = c.self.inside in
-    let old : ProgramState = record { services = inside.services; store = inside.store; startup = inside.startup } in
+    let old : BroadcastState = record { services = inside.services; store = inside.store; startup = inside.startup } in
     let fed = c.in_ok-feed.ensures in
     let set = c.in_ok-gone.ensures in
     rw (← c.self.view_is) (record {

@@ -1,6 +1,6 @@
 use Rattle.std.proofs.Common.{sym, ◌∙◌}
-use Rattle.receiver_core.proofs.ProgramLaws.{passes, passes_looks}
-use Rattle.receiver_core.proofs.program.Program.take.Goals as goal
+use Rattle.receiver_core.proofs.BroadcastLaws.{passes, passes_looks}
+use Rattle.receiver_core.proofs.broadcast.Broadcast.take.Goals as goal
 
 pub returns-in-None-clause-taken : goal.returns-in-None-clause-taken
 returns-in-None-clause-taken c =

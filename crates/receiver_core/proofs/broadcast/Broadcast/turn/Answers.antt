@@ -1,5 +1,5 @@
-use Rattle.receiver_core.proofs.ProgramLaws.{turned_with, turned_without}
-use Rattle.receiver_core.proofs.program.Program.turn.Goals as goal
+use Rattle.receiver_core.proofs.BroadcastLaws.{turned_with, turned_without}
+use Rattle.receiver_core.proofs.broadcast.Broadcast.turn.Goals as goal
 
 pub returns-in_ok-dispatch-clause-turned : goal.returns-in_ok-dispatch-clause-turned
 returns-in_ok-dispatch-clause-turned c =

@@ -1,4 +1,4 @@
--- What is kept of a program, behind one section more.
+-- What is kept of a broadcast, behind one section more.
 use Rattle.std.proofs.Common.{◌≡◌, ◌≢◌, ℕ, suc, Bool, true, false, cond, eqb, List, [], ◌∷◌, ◌++◌, refl, sym, ap, ap₂, ◌∙◌, subst, append-nil, append_assoc, inl, inr}
 use Rattle.std.specs.Prelude.{zero, ◌⊎◌, AllPairs, Option, Some, None, Result, find, is_some, option_map}
 use Rattle.std.specs.List.{flat_map}
@@ -21,15 +21,15 @@ use Rattle.module_store.specs.Standing.{StoreState, has_component}
 use Rattle.module_store.specs.Standing as store
 use Rattle.receiver_core.specs.declared.startup.Startup.{Startup}
 use Rattle.receiver_core.specs.declared.startup.Startup.TheVariants as kept
-use Rattle.receiver_core.specs.Dispatches.{dispatch, dispatch_of, dispatches, load, loadable, most_dispatches, next_and, turn, wanted_path}
+use Rattle.receiver_core.specs.Dispatches.{dispatch, dispatch_of, dispatches, load, loadable_reading, most_dispatches, next_and, turn, wanted_path}
 use Rattle.receiver_core.specs.Lines.{line_of_change, load_line}
 use Rattle.receiver_core.specs.Loading.{Loads, LoadsAs}
-use Rattle.receiver_core.specs.Programs.{Dispatches, HasDispatched, HasTaken, HasTurned, Keeps, LeavesLooks, ProgramState, StandsFor, Takes, Turns}
+use Rattle.receiver_core.specs.Broadcasts.{Dispatches, HasDispatched, HasTaken, HasTurned, Keeps, LeavesLooks, BroadcastState, StandsFor, Takes, Turns}
 use Rattle.receiver_core.proofs.DispatchLaws.{dispatch_wanted, done_behind, next_made, none_of_most, none_wanted, nothing_at_first, one_of_most, still_done}
 use Rattle.receiver_core.specs.Startups.{IsCurrent, following, is_told_by, start_of, went_with}
 use Rattle.receiver_core.specs.State.{Start, State, opening, services, wants}
 use Rattle.receiver_core.specs.State.Start.{Wanted, Refused, Loaded}
-use Rattle.receiver_core.specs.Turns.{Turned, turned_by, turned_by_component, turned_by_table, turned_by_tag, with_handled}
+use Rattle.receiver_core.specs.Turns.{Step, step_of_section, step_of_component, step_of_table, step_of_tag, with_handled}
 
 same_services : (a b : ServicesState) → a.selection ≡ b.selection → a.service ≡ b.service → a.map ≡ b.map → a ≡ b
 same_services a b selection service map =
@@ -38,20 +38,20 @@ same_services a b selection service map =
     ∙ ap (λ (x : List Component). record { selection = b.selection; service = b.service; map = x }) map
 
 -- the services that are kept are those of the state
-pub services_kept : (state : ProgramState) (s : State) → Keeps state s → state.services ≡ services s
+pub services_kept : (state : BroadcastState) (s : State) → Keeps state s → state.services ≡ services s
 services_kept state s stands = same_services state.services (services s) stands.selection
     (stands.services.service ∙ ap (λ (x : Selection). service_of x s.handled) stands.selection)
     (stands.services.map ∙ ap (λ (x : Selection). map_of x s.handled) stands.selection)
 
-pub services_are : (state : ProgramState) (s : State) → StandsFor state s → state.services ≡ services s
+pub services_are : (state : BroadcastState) (s : State) → StandsFor state s → state.services ≡ services s
 services_are state s stands = services_kept state s stands.keeps
 
 -- ---- before the first section
 
 pub stands_first : (services : ServicesState) (before new : StoreState) (selection : Selection) → services.selection ≡ selection → services_of.StandsFor services [] → store.StandsFor before at_start
     → ((stored : Stored) → store.StandsFor before stored → store.StandsFor new (with_map services.map stored)) → ((tag : ℕ) → has_component new tag ≡ is_some (pid_in services.map tag))
-    → StandsFor (record { services = services; store = new; startup = kept.Wanted }) (opening selection)
-stands_first services before new selection same stands first sets has = record {
+    → (area : List ℕ) → StandsFor (record { services = services; store = new; startup = kept.Wanted }) (opening selection area)
+stands_first services before new selection same stands first sets has area = record {
   keeps = record {
     selection = same;
     services = stands;
@@ -60,12 +60,12 @@ stands_first services before new selection same stands first sets has = record {
     start = refl;
     current = tt;
   };
-  done = nothing_at_first selection;
+  done = nothing_at_first selection area;
 }
 
 -- ---- a section that isn't read as a table
 
-pub handled_unread : (state : ProgramState) (s : State) (pid : ℕ) (section : List ℕ) → Keeps state s → reads_table state.services.selection state.services.service pid ≡ false → Keeps state (with_handled pid section s)
+pub handled_unread : (state : BroadcastState) (s : State) (pid : ℕ) (section : List ℕ) → Keeps state s → reads_table state.services.selection state.services.service pid ≡ false → Keeps state (with_handled pid section s)
 handled_unread state s pid section stands unread = record {
   selection = stands.selection;
   services = stands_unread state.services s.handled pid section unread stands.services;
@@ -76,33 +76,33 @@ handled_unread state s pid section stands unread = record {
 }
 
 turned_unread : (s : State) (pid : ℕ) (section : List ℕ) (tag : Option ℕ) → reads_table s.selection (services s).service pid ≡ false → tag_in (services s).map pid ≡ tag
-    → turned_by pid section s ≡ turned_by_tag tag section (with_handled pid section s)
+    → step_of_section pid section s ≡ step_of_tag tag section (with_handled pid section s)
 turned_unread s pid section tag unread is = rw (unread, is) refl
 
-pub unread_by : (state : ProgramState) (s : State) (pid : ℕ) → Keeps state s → reads_table state.services.selection state.services.service pid ≡ false → reads_table s.selection (services s).service pid ≡ false
+pub unread_by : (state : BroadcastState) (s : State) (pid : ℕ) → Keeps state s → reads_table state.services.selection state.services.service pid ≡ false → reads_table s.selection (services s).service pid ≡ false
 unread_by state s pid stands unread = subst (λ (x : ServicesState). reads_table x.selection x.service pid ≡ false) (services_kept state s stands) unread
 
 -- no component is on its PID
-pub passes : (state : ProgramState) (pid : ℕ) (section before : List ℕ) → reads_table state.services.selection state.services.service pid ≡ false → tag_in state.services.map pid ≡ None
-    → Takes state state before before (turned_by pid section)
+pub passes : (state : BroadcastState) (pid : ℕ) (section before : List ℕ) → reads_table state.services.selection state.services.service pid ≡ false → tag_in state.services.map pid ≡ None
+    → Takes state state before before (step_of_section pid section)
 passes state pid section before unread none = record {
   text = [];
   printed = sym (append-nil before);
   takes = λ s stands.
-      subst (λ (t : Turned). HasTaken state [] t)
+      subst (λ (t : Step). HasTaken state [] t)
       (sym (turned_unread s pid section None (unread_by state s pid stands unread) (subst (λ (x : ServicesState). tag_in x.map pid ≡ None) (services_kept state s stands) none)))
       (record { keeps = handled_unread state s pid section stands unread; text_is = refl });
 }
 
-start_by_tag : (tag : Option ℕ) (section : List ℕ) (now : State) → (turned_by_tag tag section now).state.start ≡ now.start
+start_by_tag : (tag : Option ℕ) (section : List ℕ) (now : State) → (step_of_tag tag section now).state.start ≡ now.start
 start_by_tag None section now = refl
 start_by_tag (Some component) section now = refl
 
 -- a section changes nothing of the document
-start_kept : (pid : ℕ) (section : List ℕ) (s : State) → (turned_by pid section s).state.start ≡ s.start
+start_kept : (pid : ℕ) (section : List ℕ) (s : State) → (step_of_section pid section s).state.start ≡ s.start
 start_kept pid section s = by (reads_table s.selection (services s).service pid)
   where
-    by : (table : Bool) → (cond table (turned_by_table (with_handled pid section s)) (turned_by_tag (tag_in (services s).map pid) section (with_handled pid section s))).state.start ≡ s.start
+    by : (table : Bool) → (cond table (step_of_table (with_handled pid section s)) (step_of_tag (tag_in (services s).map pid) section (with_handled pid section s))).state.start ≡ s.start
     by true = refl
     by false = start_by_tag (tag_in (services s).map pid) section (with_handled pid section s)
 
@@ -110,11 +110,11 @@ same_looks : (stored : Stored) → LooksAlike stored stored
 same_looks stored = record { looks = λ path. refl; start = refl }
 
 -- and where no component is on its PID, nothing of what look-ups answer
-pub passes_looks : (state : ProgramState) (pid : ℕ) (section : List ℕ) → reads_table state.services.selection state.services.service pid ≡ false → tag_in state.services.map pid ≡ None → LeavesLooks state (turned_by pid section)
+pub passes_looks : (state : BroadcastState) (pid : ℕ) (section : List ℕ) → reads_table state.services.selection state.services.service pid ≡ false → tag_in state.services.map pid ≡ None → LeavesLooks state (step_of_section pid section)
 passes_looks state pid section unread none = record {
   start = start_kept pid section;
   looks = λ s keeps.
-      subst (λ (t : Turned). LooksAlike s.store t.state.store)
+      subst (λ (t : Step). LooksAlike s.store t.state.store)
       (sym (turned_unread s pid section None (unread_by state s pid keeps unread) (subst (λ (x : ServicesState). tag_in x.map pid ≡ None) (services_kept state s keeps) none)))
       (same_looks s.store);
 }
@@ -155,13 +155,13 @@ StaysInMaps = (stored : Stored) (components : List Component) (startup : Startup
 
 -- ---- a table
 
-pub table_taken : (old : ProgramState) (services : ServicesState) (new : StoreState) (startup : Startup) (went : List (ℕ × Change)) (pid : ℕ) (section : List ℕ) → services.selection ≡ old.services.selection
+pub table_taken : (old : BroadcastState) (services : ServicesState) (new : StoreState) (startup : Startup) (went : List (ℕ × Change)) (pid : ℕ) (section : List ℕ) → services.selection ≡ old.services.selection
     → ((handled : List Handled) → services_of.StandsFor old.services handled → services_of.StandsFor services (handled ++ record { pid = pid; section = section } ∷ []))
     → ((stored : Stored) → store.StandsFor old.store stored → store.StandsFor new (with_map services.map stored))
     → ((stored : Stored) → store.StandsFor old.store stored → went ≡ gone_by services.map stored)
     → ((tag : ℕ) → has_component new tag ≡ is_some (pid_in services.map tag))
     → ((selection : Selection) (handled : List Handled) → AllPairs AreApart (map_of selection handled)) → startup ≡ following (went_with went old.startup) old.startup → StaysInMaps
-    → (s : State) → Keeps old s → HasTaken (record { services = services; store = new; startup = startup }) (flat_map (λ gone. line_of_change gone.0 gone.1) went) (turned_by_table (with_handled pid section s))
+    → (s : State) → Keeps old s → HasTaken (record { services = services; store = new; startup = startup }) (flat_map (λ gone. line_of_change gone.0 gone.1) went) (step_of_table (with_handled pid section s))
 table_taken old tables new startup went pid section same feeds sets told has apart follows stays s stands =
     let now = with_handled pid section s in
     let fed_with = feeds s.handled stands.services in
@@ -198,14 +198,14 @@ tag_has_pid (c ∷ map) pid tag h = by (eqb c.pid pid) h (tag_has_pid map pid ta
     by true h later = let same : c.tag ≡ tag = cc in rw (eq-eqb c.tag tag same) refl
     by false h later = passed (eqb c.tag tag) (later h)
 
-pub has_its_component : (state : ProgramState) (s : State) (pid component : ℕ) → Keeps state s → tag_in state.services.map pid ≡ Some component → has_component state.store component ≡ true
+pub has_its_component : (state : BroadcastState) (s : State) (pid component : ℕ) → Keeps state s → tag_in state.services.map pid ≡ Some component → has_component state.store component ≡ true
 has_its_component state s pid component stands is = stands.components component ∙ tag_has_pid state.services.map pid component is
 
-pub data_taken : (old : ProgramState) (new : StoreState) (startup : Startup) (changes : List Change) (pid component : ℕ) (section : List ℕ) → reads_table old.services.selection old.services.service pid ≡ false
+pub data_taken : (old : BroadcastState) (new : StoreState) (startup : Startup) (changes : List Change) (pid component : ℕ) (section : List ℕ) → reads_table old.services.selection old.services.service pid ≡ false
     → ((stored : Stored) → store.StandsFor old.store stored → store.StandsFor new (fed component section stored))
     → ((stored : Stored) → store.StandsFor old.store stored → changes ≡ changes_by component section stored)
     → ((tag : ℕ) → has_component new tag ≡ has_component old.store tag) → startup ≡ following (is_told_by component changes old.startup) old.startup → StaysInSections
-    → (s : State) → Keeps old s → HasTaken (record { services = old.services; store = new; startup = startup }) (flat_map (line_of_change component) changes) (turned_by_component component section (with_handled pid section s))
+    → (s : State) → Keeps old s → HasTaken (record { services = old.services; store = new; startup = startup }) (flat_map (line_of_change component) changes) (step_of_component component section (with_handled pid section s))
 data_taken old new startup changes pid component section unread feeds told same follows stays s stands =
     let handled = handled_unread old s pid section stands unread in
     record {
@@ -224,28 +224,28 @@ data_taken old new startup changes pid component section unread feeds told same 
 
 -- ---- dispatches
 
-dispatched_to : (state : ProgramState) (text : List ℕ) (s : State) (t : Turned) → dispatches most_dispatches s ≡ t → Keeps state t.state → dispatch t.state ≡ None → text ≡ t.text → HasDispatched state text s
+dispatched_to : (state : BroadcastState) (text : List ℕ) (s : State) (t : Step) → dispatches most_dispatches s ≡ t → Keeps state t.state → dispatch t.state ≡ None → text ≡ t.text → HasDispatched state text s
 dispatched_to state text s t e keeps done is = record {
-  stands = subst (λ (x : Turned). StandsFor state x.state) (sym e) (record { keeps = keeps; done = done });
-  text_is = is ∙ ap (λ (x : Turned). x.text) (sym e);
+  stands = subst (λ (x : Step). StandsFor state x.state) (sym e) (record { keeps = keeps; done = done });
+  text_is = is ∙ ap (λ (x : Step). x.text) (sym e);
 }
 
-nothing_made : (state : ProgramState) (s : State) → Keeps state s → dispatch s ≡ None → HasDispatched state [] s
+nothing_made : (state : BroadcastState) (s : State) → Keeps state s → dispatch s ≡ None → HasDispatched state [] s
 nothing_made state s keeps done = dispatched_to state [] s (record { state = s; text = [] }) (none_of_most s done) keeps done refl
 
 -- where nothing is wanted
-pub none_dispatched : (old : ProgramState) (before : List ℕ) → start_of old.startup ≢ Wanted → Dispatches old old before before
+pub none_dispatched : (old : BroadcastState) (before : List ℕ) → start_of old.startup ≢ Wanted → Dispatches old old before before
 none_dispatched old before other = record {
   text = [];
   printed = sym (append-nil before);
   dispatches_made = λ s keeps. nothing_made old s keeps (none_wanted s (λ e. other (keeps.start ∙ e)));
 }
 
-abbrev pub with_startup : ProgramState → Startup → ProgramState
+abbrev pub with_startup : BroadcastState → Startup → BroadcastState
 with_startup state startup = record { services = state.services; store = state.store; startup = startup }
 
 -- what is kept of the same state, with another start document
-keeps_with : (state : ProgramState) (s t : State) (startup : Startup) → Keeps state s → t ≡ record s { start = t.start } → start_of startup ≡ t.start → IsCurrent s.store startup → Keeps (with_startup state startup) t
+keeps_with : (state : BroadcastState) (s t : State) (startup : Startup) → Keeps state s → t ≡ record s { start = t.start } → start_of startup ≡ t.start → IsCurrent s.store startup → Keeps (with_startup state startup) t
 keeps_with state s t startup keeps same start current = subst (λ (x : State). Keeps (with_startup state startup) x) (sym same) (record {
   selection = keeps.selection;
   services = keeps.services;
@@ -256,7 +256,7 @@ keeps_with state s t startup keeps same start current = subst (λ (x : State). K
 })
 
 -- what comes of what is there under the start path is what a dispatch makes of it
-dispatched_as : (old : ProgramState) (startup : Startup) (text : List ℕ) (s : State) (reading : Option (Result (List Item) DocFault)) → Keeps old s → s.start ≡ Wanted → loadable s.store (start_path s.store) ≡ reading
+dispatched_as : (old : BroadcastState) (startup : Startup) (text : List ℕ) (s : State) (reading : Option (Result (List Item) DocFault)) → Keeps old s → s.start ≡ Wanted → loadable_reading s.store (start_path s.store) ≡ reading
     → LoadsAs s.store reading startup text → HasDispatched (with_startup old startup) text s
 dispatched_as old startup text s None keeps wanted is loads =
     subst (λ (l : List ℕ). HasDispatched (with_startup old startup) l s) (sym loads.text_is)
@@ -268,12 +268,12 @@ dispatched_as old startup text s (Some reading) keeps wanted is loads =
     (one_of_most s (load s path reading) (dispatch_wanted s wanted ∙ ap (option_map (load s path)) is) (done_behind s path reading))
     (keeps_with old s (load s path reading).state startup keeps refl loads.start_is loads.current) (done_behind s path reading) (loads.text_is ∙ sym (append-nil (load_line path reading)))
 
-pub dispatched_by : (old : ProgramState) (startup : Startup) (before after : List ℕ) → start_of old.startup ≡ Wanted → Loads old.store old.startup startup before after → Dispatches old (with_startup old startup) before after
+pub dispatched_by : (old : BroadcastState) (startup : Startup) (before after : List ℕ) → start_of old.startup ≡ Wanted → Loads old.store old.startup startup before after → Dispatches old (with_startup old startup) before after
 dispatched_by old startup before after wanted loads = record {
   text = loads.text;
   printed = loads.printed;
   dispatches_made = λ s keeps.
-      dispatched_as old startup loads.text s (loadable s.store (start_path s.store)) keeps (sym keeps.start ∙ wanted) refl (loads.loads s.store keeps.store keeps.current);
+      dispatched_as old startup loads.text s (loadable_reading s.store (start_path s.store)) keeps (sym keeps.start ∙ wanted) refl (loads.loads s.store keeps.store keeps.current);
 }
 
 is_wanted : (start : Start) → (start ≡ Wanted) ⊎ (start ≢ Wanted)
@@ -282,7 +282,7 @@ is_wanted Refused = inr (λ e. absurd cc)
 is_wanted (Loaded items) = inr (λ e. absurd cc)
 
 -- a document that is wanted is loaded where it can be, and every other is left as it is
-pub dispatched : (old : ProgramState) (was startup : Startup) (before after : List ℕ) → was ≡ old.startup → (start_of was ≡ Wanted → Loads old.store was startup before after)
+pub dispatched : (old : BroadcastState) (was startup : Startup) (before after : List ℕ) → was ≡ old.startup → (start_of was ≡ Wanted → Loads old.store was startup before after)
     → (start_of was ≢ Wanted → (startup ≡ was) × (after ≡ before)) → Dispatches old (with_startup old startup) before after
 dispatched old was startup before after is_old wanted other = by (is_wanted (start_of old.startup))
   where
@@ -301,34 +301,34 @@ dispatched old was startup before after is_old wanted other = by (is_wanted (sta
 
 -- ---- turns
 
-turned_to : (state : ProgramState) (text : List ℕ) (pid : ℕ) (section : List ℕ) (s : State) (d : Turned) → dispatches most_dispatches (turned_by pid section s).state ≡ d → Keeps state d.state → dispatch d.state ≡ None
-    → text ≡ (turned_by pid section s).text ++ d.text → HasTurned state text (turn pid section s)
+turned_to : (state : BroadcastState) (text : List ℕ) (pid : ℕ) (section : List ℕ) (s : State) (d : Step) → dispatches most_dispatches (step_of_section pid section s).state ≡ d → Keeps state d.state → dispatch d.state ≡ None
+    → text ≡ (step_of_section pid section s).text ++ d.text → HasTurned state text (turn pid section s)
 unfolding turn
 turned_to state text pid section s d e keeps done is = record {
-  stands = subst (λ (x : Turned). StandsFor state x.state) (sym e) (record { keeps = keeps; done = done });
-  text_is = is ∙ ap (λ (x : Turned). (turned_by pid section s).text ++ x.text) (sym e);
+  stands = subst (λ (x : Step). StandsFor state x.state) (sym e) (record { keeps = keeps; done = done });
+  text_is = is ∙ ap (λ (x : Step). (step_of_section pid section s).text ++ x.text) (sym e);
 }
 
 -- nothing was there to be dispatched before the section, and it changed nothing that a dispatch looks at
-pub turned_without : (old mid : ProgramState) (pid : ℕ) (section before after : List ℕ) → Takes old mid before after (turned_by pid section) → LeavesLooks old (turned_by pid section) → Turns old mid before after (turn pid section)
+pub turned_without : (old mid : BroadcastState) (pid : ℕ) (section before after : List ℕ) → Takes old mid before after (step_of_section pid section) → LeavesLooks old (step_of_section pid section) → Turns old mid before after (turn pid section)
 turned_without old mid pid section before after takes leaves = record {
   text = takes.text;
   printed = takes.printed;
   turns = λ s stands.
       let taken = takes.takes s stands.keeps in
-      let t = turned_by pid section s in
+      let t = step_of_section pid section s in
       let done = still_done s t.state (leaves.start s) (leaves.looks s stands.keeps) stands.done in
       turned_to mid takes.text pid section s (record { state = t.state; text = [] }) (none_of_most t.state done) taken.keeps done (taken.text_is ∙ sym (append-nil t.text));
 }
 
 -- a section, and then the dispatches
-pub turned_with : (old mid new : ProgramState) (pid : ℕ) (section before between after : List ℕ) → Takes old mid before between (turned_by pid section) → Dispatches mid new between after → Turns old new before after (turn pid section)
+pub turned_with : (old mid new : BroadcastState) (pid : ℕ) (section before between after : List ℕ) → Takes old mid before between (step_of_section pid section) → Dispatches mid new between after → Turns old new before after (turn pid section)
 turned_with old mid new pid section before between after takes made = record {
   text = takes.text ++ made.text;
   printed = made.printed ∙ ap (λ (l : List ℕ). l ++ made.text) takes.printed ∙ append_assoc before takes.text made.text;
   turns = λ s stands.
       let taken = takes.takes s stands.keeps in
-      let t = turned_by pid section s in
+      let t = step_of_section pid section s in
       let dispatched = made.dispatches_made t.state taken.keeps in
       turned_to new (takes.text ++ made.text) pid section s (dispatches most_dispatches t.state) refl dispatched.stands.keeps dispatched.stands.done (ap₂ (λ (a b : List ℕ). a ++ b) taken.text_is dispatched.text_is);
 }
@@ -339,35 +339,71 @@ turned_with old mid new pid section before between after takes made = record {
 abbrev KeepsWanted : State → State → Type 0
 KeepsWanted s now = (other : ℕ) → now.packets other ≡ cond (wants now other) (s.packets other) []
 
-keeps_loaded : (s now : State) (path : Path) (reading : Option (Result (List Item) DocFault)) (t : Turned) → option_map (load now path) reading ≡ Some t → KeepsWanted s now → KeepsWanted s t.state
+keeps_loaded : (s now : State) (path : Path) (reading : Option (Result (List Item) DocFault)) (t : Step) → option_map (load now path) reading ≡ Some t → KeepsWanted s now → KeepsWanted s t.state
 keeps_loaded s now path None t e k = absurd cc
-keeps_loaded s now path (Some reading) t e k = let same : load now path reading ≡ t = cc in subst (λ (x : Turned). KeepsWanted s x.state) same (λ other. k other)
+keeps_loaded s now path (Some reading) t e k = let same : load now path reading ≡ t = cc in subst (λ (x : Step). KeepsWanted s x.state) same (λ other. k other)
 
-keeps_dispatched : (s now : State) (path : Option Path) (t : Turned) → dispatch_of now path ≡ Some t → KeepsWanted s now → KeepsWanted s t.state
+keeps_dispatched : (s now : State) (path : Option Path) (t : Step) → dispatch_of now path ≡ Some t → KeepsWanted s now → KeepsWanted s t.state
 keeps_dispatched s now None t e k = absurd cc
-keeps_dispatched s now (Some path) t e k = keeps_loaded s now path (loadable now.store path) t e k
+keeps_dispatched s now (Some path) t e k = keeps_loaded s now path (loadable_reading now.store path) t e k
 
-keeps_dispatch : (s now : State) (t : Turned) → dispatch now ≡ Some t → KeepsWanted s now → KeepsWanted s t.state
+keeps_dispatch : (s now : State) (t : Step) → dispatch now ≡ Some t → KeepsWanted s now → KeepsWanted s t.state
 unfolding dispatch
 keeps_dispatch s now t e k = keeps_dispatched s now (wanted_path now.start now.store) t e k
 
 keeps_dispatches : (bound : ℕ) (s now : State) → KeepsWanted s now → KeepsWanted s (dispatches bound now).state
 unfolding dispatches
 keeps_dispatches zero s now k = k
-keeps_dispatches (suc more) s now k = subst (λ (t : Turned). KeepsWanted s t.state) (sym (next_made more now)) (by (dispatch now) refl (keeps_dispatches more s))
+keeps_dispatches (suc more) s now k = subst (λ (t : Step). KeepsWanted s t.state) (sym (next_made more now)) (by (dispatch now) refl (keeps_dispatches more s))
   where
-    by : (next : Option Turned) → dispatch now ≡ next → ((after : State) → KeepsWanted s after → KeepsWanted s (dispatches more after).state) → KeepsWanted s (next_and (dispatches more) now next).state
+    by : (next : Option Step) → dispatch now ≡ next → ((after : State) → KeepsWanted s after → KeepsWanted s (dispatches more after).state) → KeepsWanted s (next_and (dispatches more) now next).state
     by None e later = k
     by (Some t) e later = later t.state (keeps_dispatch s now t e k)
 
-keeps_by_tag : (s now : State) (tag : Option ℕ) (section : List ℕ) → KeepsWanted s now → KeepsWanted s (turned_by_tag tag section now).state
+keeps_by_tag : (s now : State) (tag : Option ℕ) (section : List ℕ) → KeepsWanted s now → KeepsWanted s (step_of_tag tag section now).state
 keeps_by_tag s now None section k = k
 keeps_by_tag s now (Some component) section k = λ other. k other
 
-keeps_turned : (s : State) (pid : ℕ) (section : List ℕ) (table : Bool) → KeepsWanted s (cond table (turned_by_table (with_handled pid section s)) (turned_by_tag (tag_in (services s).map pid) section (with_handled pid section s))).state
+keeps_turned : (s : State) (pid : ℕ) (section : List ℕ) (table : Bool) → KeepsWanted s (cond table (step_of_table (with_handled pid section s)) (step_of_tag (tag_in (services s).map pid) section (with_handled pid section s))).state
 keeps_turned s pid section true = λ other. refl
 keeps_turned s pid section false = keeps_by_tag s (with_handled pid section s) (tag_in (services s).map pid) section (λ other. refl)
 
 pub turn_packets : (pid : ℕ) (section : List ℕ) (s : State) (other : ℕ) → (turn pid section s).state.packets other ≡ cond (wants (turn pid section s).state other) (s.packets other) []
 unfolding turn
-turn_packets pid section s = keeps_dispatches most_dispatches s (turned_by pid section s).state (keeps_turned s pid section (reads_table s.selection (services s).service pid))
+turn_packets pid section s = keeps_dispatches most_dispatches s (step_of_section pid section s).state (keeps_turned s pid section (reads_table s.selection (services s).service pid))
+
+-- ---- the area that a turn leaves
+
+area_loaded : (now : State) (path : Path) (reading : Option (Result (List Item) DocFault)) (t : Step) → option_map (load now path) reading ≡ Some t → t.state.area ≡ now.area
+area_loaded now path None t e = absurd cc
+area_loaded now path (Some reading) t e = let same : load now path reading ≡ t = cc in subst (λ (x : Step). x.state.area ≡ now.area) same refl
+
+area_dispatched : (now : State) (path : Option Path) (t : Step) → dispatch_of now path ≡ Some t → t.state.area ≡ now.area
+area_dispatched now None t e = absurd cc
+area_dispatched now (Some path) t e = area_loaded now path (loadable_reading now.store path) t e
+
+area_dispatch : (now : State) (t : Step) → dispatch now ≡ Some t → t.state.area ≡ now.area
+unfolding dispatch
+area_dispatch now t e = area_dispatched now (wanted_path now.start now.store) t e
+
+area_dispatches : (bound : ℕ) (now : State) → (dispatches bound now).state.area ≡ now.area
+unfolding dispatches
+area_dispatches zero now = refl
+area_dispatches (suc more) now = ap (λ (t : Step). t.state.area) (next_made more now) ∙ by (dispatch now) refl (area_dispatches more)
+  where
+    by : (next : Option Step) → dispatch now ≡ next → ((after : State) → (dispatches more after).state.area ≡ after.area) → (next_and (dispatches more) now next).state.area ≡ now.area
+    by None e later = refl
+    by (Some t) e later = later t.state ∙ area_dispatch now t e
+
+area_by_tag : (now : State) (tag : Option ℕ) (section : List ℕ) → (step_of_tag tag section now).state.area ≡ now.area
+area_by_tag now None section = refl
+area_by_tag now (Some component) section = refl
+
+area_by_section : (s : State) (pid : ℕ) (section : List ℕ) (table : Bool)
+    → (cond table (step_of_table (with_handled pid section s)) (step_of_tag (tag_in (services s).map pid) section (with_handled pid section s))).state.area ≡ s.area
+area_by_section s pid section true = refl
+area_by_section s pid section false = area_by_tag (with_handled pid section s) (tag_in (services s).map pid) section
+
+pub turn_area : (pid : ℕ) (section : List ℕ) (s : State) → (turn pid section s).state.area ≡ s.area
+unfolding turn
+turn_area pid section s = area_dispatches most_dispatches (step_of_section pid section s).state ∙ area_by_section s pid section (reads_table s.selection (services s).service pid)
