@@ -42,7 +42,8 @@ pub record HasTaken (state : BroadcastState) (text : List ℕ) (taken : Step) : 
   pub text_is : text ≡ taken.text
 
 -- A text was printed, and whatever state was kept before, what the section makes of it is kept now.
-pub record Takes (old new : BroadcastState) (before after : List ℕ) (taken_from : State → Step) : Type 0 where
+pub record Takes (old new : BroadcastState) (before after : List ℕ) (taken_from : State → Step)
+    : Type 0 where
   pub text : List ℕ
   pub printed : after ≡ before ++ text
   pub takes : (s : State) → Keeps old s → HasTaken new text (taken_from s)
@@ -54,8 +55,8 @@ pub record LeavesLooks (old : BroadcastState) (taken_from : State → Step) : Ty
 
 -- ---- dispatches
 
--- A text was printed, and whatever state was kept before, what its dispatches leave is kept now, and nothing is left to
--- dispatch.
+-- A text was printed, and whatever state was kept before, what its dispatches leave is kept now,
+-- and nothing is left to dispatch.
 pub record HasDispatched (new : BroadcastState) (text : List ℕ) (s : State) : Type 0 where
   pub stands : StandsFor new (dispatches most_dispatches s).state
   pub text_is : text ≡ (dispatches most_dispatches s).text
@@ -73,7 +74,8 @@ pub record HasTurned (state : BroadcastState) (text : List ℕ) (turned : Step) 
   pub text_is : text ≡ turned.text
 
 -- A text was printed, and whatever state what was kept stands for, it is that of its turn.
-pub record Turns (old new : BroadcastState) (before after : List ℕ) (turned_from : State → Step) : Type 0 where
+pub record Turns (old new : BroadcastState) (before after : List ℕ) (turned_from : State → Step)
+    : Type 0 where
   pub text : List ℕ
   pub printed : after ≡ before ++ text
   pub turns : (s : State) → StandsFor old s → HasTurned new text (turned_from s)

@@ -1,5 +1,5 @@
--- Dispatches: what a receiver does once a section has made its changes. At this stage one dispatch is the load of a document.
--- (This project's own, after ARIB STD-B24, volume 2.)
+-- Dispatches: what a receiver does once a section has made its changes. At this stage one dispatch
+-- is the load of a document. (This project's own, after ARIB STD-B24, volume 2.)
 use Rattle.std.specs.Prelude.{ℕ, zero, suc, Bool, true, false, if◌then◌else◌, List, [], ◌++◌, Option, Some, None, option_map, Result, Ok, Err}
 use Rattle.std.specs.List.{list_all}
 use Rattle.dom_tree.specs.Items.{Item}

@@ -18,21 +18,26 @@ front_of_self xs = record { rest = []; joined = sym (append-nil xs) }
 pub front_of_append : {A : Type 0} (xs ys : List A) → IsFront xs (xs ++ ys)
 front_of_append xs ys = record { rest = ys; joined = refl }
 
-pub front_of_front : {A : Type 0} (xs ys zs : List A) → IsFront xs ys → IsFront ys zs → IsFront xs zs
+pub front_of_front : {A : Type 0} (xs ys zs : List A) → IsFront xs ys → IsFront ys zs
+    → IsFront xs zs
 front_of_front xs ys zs a b = record {
   rest = a.rest ++ b.rest;
   joined = b.joined ∙ ap (λ l. l ++ b.rest) a.joined ∙ append_assoc xs a.rest b.rest;
 }
 
-pub front_under : {A : Type 0} (common xs ys : List A) → IsFront xs ys → IsFront (common ++ xs) (common ++ ys)
-front_under common xs ys a =
-    record { rest = a.rest; joined = ap (λ l. common ++ l) a.joined ∙ sym (append_assoc common xs a.rest) }
+pub front_under : {A : Type 0} (common xs ys : List A) → IsFront xs ys
+    → IsFront (common ++ xs) (common ++ ys)
+front_under common xs ys a = record {
+  rest = a.rest;
+  joined = ap (λ l. common ++ l) a.joined ∙ sym (append_assoc common xs a.rest);
+}
 
 pub front_of_concat : (xs ys : List (List ℕ)) → IsFront xs ys → IsFront (concat xs) (concat ys)
 front_of_concat xs ys a =
     record { rest = concat a.rest; joined = ap concat a.joined ∙ concat-append xs a.rest }
 
-pub front_of_map : {A B : Type 0} (f : A → B) (xs ys : List A) → IsFront xs ys → IsFront (map f xs) (map f ys)
+pub front_of_map : {A B : Type 0} (f : A → B) (xs ys : List A) → IsFront xs ys
+    → IsFront (map f xs) (map f ys)
 front_of_map f xs ys a =
     record { rest = map f a.rest; joined = ap (map f) a.joined ∙ map-append f xs a.rest }
 

@@ -20,4 +20,5 @@ pub record Keeps (kept : KeptState) (now : State) : Type 0 where
 
 -- sections are put together only on PIDs that are wanted
 abbrev pub AreWanted : KeptState → Type 0
-AreWanted kept = (pid : ℕ) → is_followed kept.demultiplexer pid ≡ true → wants kept.broadcast.services pid ≡ true
+AreWanted kept =
+    (pid : ℕ) → is_followed kept.demultiplexer pid ≡ true → wants kept.broadcast.services pid ≡ true

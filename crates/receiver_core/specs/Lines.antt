@@ -1,5 +1,6 @@
--- The lines that the turns of a receiver print, each with the line feed that ends it. This project's own. Numbers of a
--- component and of a version have two hexadecimal digits, that of a module four, and other numbers are decimal.
+-- The lines that the turns of a receiver print, each with the line feed that ends it. This
+-- project's own. Numbers of a component and of a version have two hexadecimal digits, that of a
+-- module four, and other numbers are decimal.
 use Rattle.std.specs.Prelude.{ℕ, List, [], ◌++◌, codes, Result, Ok, Err}
 use Rattle.std.specs.Option.{option_map_or}
 use Rattle.bml_bytes.specs.Numerals.{decimal_digits, hex_digits}
@@ -31,10 +32,12 @@ cause_name Large = codes "large"
 -- what is said of a module: `module cc mmmm vv size`, `gone cc mmmm`, `skip cc mmmm CAUSE`
 abbrev pub line_with : ℕ → ℕ → ChangeLine → List ℕ
 line_with component number (Delivered version size) =
-    codes "module" ++ (module_fields component number ++ (delivery_fields version size ++ codes "\n"))
+    codes "module"
+    ++ (module_fields component number ++ (delivery_fields version size ++ codes "\n"))
 line_with component number Gone = codes "gone" ++ (module_fields component number ++ codes "\n")
 line_with component number (Skipped cause) =
-    codes "skip" ++ (module_fields component number ++ (codes " " ++ (cause_name cause ++ codes "\n")))
+    codes "skip"
+    ++ (module_fields component number ++ (codes " " ++ (cause_name cause ++ codes "\n")))
 
 -- the line of a change, where it has one
 abbrev pub line_of_change : ℕ → Change → List ℕ

@@ -1,5 +1,5 @@
--- What a receiver prints for what comes to it: a list of pieces, one for each turn and one for each display list that is
--- asked for. (This project's own.)
+-- What a receiver prints for what comes to it: a list of pieces, one for each turn and one for each
+-- display list that is asked for. (This project's own.)
 use Rattle.std.specs.Prelude.{ℕ, ◌==◌, ◌&&◌, if◌then◌else◌, List, [], ◌∷◌, ◌++◌, filter, map}
 use Rattle.ts_packets.specs.Packet.{pid_of}
 use Rattle.ts_sections.specs.Sections.{completed_by}
@@ -24,8 +24,8 @@ piece_of step = record { text = step.text; area = step.state.area }
 
 -- ---- turns
 
--- the turns of intact sections on a PID, one behind the other, as long as the PID is wanted: what they leave, and the
--- piece of each
+-- the turns of intact sections on a PID, one behind the other, as long as the PID is wanted: what
+-- they leave, and the piece of each
 abbrev pub state_behind_turns : ℕ → List (List ℕ) → State → State
 state_behind_turns pid [] s = s
 state_behind_turns pid (section ∷ sections) s =
@@ -56,13 +56,15 @@ sections_by packet s =
 abbrev pub intact_sections : List ℕ → State → List (List ℕ)
 intact_sections packet s = filter is_intact (sections_by packet s)
 
--- the display list of the document, at a clock that stands still; without one it is its first line alone
+-- the display list of the document, at a clock that stands still; without one it is its first line
+-- alone
 abbrev pub display_of : Start → List ℕ
 display_of Wanted = clock_line 0
 display_of Refused = clock_line 0
 display_of (Loaded items) = display_lines items 0
 
--- what one input prints, and what it leaves: a packet the turns of the intact sections that it completes
+-- what one input prints, and what it leaves: a packet the turns of the intact sections that it
+-- completes
 abbrev pub pieces_of : Input → State → List Piece
 pieces_of (Packet packet) s =
     pieces_of_turns (pid_of packet) (intact_sections packet s) (with_packet packet s)

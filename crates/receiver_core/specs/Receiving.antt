@@ -1,17 +1,18 @@
--- What a receiver stands for: what came to it so far, and the pieces that it gave for that. (This project's own.)
+-- What a receiver stands for: what came to it so far, and the pieces that it gave for that. (This
+-- project's own.)
 use Rattle.std.specs.Prelude.{◌≡◌, ℕ, Bool, true, false, if◌then◌else◌, List, [], ◌∷◌, ◌++◌, length, filter}
 use Rattle.ts_sections.specs.Intact.{is_intact}
 use Rattle.psi_tables.specs.declared.services.Selection.{Selection}
 use Rattle.psi_tables.specs.Service.{ServicesState, wants}
 use Rattle.receiver_core.specs.Keeping.{KeptState, Keeps}
-use Rattle.receiver_core.specs.Outputs.{Piece, outputs, pieces_of_turns, state_behind, state_behind_turns}
+use Rattle.receiver_core.specs.Outputs.{Piece, display_of, outputs, pieces_of_turns, state_behind, state_behind_turns}
 use Rattle.receiver_core.specs.State.{Input, Show, State, opening, services}
 
 pub record ReceiverState : Type 0 where
   -- the service that is asked for, the one that is played, and its component map
   pub services : ServicesState
-  -- the PID of the packet handed in last, and the sections that it completed and whose turn is still to come, damaged
-  -- ones too, in their order
+  -- the PID of the packet handed in last, and the sections that it completed and whose turn is
+  -- still to come, damaged ones too, in their order
   pub pid : ℕ
   pub waiting : List (List ℕ)
   -- the persistent area
@@ -21,9 +22,11 @@ pub record ReceiverState : Type 0 where
   -- a device of the proofs, of which no clause speaks
   pub kept : KeptState
 
--- The inputs came, and these pieces were given so far. What the turns so far left is one state, and with the turns of the
--- sections that are waiting it is the state that the inputs leave, and what was given is all that they print.
-pub record StandsFor (selection : Selection) (area : List ℕ) (state : ReceiverState) (inputs : List Input) (given : List Piece) : Type 0 where
+-- The inputs came, and these pieces were given so far. What the turns so far left is one state, and
+-- with the turns of the sections that are waiting it is the state that the inputs leave, and what
+-- was given is all that they print.
+pub record StandsFor (selection : Selection) (area : List ℕ) (state : ReceiverState)
+    (inputs : List Input) (given : List Piece) : Type 0 where
   pub now : State
   pub left : state_behind (opening selection area) inputs
       ≡ state_behind_turns state.pid (filter is_intact state.waiting) now
@@ -48,6 +51,12 @@ abbrev pub sections_left : ReceiverState → ℕ
 sections_left state = length state.waiting
 
 -- ---- calls
+
+-- a fact of each state for which the receiver stands
+abbrev pub ForState : ReceiverState → (State → Type 0) → Type 0
+ForState state Fact =
+    (selection : Selection) (area : List ℕ) (inputs : List Input) (given : List Piece)
+    → (stood : StandsFor selection area state inputs given) → Fact stood.now
 
 -- for whatever a receiver stood, it stands for it still
 abbrev pub Stays : ReceiverState → ReceiverState → Type 0
@@ -74,7 +83,8 @@ abbrev pub Shows : List ℕ → ReceiverState → ReceiverState → Type 0
 Shows text old new =
     (selection : Selection) (area : List ℕ) (inputs : List Input) (given : List Piece)
     → StandsFor selection area old inputs given
-    → StandsFor selection area new (inputs ++ Show ∷ []) (given ++ record { text = text; area = new.area } ∷ [])
+    → StandsFor selection area new (inputs ++ Show ∷ [])
+    (given ++ record { text = text; area = new.area } ∷ [])
 
 -- No section was waiting: nothing is printed, and nothing done.
 pub record IsOver (old new : ReceiverState) (before after : List ℕ) : Type 0 where
@@ -91,8 +101,8 @@ pub record PassesDamaged (old new : ReceiverState) (before after : List ℕ) : T
   pub silent : after ≡ before
   pub stays : Stays old new
 
--- The next section is intact: its turn is made, and its text printed. As long as their PID is wanted, those behind it go
--- on waiting.
+-- The next section is intact: its turn is made, and its text printed. As long as their PID is
+-- wanted, those behind it go on waiting.
 pub record MakesTurn (old new : ReceiverState) (before after : List ℕ) : Type 0 where
   pub section : List ℕ
   pub rest : List (List ℕ)
@@ -102,3 +112,11 @@ pub record MakesTurn (old new : ReceiverState) (before after : List ℕ) : Type 
   pub left : new.waiting ≡ (if wants new.services old.pid then rest else [])
   pub printed : after ≡ before ++ text
   pub gives : Gives text old new
+
+-- The display list is printed, of the state that the turns so far left. Where no turn is still to
+-- come, this is what the wish to see it prints.
+pub record PrintsDisplay (old new : ReceiverState) (before after : List ℕ) : Type 0 where
+  pub text : List ℕ
+  pub printed : after ≡ before ++ text
+  pub display : ForState old (λ now. text ≡ display_of now.start)
+  pub shows : IsIdle old → Shows text old new

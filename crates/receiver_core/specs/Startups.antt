@@ -25,7 +25,8 @@ IsCurrent stored _ = Unit {0}
 
 -- a document was read, and one of these changes in a component is of its module
 abbrev pub is_told_by : ℕ → List Change → Startup → Bool
-is_told_by component changes (kept.Pending pending) = (pending.path.component == component) && tells_of pending.path.«module» changes
+is_told_by component changes (kept.Pending pending) =
+    (pending.path.component == component) && tells_of pending.path.«module» changes
 is_told_by component changes _ = false
 
 -- a document was read, and its module is gone with its component

@@ -22,7 +22,8 @@ with_handled pid section s =
 abbrev pub step_of_table : State → Step
 step_of_table now = record {
   state = record now { store = store.with_map (services now).map now.store };
-  text = flat_map (λ gone. line_of_change gone.0 gone.1) (store.gone_by (services now).map now.store);
+  text =
+      flat_map (λ gone. line_of_change gone.0 gone.1) (store.gone_by (services now).map now.store);
 }
 
 -- A section of a component: its changes
@@ -36,7 +37,8 @@ abbrev pub step_of_tag : Option ℕ → List ℕ → State → Step
 step_of_tag None section now = record { state = now; text = [] }
 step_of_tag (Some component) section now = step_of_component component section now
 
--- A section is read as a table, or as one of the component on its PID, by the service and the map before it.
+-- A section is read as a table, or as one of the component on its PID, by the service and the map
+-- before it.
 abbrev pub step_of_section : ℕ → List ℕ → State → Step
 step_of_section pid section s =
     if reads_table s.selection (services s).service pid

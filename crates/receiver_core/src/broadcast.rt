@@ -38,10 +38,11 @@ impl Model for Broadcast {
 }
 
 impl Broadcast {
-    /// The service or the data that is asked for, before the first section. It keeps the allocator; with a data PID it takes memory
-    /// for its component.
+    /// The service or the data that is asked for, before the first section. It keeps the allocator;
+    /// with a data PID it takes memory for its component.
     pub fn new(alloc: Global, selection: Selection) -> Result<Broadcast, NoMemory>
-        ensures { IfOk result (λ broadcast. (area : List ℕ) → StandsFor broadcast (opening selection area)) }
+        ensures { IfOk result
+            (λ broadcast. (area : List ℕ) → StandsFor broadcast (opening selection area)) }
     {
         let services = Services::new(alloc, selection);
         let mut store = Store::new(alloc);
@@ -61,11 +62,12 @@ impl Broadcast {
         &self.services
     }
 
-    /// Makes the turn of the next intact section, which came on that PID, and appends what it prints. After `NoMemory`
-    /// nothing is said of it, and what was appended stops anywhere.
+    /// Makes the turn of the next intact section, which came on that PID, and appends what it
+    /// prints. After `NoMemory` nothing is said of it, and what was appended stops anywhere.
     pub fn turn(&mut self, pid: u16, section: &[u8], out: &mut Vec<u8>) -> Result<(), NoMemory>
         requires { 12 ≤ length section.now }
-        ensures turned { OnOk result (Turns self.old self.new out.old.items out.new.items (turn pid section.now)) }
+        ensures turned { OnOk result
+            (Turns self.old self.new out.old.items out.new.items (turn pid section.now)) }
         ensures grows { StartsWith out.new.items out.old.items }
     {
         if self.take(pid, section, out)? {
@@ -86,18 +88,21 @@ impl Broadcast {
 
     /// Appends the display list of the start document, or its first line alone.
     pub fn show(&self, out: &mut Vec<u8>) -> Result<(), NoMemory>
-        ensures ok { OnOk result (out.new.items ≡ out.old.items ++ display_of (start_of self.now.startup)) }
+        ensures ok { OnOk result
+            (out.new.items ≡ out.old.items ++ display_of (start_of self.now.startup)) }
         ensures grows { StartsWith out.new.items out.old.items }
     {
         self.startup.show(out)
     }
 
-    // Takes a section as a table, or as one of the component on its PID, and tells whether there may be something to
-    // dispatch now.
+    // Takes a section as a table, or as one of the component on its PID, and tells whether there
+    // may be something to dispatch now.
     fn take(&mut self, pid: u16, section: &[u8], out: &mut Vec<u8>) -> Result<bool, NoMemory>
         requires { 12 ≤ length section.now }
-        ensures taken { OnOk result (Takes self.old self.new out.old.items out.new.items (step_of_section pid section.now)) }
-        ensures looks { IfOk result (λ changed. changed ≡ false → LeavesLooks self.old (step_of_section pid section.now)) }
+        ensures taken { OnOk result (Takes self.old self.new out.old.items out.new.items
+            (step_of_section pid section.now)) }
+        ensures looks { IfOk result
+            (λ changed. changed ≡ false → LeavesLooks self.old (step_of_section pid section.now)) }
         ensures grows { StartsWith out.new.items out.old.items }
     {
         law_of_unread_sections();
@@ -110,11 +115,14 @@ impl Broadcast {
         }
     }
 
-    // Takes a section as a table: the components become those of the map, and what left with others is told.
+    // Takes a section as a table: the components become those of the map, and what left with others
+    // is told.
     fn take_table(&mut self, pid: u16, section: &[u8], out: &mut Vec<u8>) -> Result<bool, NoMemory>
         requires { 12 ≤ length section.now }
-        ensures taken { OnOk result (Takes self.old self.new out.old.items out.new.items (λ s. step_of_table (with_handled pid section.now s))) }
-        ensures looks { IfOk result (λ changed. changed ≡ false → LeavesLooks self.old (λ s. step_of_table (with_handled pid section.now s))) }
+        ensures taken { OnOk result (Takes self.old self.new out.old.items out.new.items
+            (λ s. step_of_table (with_handled pid section.now s))) }
+        ensures looks { IfOk result (λ changed. changed ≡ false
+            → LeavesLooks self.old (λ s. step_of_table (with_handled pid section.now s))) }
         ensures grows { StartsWith out.new.items out.old.items }
     {
         law_of_current_documents();
@@ -137,9 +145,12 @@ impl Broadcast {
         out: &mut Vec<u8>,
     ) -> Result<bool, NoMemory>
         requires section { 12 ≤ length section.now }
-        requires unread { reads_table self.old.services.selection self.old.services.service pid ≡ false }
-        ensures taken { OnOk result (Takes self.old self.new out.old.items out.new.items (λ s. step_of_component component section.now (with_handled pid section.now s))) }
-        ensures looks { IfOk result (λ changed. changed ≡ false → LeavesLooks self.old (λ s. step_of_component component section.now (with_handled pid section.now s))) }
+        requires unread {
+            reads_table self.old.services.selection self.old.services.service pid ≡ false }
+        ensures taken { OnOk result (Takes self.old self.new out.old.items out.new.items
+            (λ s. step_of_component component section.now (with_handled pid section.now s))) }
+        ensures looks { IfOk result (λ changed. changed ≡ false → LeavesLooks self.old
+            (λ s. step_of_component component section.now (with_handled pid section.now s))) }
         ensures grows { StartsWith out.new.items out.old.items }
     {
         law_of_unread_sections();

@@ -1,4 +1,5 @@
-//! The lines that the turns of a receiver print. Each call stops in the middle of a line where it finds no memory.
+//! The lines that the turns of a receiver print. Each call stops in the middle of a line where it
+//! finds no memory.
 
 ghost use Rattle.std.specs.Prelude.{◌≡◌, ◌++◌, codes, Err, OnOk};
 ghost use Rattle.std.specs.Io.{StartsWith};
@@ -31,7 +32,8 @@ pub fn push_change_lines(
 /// Appends the lines of modules that are gone, each with its component, in their order.
 pub fn push_gone_lines(gone: &[(u8, Change)], out: &mut Vec<u8>) -> Result<(), NoMemory>
     ensures ok { OnOk result
-        (out.new.items ≡ out.old.items ++ flat_map (λ gone. line_of_change gone.0 gone.1) gone.now) }
+        (out.new.items
+        ≡ out.old.items ++ flat_map (λ gone. line_of_change gone.0 gone.1) gone.now) }
     ensures grows { StartsWith out.new.items out.old.items }
 {
     law_of_fronts();

@@ -14,8 +14,8 @@ use document_load::read_draft;
 use module_store::{Look, Store};
 use std::alloc::Global;
 
-/// Reads the start document, where it is found, and loads it, where nothing that it needs is waited for. Appends the line
-/// of a document that is loaded or refused.
+/// Reads the start document, where it is found, and loads it, where nothing that it needs is waited
+/// for. Appends the line of a document that is loaded or refused.
 pub fn load(alloc: Global, store: &Store, out: &mut Vec<u8>) -> Result<Startup, NoMemory>
     ensures loads { IfOk result
         (λ startup. Loads store.now kept.Wanted startup out.old.items out.new.items) }

@@ -2,8 +2,7 @@
 
 ghost use Rattle.std.specs.Io.{StartsWith};
 ghost use Rattle.std.specs.Prelude.{◌≡◌, true, None, IfOk, IfSome, length};
-ghost use Rattle.module_store.specs.Store.{Stored};
-ghost use Rattle.module_store.specs.Standing.{StandsFor};
+ghost use Rattle.module_store.specs.Standing.{ForStored};
 ghost use Rattle.receiver_core.specs.Dispatches.{are_settled};
 ghost use Rattle.receiver_core.specs.declared.startup.Startup.TheVariants as kept;
 ghost use Rattle.receiver_core.specs.Loading.{KnowsItsPlace, Loads, WaitsAt};
@@ -21,8 +20,8 @@ use std::marker::Model;
 pub struct Pending {
     path: Path,
     draft: Draft,
-    /// Where the need stands that was waited for last. Look-ups begin there, so that a document with many needs costs
-    /// little as long as one of them stays away.
+    /// Where the need stands that was waited for last. Look-ups begin there, so that a document
+    /// with many needs costs little as long as one of them stays away.
     place: usize,
 }
 
@@ -57,7 +56,8 @@ impl Pending {
         &self.path
     }
 
-    /// Loads the document, where nothing that it needs is waited for, and appends its line. Else it goes on waiting.
+    /// Loads the document, where nothing that it needs is waited for, and appends its line. Else it
+    /// goes on waiting.
     pub fn load(self, store: &Store, out: &mut Vec<u8>) -> Result<Startup, NoMemory>
         ensures loads { IfOk result
             (λ startup. Loads store.now (kept.Pending self) startup out.old.items out.new.items) }
@@ -76,7 +76,8 @@ impl Pending {
 
     // Where a need stands that is waited for.
     fn waited_for(&self, store: &Store) -> Option<usize>
-        ensures settled { result ≡ None → (stored : Stored) → StandsFor store.now stored → are_settled stored self.now.draft.needs ≡ true }
+        ensures settled { result ≡ None → ForStored store.now
+            (λ stored. are_settled stored self.now.draft.needs ≡ true) }
         ensures waits { IfSome result (λ place. WaitsAt store.now self.now.draft.needs place) }
     {
         let (before, behind) = self.draft.needs().split_at(self.place);
@@ -89,7 +90,8 @@ impl Pending {
 
 // Where the first need stands that is waited for.
 fn first_waited(store: &Store, needs: &[Path]) -> Option<usize>
-    ensures settled { result ≡ None → (stored : Stored) → StandsFor store.now stored → are_settled stored needs.now ≡ true }
+    ensures settled { result ≡ None
+        → ForStored store.now (λ stored. are_settled stored needs.now ≡ true) }
     ensures waits { IfSome result (λ place. WaitsAt store.now needs.now place) }
 {
     'needs: for (place, need) in needs.iter().enumerate() {

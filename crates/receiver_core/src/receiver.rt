@@ -1,12 +1,12 @@
 //! The receiver: from the packets of a stream to what the turns of its sections print.
 
-ghost use Rattle.std.specs.Prelude.{◌≡◌, ◌⊎◌, ℕ, ◌<◌, ◌++◌, ◌∷◌, [], List, length, true, false, IfOk, OnOk, OnErr, IsErr, Ok};
+ghost use Rattle.std.specs.Prelude.{◌≡◌, ◌⊎◌, ℕ, ◌<◌, [], List, true, false, IfOk, OnOk, OnErr};
+ghost use Rattle.std.specs.Prelude.{IsErr, Ok};
 ghost use Rattle.std.specs.Io.{StartsWith};
 ghost use Rattle.ts_packets.specs.Packet.{pid_of};
-ghost use Rattle.psi_tables.specs.declared.services.Selection.{Selection as Asked};
 ghost use Rattle.psi_tables.specs.Service.{wants as wants_by};
-ghost use Rattle.receiver_core.specs.Outputs.{Piece, display_of, sections_by};
-ghost use Rattle.receiver_core.specs.State.{Input, Packet as APacket};
+ghost use Rattle.receiver_core.specs.Outputs.{sections_by};
+ghost use Rattle.receiver_core.specs.State.{Packet as APacket};
 
 use crate::broadcast::Broadcast;
 use bml_bytes::{AreaBytes, NoMemory};
@@ -17,11 +17,12 @@ use std::marker::Model;
 use ts_packets::Packet;
 use ts_sections::is_intact;
 
-/// Receives a service of a stream, with the modules of its data carousels, and loads and shows its start document.
+/// Receives a service of a stream, with the modules of its data carousels, and loads and shows its
+/// start document.
 ///
-/// Hand in a packet by [`packet`](Receiver::packet), and then make the turns of the sections that it completes by
-/// [`section_turn`](Receiver::section_turn), until that answers `false`. Once a call has answered `NoMemory` the receiver
-/// is spent: each later one that can answer it does.
+/// Hand in a packet by [`packet`](Receiver::packet), and then make the turns of the sections that
+/// it completes by [`section_turn`](Receiver::section_turn), until that answers `false`. Once a
+/// call has answered `NoMemory` the receiver is spent: each later one that can answer it does.
 #[derive(Drop)]
 pub struct Receiver {
     demultiplexer: Demultiplexer,
@@ -45,13 +46,17 @@ impl Model for Receiver {
       kept = record { demultiplexer = r.demultiplexer; broadcast = r.broadcast };
     } };
 
-    ghost invariant = { λ r. AreWanted (record { demultiplexer = r.demultiplexer; broadcast = r.broadcast }) };
+    ghost invariant = { λ r.
+        AreWanted (record { demultiplexer = r.demultiplexer; broadcast = r.broadcast }) };
 }
 
 impl Receiver {
-    ghost use Rattle.receiver_core.specs.Receiving.{StandsFor, IsIdle, IsOver, IsSpent, Gives, MakesTurn, PassesDamaged, Shows, Takes, sections_left};
+    ghost use Rattle.receiver_core.specs.Receiving.{ForState, IsIdle, IsOver, IsSpent, MakesTurn};
+    ghost use Rattle.receiver_core.specs.Receiving.{PassesDamaged, PrintsDisplay, StandsFor, Takes};
+    ghost use Rattle.receiver_core.specs.Receiving.{sections_left};
 
-    /// A receiver of the service or the data that is asked for, with this persistent area, to which nothing came.
+    /// A receiver of the service or the data that is asked for, with this persistent area, to which
+    /// nothing came.
     pub fn new(alloc: Global, selection: Selection, area: AreaBytes) -> Result<Receiver, NoMemory>
         ensures stands { IfOk result (λ receiver. StandsFor selection area receiver [] []) }
         ensures idle { IfOk result (λ receiver. IsIdle receiver) }
@@ -66,7 +71,8 @@ impl Receiver {
         })
     }
 
-    /// Whether packets of that PID are received. Others need not be handed in, where all turns are made.
+    /// Whether packets of that PID are received. Others need not be handed in, where all turns are
+    /// made.
     pub fn wants(&self, pid: u16) -> bool
         ensures exact { result ≡ wants_by self.now.services pid }
         ensures passes { result ≡ false → IsIdle self.now
@@ -80,8 +86,8 @@ impl Receiver {
     pub fn packet(&mut self, packet: &Packet)
         requires idle { IsIdle self.old }
         ensures taken { Takes (APacket packet.now) self.old self.new }
-        ensures sections { (selection : Asked) (area : List ℕ) (inputs : List Input) (given : List Piece)
-            → (stood : StandsFor selection area self.old inputs given) → self.new.waiting ≡ sections_by packet.now stood.now }
+        ensures sections { ForState self.old
+            (λ now. self.new.waiting ≡ sections_by packet.now now) }
         ensures spent { self.new.spent ≡ self.old.spent }
         ensures area { self.new.area ≡ self.old.area }
     {
@@ -90,13 +96,14 @@ impl Receiver {
         }
     }
 
-    /// Hands in the next packet of the stream, of a PID that [`wants`](Receiver::wants) told to be received.
+    /// Hands in the next packet of the stream, of a PID that [`wants`](Receiver::wants) told to be
+    /// received.
     pub fn wanted_packet(&mut self, packet: &Packet)
         requires idle { IsIdle self.old }
         requires wanted { wants_by self.old.services (pid_of packet.now) ≡ true }
         ensures taken { Takes (APacket packet.now) self.old self.new }
-        ensures sections { (selection : Asked) (area : List ℕ) (inputs : List Input) (given : List Piece)
-            → (stood : StandsFor selection area self.old inputs given) → self.new.waiting ≡ sections_by packet.now stood.now }
+        ensures sections { ForState self.old
+            (λ now. self.new.waiting ≡ sections_by packet.now now) }
         ensures spent { self.new.spent ≡ self.old.spent }
         ensures area { self.new.area ≡ self.old.area }
     {
@@ -108,11 +115,12 @@ impl Receiver {
         }
     }
 
-    /// Makes the turn of the next section that the packet completed, and appends what it prints. `false` where no further
-    /// one is whole; a damaged section answers `true` and does nothing.
+    /// Makes the turn of the next section that the packet completed, and appends what it prints.
+    /// `false` where no further one is whole; a damaged section answers `true` and does nothing.
     pub fn section_turn(&mut self, out: &mut Vec<u8>) -> Result<bool, NoMemory>
         ensures over { result ≡ Ok false → IsOver self.old self.new out.old.items out.new.items }
-        ensures handled { result ≡ Ok true → PassesDamaged self.old self.new out.old.items out.new.items
+        ensures handled { result ≡ Ok true
+            → PassesDamaged self.old self.new out.old.items out.new.items
             ⊎ MakesTurn self.old self.new out.old.items out.new.items }
         ensures fewer { result ≡ Ok true → sections_left self.new < sections_left self.old }
         ensures idle { result ≡ Ok false → IsIdle self.new }
@@ -144,13 +152,12 @@ impl Receiver {
         }
     }
 
-    /// Appends the display list: `show 0`, and the boxes and texts of the document, where one is loaded.
+    /// Appends the display list: `show 0`, and the boxes and texts of the document, where one is
+    /// loaded.
     pub fn show(&mut self, out: &mut Vec<u8>) -> Result<(), NoMemory>
         ensures same { OnOk result (self.new ≡ self.old) }
-        ensures shown { OnOk result ((text : List ℕ) × (out.new.items ≡ out.old.items ++ text)
-            × ((selection : Asked) (area : List ℕ) (inputs : List Input) (given : List Piece)
-            → (stood : StandsFor selection area self.old inputs given) → text ≡ display_of stood.now.start)
-            × (IsIdle self.old → Shows text self.old self.new)) }
+        ensures shown { OnOk result
+            (PrintsDisplay self.old self.new out.old.items out.new.items) }
         ensures begins { StartsWith out.new.items out.old.items }
         ensures area { self.new.area ≡ self.old.area }
         ensures unspent { OnOk result (self.new.spent ≡ false) }

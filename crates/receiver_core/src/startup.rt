@@ -32,16 +32,18 @@ pub enum Startup {
 }
 
 impl Startup {
-    /// Loads the document, where it is wanted, is found, and nothing that it needs is waited for; or refuses it. Appends
-    /// the line that tells it.
+    /// Loads the document, where it is wanted, is found, and nothing that it needs is waited for;
+    /// or refuses it. Appends the line that tells it.
     pub fn dispatch(
         self,
         alloc: Global,
         store: &Store,
         out: &mut Vec<u8>,
     ) -> Result<Startup, NoMemory>
-        ensures wanted { IfOk result (λ startup. start_of self ≡ Wanted → Loads store.now self startup out.old.items out.new.items) }
-        ensures other { IfOk result (λ startup. start_of self ≢ Wanted → (startup ≡ self) × (out.new.items ≡ out.old.items)) }
+        ensures wanted { IfOk result (λ startup. start_of self ≡ Wanted
+            → Loads store.now self startup out.old.items out.new.items) }
+        ensures other { IfOk result (λ startup. start_of self ≢ Wanted
+            → (startup ≡ self) × (out.new.items ≡ out.old.items)) }
         ensures grows { StartsWith out.new.items out.old.items }
     {
         match self {
@@ -51,7 +53,8 @@ impl Startup {
         }
     }
 
-    /// Takes the changes in the modules of a component: a document that was read is wanted anew, where its module changed.
+    /// Takes the changes in the modules of a component: a document that was read is wanted anew,
+    /// where its module changed.
     pub fn follow(&mut self, component: u8, changes: &[Change])
         ensures { self.new ≡ startup_behind (is_told_by component changes.now self.old) self.old }
     {
@@ -60,8 +63,8 @@ impl Startup {
         }
     }
 
-    /// Takes the modules that are gone with their components: a document that was read is wanted anew, where its
-    /// module is.
+    /// Takes the modules that are gone with their components: a document that was read is wanted
+    /// anew, where its module is.
     pub fn follow_gone(&mut self, gone: &[(u8, Change)])
         ensures { self.new ≡ startup_behind (is_gone_with gone.now self.old) self.old }
     {
@@ -70,7 +73,8 @@ impl Startup {
         }
     }
 
-    /// Appends the display list: its first line, and the boxes and texts of the document, where one is loaded.
+    /// Appends the display list: its first line, and the boxes and texts of the document, where one
+    /// is loaded.
     pub fn show(&self, out: &mut Vec<u8>) -> Result<(), NoMemory>
         ensures ok { OnOk result (out.new.items ≡ out.old.items ++ display_of (start_of self.now)) }
         ensures grows { StartsWith out.new.items out.old.items }

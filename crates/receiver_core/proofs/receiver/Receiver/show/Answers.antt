@@ -7,4 +7,9 @@ pub returns-in-Ok-clause-shown : goal.returns-in-Ok-clause-shown
 returns-in-Ok-clause-shown c =
     let inside = c.self.inside in
     let state = seen inside.demultiplexer inside.broadcast inside.area inside.spent in
-    rw (← c.self.view_is) (display_of (start_of inside.broadcast.startup), c.in-Ok.ensures.ok, displays state, λ idle. shows state (idle c.if-self.false))
+    rw (← c.self.view_is) (record {
+      text = display_of (start_of inside.broadcast.startup);
+      printed = c.in-Ok.ensures.ok;
+      display = displays state;
+      shows = λ idle. shows state (idle c.if-self.false);
+    })
