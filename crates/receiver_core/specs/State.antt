@@ -13,7 +13,8 @@ pub data Input : Type 0 where
   Packet : List ℕ → Input
   Show : Input
 
--- what became of the start document: it is still wanted, it was refused, or it was loaded with its nodes
+-- what became of the start document: it is still wanted, it was refused, or it was loaded with its
+-- nodes
 pub data Start : Type 0 where
   Wanted : Start
   Refused : Start
@@ -24,25 +25,33 @@ pub record State : Type 0 where
   pub selection : Selection
   -- the intact sections handled so far, each with the PID on which it came
   pub handled : List Handled
-  -- for each PID the packets on it since it was wanted without a break; none of one that isn't wanted
+  -- for each PID the packets on it since it was wanted without a break; none of one that isn't
+  -- wanted
   pub packets : ℕ → List (List ℕ)
   -- the components with their messages
   pub store : Stored
   pub start : Start
+  -- the persistent area. Nothing changes it at this stage.
+  pub area : List ℕ
 
 -- the service and the component map at present
 abbrev pub services : State → ServicesState
-services s = record { selection = s.selection; service = service_of s.selection s.handled; map = map_of s.selection s.handled }
+services s = record {
+  selection = s.selection;
+  service = service_of s.selection s.handled;
+  map = map_of s.selection s.handled;
+}
 
 abbrev pub wants : State → ℕ → Bool
 wants s pid = services_of.wants (services s) pid
 
--- before the first input: with a data PID its component is there at once
-abbrev pub opening : Selection → State
-opening selection = record {
+-- before the first input, with that area: with a data PID its component is there at once
+abbrev pub opening : Selection → List ℕ → State
+opening selection area = record {
   selection = selection;
   handled = [];
   packets = λ pid. [];
   store = store.with_map (map_of selection []) store.at_start;
   start = Wanted;
+  area = area;
 }

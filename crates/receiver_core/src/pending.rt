@@ -1,11 +1,11 @@
 //! A document that was read, and the needs that it waits for.
 
-ghost use Rattle.std.specs.Prelude.{◌≡◌, true, None, IfOk, IfSome, length, take};
-ghost use Rattle.module_store.specs.Store.{Stored};
-ghost use Rattle.module_store.specs.Standing.{StandsFor};
+ghost use Rattle.std.specs.Io.{StartsWith};
+ghost use Rattle.std.specs.Prelude.{◌≡◌, true, None, IfOk, IfSome, length};
+ghost use Rattle.module_store.specs.Standing.{ForStored};
 ghost use Rattle.receiver_core.specs.Dispatches.{are_settled};
 ghost use Rattle.receiver_core.specs.declared.startup.Startup.TheVariants as kept;
-ghost use Rattle.receiver_core.specs.Loading.{Loads, WaitsAt};
+ghost use Rattle.receiver_core.specs.Loading.{KnowsItsPlace, Loads, WaitsAt};
 
 use crate::lines::push_load_line;
 use crate::startup::Startup;
@@ -20,8 +20,8 @@ use std::marker::Model;
 pub struct Pending {
     path: Path,
     draft: Draft,
-    /// Where the need stands that was waited for last. Look-ups begin there, so that a document with many needs costs
-    /// little as long as one of them stays away.
+    /// Where the need stands that was waited for last. Look-ups begin there, so that a document
+    /// with many needs costs little as long as one of them stays away.
     place: usize,
 }
 
@@ -31,7 +31,7 @@ impl Model for Pending {
 
     ghost Value = { PendingState };
 
-    ghost view = { λ p. record { path = p.path; draft = p.draft } };
+    ghost view = { λ p. record { path = p.path; draft = p.draft; place = p.place } };
 
     ghost invariant = { λ p. p.place ≤ length p.draft.needs };
 }
@@ -56,10 +56,13 @@ impl Pending {
         &self.path
     }
 
-    /// Loads the document, where nothing that it needs is waited for, and appends its line. Else it goes on waiting.
+    /// Loads the document, where nothing that it needs is waited for, and appends its line. Else it
+    /// goes on waiting.
     pub fn load(self, store: &Store, out: &mut Vec<u8>) -> Result<Startup, NoMemory>
-        ensures loads { IfOk result (λ startup. Loads store.now (kept.Pending self) startup out.old.items out.new.items) }
-        ensures grows { take (length out.old.items) out.new.items ≡ out.old.items }
+        ensures loads { IfOk result
+            (λ startup. Loads store.now (kept.Pending self) startup out.old.items out.new.items) }
+        ensures knows { IfOk result (λ startup. KnowsItsPlace store.now startup) }
+        ensures grows { StartsWith out.new.items out.old.items }
     {
         let waited = self.waited_for(store);
         let Pending { path, draft, .. } = self;
@@ -73,7 +76,8 @@ impl Pending {
 
     // Where a need stands that is waited for.
     fn waited_for(&self, store: &Store) -> Option<usize>
-        ensures settled { result ≡ None → (stored : Stored) → StandsFor store.now stored → are_settled stored self.now.draft.needs ≡ true }
+        ensures settled { result ≡ None → ForStored store.now
+            (λ stored. are_settled stored self.now.draft.needs ≡ true) }
         ensures waits { IfSome result (λ place. WaitsAt store.now self.now.draft.needs place) }
     {
         let (before, behind) = self.draft.needs().split_at(self.place);
@@ -86,7 +90,8 @@ impl Pending {
 
 // Where the first need stands that is waited for.
 fn first_waited(store: &Store, needs: &[Path]) -> Option<usize>
-    ensures settled { result ≡ None → (stored : Stored) → StandsFor store.now stored → are_settled stored needs.now ≡ true }
+    ensures settled { result ≡ None
+        → ForStored store.now (λ stored. are_settled stored needs.now ≡ true) }
     ensures waits { IfSome result (λ place. WaitsAt store.now needs.now place) }
 {
     'needs: for (place, need) in needs.iter().enumerate() {
