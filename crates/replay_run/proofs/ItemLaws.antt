@@ -3,8 +3,8 @@ use Rattle.std.proofs.Common.{◌≡◌, ◌≢◌, ℕ, ◌<◌, ◌≤◌, ◌
 use Rattle.std.proofs.lemmas.Bool.Decides.{nat_tests}
 use Rattle.std.specs.Cmp.Lexicographic.{bytes_decides}
 use Rattle.bml_bytes.specs.Numerals.{decimal_field}
-use Rattle.replay_run.specs.declared.record.Item.{Item}
-use Rattle.replay_run.specs.declared.record.Item.TheVariants.{All, Packets, Show}
+use Rattle.replay_run.specs.declared.record.RecordItem.{RecordItem}
+use Rattle.replay_run.specs.declared.record.RecordItem.TheVariants.{All, Packets, Show}
 use Rattle.replay_run.specs.declared.record.Line.{Line}
 use Rattle.replay_run.specs.declared.record.Line.TheVariants.{Item as Read, Nothing, Bad}
 use Rattle.replay_run.specs.Record.{fields, is_word, packets_item, item_of, item_line, is_comment, line_with, line_of, IsWritten, AsksNothing}
@@ -27,7 +27,7 @@ packets_written number count e some =
     ∙ ap (λ o. item_line (option_and_then packets_item o)) e
     ∙ ap (λ b. item_line (cond b None (Some (Packets count)))) more
 
-written : (item : Item) (words : List (List ℕ)) → IsWritten item words → line_with words ≡ Read item
+written : (item : RecordItem) (words : List (List ℕ)) → IsWritten item words → line_with words ≡ Read item
 written All words w = ap line_with w ∙ all_written
 written (Packets count) words w = ap line_with w.1 ∙ packets_written w.0 count w.2 w.3
 written Show words w = ap line_with w ∙ show_written
@@ -43,7 +43,7 @@ short_line : (line : List ℕ) → length line ≤ 128 → line_of line ≡ line
 unfolding line_of
 short_line line short = ap (λ b. cond b (line_with (fields line)) Bad) (le-leb (length line) 128 short)
 
-pub item_read : (line : List ℕ) (item : Item) → length line ≤ 128 → IsWritten item (fields line) → line_of line ≡ Read item
+pub item_read : (line : List ℕ) (item : RecordItem) → length line ≤ 128 → IsWritten item (fields line) → line_of line ≡ Read item
 item_read line item short w = short_line line short ∙ written item (fields line) w
 
 pub nothing_read : (line : List ℕ) → length line ≤ 128 → AsksNothing (fields line) → line_of line ≡ Nothing
@@ -51,7 +51,7 @@ nothing_read line short w = short_line line short ∙ nothing_written (fields li
 
 -- ---- and back
 
-plain_case : (name : List ℕ) (all show : Bool) (item : Item) → (all ≡ true → name ≡ codes "all") → (show ≡ true → name ≡ codes "show")
+plain_case : (name : List ℕ) (all show : Bool) (item : RecordItem) → (all ≡ true → name ≡ codes "all") → (show ≡ true → name ≡ codes "show")
     → cond all (Some All) (cond show (Some Show) None) ≡ Some item → IsWritten item (name ∷ [])
 plain_case name true show All is_all is_show e = ap (λ word. word ∷ []) (is_all refl)
 plain_case name true show (Packets count) is_all is_show e = let clash : All ≡ Packets count = cc in cc
@@ -61,11 +61,11 @@ plain_case name false true (Packets count) is_all is_show e = let clash : Show �
 plain_case name false true Show is_all is_show e = ap (λ word. word ∷ []) (is_show refl)
 plain_case name false false item is_all is_show e = let clash : None ≡ Some item = e in cc
 
-positive_case : (zero : Bool) (count : ℕ) (item : Item) → cond zero None (Some (Packets count)) ≡ Some item → (zero ≡ false) × (item ≡ Packets count)
+positive_case : (zero : Bool) (count : ℕ) (item : RecordItem) → cond zero None (Some (Packets count)) ≡ Some item → (zero ≡ false) × (item ≡ Packets count)
 positive_case true count item e = let clash : None ≡ Some item = e in cc
 positive_case false count item e = let same : item ≡ Packets count = cc in (refl, same)
 
-packets_case : (name number : List ℕ) (named : Bool) (found : Option ℕ) (item : Item) → (named ≡ true → name ≡ codes "packets") → decimal_field number ≡ found
+packets_case : (name number : List ℕ) (named : Bool) (found : Option ℕ) (item : RecordItem) → (named ≡ true → name ≡ codes "packets") → decimal_field number ≡ found
     → cond named (option_and_then packets_item found) None ≡ Some item → IsWritten item (name ∷ number ∷ [])
 packets_case name number false found item is_named is_found e = let clash : None ≡ Some item = e in cc
 packets_case name number true None item is_named is_found e = let clash : None ≡ Some item = e in cc
@@ -80,7 +80,7 @@ packets_case name number true (Some count) (Packets n) is_named is_found e =
     let some : 0 < count = grind (arith, nat_tests) in
     (number, ap (λ word. word ∷ number ∷ []) (is_named refl), is_found ∙ ap Some (sym same), omega arith)
 
-item_words : (words : List (List ℕ)) (item : Item) → item_of words ≡ Some item → IsWritten item words
+item_words : (words : List (List ℕ)) (item : RecordItem) → item_of words ≡ Some item → IsWritten item words
 item_words [] item e = let clash : None ≡ Some item = e in cc
 item_words (name ∷ []) item e =
     plain_case name _ _ item (bytes_decides name (codes "all")).0 (bytes_decides name (codes "show")).0 e
@@ -88,16 +88,16 @@ item_words (name ∷ number ∷ []) item e =
     packets_case name number _ _ item (bytes_decides name (codes "packets")).0 refl e
 item_words (name ∷ number ∷ other ∷ more) item e = let clash : None ≡ Some item = e in cc
 
-read_case : (found : Option Item) (item : Item) → item_line found ≡ Read item → found ≡ Some item
+read_case : (found : Option RecordItem) (item : RecordItem) → item_line found ≡ Read item → found ≡ Some item
 read_case None item e = let clash : Bad ≡ Read item = e in cc
 read_case (Some other) item e = let same : other ≡ item = cc in ap Some same
 
-not_nothing : (found : Option Item) → item_line found ≢ Nothing
+not_nothing : (found : Option RecordItem) → item_line found ≢ Nothing
 not_nothing None e = let clash : Bad ≡ Nothing = e in cc
 not_nothing (Some item) e = let clash : Read item ≡ Nothing = e in cc
 
 -- a choice between nothing and a line that may be an item
-item_choice : (comment : Bool) (line : Line) (item : Item) → cond comment Nothing line ≡ Read item → line ≡ Read item
+item_choice : (comment : Bool) (line : Line) (item : RecordItem) → cond comment Nothing line ≡ Read item → line ≡ Read item
 item_choice true line item e = let clash : Nothing ≡ Read item = e in cc
 item_choice false line item e = e
 
@@ -105,7 +105,7 @@ nothing_choice : (comment : Bool) (line : Line) → cond comment Nothing line �
 nothing_choice true line e other = refl
 nothing_choice false line e other = absurd (other e)
 
-line_words : (words : List (List ℕ)) (item : Item) → line_with words ≡ Read item → IsWritten item words
+line_words : (words : List (List ℕ)) (item : RecordItem) → line_with words ≡ Read item → IsWritten item words
 line_words [] item e = let clash : Nothing ≡ Read item = e in cc
 line_words (name ∷ more) item e = item_words (name ∷ more) item (read_case _ item (item_choice (is_comment name) _ item e))
 
@@ -122,7 +122,7 @@ good_choice : (short : Bool) (line good : Line) → good ≢ Bad → cond short 
 good_choice true line good is_good e = (refl, e)
 good_choice false line good is_good e = absurd (is_good (sym e))
 
-pub read_item : (line : List ℕ) (item : Item) → line_of line ≡ Read item → (length line ≤ 128) × IsWritten item (fields line)
+pub read_item : (line : List ℕ) (item : RecordItem) → line_of line ≡ Read item → (length line ≤ 128) × IsWritten item (fields line)
 unfolding line_of
 read_item line item e =
     let c = good_choice (nat_le (length line) 128) (line_with (fields line)) (Read item) (λ clash. cc) e in

@@ -8,7 +8,7 @@ use Rattle.std.proofs.lemmas.List.Splits.{slice_split-cons_no, slice_split_none,
 use Rattle.std.proofs.lemmas.List.Elements.{All-head, All-tail, All-weaker, All-push}
 use Rattle.std.proofs.lemmas.Grind.{common_steps}
 use Rattle.replay_run.specs.declared.record.Line.TheVariants.{Bad}
-use Rattle.replay_run.specs.Record.{fields, line_with, line_of, readings}
+use Rattle.replay_run.specs.Record.{fields, line_with, line_of, lines_of}
 
 behind_part : (x : List ℕ) (parts : List (List ℕ)) → 0 < length parts → lines_of_parts (x ∷ parts) ≡ strip_carriage_return x ∷ lines_of_parts parts
 behind_part x [] l = absurd (omega arith)
@@ -23,9 +23,9 @@ lines_ended line rest h =
     ap lines_of_parts (slice_split_at (λ byte. byte == 10) line 10 rest h refl)
     ∙ behind_part line _ (some_part (λ byte. byte == 10) rest)
 
-pub readings_ended : (line rest : List ℕ) → All (λ byte. (byte == 10) ≡ false) line → readings (line ++ 10 ∷ rest) ≡ line_of (strip_carriage_return line) ∷ readings rest
-unfolding readings
-readings_ended line rest h = ap (map line_of) (lines_ended line rest h)
+pub lines_of_ended : (line rest : List ℕ) → All (λ byte. (byte == 10) ≡ false) line → lines_of (line ++ 10 ∷ rest) ≡ line_of (strip_carriage_return line) ∷ lines_of rest
+unfolding lines_of
+lines_of_ended line rest h = ap (map line_of) (lines_ended line rest h)
 
 last_part : (line : List ℕ) → 0 < length line → lines_of_parts (line ∷ []) ≡ line ∷ []
 last_part line l = let e : (length line == 0) ≡ false = grind (arith, nat_tests) in ap (λ b. cond b [] (line ∷ [])) e
@@ -34,13 +34,13 @@ last_part line l = let e : (length line == 0) ≡ false = grind (arith, nat_test
 pub lines_last : (line : List ℕ) → All (λ byte. (byte == 10) ≡ false) line → 0 < length line → lines line ≡ line ∷ []
 lines_last line h l = ap lines_of_parts (slice_split_none (λ byte. byte == 10) line h) ∙ last_part line l
 
-pub readings_last : (line : List ℕ) → All (λ byte. (byte == 10) ≡ false) line → 0 < length line → readings line ≡ line_of line ∷ []
-unfolding readings
-readings_last line h l = ap (map line_of) (lines_last line h l)
+pub lines_of_last : (line : List ℕ) → All (λ byte. (byte == 10) ≡ false) line → 0 < length line → lines_of line ≡ line_of line ∷ []
+unfolding lines_of
+lines_of_last line h l = ap (map line_of) (lines_last line h l)
 
-pub readings-nil : readings [] ≡ []
-unfolding readings
-readings-nil = refl
+pub lines_of-nil : lines_of [] ≡ []
+unfolding lines_of
+lines_of-nil = refl
 
 -- a line that is too long
 pub line_of_long : (line : List ℕ) → 128 < length line → line_of line ≡ Bad
@@ -78,9 +78,9 @@ begins_bad part [] l = ap (λ parts. slice_get (map line_of parts) 0) (last_part
 begins_bad part (next ∷ others) l = ap Some (line_of_long (strip_carriage_return part) (stripped_long part l))
 
 -- bytes with no line feed that are too many for a line
-pub readings_long : (line more : List ℕ) → All (λ byte. (byte == 10) ≡ false) line → 130 ≤ length line → slice_get (readings (line ++ more)) 0 ≡ Some Bad
-unfolding readings
-readings_long line more h l =
+pub lines_of_long : (line more : List ℕ) → All (λ byte. (byte == 10) ≡ false) line → 130 ≤ length line → slice_get (lines_of (line ++ more)) 0 ≡ Some Bad
+unfolding lines_of
+lines_of_long line more h l =
     let part = long_part line more h in
     ap (λ parts. slice_get (map line_of (lines_of_parts parts)) 0) (part.same)
     ∙ begins_bad (line ++ part.rest) (part.others) (omega (arith, length-append line part.rest))

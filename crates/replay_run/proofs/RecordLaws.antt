@@ -5,7 +5,7 @@ use Rattle.std.proofs.lemmas.Bool.Decides.{nat_tests}
 use Rattle.std.proofs.lemmas.List.Elements.{All-head, All-tail}
 use Rattle.replay_run.specs.declared.record.Line.{Line}
 use Rattle.replay_run.specs.declared.record.Line.TheVariants.{Item as Read, Nothing, Bad}
-use Rattle.replay_run.specs.Record.{readings, is_bad, item_in, items_until_bad, items_before_bad, first_bad}
+use Rattle.replay_run.specs.Record.{lines_of, is_bad, item_in, items_until_bad, items_before_bad, first_bad}
 
 -- none of these lines is bad
 pub record AreGood (lines : List Line) : Type 0 where
@@ -45,16 +45,16 @@ one_bad lines rest good =
     let some : nat_lt (position_or_len is_bad (lines ++ Bad ∷ rest)) (length (lines ++ Bad ∷ rest)) ≡ true = grind (arith, nat_tests, place) in
     ap (λ b. cond b (Some (position_or_len is_bad (lines ++ Bad ∷ rest))) None) some ∙ ap Some place
 
-pub whole_items : (bytes : List ℕ) → AreGood (readings bytes) → items_before_bad bytes ≡ filter_map item_in (readings bytes)
+pub whole_items : (bytes : List ℕ) → AreGood (lines_of bytes) → items_before_bad bytes ≡ filter_map item_in (lines_of bytes)
 whole_items bytes good =
-    ap items_until_bad (sym (append-nil (readings bytes))) ∙ items-good (readings bytes) [] good ∙ append-nil (filter_map item_in (readings bytes))
+    ap items_until_bad (sym (append-nil (lines_of bytes))) ∙ items-good (lines_of bytes) [] good ∙ append-nil (filter_map item_in (lines_of bytes))
 
-pub whole_bad : (bytes : List ℕ) → AreGood (readings bytes) → first_bad bytes ≡ None
-whole_bad bytes good = ap (option_map (λ place. place + 1)) (no_bad (readings bytes) good)
+pub whole_bad : (bytes : List ℕ) → AreGood (lines_of bytes) → first_bad bytes ≡ None
+whole_bad bytes good = ap (option_map (λ place. place + 1)) (no_bad (lines_of bytes) good)
 
-pub bad_items : (bytes : List ℕ) (before rest : List Line) → readings bytes ≡ before ++ Bad ∷ rest → AreGood before → items_before_bad bytes ≡ filter_map item_in before
+pub bad_items : (bytes : List ℕ) (before rest : List Line) → lines_of bytes ≡ before ++ Bad ∷ rest → AreGood before → items_before_bad bytes ≡ filter_map item_in before
 bad_items bytes before rest e good = ap items_until_bad e ∙ items-good before (Bad ∷ rest) good ∙ append-nil (filter_map item_in before)
 
-pub bad_number : (bytes : List ℕ) (before rest : List Line) → readings bytes ≡ before ++ Bad ∷ rest → AreGood before → first_bad bytes ≡ Some (length before + 1)
+pub bad_number : (bytes : List ℕ) (before rest : List Line) → lines_of bytes ≡ before ++ Bad ∷ rest → AreGood before → first_bad bytes ≡ Some (length before + 1)
 bad_number bytes before rest e good =
     ap (λ ls. option_map (λ place. place + 1) (position is_bad ls)) e ∙ ap (option_map (λ place. place + 1)) (one_bad before rest good)

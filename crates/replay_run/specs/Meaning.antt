@@ -8,7 +8,7 @@ use Rattle.receiver_core.specs.State.{Input}
 use Rattle.replay_run.specs.declared.status.Status.{Status}
 use Rattle.replay_run.specs.declared.status.Status.TheVariants.{Done, Usage, BadRecord}
 use Rattle.replay_run.specs.Lines.{end_line}
-use Rattle.replay_run.specs.Play.{inputs_of, packets_in}
+use Rattle.replay_run.specs.Play.{inputs_of, packet_count}
 use Rattle.replay_run.specs.Record.{items_before_bad, first_bad}
 use Rattle.replay_run.specs.Words.{CommandWords, command}
 
@@ -31,7 +31,7 @@ piece_of text = record { text = text; area = empty_area }
 
 -- the last piece, where no line of the record is bad: how many packets were taken
 abbrev pub last_texts : Option ℕ → List Input → List (List ℕ)
-last_texts None inputs = end_line (packets_in inputs) ∷ []
+last_texts None inputs = end_line (packet_count inputs) ∷ []
 last_texts (Some line) inputs = []
 
 abbrev pub status_behind : Option ℕ → Status

@@ -1,4 +1,4 @@
--- What a run has written when it ends.
+-- What a run has written when it ends. This project's own.
 use Rattle.std.specs.Prelude.{ℕ, List, Option}
 use Rattle.std.specs.List.{concat}
 use Rattle.std.specs.Io.KnownBytes.{Appends}
@@ -6,16 +6,16 @@ use Rattle.receiver_core.specs.Fronts.{IsFront}
 
 -- all pieces were written
 abbrev pub WritesAll : Option (List ℕ) → Option (List ℕ) → List (List ℕ) → Type 0
-WritesAll old new pieces = Appends old new (concat pieces)
+WritesAll first written pieces = Appends first written (concat pieces)
 
 -- whole pieces were written, from the first one on
-pub record WritesPieces (old new : Option (List ℕ)) (pieces : List (List ℕ)) : Type 0 where
-  pub written : List (List ℕ)
-  pub front : IsFront written pieces
-  pub appended : Appends old new (concat written)
+pub record WritesPieces (first written : Option (List ℕ)) (pieces : List (List ℕ)) : Type 0 where
+  pub whole : List (List ℕ)
+  pub front : IsFront whole pieces
+  pub appended : Appends first written (concat whole)
 
 -- a front of the bytes of the pieces was written
-pub record WritesBytes (old new : Option (List ℕ)) (pieces : List (List ℕ)) : Type 0 where
-  pub written : List ℕ
-  pub front : IsFront written (concat pieces)
-  pub appended : Appends old new written
+pub record WritesBytes (first written : Option (List ℕ)) (pieces : List (List ℕ)) : Type 0 where
+  pub bytes : List ℕ
+  pub front : IsFront bytes (concat pieces)
+  pub appended : Appends first written bytes

@@ -4,8 +4,8 @@ use Rattle.std.specs.List.{slice_split}
 use Rattle.std.specs.Str.Lines.{lines}
 use Rattle.std.specs.Cmp.Lexicographic.{pointwise}
 use Rattle.bml_bytes.specs.Numerals.{decimal_field}
-use Rattle.replay_run.specs.declared.record.Item.{Item}
-use Rattle.replay_run.specs.declared.record.Item.TheVariants.{All, Packets, Show}
+use Rattle.replay_run.specs.declared.record.RecordItem.{RecordItem}
+use Rattle.replay_run.specs.declared.record.RecordItem.TheVariants.{All, Packets, Show}
 use Rattle.replay_run.specs.declared.record.Line.{Line}
 use Rattle.replay_run.specs.declared.record.Line.TheVariants.{Item as Read, Nothing, Bad}
 
@@ -27,21 +27,21 @@ abbrev pub is_word : List ℕ → List ℕ → Bool
 is_word field word = pointwise nat_eq field word
 
 -- `all` or `show`
-abbrev pub plain_item : List ℕ → Option Item
+abbrev pub plain_item : List ℕ → Option RecordItem
 plain_item name = if is_word name (codes "all") then Some All else if is_word name (codes "show") then Some Show else None
 
 -- so many packets, and at least one
-abbrev pub packets_item : ℕ → Option Item
+abbrev pub packets_item : ℕ → Option RecordItem
 packets_item count = if count == 0 then None else Some (Packets count)
 
 -- the item that the fields are: `all`, `show`, or `packets` and a number
-abbrev pub item_of : List (List ℕ) → Option Item
+abbrev pub item_of : List (List ℕ) → Option RecordItem
 item_of (name ∷ []) = plain_item name
 item_of (name ∷ number ∷ []) = if is_word name (codes "packets") then option_and_then packets_item (decimal_field number) else None
 item_of _ = None
 
 -- a line with the item that its fields are, and a bad one where they are none
-abbrev pub item_line : Option Item → Line
+abbrev pub item_line : Option RecordItem → Line
 item_line (Some item) = Read item
 item_line None = Bad
 
@@ -61,8 +61,8 @@ line_of bytes = if nat_le (length bytes) 128 then line_with (fields bytes) else 
 
 -- what the lines of a record are, in order. Its lines are those of std: each is ended by a line feed, and one
 -- carriage return before that belongs to the end; the last may lack its end, and then keeps a carriage return
-unfoldable pub readings : List ℕ → List Line
-readings bytes = map line_of (lines bytes)
+unfoldable pub lines_of : List ℕ → List Line
+lines_of bytes = map line_of (lines bytes)
 
 -- whether a line is bad
 abbrev pub is_bad : Line → Bool
@@ -71,24 +71,24 @@ is_bad Nothing = false
 is_bad Bad = true
 
 -- the items of the lines up to the first bad one
-abbrev pub items_until_bad : List Line → List Item
+abbrev pub items_until_bad : List Line → List RecordItem
 items_until_bad [] = []
 items_until_bad (Read item ∷ more) = item ∷ items_until_bad more
 items_until_bad (Nothing ∷ more) = items_until_bad more
 items_until_bad (Bad ∷ _) = []
 
 -- the items of a record before its first bad line
-abbrev pub items_before_bad : List ℕ → List Item
-items_before_bad bytes = items_until_bad (readings bytes)
+abbrev pub items_before_bad : List ℕ → List RecordItem
+items_before_bad bytes = items_until_bad (lines_of bytes)
 
 -- the number of a record's first bad line, counted from 1, where it has one. All lines count
 abbrev pub first_bad : List ℕ → Option ℕ
-first_bad bytes = option_map (λ place. place + 1) (position is_bad (readings bytes))
+first_bad bytes = option_map (λ place. place + 1) (position is_bad (lines_of bytes))
 
 -- ---- how lines are written
 
 -- the fields of an item
-abbrev pub IsWritten : Item → List (List ℕ) → Type 0
+abbrev pub IsWritten : RecordItem → List (List ℕ) → Type 0
 IsWritten All words = words ≡ codes "all" ∷ []
 IsWritten (Packets count) words =
     (number : List ℕ) × (words ≡ codes "packets" ∷ number ∷ []) × (decimal_field number ≡ Some count) × (0 < count)
@@ -99,7 +99,7 @@ abbrev pub AsksNothing : List (List ℕ) → Type 0
 AsksNothing words = (words ≡ []) ⊎ ((name : List ℕ) × (more : List (List ℕ)) × (words ≡ (35 ∷ name) ∷ more))
 
 -- the item of a line that has one
-abbrev pub item_in : Line → Option Item
+abbrev pub item_in : Line → Option RecordItem
 item_in (Read item) = Some item
 item_in Nothing = None
 item_in Bad = None

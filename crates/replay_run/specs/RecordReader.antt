@@ -3,7 +3,7 @@
 use Rattle.std.specs.Prelude.{◌≡◌, ◌≢◌, ℕ, ◌-◌, ◌<◌, ◌≤◌, Bool, true, false, List, [], ◌∷◌, ◌++◌, All, length, drop, slice_get, Some}
 use Rattle.replay_run.specs.declared.record.Line.{Line}
 use Rattle.replay_run.specs.declared.record.Line.TheVariants.{Bad}
-use Rattle.replay_run.specs.Record.{readings}
+use Rattle.replay_run.specs.Record.{lines_of}
 
 -- the bytes that were fed and belong to no line given so far, and whether the record's end was told
 pub record ReaderState : Type 0 where
@@ -24,11 +24,11 @@ MayFollow reader more = reader.ended ≡ true → more ≡ []
 
 -- Whatever follows, the lines of the record from here are this one, and then those from the new state.
 abbrev pub Gives : ReaderState → Line → ReaderState → Type 0
-Gives old line new = (more : List ℕ) → MayFollow old more → readings (old.held ++ more) ≡ line ∷ readings (new.held ++ more)
+Gives old line new = (more : List ℕ) → MayFollow old more → lines_of (old.held ++ more) ≡ line ∷ lines_of (new.held ++ more)
 
 -- Whatever follows, the first line of the record from here is bad.
 abbrev pub BeginsBad : ReaderState → Type 0
-BeginsBad reader = (more : List ℕ) → MayFollow reader more → slice_get (readings (reader.held ++ more)) 0 ≡ Some Bad
+BeginsBad reader = (more : List ℕ) → MayFollow reader more → slice_get (lines_of (reader.held ++ more)) 0 ≡ Some Bad
 
 -- the first line from here isn't known before more bytes come: the end of no line and of no record is there, and
 -- what is held is shorter than the longest good line

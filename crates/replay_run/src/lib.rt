@@ -10,10 +10,10 @@
 #![tactic(auto)]
 
 mod lines;
-mod notes;
 mod output;
 mod player;
 mod record;
+mod record_items;
 mod record_laws;
 mod replay;
 mod run_command;
@@ -22,7 +22,7 @@ mod word_laws;
 mod words;
 
 pub use crate::lines::push_end_line;
-pub use crate::record::{Item, Line, Noted, RecordReader};
+pub use crate::record::{Line, NextLine, RecordItem, RecordReader};
 pub use crate::record_laws::{law_of_items, law_of_line_fields, law_of_lines, law_of_records};
 pub use crate::run_command::run;
 pub use crate::status::Status;

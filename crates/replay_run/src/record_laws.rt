@@ -4,19 +4,19 @@
 ghost use Rattle.std.specs.Prelude.{◌≡◌, ◌≢◌, ◌+◌, ◌-◌, ◌<◌, ◌≤◌, ℕ, true, false, List, [], ◌∷◌, ◌++◌, All as Each, length, slice_index, Some, None};
 ghost use Rattle.std.specs.List.{filter_map};
 ghost use Rattle.std.specs.Str.Lines.{lines};
-ghost use Rattle.replay_run.specs.Record.{is_blank, fields, line_of, readings, items_before_bad, first_bad, item_in, AsksNothing, IsWritten};
-ghost use Rattle.replay_run.specs.declared.record.Item.{Item};
+ghost use Rattle.replay_run.specs.Record.{is_blank, fields, line_of, lines_of, items_before_bad, first_bad, item_in, AsksNothing, IsWritten};
+ghost use Rattle.replay_run.specs.declared.record.RecordItem.{RecordItem};
 ghost use Rattle.replay_run.specs.declared.record.Line.{Line as ALine};
 ghost use Rattle.replay_run.specs.declared.record.Line.TheVariants.{Item as Read, Nothing, Bad};
 
 /// A record without a bad line has the items of its lines. Where a bad line stands behind others, the items are
 /// those of these, and the bad line's number is one more than theirs; lines that ask for nothing count.
 pub fn law_of_records()
-    ensures all { (bytes : List ℕ) → Each (λ line. line ≢ Bad) (readings bytes) → items_before_bad bytes ≡ filter_map item_in (readings bytes) }
-    ensures none_bad { (bytes : List ℕ) → Each (λ line. line ≢ Bad) (readings bytes) → first_bad bytes ≡ None }
-    ensures before_bad { (bytes : List ℕ) (before rest : List ALine) → readings bytes ≡ before ++ Bad ∷ rest
+    ensures all { (bytes : List ℕ) → Each (λ line. line ≢ Bad) (lines_of bytes) → items_before_bad bytes ≡ filter_map item_in (lines_of bytes) }
+    ensures none_bad { (bytes : List ℕ) → Each (λ line. line ≢ Bad) (lines_of bytes) → first_bad bytes ≡ None }
+    ensures before_bad { (bytes : List ℕ) (before rest : List ALine) → lines_of bytes ≡ before ++ Bad ∷ rest
         → Each (λ line. line ≢ Bad) before → items_before_bad bytes ≡ filter_map item_in before }
-    ensures number { (bytes : List ℕ) (before rest : List ALine) → readings bytes ≡ before ++ Bad ∷ rest
+    ensures number { (bytes : List ℕ) (before rest : List ALine) → lines_of bytes ≡ before ++ Bad ∷ rest
         → Each (λ line. line ≢ Bad) before → first_bad bytes ≡ Some (length before + 1) }
 {}
 
@@ -31,8 +31,8 @@ pub fn law_of_lines()
 
 /// A line is an item, and it asks for nothing, exactly where it has at most 128 bytes and its fields are written so.
 pub fn law_of_items()
-    ensures item { (line : List ℕ) (item : Item) → length line ≤ 128 → IsWritten item (fields line) → line_of line ≡ Read item }
-    ensures only_items { (line : List ℕ) (item : Item) → line_of line ≡ Read item → (length line ≤ 128) × IsWritten item (fields line) }
+    ensures item { (line : List ℕ) (item : RecordItem) → length line ≤ 128 → IsWritten item (fields line) → line_of line ≡ Read item }
+    ensures only_items { (line : List ℕ) (item : RecordItem) → line_of line ≡ Read item → (length line ≤ 128) × IsWritten item (fields line) }
     ensures nothing { (line : List ℕ) → length line ≤ 128 → AsksNothing (fields line) → line_of line ≡ Nothing }
     ensures only_nothing { (line : List ℕ) → line_of line ≡ Nothing → (length line ≤ 128) × AsksNothing (fields line) }
 {}

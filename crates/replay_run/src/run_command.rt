@@ -5,7 +5,8 @@ ghost use Rattle.replay_run.specs.Causes.{IsCaused};
 ghost use Rattle.replay_run.specs.CommandSeen.{command_seen};
 ghost use Rattle.replay_run.specs.Completeness.{IsUnhindered};
 ghost use Rattle.replay_run.specs.Headline.{RunMeans};
-ghost use Rattle.replay_run.specs.Opening.{AsksOnly, IsUnasked, HasFiles};
+ghost use Rattle.replay_run.specs.Opening.{AsksInOrder, AsksOnly, HasFiles, IsUnasked, LacksItsFile, LeavesFiles, StopsAtOpening};
+ghost use Rattle.replay_run.specs.Outside.{outside};
 ghost use Rattle.replay_run.specs.Replaying.{outcome_of};
 ghost use Rattle.replay_run.specs.Words.{command};
 
@@ -32,14 +33,18 @@ pub fn run<W: World, K: Keeper, S: Sink>(
 ) -> Status
     requires unasked { IsUnasked (W.told world.old) }
 
-    // Where the files are told, the run ends as its meaning says, however reads are cut.
-    ensures headline { RunMeans (command words.now) (W.told world.old) (W.told world.new)
-        (S.told out.old).written (S.told out.new).written result }
+    // Where the files are told, the run ends as its meaning says, however reads are cut. Where a file is missing, it
+    // ends at its opening.
+    ensures headline { RunMeans (command words.now)
+        (outside (W.told world.old) (S.told out.old)) (outside (W.told world.new) (S.told out.new)) result }
+    ensures missing { LacksItsFile (command words.now) (W.told world.old)
+        → StopsAtOpening result (S.told out.old) (S.told out.new) }
 
     // A command that nothing hinders comes to its end, unless memory is wanting.
     ensures complete { (stream notes : List ℕ) → command words.now ≢ None
         → HasFiles (command words.now) (W.told world.old) stream notes
-        → IsUnhindered stream notes (W.told world.old) (W.told world.new) (S.told out.old) (S.told out.new)
+        → IsUnhindered stream notes
+        (outside (W.told world.old) (S.told out.old)) (outside (W.told world.new) (S.told out.new))
         → (result ≡ Status.Done) ⊎ (result ≡ Status.NoMemory) }
 
     // Words that are no command come to nothing, and only these.
@@ -47,10 +52,15 @@ pub fn run<W: World, K: Keeper, S: Sink>(
     ensures unused { result ≡ Status.Usage → (world.new ≡ world.old) × (out.new ≡ out.old) }
 
     // Whether or not content is told: each fault was counted in this run, in the last call under its count, and no
-    // name was asked for but the command's two, each at its own port. Nothing is kept.
+    // name was asked for but the command's two, each at its own port, the record's once the stream was opened.
     ensures cause { IsCaused result
-        (W.told world.old) (W.told world.new) (S.told out.old) (S.told out.new) }
+        (outside (W.told world.old) (S.told out.old)) (outside (W.told world.new) (S.told out.new)) }
     ensures asked { AsksOnly (command words.now) (W.told world.new) }
+    ensures order { AsksInOrder result (W.told world.new) }
+
+    // The files are as before, and what was given and what is left of an opened one is the file. Nothing is kept.
+    ensures files { (W.told world.new).files ≡ (W.told world.old).files }
+    ensures left { LeavesFiles (command words.now) (W.told world.old) (W.told world.new) }
     ensures keeper { keeper.new ≡ keeper.old }
 {
     match read_command(words) {
@@ -67,12 +77,17 @@ fn obey<W: World, S: Sink>(
     out: &mut S,
 ) -> Status
     requires unasked { IsUnasked (W.told world.old) }
-    ensures headline { RunMeans (Some (command_seen command.entry)) (W.told world.old) (W.told world.new)
-        (S.told out.old).written (S.told out.new).written result }
+    ensures headline { RunMeans (Some (command_seen command.entry))
+        (outside (W.told world.old) (S.told out.old)) (outside (W.told world.new) (S.told out.new)) result }
+    ensures missing { LacksItsFile (Some (command_seen command.entry)) (W.told world.old)
+        → StopsAtOpening result (S.told out.old) (S.told out.new) }
     ensures obeyed { result ≢ Status.Usage }
     ensures cause { IsCaused result
-        (W.told world.old) (W.told world.new) (S.told out.old) (S.told out.new) }
+        (outside (W.told world.old) (S.told out.old)) (outside (W.told world.new) (S.told out.new)) }
     ensures asked { AsksOnly (Some (command_seen command.entry)) (W.told world.new) }
+    ensures order { AsksInOrder result (W.told world.new) }
+    ensures files { (W.told world.new).files ≡ (W.told world.old).files }
+    ensures left { LeavesFiles (Some (command_seen command.entry)) (W.told world.old) (W.told world.new) }
 {
     let answer = replay(
         alloc,

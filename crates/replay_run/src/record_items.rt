@@ -1,9 +1,10 @@
-//! Reads the items of the record.
+//! The items of the record, as they are read from its port.
 
-ghost use Rattle.std.specs.Prelude.{◌≡◌, ℕ, ◌+◌, ◌^◌, ◌<◌, ◌≤◌, ◌++◌, ◌∷◌, [], List, length, true, false, IsTrue, OnOk, IfErr, Ok, Option, Some, None};
+ghost use Rattle.std.specs.Prelude.{◌≡◌, ℕ, ◌+◌, ◌<◌, ◌≤◌, ◌++◌, ◌∷◌, [], List, length, false, IsTrue, OnOk, IfErr, Ok, Some, None};
 ghost use Rattle.bml_ports.specs.Worlds.{WorldState};
+ghost use Rattle.replay_run.specs.Files.{file, read_length, record_limit};
 
-use crate::record::{Item, Line, Noted, RecordReader};
+use crate::record::{Line, NextLine, RecordItem, RecordReader};
 use crate::status::Status;
 use bml_ports::{Port, World};
 
@@ -13,33 +14,33 @@ const RECORD_LIMIT: u64 = 1 << 30;
 /// The bytes that one read of the record asks for: with a line that isn't whole they fit the reader.
 const READ_LENGTH: usize = 3904;
 
-/// The record, as far as it was read.
+/// The items of the record, as far as it was read.
 #[derive(Drop)]
-pub struct Notes {
+pub struct RecordItems {
     reader: RecordReader,
     /// The bytes that the record gave.
     bytes: u64,
     /// The lines that were read.
     lines: u64,
     ghost numbered: { lines + length reader.held ≤ bytes },
-    ghost limited: { bytes ≤ 2 ^ 30 + 3904 },
+    ghost limited: { bytes ≤ record_limit + read_length },
 }
 
-impl Notes {
-    ghost use Rattle.replay_run.specs.Noting.{state_of, IsAt, IsReadable, IsWhole, StopsItems, LeavesItems, work_left};
+impl RecordItems {
+    ghost use Rattle.replay_run.specs.RecordProgress.{record_state, IsAt, IsReadable, IsWhole, StopsItems, LeavesItems, work_left};
     ghost use Rattle.replay_run.specs.RecordReader.{longest_line};
-    ghost use Rattle.replay_run.specs.Limits.{record_limit};
     ghost use Rattle.replay_run.specs.Stopping.{OnlyReads};
-    ghost use Rattle.replay_run.specs.declared.record.Item.{Item};
+    ghost use Rattle.replay_run.specs.declared.record.RecordItem.{RecordItem};
 
     /// A record of which nothing was read.
-    pub fn new() -> Notes
-        ensures start { (notes : List ℕ) → IsAt notes (Some notes) (state_of result) [] }
+    pub fn new() -> RecordItems
+        ensures start { (world : WorldState) (notes : List ℕ) → world.notes.left ≡ Some notes
+            → IsAt notes (record_state result world) [] }
         ensures within { result.bytes ≤ record_limit }
         ensures readable { (world : WorldState)
             → IsTrue world.notes.readable → IsReadable result.reader world }
     {
-        Notes {
+        RecordItems {
             reader: RecordReader::new(),
             bytes: 0,
             lines: 0,
@@ -47,7 +48,7 @@ impl Notes {
     }
 
     /// The next item, and None where the record has no more lines. Lines that ask for nothing are passed over.
-    pub fn next_item<W: World>(&mut self, world: &mut W) -> Result<Option<Item>, Status>
+    pub fn next_item<W: World>(&mut self, world: &mut W) -> Result<Option<RecordItem>, Status>
         requires within { self.old.bytes ≤ record_limit }
         requires readable { IsReadable self.old.reader (W.told world.old) }
 
@@ -56,33 +57,33 @@ impl Notes {
         ensures reads { OnlyReads Port.Notes (W.told world.old) (W.told world.new) }
         ensures cause { IfErr result (λ status. StopsItems status
             (W.told world.old).notes.reads (W.told world.new).notes.reads self.new.bytes) }
-        ensures further { (item : Item) → result ≡ Ok (Some item) → self.old.lines < self.new.lines }
+        ensures further { (item : RecordItem) → result ≡ Ok (Some item) → self.old.lines < self.new.lines }
 
-        ensures item { (item : Item) → result ≡ Ok (Some item)
-            → (notes : List ℕ) (items : List Item)
-            → IsAt notes (W.told world.old).notes.left (state_of self.old) items
-            → IsAt notes (W.told world.new).notes.left (state_of self.new) (items ++ item ∷ []) }
-        ensures end { result ≡ Ok None → (notes : List ℕ) (items : List Item)
-            → IsAt notes (W.told world.old).notes.left (state_of self.old) items
-            → IsWhole notes (W.told world.new).notes.left items }
-        ensures stopped { IfErr result (λ status. (notes : List ℕ) (items : List Item)
-            → IsAt notes (W.told world.old).notes.left (state_of self.old) items
-            → LeavesItems status notes (W.told world.new).notes.left items) }
+        ensures item { (item : RecordItem) → result ≡ Ok (Some item)
+            → (notes : List ℕ) (items : List RecordItem)
+            → IsAt notes (record_state self.old (W.told world.old)) items
+            → IsAt notes (record_state self.new (W.told world.new)) (items ++ item ∷ []) }
+        ensures end { result ≡ Ok None → (notes : List ℕ) (items : List RecordItem)
+            → IsAt notes (record_state self.old (W.told world.old)) items
+            → IsWhole (file notes (W.told world.new).notes.left) items }
+        ensures stopped { IfErr result (λ status. (notes : List ℕ) (items : List RecordItem)
+            → IsAt notes (record_state self.old (W.told world.old)) items
+            → LeavesItems status (file notes (W.told world.new).notes.left) items) }
     {
         'lines: loop {
             match self.reader.next() {
-                Noted::Line(Line::Item(item)) => {
+                NextLine::Line(Line::Item(item)) => {
                     self.lines += 1;
                     return Ok(Some(item));
                 }
-                Noted::Line(Line::Nothing) => self.lines += 1,
-                Noted::Line(Line::Bad) => {
+                NextLine::Line(Line::Nothing) => self.lines += 1,
+                NextLine::Line(Line::Bad) => {
                     return Err(Status::BadRecord {
                         line: self.lines + 1,
                     });
                 }
-                Noted::NeedMore => self.read_record(world)?,
-                Noted::End => return Ok(None),
+                NextLine::NeedMore => self.read_record(world)?,
+                NextLine::End => return Ok(None),
             }
         }
     }
@@ -102,12 +103,12 @@ impl Notes {
             (W.told world.old).notes.reads (W.told world.new).notes.reads self.new.bytes) }
         ensures ahead { OnOk result
             (work_left self.new.reader self.new.bytes < work_left self.old.reader self.old.bytes) }
-        ensures goes { OnOk result ((notes : List ℕ) (items : List Item)
-            → IsAt notes (W.told world.old).notes.left (state_of self.old) items
-            → IsAt notes (W.told world.new).notes.left (state_of self.new) items) }
-        ensures stopped { IfErr result (λ status. (notes : List ℕ) (items : List Item)
-            → IsAt notes (W.told world.old).notes.left (state_of self.old) items
-            → LeavesItems status notes (W.told world.new).notes.left items) }
+        ensures goes { OnOk result ((notes : List ℕ) (items : List RecordItem)
+            → IsAt notes (record_state self.old (W.told world.old)) items
+            → IsAt notes (record_state self.new (W.told world.new)) items) }
+        ensures stopped { IfErr result (λ status. (notes : List ℕ) (items : List RecordItem)
+            → IsAt notes (record_state self.old (W.told world.old)) items
+            → LeavesItems status (file notes (W.told world.new).notes.left) items) }
     {
         let mut buffer = [0; READ_LENGTH];
         match world.read_port(Port::Notes, &mut buffer) {
