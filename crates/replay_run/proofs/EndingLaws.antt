@@ -1,5 +1,7 @@
 -- How a replay ends, over plain values.
-use Rattle.std.proofs.Common.{◌≡◌, ℕ, ◌≤◌, List, [], ◌∷◌, ◌++◌, map, refl, sym, ap, ◌∙◌, subst, append_assoc, append-nil, Option, Some, None, Result, Ok, Err, OnOk, IfErr, arith, inl, inr}
+use Rattle.std.proofs.Common.{◌≡◌, ℕ, ◌≤◌, List, [], ◌∷◌, ◌++◌, map, refl, sym, ap, ◌∙◌, subst}
+use Rattle.std.proofs.Common.{append_assoc, append-nil, Option, Some, None, Result, Ok, Err, OnOk}
+use Rattle.std.proofs.Common.{IfErr, arith, inl, inr}
 use Rattle.std.specs.List.{concat}
 use Rattle.std.proofs.lemmas.List.Folds.{concat-append}
 use Rattle.std.specs.Io.KnownBytes.{Appends}
@@ -13,13 +15,17 @@ use Rattle.receiver_core.specs.Fronts.{IsFront}
 use Rattle.receiver_core.specs.Outputs.{outputs}
 use Rattle.receiver_core.specs.Receiving.{ReceiverState, StandsFor, IsIdle}
 use Rattle.receiver_core.specs.State.{Input}
-use Rattle.receiver_core.proofs.FrontLaws.{front_of_self, front_of_append, front_of_front, front_of_concat}
+use Rattle.receiver_core.proofs.FrontLaws.{front_of_self, front_of_append, front_of_front}
+use Rattle.receiver_core.proofs.FrontLaws.{front_of_concat}
 use Rattle.replay_run.specs.declared.record.RecordItem.{RecordItem}
 use Rattle.replay_run.specs.declared.status.Status.{Status}
-use Rattle.replay_run.specs.declared.status.Status.TheVariants.{Done, Usage, BadRecord, OpenFault, ReadFault, WriteFault, KeepFault, BadArea, TooLong, NoMemory}
+use Rattle.replay_run.specs.declared.status.Status.TheVariants.{Done, Usage, BadRecord, OpenFault}
+use Rattle.replay_run.specs.declared.status.Status.TheVariants.{ReadFault, WriteFault, KeepFault}
+use Rattle.replay_run.specs.declared.status.Status.TheVariants.{BadArea, TooLong, NoMemory}
 use Rattle.replay_run.specs.Ending.{EndsAs}
 use Rattle.replay_run.specs.Lines.{end_line}
-use Rattle.replay_run.specs.Meaning.{Meaning, Piece, piece_of, replay_inputs, replay_meaning, replay_texts, texts_of, last_texts, status_behind}
+use Rattle.replay_run.specs.Meaning.{Meaning, Piece, piece_of, replay_inputs, replay_meaning}
+use Rattle.replay_run.specs.Meaning.{replay_texts, texts_of, last_texts, status_behind}
 use Rattle.replay_run.specs.Midway.{StopsIn}
 use Rattle.replay_run.specs.RecordProgress.{RecordState, IsAt, IsBadBehind, IsWhole, LeavesItems}
 use Rattle.replay_run.specs.Outside.{Outside, Account, account}
@@ -38,44 +44,62 @@ use Rattle.replay_run.proofs.WritingLaws.{appends_from, appends_more}
 
 -- what is known of receivers
 pub record ReceiverLaws : Type 0 where
-  pub more : (selection : Selection) (inputs further : List Input) → IsFront (outputs selection inputs) (outputs selection (inputs ++ further))
-  pub given : (selection : Selection) (state : ReceiverState) (inputs : List Input) (given : List (List ℕ)) → StandsFor selection state inputs given → IsFront given (outputs selection inputs)
+  pub more : (selection : Selection) (inputs further : List Input)
+      → IsFront (outputs selection inputs) (outputs selection (inputs ++ further))
+  pub given : (selection : Selection) (state : ReceiverState) (inputs : List Input)
+      (given : List (List ℕ)) → StandsFor selection state inputs given
+      → IsFront given (outputs selection inputs)
 
 -- the texts of a meaning are those that it was made of
-pub texts_of_pieces : (texts : List (List ℕ)) → map (λ (piece : Piece). piece.text) (map piece_of texts) ≡ texts
+pub texts_of_pieces : (texts : List (List ℕ)) → map (λ (piece : Piece). piece.text)
+    (map piece_of texts) ≡ texts
 texts_of_pieces [] = refl
 texts_of_pieces (text ∷ texts) = ap (λ l. text ∷ l) (texts_of_pieces texts)
 
 -- what the first items hand over stands in front of all
-front_of_items : (stream notes : List ℕ) (items : List RecordItem) → IsFront items (items_before_bad notes) → IsFront (inputs_of (packets_of stream) items) (replay_inputs stream notes)
+front_of_items : (stream notes : List ℕ) (items : List RecordItem)
+    → IsFront items (items_before_bad notes) → IsFront (inputs_of (packets_of stream) items)
+    (replay_inputs stream notes)
 front_of_items stream notes items front =
-    subst (λ l. IsFront (inputs_of (packets_of stream) items) (inputs_of (packets_of stream) l)) (sym front.joined) (front_of_inputs (packets_of stream) items front.rest)
+    subst (λ l. IsFront (inputs_of (packets_of stream) items) (inputs_of (packets_of stream) l))
+    (sym front.joined) (front_of_inputs (packets_of stream) items front.rest)
 
 -- texts that a receiver gave for the first inputs stand in front of all
-front_of_given : ReceiverLaws → (selection : Selection) (stream notes : List ℕ) (receiver : ReceiverState) (inputs : List Input) (given : List (List ℕ))
+front_of_given : ReceiverLaws → (selection : Selection) (stream notes : List ℕ)
+    (receiver : ReceiverState) (inputs : List Input) (given : List (List ℕ))
     → IsFront inputs (replay_inputs stream notes) → StandsFor selection receiver inputs given
     → IsFront given (texts_of (replay_meaning selection stream notes))
 unfolding replay_texts
 front_of_given laws selection stream notes receiver inputs given front stands =
     let all = replay_inputs stream notes in
-    let first : IsFront given (outputs selection inputs) = laws.given selection receiver inputs given stands in
+    let first : IsFront given (outputs selection inputs) =
+    laws.given selection receiver inputs given stands in
     let more : IsFront (outputs selection inputs) (outputs selection all) =
-    subst (λ l. IsFront (outputs selection inputs) (outputs selection l)) (sym front.joined) (laws.more selection inputs front.rest) in
-    let last : IsFront (outputs selection all) (replay_texts selection stream notes) = front_of_append (outputs selection all) (last_texts (first_bad notes) all) in
+    subst (λ l. IsFront (outputs selection inputs) (outputs selection l)) (sym front.joined)
+    (laws.more selection inputs front.rest) in
+    let last : IsFront (outputs selection all) (replay_texts selection stream notes) =
+    front_of_append (outputs selection all) (last_texts (first_bad notes) all) in
     subst (λ l. IsFront given l) (sym (texts_of_pieces (replay_texts selection stream notes)))
-    (front_of_front given (outputs selection all) (replay_texts selection stream notes) (front_of_front given (outputs selection inputs) (outputs selection all) first more) last)
+    (front_of_front given (outputs selection all) (replay_texts selection stream notes)
+    (front_of_front given (outputs selection inputs) (outputs selection all) first more) last)
 
 -- pieces that were written stand in front of all
 writes_in_front : (old new : Option (List ℕ)) (pieces all : List (List ℕ)) → IsFront pieces all
     → WritesPieces old new pieces → WritesPieces old new all
 writes_in_front old new pieces all front w =
-    record { whole = w.whole; front = front_of_front w.whole pieces all w.front front; appended = w.appended }
+    record {
+      whole = w.whole;
+      front = front_of_front w.whole pieces all w.front front;
+      appended =
+          w.appended;
+    }
 
 bytes_in_front : (old new : Option (List ℕ)) (pieces all : List (List ℕ)) → IsFront pieces all
     → WritesBytes old new pieces → WritesBytes old new all
 bytes_in_front old new pieces all front w = record {
   bytes = w.bytes;
-  front = front_of_front w.bytes (concat pieces) (concat all) w.front (front_of_concat pieces all front);
+  front = front_of_front w.bytes (concat pieces) (concat all) w.front
+      (front_of_concat pieces all front);
   appended = w.appended;
 }
 
@@ -87,7 +111,12 @@ pub record Course : Type 0 where
   pub before : Outside
 
 abbrev pub replay_of : Course → Replay
-replay_of run = record { selection = run.selection; stream = run.stream; first = run.before.sink.written }
+replay_of run = record {
+  selection = run.selection;
+  stream = run.stream;
+  first =
+      run.before.sink.written;
+}
 
 abbrev pub means : Course → Meaning
 means run = replay_meaning run.selection run.stream run.notes
@@ -105,7 +134,8 @@ RecordWithin run behind = GaveAtMost record_limit (file run.notes behind.world.n
 
 -- the stream gave no more than it may
 pub between_within : (replay : Replay) (now : Moment) (items : List RecordItem) (limit : ℕ)
-    → now.bytes ≤ limit → IsBetween replay now items → GaveAtMost limit (file replay.stream now.left)
+    → now.bytes ≤ limit → IsBetween replay now items
+    → GaveAtMost limit (file replay.stream now.left)
 between_within replay now items limit within b =
     midway_within replay now _ _ limit within b
 
@@ -124,13 +154,15 @@ between_pieces laws run now items front b = record {
 
 leaves_in_front : (status : Status) (run : Course) (behind : Outside) (given : List (List ℕ))
     → IsFront given (texts_of (means run)) → RecordWithin run behind
-    → LeavesPackets status (file run.stream behind.world.stream.left) run.before.sink.written behind.sink.written given
+    → LeavesPackets status (file run.stream behind.world.stream.left) run.before.sink.written
+    behind.sink.written given
     → Ends run behind status
 leaves_in_front ReadFault run behind given front within l =
     (record { stream = l.0; notes = within }, writes_in_front _ _ given _ front l.1)
 leaves_in_front WriteFault run behind given front within l =
     (record { stream = l.0; notes = within }, bytes_in_front _ _ given _ front l.1)
-leaves_in_front TooLong run behind given front within l = (inl l.0, writes_in_front _ _ given _ front l.1)
+leaves_in_front TooLong run behind given front within l =
+    (inl l.0, writes_in_front _ _ given _ front l.1)
 leaves_in_front NoMemory run behind given front within l = writes_in_front _ _ given _ front l.1
 leaves_in_front Done run behind given front within l = absurd l
 leaves_in_front Usage run behind given front within l = absurd l
@@ -139,16 +171,19 @@ leaves_in_front OpenFault run behind given front within l = absurd l
 leaves_in_front KeepFault run behind given front within l = absurd l
 leaves_in_front (BadArea size) run behind given front within l = absurd l
 
-pub ends_in_item : ReceiverLaws → (status : Status) (run : Course) (behind : Outside) (items : List RecordItem)
+pub ends_in_item : ReceiverLaws → (status : Status) (run : Course) (behind : Outside)
+    (items : List RecordItem)
     → IsFront items (items_before_bad run.notes) → RecordWithin run behind
     → StopsIn status (replay_of run) behind (inputs_of (packets_of run.stream) items)
     → Ends run behind status
 ends_in_item laws status run behind items front within s =
     let some : IsFront s.inputs (replay_inputs run.stream run.notes) =
-    front_of_front s.inputs (inputs_of (packets_of run.stream) items) (replay_inputs run.stream run.notes) s.front
+    front_of_front s.inputs (inputs_of (packets_of run.stream) items)
+    (replay_inputs run.stream run.notes) s.front
     (front_of_items run.stream run.notes items front) in
     leaves_in_front status run behind s.given
-    (front_of_given laws run.selection run.stream run.notes s.receiver s.inputs s.given some s.stands) within s.leaves
+    (front_of_given laws run.selection run.stream run.notes s.receiver s.inputs s.given some
+    s.stands) within s.leaves
 
 -- ---- the record stops the replay
 
@@ -159,11 +194,14 @@ pub record IsTold (now : Moment) (behind : Outside) : Type 0 where
 
 stream_told : (run : Course) (now : Moment) (behind : Outside) → IsTold now behind
     → GaveAtMost stream_limit (file run.stream now.left) → StreamWithin run behind
-stream_told run now behind told g = subst (λ l. GaveAtMost stream_limit (file run.stream l)) told.left g
+stream_told run now behind told g =
+    subst (λ l. GaveAtMost stream_limit (file run.stream l)) told.left g
 
 -- a bad line behind these items
-ends_bad : ReceiverLaws → (line : ℕ) (run : Course) (now : Moment) (behind : Outside) (items : List RecordItem)
-    → IsBadBehind line (file run.notes behind.world.notes.left) items → IsTold now behind → StreamWithin run behind
+ends_bad : ReceiverLaws → (line : ℕ) (run : Course) (now : Moment) (behind : Outside)
+    (items : List RecordItem)
+    → IsBadBehind line (file run.notes behind.world.notes.left) items → IsTold now behind
+    → StreamWithin run behind
     → IsIdle now.receiver → IsBetween (replay_of run) now items
     → Ends run behind (BadRecord line)
 unfolding replay_texts
@@ -179,23 +217,28 @@ ends_bad laws line run now behind items bad told within idle b =
     record {
       same = ap status_behind bad.number;
       within = record { stream = within; notes = bad.within };
-      written = subst (λ o. Appends run.before.sink.written o (concat (texts_of (means run)))) told.written
+      written = subst (λ o. Appends run.before.sink.written o (concat (texts_of (means run))))
+          told.written
           (subst (λ l. Appends run.before.sink.written now.written (concat l))
-          (sym (texts_of_pieces (replay_texts run.selection run.stream run.notes) ∙ texts)) b.wrote);
+          (sym (texts_of_pieces (replay_texts run.selection run.stream run.notes) ∙ texts))
+          b.wrote);
     }
 
-pub ends_in_items : ReceiverLaws → (status : Status) (run : Course) (now : Moment) (behind : Outside) (items : List RecordItem)
+pub ends_in_items : ReceiverLaws → (status : Status) (run : Course) (now : Moment)
+    (behind : Outside) (items : List RecordItem)
     → IsFront items (items_before_bad run.notes) → IsTold now behind → StreamWithin run behind
     → IsIdle now.receiver → IsBetween (replay_of run) now items
     → LeavesItems status (file run.notes behind.world.notes.left) items
     → Ends run behind status
 ends_in_items laws ReadFault run now behind items front told within idle b l = (
   record { stream = within; notes = l },
-  subst (λ o. WritesPieces run.before.sink.written o (texts_of (means run))) told.written (between_pieces laws run now items front b),
+  subst (λ o. WritesPieces run.before.sink.written o (texts_of (means run))) told.written
+      (between_pieces laws run now items front b),
 )
 ends_in_items laws TooLong run now behind items front told within idle b l = (
   inr l,
-  subst (λ o. WritesPieces run.before.sink.written o (texts_of (means run))) told.written (between_pieces laws run now items front b),
+  subst (λ o. WritesPieces run.before.sink.written o (texts_of (means run))) told.written
+      (between_pieces laws run now items front b),
 )
 ends_in_items laws (BadRecord line) run now behind items front told within idle b l =
     ends_bad laws line run now behind items l told within idle b
@@ -210,12 +253,16 @@ ends_in_items laws NoMemory run now behind items front told within idle b l = ab
 -- ---- the last line
 
 -- all bytes of the texts
-whole_bytes : (pieces : List (List ℕ)) (line : List ℕ) → concat (pieces ++ line ∷ []) ≡ concat pieces ++ line
-whole_bytes pieces line = concat-append pieces (line ∷ []) ∙ ap (λ l. concat pieces ++ l) (append-nil line)
+whole_bytes : (pieces : List (List ℕ)) (line : List ℕ) → concat (pieces ++ line ∷ [])
+    ≡ concat pieces ++ line
+whole_bytes pieces line = concat-append pieces (line ∷ []) ∙ ap (λ l. concat pieces ++ l)
+    (append-nil line)
 
 -- the bytes of a record of good lines
-all_bytes : ReceiverLaws → (run : Course) (now : Moment) (left : Option (List ℕ)) (items : List RecordItem)
-    → IsWhole (file run.notes left) items → IsIdle now.receiver → (b : IsBetween (replay_of run) now items)
+all_bytes : ReceiverLaws → (run : Course) (now : Moment) (left : Option (List ℕ))
+    (items : List RecordItem)
+    → IsWhole (file run.notes left) items → IsIdle now.receiver
+    → (b : IsBetween (replay_of run) now items)
     → concat (texts_of (means run)) ≡ concat b.given ++ end_line now.packets
 unfolding replay_texts
 all_bytes laws run now left items whole idle b =
@@ -226,14 +273,17 @@ all_bytes laws run now left items whole idle b =
     ap concat (
     texts_of_pieces (replay_texts run.selection run.stream run.notes)
     ∙ ap (λ n. outputs run.selection all ++ last_texts n all) good.0
-    ∙ ap (λ l. outputs run.selection (inputs_of packets l) ++ end_line (packet_count (inputs_of packets l)) ∷ []) good.1
-    ∙ ap (λ l. l ++ end_line (packet_count inputs) ∷ []) (sym (idle.all run.selection inputs b.given b.stands))
+    ∙ ap (λ l. outputs run.selection (inputs_of packets l) ++ end_line
+    (packet_count (inputs_of packets l)) ∷ []) good.1
+    ∙ ap (λ l. l ++ end_line (packet_count inputs) ∷ [])
+    (sym (idle.all run.selection inputs b.given b.stands))
     ∙ ap (λ n. b.given ++ end_line n ∷ []) (sym b.packets)
     )
     ∙ whole_bytes b.given (end_line now.packets)
 
 -- it was written
-ends_done : ReceiverLaws → (run : Course) (now : Moment) (behind : Outside) (items : List RecordItem)
+ends_done : ReceiverLaws → (run : Course) (now : Moment) (behind : Outside)
+    (items : List RecordItem)
     → IsWhole (file run.notes behind.world.notes.left) items → StreamWithin run behind
     → WritesOn now.written behind.sink.written (end_line now.packets)
     → IsIdle now.receiver → IsBetween (replay_of run) now items
@@ -241,12 +291,15 @@ ends_done : ReceiverLaws → (run : Course) (now : Moment) (behind : Outside) (i
 ends_done laws run now behind items whole within wrote idle b = record {
   same = ap status_behind (items_of_whole run.notes _ items whole).0;
   within = record { stream = within; notes = whole.within };
-  written = subst (λ l. Appends run.before.sink.written behind.sink.written l) (sym (all_bytes laws run now _ items whole idle b))
-      (appends_more run.before.sink.written now.written behind.sink.written (concat b.given) (end_line now.packets) b.wrote wrote);
+  written = subst (λ l. Appends run.before.sink.written behind.sink.written l)
+      (sym (all_bytes laws run now _ items whole idle b))
+      (appends_more run.before.sink.written now.written behind.sink.written (concat b.given)
+      (end_line now.packets) b.wrote wrote);
 }
 
 -- the last bytes were cut short
-line_short : (first old new : Option (List ℕ)) (pieces : List (List ℕ)) (shown line : List ℕ) → concat pieces ≡ shown ++ line
+line_short : (first old new : Option (List ℕ)) (pieces : List (List ℕ)) (shown line : List ℕ)
+    → concat pieces ≡ shown ++ line
     → WritesShort old new line → Appends first old shown → WritesBytes first new pieces
 line_short None old new pieces shown line bytes short a =
     record { bytes = []; front = record { rest = concat pieces; joined = refl }; appended = tt }
@@ -257,32 +310,38 @@ line_short (Some start) (Some told) new pieces shown line bytes short a =
       bytes = shown ++ cut.front;
       front = record {
         rest = cut.rest;
-        joined = bytes ∙ ap (λ l. shown ++ l) cut.whole ∙ sym (append_assoc shown cut.front cut.rest);
+        joined = bytes ∙ ap (λ l. shown ++ l) cut.whole
+            ∙ sym (append_assoc shown cut.front cut.rest);
       };
       appended = appends_from start (shown ++ cut.front) new
           (cut.written ∙ ap Some (ap (λ l. l ++ cut.front) a ∙ append_assoc start shown cut.front));
     }
 
 -- it wasn't
-ends_in_line : ReceiverLaws → (status : Status) (run : Course) (now : Moment) (behind : Outside) (items : List RecordItem)
+ends_in_line : ReceiverLaws → (status : Status) (run : Course) (now : Moment) (behind : Outside)
+    (items : List RecordItem)
     → IsWhole (file run.notes behind.world.notes.left) items → StreamWithin run behind
     → StopsLine status now.written behind.sink.written (end_line now.packets)
     → IsIdle now.receiver → IsBetween (replay_of run) now items
     → Ends run behind status
 ends_in_line laws WriteFault run now behind items whole within short idle b = (
   record { stream = within; notes = whole.within },
-  line_short run.before.sink.written now.written behind.sink.written (texts_of (means run)) (concat b.given)
+  line_short run.before.sink.written now.written behind.sink.written (texts_of (means run))
+      (concat b.given)
       (end_line now.packets) (all_bytes laws run now _ items whole idle b) short b.wrote,
 )
 ends_in_line laws NoMemory run now behind items whole within kept idle b =
     let all = items_of_whole run.notes _ items whole in
-    let front : IsFront items (items_before_bad run.notes) = subst (λ l. IsFront items l) (sym all.1) (front_of_self items) in
+    let front : IsFront items (items_before_bad run.notes) =
+    subst (λ l. IsFront items l) (sym all.1) (front_of_self items) in
     record {
       whole = b.given;
       front = front_of_given laws run.selection run.stream run.notes now.receiver _ b.given
           (front_of_items run.stream run.notes items front) b.stands;
-      appended = subst (λ l. Appends run.before.sink.written behind.sink.written l) (append-nil (concat b.given))
-          (appends_more run.before.sink.written now.written behind.sink.written (concat b.given) [] b.wrote kept);
+      appended = subst (λ l. Appends run.before.sink.written behind.sink.written l)
+          (append-nil (concat b.given))
+          (appends_more run.before.sink.written now.written behind.sink.written
+          (concat b.given) [] b.wrote kept);
     }
 ends_in_line laws Done run now behind items whole within s idle b = absurd s
 ends_in_line laws Usage run now behind items whole within s idle b = absurd s
@@ -312,12 +371,16 @@ ends_with_line laws (Err status) packets run now behind items same wrote stops w
 -- ---- steps between items
 
 -- the stream's port stays
-pub between_same : (replay : Replay) (now : Moment) (left : Option (List ℕ)) (items : List RecordItem)
-    → left ≡ now.left → IsBetween replay now items → IsBetween replay (record now { left = left }) items
-between_same replay now left items e b = subst (λ l. IsBetween replay (record now { left = l }) items) (sym e) b
+pub between_same : (replay : Replay) (now : Moment) (left : Option (List ℕ))
+    (items : List RecordItem)
+    → left ≡ now.left → IsBetween replay now items
+    → IsBetween replay (record now { left = left }) items
+between_same replay now left items e b =
+    subst (λ l. IsBetween replay (record now { left = l }) items) (sym e) b
 
 -- or the record's
-pub at_same : (notes : List ℕ) (now : RecordState) (left : Option (List ℕ)) (items : List RecordItem)
+pub at_same : (notes : List ℕ) (now : RecordState) (left : Option (List ℕ))
+    (items : List RecordItem)
     → left ≡ now.left → IsAt notes now items → IsAt notes (record now { left = left }) items
 at_same notes now left items e a = subst (λ l. IsAt notes (record now { left = l }) items) (sym e) a
 
@@ -326,9 +389,16 @@ pub left_same : (old new : PortState) → new ≡ old → new.left ≡ old.left
 left_same old new e = ap (λ (port : PortState). port.left) e
 
 pub reads_none : (a : WorldState) → OnlyReadsBoth a a
-reads_none a = record { files = refl; openings = refl; stream = read_on_none a.stream; notes = read_on_none a.notes }
+reads_none a = record {
+  files = refl;
+  openings = refl;
+  stream = read_on_none a.stream;
+  notes =
+      read_on_none a.notes;
+}
 
-pub reads_stream : (a b c : WorldState) → OnlyReadsBoth a b → OnlyReads Stream b c → OnlyReadsBoth a c
+pub reads_stream : (a b c : WorldState) → OnlyReadsBoth a b → OnlyReads Stream b c
+    → OnlyReadsBoth a c
 reads_stream a b c x y = record {
   files = y.files ∙ x.files;
   openings = y.openings ∙ x.openings;
@@ -346,7 +416,8 @@ reads_notes a b c x y = record {
 
 -- ---- a file couldn't be opened
 
-pub ends_unopened : (status : Status) (meaning : Meaning) (run : Account) (port : Port) (old new : WorldState)
+pub ends_unopened : (status : Status) (meaning : Meaning) (run : Account) (port : Port)
+    (old new : WorldState)
     → run.written ≡ run.first → StopsOpening status port old new → EndsAs meaning run status
 ends_unopened OpenFault meaning run port old new same s = same
 ends_unopened NoMemory meaning run port old new same s = record {

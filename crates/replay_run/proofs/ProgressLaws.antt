@@ -1,5 +1,7 @@
 -- The steps of a replay, over plain values.
-use Rattle.std.proofs.Common.{◌≡◌, ℕ, ◌+◌, true, false, List, [], ◌∷◌, ◌++◌, drop, refl, sym, ap, ◌∙◌, subst, append_assoc, append-nil, length, Option, Some, arith, length-append, drop-drop}
+use Rattle.std.proofs.Common.{◌≡◌, ℕ, ◌+◌, true, false, List, [], ◌∷◌, ◌++◌, drop, refl, sym, ap}
+use Rattle.std.proofs.Common.{◌∙◌, subst, append_assoc, append-nil, length, Option, Some, arith}
+use Rattle.std.proofs.Common.{length-append, drop-drop}
 use Rattle.std.specs.List.{concat}
 use Rattle.std.proofs.KnownBytes.{Appends-nil}
 use Rattle.std.proofs.lemmas.List.Folds.{concat-append}
@@ -11,13 +13,17 @@ use Rattle.receiver_core.specs.Receiving.{ReceiverState, StandsFor}
 use Rattle.receiver_core.specs.State.{Input, Packet}
 use Rattle.replay_run.specs.declared.record.RecordItem.{RecordItem}
 use Rattle.replay_run.specs.Midway.{item_of_count}
-use Rattle.replay_run.specs.Play.{inputs_of_item, packets_behind, inputs_of, packets_left, packet_count}
+use Rattle.replay_run.specs.Play.{inputs_of_item, packets_behind, inputs_of, packets_left}
+use Rattle.replay_run.specs.Play.{packet_count}
 use Rattle.replay_run.specs.Progress.{Replay, Moment, IsMidway, IsBetween}
-use Rattle.replay_run.proofs.PlayLaws.{inputs_of-push, packets_left-push, no_items, packet_count-packet, with_packets, with_none, with_more, Allows, took_all}
+use Rattle.replay_run.proofs.PlayLaws.{inputs_of-push, packets_left-push, no_items}
+use Rattle.replay_run.proofs.PlayLaws.{packet_count-packet, with_packets, with_none, with_more}
+use Rattle.replay_run.proofs.PlayLaws.{Allows, took_all}
 use Rattle.replay_run.proofs.WritingLaws.{appends_more}
 
 -- the cutter left bytes out in front of the next packet
-pub midway_seek : (replay : Replay) (now : Moment) (inputs : List Input) (ahead : List (List ℕ)) (cutter : CutterState)
+pub midway_seek : (replay : Replay) (now : Moment) (inputs : List Input) (ahead : List (List ℕ))
+    (cutter : CutterState)
     → Gives now.cutter [] cutter → cutter.ended ≡ now.cutter.ended
     → IsMidway replay now inputs ahead
     → IsMidway replay (record now { cutter = cutter }) inputs ahead
@@ -37,21 +43,25 @@ midway_seek replay now inputs ahead cutter gives ended m = record {
 
 -- what a cut packet leaves of a moment
 abbrev pub behind_packet : Moment → CutterState → ReceiverState → Moment
-behind_packet now cutter receiver = record now { cutter = cutter; receiver = receiver; packets = now.packets + 1 }
+behind_packet now cutter receiver =
+    record now { cutter = cutter; receiver = receiver; packets = now.packets + 1 }
 
 -- a packet was cut, and the receiver stands for one more
 pub midway_packet : (replay : Replay) (now : Moment) (inputs : List Input) (ahead : List (List ℕ))
     (cutter : CutterState) (receiver : ReceiverState) (packet : List ℕ)
     → Gives now.cutter (packet ∷ []) cutter → cutter.ended ≡ now.cutter.ended
-    → ((inputs : List Input) (given : List (List ℕ)) → StandsFor replay.selection now.receiver inputs given
+    → ((inputs : List Input) (given : List (List ℕ))
+    → StandsFor replay.selection now.receiver inputs given
     → StandsFor replay.selection receiver (inputs ++ Packet packet ∷ []) given)
     → IsMidway replay now inputs ahead
-    → IsMidway replay (behind_packet now cutter receiver) (with_packets inputs 1 ahead) (drop 1 ahead)
+    → IsMidway replay (behind_packet now cutter receiver) (with_packets inputs 1 ahead)
+    (drop 1 ahead)
 midway_packet replay now inputs ahead cutter receiver packet gives ended pushed m =
     let behind = packets_of (cutter.held ++ m.rest) in
     let are : packet ∷ behind ≡ ahead = sym (gives m.rest m.ended) ∙ m.ahead_is in
     let after : Moment = behind_packet now cutter receiver in
-    let P : List (List ℕ) → Type 0 = λ l. IsMidway replay after (with_packets inputs 1 l) (drop 1 l) in
+    let P : List (List ℕ) → Type 0 = λ l. IsMidway replay after (with_packets inputs 1 l)
+    (drop 1 l) in
     subst P are (record {
       taken = m.taken;
       rest = m.rest;
@@ -67,7 +77,8 @@ midway_packet replay now inputs ahead cutter receiver packet gives ended pushed 
     })
 
 -- the receiver gave texts, which were written
-pub midway_texts : (replay : Replay) (now : Moment) (inputs more : List Input) (ahead : List (List ℕ))
+pub midway_texts : (replay : Replay) (now : Moment) (inputs more : List Input)
+    (ahead : List (List ℕ))
     (receiver : ReceiverState) (texts : List (List ℕ)) (written : Option (List ℕ))
     → ((given : List (List ℕ)) → StandsFor replay.selection now.receiver inputs given
     → StandsFor replay.selection receiver more (given ++ texts))
@@ -87,20 +98,29 @@ midway_texts replay now inputs more ahead receiver texts written gave count appe
   packets = m.packets ∙ sym count;
   stands = gave m.given m.stands;
   wrote = subst (λ l. Appends replay.first written l) (sym (concat-append m.given texts))
-      (appends_more replay.first now.written written (concat m.given) (concat texts) m.wrote appended);
+      (appends_more replay.first now.written written (concat m.given)
+      (concat texts) m.wrote appended);
 }
 
 -- the stream gave bytes, and the cutter took them
 pub midway_read : (replay : Replay) (now : Moment) (inputs : List Input) (ahead : List (List ℕ))
     (cutter : CutterState) (left : Option (List ℕ)) (bytes : List ℕ)
-    → ((rest : List ℕ) → now.left ≡ Some rest → (more : List ℕ) × (left ≡ Some more) × (rest ≡ bytes ++ more))
-    → now.cutter.ended ≡ false → cutter.held ≡ now.cutter.held ++ bytes → cutter.ended ≡ now.cutter.ended
+    → ((rest : List ℕ) → now.left ≡ Some rest → (more : List ℕ) × (left ≡ Some more)
+    × (rest ≡ bytes ++ more))
+    → now.cutter.ended ≡ false → cutter.held ≡ now.cutter.held ++ bytes → cutter.ended
+    ≡ now.cutter.ended
     → IsMidway replay now inputs ahead
-    → IsMidway replay (record now { cutter = cutter; bytes = now.bytes + length bytes; left = left }) inputs ahead
+    → IsMidway replay (record now {
+      cutter = cutter;
+      bytes = now.bytes + length bytes;
+      left =
+          left;
+    }) inputs ahead
 midway_read replay now inputs ahead cutter left bytes gave open_end held ended m =
     let g = gave m.rest m.left_is in
     let same : cutter.held ++ g.0 ≡ now.cutter.held ++ m.rest =
-    ap (λ l. l ++ g.0) held ∙ append_assoc now.cutter.held bytes g.0 ∙ ap (λ l. now.cutter.held ++ l) (sym g.2) in
+    ap (λ l. l ++ g.0) held ∙ append_assoc now.cutter.held bytes g.0
+    ∙ ap (λ l. now.cutter.held ++ l) (sym g.2) in
     record {
       taken = m.taken ++ bytes;
       rest = g.0;
@@ -132,7 +152,8 @@ midway_end replay now inputs ahead cutter left gave held m =
       whole = m.whole ∙ ap (λ l. m.taken ++ l) g.0;
       counted = m.counted;
       ended = λ e. refl;
-      ahead_is = ap packets_of (ap (λ l. l ++ []) held ∙ ap (λ l. now.cutter.held ++ l) (sym g.0)) ∙ m.ahead_is;
+      ahead_is = ap packets_of (ap (λ l. l ++ []) held ∙ ap (λ l. now.cutter.held ++ l) (sym g.0))
+          ∙ m.ahead_is;
       packets = m.packets;
       stands = m.stands;
       wrote = m.wrote;
@@ -146,7 +167,8 @@ pub between_start : (replay : Replay) (now : Moment)
     → IsBetween replay now []
 between_start replay now l w held open_end bytes packets stands =
     let none = no_items (packets_of replay.stream) in
-    let P : List Input → Type 0 = λ inputs. IsMidway replay now inputs (packets_left (packets_of replay.stream) []) in
+    let P : List Input → Type 0 =
+    λ inputs. IsMidway replay now inputs (packets_left (packets_of replay.stream) []) in
     subst P (sym none.0) (record {
       taken = [];
       rest = replay.stream;
@@ -164,7 +186,8 @@ between_start replay now l w held open_end bytes packets stands =
 -- one more item was handled
 pub between_push : (replay : Replay) (now : Moment) (items : List RecordItem) (item : RecordItem)
     → IsMidway replay now
-    (inputs_of (packets_of replay.stream) items ++ inputs_of_item item (packets_left (packets_of replay.stream) items))
+    (inputs_of (packets_of replay.stream) items ++ inputs_of_item item
+    (packets_left (packets_of replay.stream) items))
     (packets_behind item (packets_left (packets_of replay.stream) items))
     → IsBetween replay now (items ++ item ∷ [])
 between_push replay now items item m =
@@ -181,22 +204,28 @@ between_push replay now items item m =
 pub midway_none : (replay : Replay) (now : Moment) (inputs : List Input) (ahead : List (List ℕ))
     → IsMidway replay now inputs ahead
     → IsMidway replay now (with_packets inputs 0 ahead) (drop 0 ahead)
-midway_none replay now inputs ahead m = subst (λ l. IsMidway replay now l ahead) (sym (with_none inputs ahead)) m
+midway_none replay now inputs ahead m =
+    subst (λ l. IsMidway replay now l ahead) (sym (with_none inputs ahead)) m
 
 -- some were taken, and then one more
-pub midway_more : (replay : Replay) (now : Moment) (inputs : List Input) (ahead : List (List ℕ)) (count : ℕ)
-    → IsMidway replay now (with_packets (with_packets inputs count ahead) 1 (drop count ahead)) (drop 1 (drop count ahead))
+pub midway_more : (replay : Replay) (now : Moment) (inputs : List Input) (ahead : List (List ℕ))
+    (count : ℕ)
+    → IsMidway replay now (with_packets (with_packets inputs count ahead) 1 (drop count ahead))
+    (drop 1 (drop count ahead))
     → IsMidway replay now (with_packets inputs (count + 1) ahead) (drop (count + 1) ahead)
 midway_more replay now inputs ahead count m =
     subst (λ l. IsMidway replay now l (drop (count + 1) ahead)) (with_more inputs count 1 ahead)
-    (subst (λ l. IsMidway replay now (with_packets (with_packets inputs count ahead) 1 (drop count ahead)) l)
+    (subst (λ l. IsMidway replay now
+    (with_packets (with_packets inputs count ahead) 1 (drop count ahead)) l)
     (drop-drop 1 count ahead) m)
 
 -- no packet is left
-pub midway_over : (replay : Replay) (now : Moment) (inputs : List Input) (ahead : List (List ℕ)) (most : Option ℕ) (count : ℕ)
+pub midway_over : (replay : Replay) (now : Moment) (inputs : List Input) (ahead : List (List ℕ))
+    (most : Option ℕ) (count : ℕ)
     → now.cutter.ended ≡ true → packets_of now.cutter.held ≡ [] → Allows most count
     → IsMidway replay now (with_packets inputs count ahead) (drop count ahead)
-    → IsMidway replay now (inputs ++ inputs_of_item (item_of_count most) ahead) (packets_behind (item_of_count most) ahead)
+    → IsMidway replay now (inputs ++ inputs_of_item (item_of_count most) ahead)
+    (packets_behind (item_of_count most) ahead)
 midway_over replay now inputs ahead most count ended none allows m =
     let nothing : drop count ahead ≡ [] =
     sym m.ahead_is ∙ ap (λ l. packets_of (now.cutter.held ++ l)) (m.ended ended)

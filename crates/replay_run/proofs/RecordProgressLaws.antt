@@ -1,5 +1,7 @@
 -- The steps of reading a record, over plain values.
-use Rattle.std.proofs.Common.{◌≡◌, ◌≢◌, ℕ, ◌+◌, ◌<◌, ◌≤◌, true, false, List, [], ◌∷◌, ◌++◌, All, refl, sym, ap, ◌∙◌, subst, append_assoc, append-nil, length, Option, Some, None, arith, length-append, slice_get}
+use Rattle.std.proofs.Common.{◌≡◌, ◌≢◌, ℕ, ◌+◌, ◌<◌, ◌≤◌, true, false, List, [], ◌∷◌, ◌++◌, All}
+use Rattle.std.proofs.Common.{refl, sym, ap, ◌∙◌, subst, append_assoc, append-nil, length, Option}
+use Rattle.std.proofs.Common.{Some, None, arith, length-append, slice_get}
 use Rattle.std.specs.List.{filter_map}
 use Rattle.std.proofs.lemmas.List.Elements.{All-push, filter_map-append}
 use Rattle.receiver_core.specs.Fronts.{IsFront}
@@ -10,10 +12,12 @@ use Rattle.replay_run.specs.RecordProgress.{RecordState, IsAt, IsWhole, IsBadBeh
 use Rattle.replay_run.specs.Record.{lines_of, item_in, items_until_bad, items_before_bad, first_bad}
 use Rattle.replay_run.specs.RecordReader.{ReaderState, Gives, BeginsBad}
 use Rattle.replay_run.specs.Files.{file, GaveMore, GaveAtMost, record_limit}
-use Rattle.replay_run.proofs.RecordLaws.{AreGood, items-good, whole_items, whole_bad, bad_items, bad_number}
+use Rattle.replay_run.proofs.RecordLaws.{AreGood, items-good, whole_items, whole_bad, bad_items}
+use Rattle.replay_run.proofs.RecordLaws.{bad_number}
 
 -- a list whose first element is known
-first_known : (lines : List Line) (line : Line) → slice_get lines 0 ≡ Some line → (more : List Line) × (lines ≡ line ∷ more)
+first_known : (lines : List Line) (line : Line) → slice_get lines 0 ≡ Some line
+    → (more : List Line) × (lines ≡ line ∷ more)
 first_known [] line e = let clash : None ≡ Some line = e in cc
 first_known (x ∷ more) line e = let same : x ≡ line = cc in (more, ap (λ l. l ∷ more) same)
 
@@ -26,7 +30,8 @@ no_lines = λ k d l. absurd (omega arith)
 
 -- a record begins
 pub at_start : (notes : List ℕ) (now : RecordState)
-    → now.left ≡ Some notes → now.reader.held ≡ [] → now.reader.ended ≡ false → now.bytes ≡ 0 → now.lines ≡ 0
+    → now.left ≡ Some notes → now.reader.held ≡ [] → now.reader.ended ≡ false → now.bytes ≡ 0
+    → now.lines ≡ 0
     → IsAt notes now []
 at_start notes now l held open_end bytes lines = record {
   taken = [];
@@ -47,7 +52,8 @@ abbrev pub behind_line : RecordState → ReaderState → RecordState
 behind_line now reader = record now { reader = reader; lines = now.lines + 1 }
 
 -- one more line was read that isn't bad
-at_line : (notes : List ℕ) (now : RecordState) (items : List RecordItem) (reader : ReaderState) (line : Line)
+at_line : (notes : List ℕ) (now : RecordState) (items : List RecordItem) (reader : ReaderState)
+    (line : Line)
     → line ≢ Bad → Gives now.reader line reader → reader.ended ≡ now.reader.ended
     → IsAt notes now items
     → IsAt notes (behind_line now reader) (items ++ filter_map item_in (line ∷ []))
@@ -62,17 +68,21 @@ at_line notes now items reader line is_good gives ended a = record {
   ahead = a.ahead ∙ ap (λ l. a.lines ++ l) (gives a.rest a.ended)
       ∙ sym (append_assoc a.lines (line ∷ []) (lines_of (reader.held ++ a.rest)));
   good = All-push (λ l. l ≢ Bad) a.lines line a.good is_good;
-  items_are = filter_map-append item_in a.lines (line ∷ []) ∙ ap (λ l. l ++ filter_map item_in (line ∷ [])) a.items_are;
+  items_are = filter_map-append item_in a.lines (line ∷ [])
+      ∙ ap (λ l. l ++ filter_map item_in (line ∷ [])) a.items_are;
   numbered = ap (λ n. n + 1) a.numbered ∙ sym (length-append a.lines (line ∷ []));
 }
 
-pub at_item : (notes : List ℕ) (now : RecordState) (items : List RecordItem) (reader : ReaderState) (item : RecordItem)
+pub at_item : (notes : List ℕ) (now : RecordState) (items : List RecordItem) (reader : ReaderState)
+    (item : RecordItem)
     → Gives now.reader (Read item) reader → reader.ended ≡ now.reader.ended
     → IsAt notes now items
     → IsAt notes (behind_line now reader) (items ++ item ∷ [])
-at_item notes now items reader item gives ended a = at_line notes now items reader (Read item) (λ e. cc) gives ended a
+at_item notes now items reader item gives ended a = at_line notes now items reader (Read item)
+    (λ e. cc) gives ended a
 
-pub at_nothing : (notes : List ℕ) (now : RecordState) (items : List RecordItem) (reader : ReaderState)
+pub at_nothing : (notes : List ℕ) (now : RecordState) (items : List RecordItem)
+    (reader : ReaderState)
     → Gives now.reader Nothing reader → reader.ended ≡ now.reader.ended
     → IsAt notes now items
     → IsAt notes (behind_line now reader) items
@@ -83,14 +93,18 @@ at_nothing notes now items reader gives ended a =
 -- the record gave bytes, and the reader took them
 pub at_read : (notes : List ℕ) (now : RecordState) (items : List RecordItem) (reader : ReaderState)
     (left : Option (List ℕ)) (bytes : List ℕ)
-    → ((rest : List ℕ) → now.left ≡ Some rest → (more : List ℕ) × (left ≡ Some more) × (rest ≡ bytes ++ more))
-    → now.reader.ended ≡ false → reader.held ≡ now.reader.held ++ bytes → reader.ended ≡ now.reader.ended
+    → ((rest : List ℕ) → now.left ≡ Some rest → (more : List ℕ) × (left ≡ Some more)
+    × (rest ≡ bytes ++ more))
+    → now.reader.ended ≡ false → reader.held ≡ now.reader.held ++ bytes → reader.ended
+    ≡ now.reader.ended
     → IsAt notes now items
-    → IsAt notes (record now { reader = reader; bytes = now.bytes + length bytes; left = left }) items
+    → IsAt notes (record now { reader = reader; bytes = now.bytes + length bytes; left = left })
+    items
 at_read notes now items reader left bytes gave open_end held ended a =
     let g = gave a.rest a.left_is in
     let same : reader.held ++ g.0 ≡ now.reader.held ++ a.rest =
-    ap (λ l. l ++ g.0) held ∙ append_assoc now.reader.held bytes g.0 ∙ ap (λ l. now.reader.held ++ l) (sym g.2) in
+    ap (λ l. l ++ g.0) held ∙ append_assoc now.reader.held bytes g.0
+    ∙ ap (λ l. now.reader.held ++ l) (sym g.2) in
     record {
       taken = a.taken ++ bytes;
       rest = g.0;
@@ -106,7 +120,8 @@ at_read notes now items reader left bytes gave open_end held ended a =
     }
 
 -- the record came to its end
-pub at_end : (notes : List ℕ) (now : RecordState) (items : List RecordItem) (reader : ReaderState) (left : Option (List ℕ))
+pub at_end : (notes : List ℕ) (now : RecordState) (items : List RecordItem) (reader : ReaderState)
+    (left : Option (List ℕ))
     → ((rest : List ℕ) → now.left ≡ Some rest → (rest ≡ []) × (left ≡ Some []))
     → reader.held ≡ now.reader.held
     → IsAt notes now items
@@ -122,7 +137,8 @@ at_end notes now items reader left gave held a =
       counted = a.counted;
       ended = λ e. refl;
       ahead = a.ahead
-          ∙ ap (λ l. a.lines ++ lines_of l) (ap (λ l. now.reader.held ++ l) g.0 ∙ ap (λ l. l ++ []) (sym held));
+          ∙ ap (λ l. a.lines ++ lines_of l)
+          (ap (λ l. now.reader.held ++ l) g.0 ∙ ap (λ l. l ++ []) (sym held));
       good = a.good;
       items_are = a.items_are;
       numbered = a.numbered;
@@ -132,7 +148,8 @@ at_end notes now items reader left gave held a =
 pub at_limit : (notes : List ℕ) (now : RecordState) (items : List RecordItem)
     (left : Option (List ℕ)) (bytes : List ℕ) (count limit : ℕ)
     → length bytes ≡ count → limit < now.bytes + count
-    → ((rest : List ℕ) → now.left ≡ Some rest → (more : List ℕ) × (left ≡ Some more) × (rest ≡ bytes ++ more))
+    → ((rest : List ℕ) → now.left ≡ Some rest → (more : List ℕ) × (left ≡ Some more)
+    × (rest ≡ bytes ++ more))
     → IsAt notes now items
     → GaveMore limit (file notes left)
 at_limit notes now items left bytes count limit size above gave a =
@@ -162,7 +179,8 @@ pub at_whole : (notes : List ℕ) (now : RecordState) (items : List RecordItem)
 at_whole notes now items ended none within a =
     let nothing : now.reader.held ++ a.rest ≡ [] = ap (λ l. l ++ a.rest) none ∙ a.ended ended in
     let all : lines_of notes ≡ a.lines =
-    a.ahead ∙ ap (λ l. a.lines ++ lines_of l) nothing ∙ ap (λ l. a.lines ++ l) no_lines_of ∙ append-nil a.lines in
+    a.ahead ∙ ap (λ l. a.lines ++ lines_of l) nothing ∙ ap (λ l. a.lines ++ l) no_lines_of
+    ∙ append-nil a.lines in
     record {
       within = at_within notes now items record_limit within a;
       good = subst (λ lines. All (λ line. line ≢ Bad) lines) (sym all) a.good;
@@ -184,10 +202,14 @@ at_bad notes now items bad within a =
     }
 
 -- a whole record
-pub items_of_whole : (notes : List ℕ) (left : Option (List ℕ)) (items : List RecordItem) → IsWhole (file notes left) items
+pub items_of_whole : (notes : List ℕ) (left : Option (List ℕ)) (items : List RecordItem)
+    → IsWhole (file notes left) items
     → (first_bad notes ≡ None) × (items_before_bad notes ≡ items)
-items_of_whole notes left items w =
-    (whole_bad notes (record { each = w.good }), whole_items notes (record { each = w.good }) ∙ w.items_are)
+items_of_whole notes left items w = (
+  whole_bad notes (record { each = w.good }),
+  whole_items notes (record { each = w.good })
+      ∙ w.items_are,
+)
 
 -- the items read so far stand in front of all
 pub at_front : (notes : List ℕ) (now : RecordState) (items : List RecordItem) → IsAt notes now items

@@ -1,5 +1,7 @@
 -- What is written where a replay stops in the middle of an item, over plain values.
-use Rattle.std.proofs.Common.{◌≡◌, ℕ, ◌+◌, ◌<◌, ◌≤◌, List, [], ◌∷◌, ◌++◌, take, drop, refl, sym, ap, ◌∙◌, subst, append_assoc, length, Option, Some, None, Result, Ok, Err, OnErr, IfErr, arith, length-append}
+use Rattle.std.proofs.Common.{◌≡◌, ℕ, ◌+◌, ◌<◌, ◌≤◌, List, [], ◌∷◌, ◌++◌, take, drop, refl, sym, ap}
+use Rattle.std.proofs.Common.{◌∙◌, subst, append_assoc, length, Option, Some, None, Result, Ok, Err}
+use Rattle.std.proofs.Common.{OnErr, IfErr, arith, length-append}
 use Rattle.std.specs.List.{concat}
 use Rattle.std.specs.Io.KnownBytes.{Appends, Consumes, IsAtEnd, Keeps, ReadConsumes}
 use Rattle.std.proofs.KnownBytes.{Consumes-nil, Consumes-trans, Consumes-kept}
@@ -15,7 +17,8 @@ use Rattle.receiver_core.specs.State.{Input}
 use Rattle.receiver_core.proofs.FrontLaws.{front_of_self, front_of_front}
 use Rattle.replay_run.specs.declared.record.RecordItem.{RecordItem}
 use Rattle.replay_run.specs.declared.status.Status.{Status}
-use Rattle.replay_run.specs.declared.status.Status.TheVariants.{ReadFault, WriteFault, TooLong, NoMemory}
+use Rattle.replay_run.specs.declared.status.Status.TheVariants.{ReadFault, WriteFault, TooLong}
+use Rattle.replay_run.specs.declared.status.Status.TheVariants.{NoMemory}
 use Rattle.replay_run.specs.Midway.{StopsIn}
 use Rattle.replay_run.specs.Play.{inputs_of_item, inputs_of, packets_left}
 use Rattle.replay_run.specs.Outside.{Outside}
@@ -29,18 +32,22 @@ use Rattle.replay_run.proofs.WritingLaws.{appends_from}
 
 -- what a read that gave these bytes left
 pub consumed_some : (bytes : List ℕ) (old new : Option (List ℕ)) → Consumes old new bytes
-    → (rest : List ℕ) → old ≡ Some rest → (more : List ℕ) × (new ≡ Some more) × (rest ≡ bytes ++ more)
+    → (rest : List ℕ) → old ≡ Some rest → (more : List ℕ) × (new ≡ Some more)
+    × (rest ≡ bytes ++ more)
 consumed_some bytes None new c rest e = let clash : None ≡ Some rest = e in cc
 consumed_some bytes (Some x) None c rest e = absurd c
 consumed_some bytes (Some x) (Some y) c rest e = let same : x ≡ rest = cc in (y, refl, sym same ∙ c)
 
-pub ended_some : (old new : Option (List ℕ)) → Consumes old new [] → IsAtEnd new → (rest : List ℕ) → old ≡ Some rest → (rest ≡ []) × (new ≡ Some [])
+pub ended_some : (old new : Option (List ℕ)) → Consumes old new [] → IsAtEnd new → (rest : List ℕ)
+    → old ≡ Some rest → (rest ≡ []) × (new ≡ Some [])
 ended_some None new c end rest e = let clash : None ≡ Some rest = e in cc
 ended_some (Some x) None c end rest e = absurd c
-ended_some (Some x) (Some y) c end rest e = let same : x ≡ rest = cc in (sym same ∙ c ∙ end, ap Some end)
+ended_some (Some x) (Some y) c end rest e = let same : x ≡ rest = cc in
+    (sym same ∙ c ∙ end, ap Some end)
 
 -- a replay that stops in some inputs stops in more
-pub stops_further : (status : Status) (replay : Replay) (told : Outside) (some all : List Input) → IsFront some all
+pub stops_further : (status : Status) (replay : Replay) (told : Outside) (some all : List Input)
+    → IsFront some all
     → StopsIn status replay told some → StopsIn status replay told all
 stops_further status replay told some all front s = record {
   inputs = s.inputs;
@@ -52,16 +59,21 @@ stops_further status replay told some all front s = record {
 }
 
 -- in those of the items and one more
-pub stops_pushed : (status : Status) (replay : Replay) (told : Outside) (items : List RecordItem) (item : RecordItem)
+pub stops_pushed : (status : Status) (replay : Replay) (told : Outside) (items : List RecordItem)
+    (item : RecordItem)
     → StopsIn status replay told
-    (inputs_of (packets_of replay.stream) items ++ inputs_of_item item (packets_left (packets_of replay.stream) items))
+    (inputs_of (packets_of replay.stream) items ++ inputs_of_item item
+    (packets_left (packets_of replay.stream) items))
     → StopsIn status replay told (inputs_of (packets_of replay.stream) (items ++ item ∷ []))
 stops_pushed status replay told items item s =
-    subst (λ l. StopsIn status replay told l) (sym (inputs_of-push (packets_of replay.stream) items item)) s
+    subst (λ l. StopsIn status replay told l)
+    (sym (inputs_of-push (packets_of replay.stream) items item)) s
 
 -- in those of some packets, and then one more
-pub stops_more : (status : Status) (replay : Replay) (told : Outside) (inputs : List Input) (ahead : List (List ℕ)) (count : ℕ)
-    → StopsIn status replay told (with_packets (with_packets inputs count ahead) 1 (drop count ahead))
+pub stops_more : (status : Status) (replay : Replay) (told : Outside) (inputs : List Input)
+    (ahead : List (List ℕ)) (count : ℕ)
+    → StopsIn status replay told
+    (with_packets (with_packets inputs count ahead) 1 (drop count ahead))
     → StopsIn status replay told (with_packets inputs (count + 1) ahead)
 stops_more status replay told inputs ahead count s =
     subst (λ l. StopsIn status replay told l) (with_more inputs count 1 ahead) s
@@ -69,18 +81,22 @@ stops_more status replay told inputs ahead count s =
 -- whole texts
 pub stops_whole : (replay : Replay) (now : Moment) (inputs : List Input) (ahead : List (List ℕ))
     → (m : IsMidway replay now inputs ahead) → WritesPieces replay.first now.written m.given
-stops_whole replay now inputs ahead m = record { whole = m.given; front = front_of_self m.given; appended = m.wrote }
+stops_whole replay now inputs ahead m =
+    record { whole = m.given; front = front_of_self m.given; appended = m.wrote }
 
 -- the stream gave no more than it may
-pub midway_within : (replay : Replay) (now : Moment) (inputs : List Input) (ahead : List (List ℕ)) (limit : ℕ)
-    → now.bytes ≤ limit → IsMidway replay now inputs ahead → GaveAtMost limit (file replay.stream now.left)
+pub midway_within : (replay : Replay) (now : Moment) (inputs : List Input) (ahead : List (List ℕ))
+    (limit : ℕ)
+    → now.bytes ≤ limit → IsMidway replay now inputs ahead
+    → GaveAtMost limit (file replay.stream now.left)
 midway_within replay now inputs ahead limit within m = record {
   gave = record { given = m.taken; rest = m.rest; left_is = m.left_is; whole = m.whole };
   most = omega (arith, m.counted);
 }
 
 -- memory was wanting
-pub stops_within : (replay : Replay) (now : Moment) (told : Outside) (inputs : List Input) (ahead : List (List ℕ))
+pub stops_within : (replay : Replay) (now : Moment) (told : Outside) (inputs : List Input)
+    (ahead : List (List ℕ))
     → told.world.stream.left ≡ now.left → told.sink.written ≡ now.written
     → now.bytes ≤ stream_limit → IsMidway replay now inputs ahead
     → StopsIn NoMemory replay told inputs
@@ -91,8 +107,10 @@ stops_within replay now told inputs ahead left written within m = record {
   given = m.given;
   stands = m.stands;
   leaves = (
-    subst (λ l. GaveAtMost stream_limit (file replay.stream l)) (sym left) (midway_within replay now inputs ahead stream_limit within m),
-    subst (λ l. WritesPieces replay.first l m.given) (sym written) (stops_whole replay now inputs ahead m),
+    subst (λ l. GaveAtMost stream_limit (file replay.stream l)) (sym left)
+        (midway_within replay now inputs ahead stream_limit within m),
+    subst (λ l. WritesPieces replay.first l m.given) (sym written)
+        (stops_whole replay now inputs ahead m),
   );
 }
 
@@ -102,12 +120,20 @@ pub within_kept : (limit : ℕ) (bytes : List ℕ) (old new : Option (List ℕ))
 within_kept limit bytes None new kept g = let clash : None ≡ Some g.gave.rest = g.gave.left_is in cc
 within_kept limit bytes (Some x) None kept g = absurd kept
 within_kept limit bytes (Some x) (Some y) kept g = record {
-  gave = record { given = g.gave.given; rest = g.gave.rest; left_is = ap Some kept ∙ g.gave.left_is; whole = g.gave.whole };
+  gave = record {
+    given = g.gave.given;
+    rest = g.gave.rest;
+    left_is =
+        ap Some kept ∙ g.gave.left_is;
+    whole = g.gave.whole;
+  };
   most = g.most;
 }
 
-pub stops_unread : (replay : Replay) (now : Moment) (told : Outside) (inputs : List Input) (ahead : List (List ℕ))
-    → now.bytes ≤ stream_limit → Keeps now.left told.world.stream.left → told.sink.written ≡ now.written
+pub stops_unread : (replay : Replay) (now : Moment) (told : Outside) (inputs : List Input)
+    (ahead : List (List ℕ))
+    → now.bytes ≤ stream_limit → Keeps now.left told.world.stream.left → told.sink.written
+    ≡ now.written
     → IsMidway replay now inputs ahead
     → StopsIn ReadFault replay told inputs
 stops_unread replay now told inputs ahead within kept written m = record {
@@ -119,14 +145,17 @@ stops_unread replay now told inputs ahead within kept written m = record {
   leaves = (
     within_kept stream_limit replay.stream now.left told.world.stream.left kept
         (midway_within replay now inputs ahead stream_limit within m),
-    subst (λ l. WritesPieces replay.first l m.given) (sym written) (stops_whole replay now inputs ahead m),
+    subst (λ l. WritesPieces replay.first l m.given) (sym written)
+        (stops_whole replay now inputs ahead m),
   );
 }
 
 -- the stream gave too much
-pub stops_long : (replay : Replay) (now : Moment) (told : Outside) (inputs : List Input) (ahead : List (List ℕ))
+pub stops_long : (replay : Replay) (now : Moment) (told : Outside) (inputs : List Input)
+    (ahead : List (List ℕ))
     (bytes : List ℕ) (count : ℕ)
-    → length bytes ≡ count → stream_limit < now.bytes + count → Consumes now.left told.world.stream.left bytes
+    → length bytes ≡ count → stream_limit < now.bytes + count
+    → Consumes now.left told.world.stream.left bytes
     → told.sink.written ≡ now.written
     → IsMidway replay now inputs ahead
     → StopsIn TooLong replay told inputs
@@ -148,7 +177,8 @@ stops_long replay now told inputs ahead bytes count size above consumed written 
           };
           more = omega (arith, length-append m.taken bytes, m.counted, size);
         },
-        subst (λ l. WritesPieces replay.first l m.given) (sym written) (stops_whole replay now inputs ahead m),
+        subst (λ l. WritesPieces replay.first l m.given) (sym written)
+            (stops_whole replay now inputs ahead m),
       );
     }
 
@@ -157,7 +187,12 @@ short_bytes : (first old new : Option (List ℕ)) (given texts : List (List ℕ)
     → ((start : List ℕ) → old ≡ Some start → CutShort start new (concat texts))
     → Appends first old (concat given) → WritesBytes first new (given ++ texts)
 short_bytes None old new given texts cut a =
-    record { bytes = []; front = record { rest = concat (given ++ texts); joined = refl }; appended = tt }
+    record {
+      bytes = [];
+      front =
+          record { rest = concat (given ++ texts); joined = refl };
+      appended = tt;
+    }
 short_bytes (Some start) None new given texts cut a = absurd a
 short_bytes (Some start) (Some told) new given texts cut a =
     let short = cut told refl in
@@ -169,16 +204,19 @@ short_bytes (Some start) (Some told) new given texts cut a =
             ∙ sym (append_assoc (concat given) short.front short.rest);
       };
       appended = appends_from start (concat given ++ short.front) new
-          (short.written ∙ ap Some (ap (λ l. l ++ short.front) a ∙ append_assoc start (concat given) short.front));
+          (short.written ∙ ap Some
+          (ap (λ l. l ++ short.front) a ∙ append_assoc start (concat given) short.front));
     }
 
 -- texts were cut short that the receiver gave
-pub stops_short : (replay : Replay) (now : Moment) (told : Outside) (inputs more : List Input) (ahead : List (List ℕ))
+pub stops_short : (replay : Replay) (now : Moment) (told : Outside) (inputs more : List Input)
+    (ahead : List (List ℕ))
     (receiver : ReceiverState) (texts : List (List ℕ))
     → ((given : List (List ℕ)) → StandsFor replay.selection now.receiver inputs given
     → StandsFor replay.selection receiver more (given ++ texts))
     → told.world.stream.left ≡ now.left
-    → ((start : List ℕ) → now.written ≡ Some start → CutShort start told.sink.written (concat texts))
+    → ((start : List ℕ) → now.written ≡ Some start → CutShort start told.sink.written
+    (concat texts))
     → now.bytes ≤ stream_limit
     → IsMidway replay now inputs ahead
     → StopsIn WriteFault replay told more
@@ -189,20 +227,29 @@ stops_short replay now told inputs more ahead receiver texts gave left cut withi
   given = m.given ++ texts;
   stands = gave m.given m.stands;
   leaves = (
-    subst (λ l. GaveAtMost stream_limit (file replay.stream l)) (sym left) (midway_within replay now inputs ahead stream_limit within m),
+    subst (λ l. GaveAtMost stream_limit (file replay.stream l)) (sym left)
+        (midway_within replay now inputs ahead stream_limit within m),
     short_bytes replay.first now.written told.sink.written m.given texts cut m.wrote,
   );
 }
 
 -- a piece that wasn't written whole
-pub piece_stops : (result : Result (Unit {0}) Status) (P : Status → Type 0) (Q : Type 0) → OnErr result Q → IfErr result (λ status. status ≡ WriteFault) → (Q → P WriteFault) → IfErr result P
+pub piece_stops : (result : Result (Unit {0}) Status) (P : Status → Type 0) (Q : Type 0)
+    → OnErr result Q → IfErr result (λ status. status ≡ WriteFault) → (Q → P WriteFault)
+    → IfErr result P
 piece_stops (Ok u) P Q short fault stops = tt
 piece_stops (Err status) P Q short fault stops = subst P (sym fault) (stops short)
 
 -- ---- reads one after the other
 
 pub read_on_none : (port : PortState) → IsReadOn port port
-read_on_none port = record { asked = refl; later = omega arith; given = []; consumed = Consumes-nil port.left }
+read_on_none port = record {
+  asked = refl;
+  later = omega arith;
+  given = [];
+  consumed =
+      Consumes-nil port.left;
+}
 
 pub read_on_more : (a b c : PortState) → IsReadOn a b → IsReadOn b c → IsReadOn a c
 read_on_more a b c x y = record {
@@ -214,7 +261,8 @@ read_on_more a b c x y = record {
 
 -- what one read does to its port
 pub read_on_once : {E : Type 0} (old new : PortState) (result : Result ℕ E) (bytes : List ℕ)
-    → new.asked ≡ old.asked → Counts old.reads new.reads result → ReadConsumes old.left new.left result bytes
+    → new.asked ≡ old.asked → Counts old.reads new.reads result
+    → ReadConsumes old.left new.left result bytes
     → IsReadOn old new
 read_on_once old new (Ok count) bytes asked counts consumes =
     record { asked = asked; later = counts.later; given = take count bytes; consumed = consumes.0 }
@@ -225,7 +273,8 @@ read_on_once old new (Err e) bytes asked counts keeps = record {
   consumed = Consumes-kept old.left old.left new.left [] (Consumes-nil old.left) keeps;
 }
 
-pub only_reads_more : (port : Port) (a b c : WorldState) → OnlyReads port a b → OnlyReads port b c → OnlyReads port a c
+pub only_reads_more : (port : Port) (a b c : WorldState) → OnlyReads port a b → OnlyReads port b c
+    → OnlyReads port a c
 only_reads_more port a b c x y = record {
   files = y.files ∙ x.files;
   openings = y.openings ∙ x.openings;

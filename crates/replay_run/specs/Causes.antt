@@ -1,20 +1,11 @@
--- What a status says of the ports: each fault was counted in this run, in the last call under its count. This
--- project's own.
+-- What a status says of the ports: each fault was counted in this run, in the last call under its
+-- count. This project's own.
 use Rattle.std.specs.Prelude.{◌≡◌, ◌⊎◌}
 use Rattle.bml_ports.specs.Counters.{FaultedSince}
 use Rattle.replay_run.specs.declared.status.Status.{Status}
-use Rattle.replay_run.specs.declared.status.Status.TheVariants.{
-  Done,
-  Usage,
-  BadRecord,
-  OpenFault,
-  ReadFault,
-  WriteFault,
-  KeepFault,
-  BadArea,
-  TooLong,
-  NoMemory,
-}
+use Rattle.replay_run.specs.declared.status.Status.TheVariants.{Done, Usage, BadRecord, OpenFault}
+use Rattle.replay_run.specs.declared.status.Status.TheVariants.{ReadFault, WriteFault, KeepFault}
+use Rattle.replay_run.specs.declared.status.Status.TheVariants.{BadArea, TooLong, NoMemory}
 use Rattle.replay_run.specs.Outside.{Outside}
 
 -- the last read of the stream, or of the record, failed

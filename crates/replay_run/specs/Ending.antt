@@ -1,18 +1,10 @@
--- How a run may end: for each status, what was taken of the two files, and what was written. This project's own.
+-- How a run may end: for each status, what was taken of the two files, and what was written. This
+-- project's own.
 use Rattle.std.specs.Prelude.{◌≡◌, ℕ, List, ◌⊎◌, Option}
 use Rattle.replay_run.specs.declared.status.Status.{Status}
-use Rattle.replay_run.specs.declared.status.Status.TheVariants.{
-  Done,
-  Usage,
-  BadRecord,
-  OpenFault,
-  ReadFault,
-  WriteFault,
-  KeepFault,
-  BadArea,
-  TooLong,
-  NoMemory,
-}
+use Rattle.replay_run.specs.declared.status.Status.TheVariants.{Done, Usage, BadRecord, OpenFault}
+use Rattle.replay_run.specs.declared.status.Status.TheVariants.{ReadFault, WriteFault, KeepFault}
+use Rattle.replay_run.specs.declared.status.Status.TheVariants.{BadArea, TooLong, NoMemory}
 use Rattle.replay_run.specs.Files.{GaveMore, GaveAtMost, stream_limit, record_limit}
 use Rattle.replay_run.specs.Meaning.{Meaning, texts_of}
 use Rattle.replay_run.specs.Outside.{Account}
@@ -37,8 +29,8 @@ pub record Finishes (meaning : Meaning) (run : Account) (status : Status) : Type
 abbrev pub WritesSome : Meaning → Account → Type 0
 WritesSome meaning run = WritesPieces run.first run.written (texts_of meaning)
 
--- Done, BadRecord and Usage are statuses of a meaning; at each other one a front of the pieces was written, of whole
--- pieces but for WriteFault. Nothing was written at OpenFault and Usage.
+-- Done, BadRecord and Usage are statuses of a meaning; at each other one a front of the pieces was
+-- written, of whole pieces but for WriteFault. Nothing was written at OpenFault and Usage.
 abbrev pub EndsAs : Meaning → Account → Status → Type 0
 EndsAs meaning run Done = Finishes meaning run Done
 EndsAs meaning run (BadRecord line) = Finishes meaning run (BadRecord line)

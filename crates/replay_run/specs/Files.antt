@@ -1,5 +1,5 @@
--- The two files of a run: how many bytes it takes from them, and what the world gave and has left of them. This
--- project's own.
+-- The two files of a run: how many bytes it takes from them, and what the world gave and has left
+-- of them. This project's own.
 use Rattle.std.specs.Prelude.{◌≡◌, ℕ, ◌^◌, ◌<◌, ◌≤◌, List, ◌++◌, length, Option, Some}
 
 -- the most bytes of a stream and of a record

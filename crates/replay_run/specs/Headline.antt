@@ -1,4 +1,5 @@
--- The headline: what a run writes is what its words, the stream and the record mean. This project's own.
+-- The headline: what a run writes is what its words, the stream and the record mean. This project's
+-- own.
 use Rattle.std.specs.Prelude.{ℕ, List, Option}
 use Rattle.replay_run.specs.declared.status.Status.{Status}
 use Rattle.replay_run.specs.Ending.{EndsAs}
@@ -7,8 +8,8 @@ use Rattle.replay_run.specs.Opening.{HasFiles}
 use Rattle.replay_run.specs.Outside.{Outside, account}
 use Rattle.replay_run.specs.Words.{CommandWords}
 
--- Where the world tells the files of the command, the run ends as the meaning of its words, the stream and the record
--- says. What it says of the bytes written holds where the sink tells them.
+-- Where the world tells the files of the command, the run ends as the meaning of its words, the
+-- stream and the record says. What it says of the bytes written holds where the sink tells them.
 abbrev pub RunMeans : Option CommandWords → Outside → Outside → Status → Type 0
 RunMeans command before behind status =
     (stream notes : List ℕ) → HasFiles command before.world stream notes

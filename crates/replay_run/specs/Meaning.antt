@@ -1,5 +1,5 @@
--- What a run means: its words, the whole stream and the whole record fix the pieces of its output, the area after
--- each, and how it ends. (Own definitions.)
+-- What a run means: its words, the whole stream and the whole record fix the pieces of its output,
+-- the area after each, and how it ends. This project's own.
 use Rattle.std.specs.Prelude.{ℕ, List, [], ◌∷◌, ◌++◌, map, replicate, Option, Some, None}
 use Rattle.ts_packets.specs.Packets.{packets_of}
 use Rattle.psi_tables.specs.declared.services.Selection.{Selection}
@@ -45,12 +45,16 @@ replay_inputs stream notes = inputs_of (packets_of stream) (items_before_bad not
 -- the texts of the pieces: what a receiver prints for that, and the last one
 unfoldable pub replay_texts : Selection → List ℕ → List ℕ → List (List ℕ)
 replay_texts selection stream notes =
-    let inputs = replay_inputs stream notes in outputs selection inputs ++ last_texts (first_bad notes) inputs
+    let inputs = replay_inputs stream notes in
+    outputs selection inputs ++ last_texts (first_bad notes) inputs
 
 -- the meaning of a replay of the service or data that is asked for
 abbrev pub replay_meaning : Selection → List ℕ → List ℕ → Meaning
 replay_meaning selection stream notes =
-    record { pieces = map piece_of (replay_texts selection stream notes); status = status_behind (first_bad notes) }
+    record {
+      pieces = map piece_of (replay_texts selection stream notes);
+      status = status_behind (first_bad notes);
+    }
 
 abbrev pub meaning_of : Option CommandWords → List ℕ → List ℕ → Meaning
 meaning_of None stream notes = record { pieces = []; status = Usage }

@@ -1,5 +1,6 @@
 -- A device of the proofs: what the steps of a replay do to where it stands.
-use Rattle.std.specs.Prelude.{◌≡◌, ℕ, ◌+◌, ◌-◌, ◌*◌, Bool, true, false, IsTrue, length, List, ◌++◌, Option, Some, None}
+use Rattle.std.specs.Prelude.{◌≡◌, ℕ, ◌+◌, ◌-◌, ◌*◌, Bool, true, false, IsTrue, length, List, ◌++◌}
+use Rattle.std.specs.Prelude.{Option, Some, None}
 use Rattle.ts_packets.specs.Cutter.{CutterState}
 use Rattle.bml_ports.specs.Worlds.{WorldState}
 use Rattle.receiver_core.specs.Fronts.{IsFront}
@@ -30,13 +31,15 @@ moment player told = record {
 abbrev pub IsReadable : CutterState → WorldState → Type 0
 IsReadable cutter world = cutter.ended ≡ false → IsTrue world.stream.readable
 
--- a number that each step of the loop over packets makes smaller: bytes that may still come, held bytes, and the end
+-- a number that each step of the loop over packets makes smaller: bytes that may still come, held
+-- bytes, and the end
 abbrev pub ends_to_come : Bool → ℕ
 ends_to_come true = 0
 ends_to_come false = 1
 
 abbrev pub work_left : CutterState → ℕ → ℕ
-work_left cutter bytes = 2 * (2 * stream_limit - bytes) + length cutter.held + ends_to_come cutter.ended
+work_left cutter bytes =
+    2 * (2 * stream_limit - bytes) + length cutter.held + ends_to_come cutter.ended
 
 -- the item that takes so many packets, or all
 abbrev pub item_of_count : Option ℕ → RecordItem
@@ -52,18 +55,21 @@ Goes old new =
 -- and with what this item hands over more
 abbrev pub Handles : RecordItem → Moment → Moment → Type 0
 Handles item old new =
-    (replay : Replay) (inputs : List Input) (ahead : List (List ℕ)) → IsMidway replay old inputs ahead
+    (replay : Replay) (inputs : List Input) (ahead : List (List ℕ))
+    → IsMidway replay old inputs ahead
     → IsMidway replay new (inputs ++ inputs_of_item item ahead) (packets_behind item ahead)
 
--- The replay stopped somewhere in these inputs: a front of the texts is written that a receiver gave for the first of
--- them.
-pub record StopsIn (status : Status) (replay : Replay) (told : Outside) (all : List Input) : Type 0 where
+-- The replay stopped somewhere in these inputs: a front of the texts is written that a receiver
+-- gave for the first of them.
+pub record StopsIn (status : Status) (replay : Replay) (told : Outside)
+    (all : List Input) : Type 0 where
   pub inputs : List Input
   pub front : IsFront inputs all
   pub receiver : ReceiverState
   pub given : List (List ℕ)
   pub stands : StandsFor replay.selection receiver inputs given
-  pub leaves : LeavesPackets status (file replay.stream told.world.stream.left) replay.first told.sink.written given
+  pub leaves : LeavesPackets status (file replay.stream told.world.stream.left)
+      replay.first told.sink.written given
 
 -- whatever replay it is, it stops in the inputs that came
 abbrev pub Stops : Status → Moment → Outside → Type 0
@@ -75,4 +81,5 @@ Stops status old told =
 abbrev pub StopsHandling : RecordItem → Status → Moment → Outside → Type 0
 StopsHandling item status old told =
     (replay : Replay) (inputs : List Input) (ahead : List (List ℕ))
-    → IsMidway replay old inputs ahead → StopsIn status replay told (inputs ++ inputs_of_item item ahead)
+    → IsMidway replay old inputs ahead
+    → StopsIn status replay told (inputs ++ inputs_of_item item ahead)

@@ -22,8 +22,8 @@ AsksOnly None world = IsUnasked world
 AsksOnly (Some request) world =
     AsksAtMost world.stream request.stream × AsksAtMost world.notes request.notes
 
--- The record was asked for only once the stream was opened: not before the stream was asked for, and not where the
--- run ended because the stream couldn't be opened, which may be read otherwise.
+-- The record was asked for only once the stream was opened: not before the stream was asked for,
+-- and not where the run ended because the stream couldn't be opened, which may be read otherwise.
 pub record AsksInOrder (status : Status) (world : WorldState) : Type 0 where
   pub behind : (world.notes.asked ≡ None) ⊎ IsSome world.stream.asked
   pub opened : status ≡ OpenFault → (world.notes.asked ≡ None) ⊎ IsTrue world.stream.readable
@@ -40,7 +40,8 @@ bytes_under world name = under world.files
 abbrev pub HasFiles : Option CommandWords → WorldState → List ℕ → List ℕ → Type 0
 HasFiles None world stream notes = Unit {0}
 HasFiles (Some request) world stream notes =
-    (bytes_under world request.stream ≡ Some stream) × (bytes_under world request.notes ≡ Some notes)
+    (bytes_under world request.stream ≡ Some stream)
+    × (bytes_under world request.notes ≡ Some notes)
 
 -- the world tells its files, and has none under one of two names
 pub record LacksFile (world : WorldState) (stream_name notes_name : List ℕ) : Type 0 where
@@ -58,8 +59,8 @@ pub record StopsAtOpening (status : Status) (before behind : SinkState) : Type 0
   pub status_is : (status ≡ OpenFault) ⊎ (status ≡ NoMemory)
   pub unwritten : behind ≡ before
 
--- A port that wasn't opened has what it had; from one that was, what was given and what is left are the file.
--- The record wasn't opened before the stream.
+-- A port that wasn't opened has what it had; from one that was, what was given and what is left are
+-- the file. The record wasn't opened before the stream.
 abbrev pub LeavesRest : List ℕ → List ℕ → WorldState → WorldState → Type 0
 LeavesRest stream notes before behind =
     (stays before.stream behind.stream × stays before.notes behind.notes)
@@ -73,4 +74,5 @@ LeavesRest stream notes before behind =
 abbrev pub LeavesFiles : Option CommandWords → WorldState → WorldState → Type 0
 LeavesFiles None before behind = behind ≡ before
 LeavesFiles (Some request) before behind =
-    (stream notes : List ℕ) → HasFiles (Some request) before stream notes → LeavesRest stream notes before behind
+    (stream notes : List ℕ) → HasFiles (Some request) before stream notes
+    → LeavesRest stream notes before behind

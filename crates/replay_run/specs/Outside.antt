@@ -1,4 +1,5 @@
--- What the outside tells at a moment of a run, and what is told once a run is over. This project's own.
+-- What the outside tells at a moment of a run, and what is told once a run is over. This project's
+-- own.
 use Rattle.std.specs.Prelude.{ℕ, List, Option}
 use Rattle.bml_ports.specs.Sinks.{SinkState}
 use Rattle.bml_ports.specs.Worlds.{WorldState}
@@ -19,7 +20,8 @@ pub record Account : Type 0 where
   pub first : Option (List ℕ)
   pub written : Option (List ℕ)
 
--- the account of a run over a stream and a record, from what the outside told before and tells behind it
+-- the account of a run over a stream and a record, from what the outside told before and tells
+-- behind it
 abbrev pub account : List ℕ → List ℕ → Outside → Outside → Account
 account stream notes before behind = record {
   stream = file stream behind.world.stream.left;

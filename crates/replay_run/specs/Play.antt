@@ -4,7 +4,8 @@ use Rattle.receiver_core.specs.State.{Input, Packet, Show as Display}
 use Rattle.replay_run.specs.declared.record.RecordItem.{RecordItem}
 use Rattle.replay_run.specs.declared.record.RecordItem.TheVariants.{All, Packets, Show}
 
--- what an item hands over where these packets are left: the packets that it takes, or the wish to see the display list
+-- what an item hands over where these packets are left: the packets that it takes, or the wish to
+-- see the display list
 abbrev pub inputs_of_item : RecordItem → List (List ℕ) → List Input
 inputs_of_item All packets = map Packet packets
 inputs_of_item (Packets count) packets = map Packet (take count packets)
@@ -19,7 +20,8 @@ packets_behind Show packets = packets
 -- what items hand over, one after the other
 unfoldable pub inputs_of : List (List ℕ) → List RecordItem → List Input
 inputs_of packets [] = []
-inputs_of packets (item ∷ items) = inputs_of_item item packets ++ inputs_of (packets_behind item packets) items
+inputs_of packets (item ∷ items) =
+    inputs_of_item item packets ++ inputs_of (packets_behind item packets) items
 
 -- the packets that they leave
 unfoldable pub packets_left : List (List ℕ) → List RecordItem → List (List ℕ)

@@ -1,5 +1,5 @@
--- A device of the proofs: how far a replay has come; the stream, the inputs, the texts and what was written hang
--- together. (What a run means is in `Meaning`.)
+-- A device of the proofs: how far a replay has come; the stream, the inputs, the texts and what was
+-- written hang together. (What a run means is in `Meaning`.)
 use Rattle.std.specs.Prelude.{◌≡◌, ℕ, true, List, [], ◌++◌, length, Option, Some}
 use Rattle.std.specs.List.{concat}
 use Rattle.std.specs.Io.KnownBytes.{Appends}
@@ -12,7 +12,8 @@ use Rattle.replay_run.specs.declared.record.RecordItem.{RecordItem}
 use Rattle.replay_run.specs.Outside.{Outside}
 use Rattle.replay_run.specs.Play.{inputs_of, packets_left, packet_count}
 
--- what a replay is of: the service or data that is asked for, the stream, and what the sink told at the start
+-- what a replay is of: the service or data that is asked for, the stream, and what the sink told at
+-- the start
 pub record Replay : Type 0 where
   pub selection : Selection
   pub stream : List ℕ
@@ -30,8 +31,10 @@ pub record Moment : Type 0 where
   pub left : Option (List ℕ)
   pub written : Option (List ℕ)
 
--- These inputs came to the receiver, all texts that it gave for them so far are written, and these packets are ahead.
-pub record IsMidway (replay : Replay) (now : Moment) (inputs : List Input) (ahead : List (List ℕ)) : Type 0 where
+-- These inputs came to the receiver, all texts that it gave for them so far are written, and these
+-- packets are ahead.
+pub record IsMidway (replay : Replay) (now : Moment) (inputs : List Input)
+    (ahead : List (List ℕ)) : Type 0 where
   pub taken : List ℕ
   pub rest : List ℕ
   pub given : List (List ℕ)
@@ -47,10 +50,13 @@ pub record IsMidway (replay : Replay) (now : Moment) (inputs : List Input) (ahea
 -- Between two items: the inputs and the packets ahead are those of the items so far.
 abbrev pub IsBetween : Replay → Moment → List RecordItem → Type 0
 IsBetween replay now items =
-    IsMidway replay now (inputs_of (packets_of replay.stream) items) (packets_left (packets_of replay.stream) items)
+    IsMidway replay now (inputs_of (packets_of replay.stream) items)
+    (packets_left (packets_of replay.stream) items)
 
--- A replay begins: where the stream is told, nothing came yet, and nothing is written but what the sink tells.
+-- A replay begins: where the stream is told, nothing came yet, and nothing is written but what the
+-- sink tells.
 abbrev pub StartsReplay : Selection → Outside → Moment → Type 0
 StartsReplay selection told now =
     (stream : List ℕ) → told.world.stream.left ≡ Some stream
-    → IsBetween (record { selection = selection; stream = stream; first = told.sink.written }) now []
+    → IsBetween (record { selection = selection; stream = stream; first = told.sink.written })
+    now []

@@ -12,7 +12,8 @@ state held ended = record { held = held; ended = ended }
 
 -- what is answered of the first line, and how many bytes are taken with it
 pub record IsFirstCut (held : List ℕ) (ended : Bool) (noted : NextLine) (taken : ℕ) : Type 0 where
-  pub good : (line : Line) → line ≢ Bad → noted ≡ Next line → Gives (state held ended) line (state (drop taken held) ended)
+  pub good : (line : Line) → line ≢ Bad → noted ≡ Next line
+      → Gives (state held ended) line (state (drop taken held) ended)
   pub bad : noted ≡ Next Bad → BeginsBad (state held ended)
   pub need_more : (noted ≡ NeedMore) ↔ IsUnfinished (state held ended)
   pub end : (noted ≡ End) ↔ IsOver (state held ended)

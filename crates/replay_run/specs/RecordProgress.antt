@@ -1,23 +1,6 @@
 -- A device of the proofs: how far the record has been read. (What a run means is in `Meaning`.)
-use Rattle.std.specs.Prelude.{
-  ◌≡◌,
-  ◌≢◌,
-  ℕ,
-  ◌+◌,
-  ◌-◌,
-  ◌*◌,
-  ◌<◌,
-  true,
-  false,
-  IsTrue,
-  List,
-  [],
-  ◌++◌,
-  All,
-  length,
-  Option,
-  Some,
-}
+use Rattle.std.specs.Prelude.{◌≡◌, ◌≢◌, ℕ, ◌+◌, ◌-◌, ◌*◌, ◌<◌, true, false, IsTrue, List, [], ◌++◌}
+use Rattle.std.specs.Prelude.{All, length, Option, Some}
 use Rattle.std.specs.List.{filter_map}
 use Rattle.bml_ports.specs.Counters.{Counter, FaultedSince}
 use Rattle.bml_ports.specs.Worlds.{WorldState}
@@ -26,25 +9,16 @@ use Rattle.replay_run.specs.declared.record.RecordItem.{RecordItem}
 use Rattle.replay_run.specs.declared.record.Line.{Line}
 use Rattle.replay_run.specs.declared.record.Line.TheVariants.{Bad}
 use Rattle.replay_run.specs.declared.status.Status.{Status}
-use Rattle.replay_run.specs.declared.status.Status.TheVariants.{
-  Done,
-  Usage,
-  BadRecord,
-  OpenFault,
-  ReadFault,
-  WriteFault,
-  KeepFault,
-  BadArea,
-  TooLong,
-  NoMemory,
-}
+use Rattle.replay_run.specs.declared.status.Status.TheVariants.{Done, Usage, BadRecord, OpenFault}
+use Rattle.replay_run.specs.declared.status.Status.TheVariants.{ReadFault, WriteFault, KeepFault}
+use Rattle.replay_run.specs.declared.status.Status.TheVariants.{BadArea, TooLong, NoMemory}
 use Rattle.replay_run.specs.Files.{File, file, GaveMore, GaveAtMost, record_limit}
 use Rattle.replay_run.specs.Midway.{ends_to_come}
 use Rattle.replay_run.specs.Record.{lines_of, items_before_bad, first_bad, item_in}
 use Rattle.replay_run.specs.RecordReader.{ReaderState}
 
--- what is kept of the record: the bytes that belong to no line given so far, and how many bytes and lines came; and
--- what is left of it
+-- what is kept of the record: the bytes that belong to no line given so far, and how many bytes and
+-- lines came; and what is left of it
 pub record RecordState : Type 0 where
   pub reader : ReaderState
   pub bytes : ℕ
@@ -53,7 +27,12 @@ pub record RecordState : Type 0 where
 
 abbrev pub record_state : RecordItems → WorldState → RecordState
 record_state items world =
-    record { reader = items.reader; bytes = items.bytes; lines = items.lines; left = world.notes.left }
+    record {
+      reader = items.reader;
+      bytes = items.bytes;
+      lines = items.lines;
+      left = world.notes.left;
+    }
 
 -- These items were read from the front of the record, in lines of which none is bad.
 pub record IsAt (notes : List ℕ) (now : RecordState) (items : List RecordItem) : Type 0 where
@@ -79,7 +58,8 @@ pub record IsWhole (notes : File) (items : List RecordItem) : Type 0 where
   pub good : All (λ line. line ≢ Bad) (lines_of notes.bytes)
   pub items_are : filter_map item_in (lines_of notes.bytes) ≡ items
 
--- Reading items stops for these causes: `reads` counts the reads of the record, `bytes` are those that it gave.
+-- Reading items stops for these causes: `reads` counts the reads of the record, `bytes` are those
+-- that it gave.
 abbrev pub StopsItems : Status → Counter → Counter → ℕ → Type 0
 StopsItems ReadFault old new bytes = FaultedSince old new
 StopsItems TooLong old new bytes = record_limit < bytes
@@ -111,6 +91,8 @@ LeavesItems KeepFault notes items = ⊥
 LeavesItems (BadArea size) notes items = ⊥
 LeavesItems NoMemory notes items = ⊥
 
--- a number that each step of the loop over lines makes smaller: bytes that may still come, held bytes, and the end
+-- a number that each step of the loop over lines makes smaller: bytes that may still come, held
+-- bytes, and the end
 abbrev pub work_left : ReaderState → ℕ → ℕ
-work_left reader bytes = 2 * (2 * record_limit - bytes) + length reader.held + ends_to_come reader.ended
+work_left reader bytes =
+    2 * (2 * record_limit - bytes) + length reader.held + ends_to_come reader.ended

@@ -5,18 +5,9 @@ use Rattle.bml_ports.specs.Counters.{FaultedSince}
 use Rattle.bml_ports.specs.Worlds.{WorldState, port_of, other_port}
 use Rattle.psi_tables.specs.declared.services.Selection.{Selection}
 use Rattle.replay_run.specs.declared.status.Status.{Status}
-use Rattle.replay_run.specs.declared.status.Status.TheVariants.{
-  Done,
-  Usage,
-  BadRecord,
-  OpenFault,
-  ReadFault,
-  WriteFault,
-  KeepFault,
-  BadArea,
-  TooLong,
-  NoMemory,
-}
+use Rattle.replay_run.specs.declared.status.Status.TheVariants.{Done, Usage, BadRecord, OpenFault}
+use Rattle.replay_run.specs.declared.status.Status.TheVariants.{ReadFault, WriteFault, KeepFault}
+use Rattle.replay_run.specs.declared.status.Status.TheVariants.{BadArea, TooLong, NoMemory}
 use Rattle.replay_run.specs.Causes.{ReadFaulted, WriteFaulted}
 use Rattle.replay_run.specs.Ending.{EndsAs}
 use Rattle.replay_run.specs.Meaning.{replay_meaning}
@@ -30,7 +21,8 @@ pub record OnlyOpens (port : Port) (name : List ℕ) (old new : WorldState) : Ty
   pub files : new.files ≡ old.files
   pub other : port_of new (other_port port) ≡ port_of old (other_port port)
   pub reads : (port_of new port).reads ≡ (port_of old port).reads
-  pub asked : ((port_of new port).asked ≡ (port_of old port).asked) ⊎ ((port_of new port).asked ≡ Some name)
+  pub asked : ((port_of new port).asked ≡ (port_of old port).asked)
+      ⊎ ((port_of new port).asked ≡ Some name)
   pub later : old.openings.faults ≤ new.openings.faults
 
 -- the opening failed, and was counted
@@ -98,12 +90,14 @@ StopsLine TooLong old new line = ⊥
 -- Where the files are told, the replay ends as its meaning says.
 abbrev pub ReplayEnds : Selection → Outside → Outside → Status → Type 0
 ReplayEnds selection before behind status =
-    (stream notes : List ℕ) → before.world.stream.left ≡ Some stream → before.world.notes.left ≡ Some notes
+    (stream notes : List ℕ)
+    → before.world.stream.left ≡ Some stream → before.world.notes.left ≡ Some notes
     → EndsAs (replay_meaning selection stream notes) (account stream notes before behind) status
 
 -- The same of a replay of two files under their names.
 abbrev pub RunEnds : Selection → List ℕ → List ℕ → Outside → Outside → Status → Type 0
 RunEnds selection stream_name notes_name before behind status =
     (stream notes : List ℕ)
-    → bytes_under before.world stream_name ≡ Some stream → bytes_under before.world notes_name ≡ Some notes
+    → bytes_under before.world stream_name ≡ Some stream
+    → bytes_under before.world notes_name ≡ Some notes
     → EndsAs (replay_meaning selection stream notes) (account stream notes before behind) status

@@ -5,18 +5,9 @@ use Rattle.bml_ports.specs.declared.outside.Port.{Port}
 use Rattle.bml_ports.specs.Counters.{Counter, FaultedSince}
 use Rattle.bml_ports.specs.Worlds.{WorldState, PortState, port_of, other_port}
 use Rattle.replay_run.specs.declared.status.Status.{Status}
-use Rattle.replay_run.specs.declared.status.Status.TheVariants.{
-  Done,
-  Usage,
-  BadRecord,
-  OpenFault,
-  ReadFault,
-  WriteFault,
-  KeepFault,
-  BadArea,
-  TooLong,
-  NoMemory,
-}
+use Rattle.replay_run.specs.declared.status.Status.TheVariants.{Done, Usage, BadRecord, OpenFault}
+use Rattle.replay_run.specs.declared.status.Status.TheVariants.{ReadFault, WriteFault, KeepFault}
+use Rattle.replay_run.specs.declared.status.Status.TheVariants.{BadArea, TooLong, NoMemory}
 use Rattle.replay_run.specs.Files.{File, stream_limit, GaveMore, GaveAtMost}
 use Rattle.replay_run.specs.Outside.{Outside}
 use Rattle.replay_run.specs.Output.{WritesPieces, WritesBytes}
@@ -48,7 +39,8 @@ StopsTurns KeepFault old new = ⊥
 StopsTurns (BadArea size) old new = ⊥
 StopsTurns TooLong old new = ⊥
 
--- Reading the stream stops for these: `reads` counts the reads, and `bytes` are those that the stream gave.
+-- Reading the stream stops for these: `reads` counts the reads, and `bytes` are those that the
+-- stream gave.
 abbrev pub StopsReading : Status → Counter → Counter → ℕ → Type 0
 StopsReading ReadFault old new bytes = FaultedSince old new
 StopsReading TooLong old new bytes = stream_limit < bytes
@@ -68,7 +60,8 @@ StopsPackets status old new bytes =
     ⊎ StopsTurns status old.sink.writes new.sink.writes
 
 -- what is written of the pieces where handling packets stops
-abbrev pub LeavesPackets : Status → File → Option (List ℕ) → Option (List ℕ) → List (List ℕ) → Type 0
+abbrev pub LeavesPackets : Status → File → Option (List ℕ) → Option (List ℕ) → List (List ℕ)
+    → Type 0
 LeavesPackets ReadFault stream first written pieces =
     GaveAtMost stream_limit stream × WritesPieces first written pieces
 LeavesPackets WriteFault stream first written pieces =

@@ -1,6 +1,7 @@
 //! Handles the items of a record over the packets of a stream.
 
-ghost use Rattle.std.specs.Prelude.{◌≡◌, ℕ, ◌+◌, ◌*◌, ◌^◌, ◌<◌, ◌≤◌, List, length, false, IsTrue, OnOk, IfOk, IfErr, Option, option_map};
+ghost use Rattle.std.specs.Prelude.{◌≡◌, ℕ, ◌+◌, ◌*◌, ◌^◌, ◌<◌, ◌≤◌, List, length, false, IsTrue};
+ghost use Rattle.std.specs.Prelude.{OnOk, IfOk, IfErr, Option, option_map};
 ghost use Rattle.bml_ports.specs.Sinks.{SinkState};
 ghost use Rattle.bml_ports.specs.Worlds.{WorldState};
 ghost use Rattle.ts_packets.specs.Cutter.{IsCertainAt};
@@ -19,8 +20,8 @@ use ts_packets::{Ahead, Cutter};
 /// The most bytes that a stream may give.
 const STREAM_LIMIT: u64 = 1 << 36;
 
-/// The bytes that one read of the stream asks for: with the packet that a cutter holds at most when it waits, they
-/// fit the cutter.
+/// The bytes that one read of the stream asks for: with the packet that a cutter holds at most when
+/// it waits, they fit the cutter.
 const READ_LENGTH: usize = 3904;
 
 /// What a replay keeps from item to item.
@@ -39,7 +40,8 @@ pub struct Player {
 }
 
 impl Player {
-    ghost use Rattle.replay_run.specs.Midway.{moment, item_of_count, Goes, Stops, Handles, StopsHandling, IsReadable, work_left};
+    ghost use Rattle.replay_run.specs.Midway.{moment, item_of_count, Goes, Stops, Handles};
+    ghost use Rattle.replay_run.specs.Midway.{StopsHandling, IsReadable, work_left};
     ghost use Rattle.replay_run.specs.Outside.{Outside, outside};
     ghost use Rattle.replay_run.specs.Progress.{StartsReplay};
     ghost use Rattle.receiver_core.specs.Receiving.{IsIdle};
@@ -47,7 +49,8 @@ impl Player {
 
     /// A replay at the start of its stream, with an area of zeros.
     pub fn new(alloc: Global, selection: Selection) -> Result<Player, NoMemory>
-        ensures start { IfOk result (λ player. (told : Outside) → StartsReplay selection told (moment player told)) }
+        ensures start { IfOk result
+            (λ player. (told : Outside) → StartsReplay selection told (moment player told)) }
         ensures idle { IfOk result (λ player. IsIdle player.receiver) }
         ensures within { IfOk result (λ player. player.bytes ≤ stream_limit) }
         ensures readable { IfOk result (λ player. (world : WorldState)
@@ -70,8 +73,8 @@ impl Player {
         self.packets
     }
 
-    /// Handles an item: takes the packets that it asks for, or shows the display list. It writes what each of the
-    /// packets' turns prints, and the display list.
+    /// Handles an item: takes the packets that it asks for, or shows the display list. It writes
+    /// what each of the packets' turns prints, and the display list.
     pub fn handle<W: World, S: Sink>(
         &mut self,
         item: RecordItem,
@@ -88,7 +91,8 @@ impl Player {
         ensures reads { OnlyReads Port.Stream (W.told world.old) (W.told world.new) }
         ensures writes { (S.told out.old).writes.faults ≤ (S.told out.new).writes.faults }
         ensures cause { IfErr result (λ status. StopsPackets status
-            (outside (W.told world.old) (S.told out.old)) (outside (W.told world.new) (S.told out.new))
+            (outside (W.told world.old) (S.told out.old))
+            (outside (W.told world.new) (S.told out.new))
             self.new.bytes) }
 
         ensures handled { OnOk result (Handles item
@@ -105,7 +109,8 @@ impl Player {
         }
     }
 
-    // Takes the packets that are left, or no more than so many, and writes what each of their turns prints.
+    // Takes the packets that are left, or no more than so many, and writes what each of their turns
+    // prints.
     fn take<W: World, S: Sink>(
         &mut self,
         most: Option<u32>,
@@ -122,7 +127,8 @@ impl Player {
         ensures reads { OnlyReads Port.Stream (W.told world.old) (W.told world.new) }
         ensures writes { (S.told out.old).writes.faults ≤ (S.told out.new).writes.faults }
         ensures cause { IfErr result (λ status. StopsPackets status
-            (outside (W.told world.old) (S.told out.old)) (outside (W.told world.new) (S.told out.new))
+            (outside (W.told world.old) (S.told out.old))
+            (outside (W.told world.new) (S.told out.new))
             self.new.bytes) }
 
         ensures handled { OnOk result (Handles (item_of_count most)
@@ -143,7 +149,8 @@ impl Player {
         Ok(())
     }
 
-    // The number of the last packet to take, counted from 1 at the start of the run, if there is a bound.
+    // The number of the last packet to take, counted from 1 at the start of the run, if there is a
+    // bound.
     fn last_packet(&self, most: Option<u32>) -> Option<u64>
         ensures { result ≡ option_map (λ count. self.now.packets + count) most }
     {
@@ -162,8 +169,10 @@ impl Player {
         ensures cause { IfErr result (λ status. StopsTurns status
             (S.told out.old).writes (S.told out.new).writes) }
         ensures handled { OnOk result ((world : WorldState) → Handles RecordItem.Show
-            (moment self.old (outside world (S.told out.old))) (moment self.new (outside world (S.told out.new)))) }
-        ensures stopped { IfErr result (λ status. (world : WorldState) → StopsHandling RecordItem.Show status
+            (moment self.old (outside world (S.told out.old)))
+            (moment self.new (outside world (S.told out.new)))) }
+        ensures stopped { IfErr result
+            (λ status. (world : WorldState) → StopsHandling RecordItem.Show status
             (moment self.old (outside world (S.told out.old))) (outside world (S.told out.new))) }
     {
         self.piece.clear();
@@ -186,8 +195,10 @@ impl Player {
         ensures cause { IfErr result (λ status. StopsTurns status
             (S.told out.old).writes (S.told out.new).writes) }
         ensures handled { OnOk result ((world : WorldState) → Handles (RecordItem.Packets 1)
-            (moment self.old (outside world (S.told out.old))) (moment self.new (outside world (S.told out.new)))) }
-        ensures stopped { IfErr result (λ status. (world : WorldState) → StopsHandling (RecordItem.Packets 1) status
+            (moment self.old (outside world (S.told out.old)))
+            (moment self.new (outside world (S.told out.new)))) }
+        ensures stopped { IfErr result
+            (λ status. (world : WorldState) → StopsHandling (RecordItem.Packets 1) status
             (moment self.old (outside world (S.told out.old))) (outside world (S.told out.new))) }
     {
         self.packets += 1;
@@ -211,7 +222,8 @@ impl Player {
         ensures cause { IfErr result (λ status. StopsTurns status
             (S.told out.old).writes (S.told out.new).writes) }
         ensures goes { OnOk result ((world : WorldState) → Goes
-            (moment self.old (outside world (S.told out.old))) (moment self.new (outside world (S.told out.new)))) }
+            (moment self.old (outside world (S.told out.old)))
+            (moment self.new (outside world (S.told out.new)))) }
         ensures stops { IfErr result (λ status. (world : WorldState) → Stops status
             (moment self.old (outside world (S.told out.old))) (outside world (S.told out.new))) }
     {
@@ -241,7 +253,8 @@ impl Player {
         ensures ahead { OnOk result
             (work_left self.new.cutter self.new.bytes < work_left self.old.cutter self.old.bytes) }
         ensures goes { OnOk result ((sink : SinkState) → Goes
-            (moment self.old (outside (W.told world.old) sink)) (moment self.new (outside (W.told world.new) sink))) }
+            (moment self.old (outside (W.told world.old) sink))
+            (moment self.new (outside (W.told world.new) sink))) }
         ensures stops { IfErr result (λ status. (sink : SinkState) → Stops status
             (moment self.old (outside (W.told world.old) sink)) (outside (W.told world.new) sink)) }
     {

@@ -1,10 +1,16 @@
 //! The lines of the record, read from pieces.
 
-ghost use Rattle.std.specs.Prelude.{◌≡◌, ◌≢◌, ℕ, ◌+◌, ◌-◌, ◌<◌, ◌≤◌, ◌↔◌, ◌⊎◌, true, false, [], ◌∷◌, ◌++◌, All, length, take, drop, min, not, position, slice_index, ◌==◌, MatchOption};
+ghost use Rattle.std.specs.Prelude.{◌≡◌, ◌≢◌, ℕ, ◌+◌, ◌-◌, ◌<◌, ◌≤◌, ◌↔◌, ◌⊎◌, true, false, []};
+ghost use Rattle.std.specs.Prelude.{◌∷◌, ◌++◌, All, length, take, drop, min, not, position};
+ghost use Rattle.std.specs.Prelude.{slice_index, ◌==◌, MatchOption};
 ghost use Rattle.std.specs.Str.Lines.{strip_carriage_return};
 ghost use Rattle.replay_run.specs.Reading.{IsFirstCut};
-ghost use Rattle.replay_run.specs.RecordReader.{capacity, Gives, BeginsBad, IsUnfinished, IsOver, DropsFront};
-ghost use Rattle.replay_run.specs.Record.{is_blank as is_blank_of, fields, is_comment as is_comment_of, item_of, line_of as line_of_bytes, line_with, plain_item as plain_item_of};
+ghost use Rattle.replay_run.specs.RecordReader.{capacity, longest_line, Gives, BeginsBad};
+ghost use Rattle.replay_run.specs.RecordReader.{IsUnfinished, IsOver, DropsFront};
+ghost use Rattle.replay_run.specs.Record.{line_feed, is_blank as is_blank_of, fields};
+ghost use Rattle.replay_run.specs.Record.{is_comment as is_comment_of, item_of};
+ghost use Rattle.replay_run.specs.Record.{line_of as line_of_bytes, line_with};
+ghost use Rattle.replay_run.specs.Record.{plain_item as plain_item_of};
 
 use arrayvec::ArrayVec;
 use bml_bytes::read_decimal;
@@ -54,9 +60,9 @@ pub enum NextLine {
 
 /// Reads the lines of a record that comes in pieces. It holds up to 4,096 bytes in itself.
 ///
-/// A line is ended by a line feed, and one carriage return before that belongs to its end. The last line may
-/// lack its end, and then keeps a carriage return. A line of more than 128 bytes without its end is bad, and is
-/// known to be so before its end comes.
+/// A line is ended by a line feed, and one carriage return before that belongs to its end. The last
+/// line may lack its end, and then keeps a carriage return. A line of more than 128 bytes without
+/// its end is bad, and is known to be so before its end comes.
 #[derive(Drop)]
 pub struct RecordReader {
     bytes: ArrayVec<u8, CAPACITY>,
@@ -66,13 +72,13 @@ pub struct RecordReader {
 
 impl Model for RecordReader {
     ghost use Rattle.std.specs.Prelude.{◌≤◌, drop, length};
-    ghost use Rattle.replay_run.specs.RecordReader.{ReaderState};
+    ghost use Rattle.replay_run.specs.RecordReader.{ReaderState, capacity};
 
     ghost Value = { ReaderState };
 
     ghost view = { λ r. record { held = drop r.start r.bytes.items; ended = r.ended } };
 
-    ghost invariant = { λ r. (r.start ≤ length r.bytes.items) × (length r.bytes.items ≤ 4096) };
+    ghost invariant = { λ r. (r.start ≤ length r.bytes.items) × (length r.bytes.items ≤ capacity) };
 }
 
 impl RecordReader {
@@ -128,10 +134,11 @@ impl RecordReader {
         self.ended = true;
     }
 
-    /// The next line of the record, if what is held tells it. An item and a line that asks for nothing are taken
-    /// away. A bad line is left, so each later call answers it again.
+    /// The next line of the record, if what is held tells it. An item and a line that asks for
+    /// nothing are taken away. A bad line is left, so each later call answers it again.
     pub fn next(&mut self) -> NextLine
-        ensures good { (line : Line) → line ≢ Line.Bad → result ≡ NextLine.Line line → Gives self.old line self.new }
+        ensures good { (line : Line) → line ≢ Line.Bad → result ≡ NextLine.Line line
+            → Gives self.old line self.new }
         ensures bad { result ≡ NextLine.Line Line.Bad → BeginsBad self.old }
         ensures need_more { (result ≡ NextLine.NeedMore) ↔ IsUnfinished self.old }
         ensures end { (result ≡ NextLine.End) ↔ IsOver self.old }
@@ -139,7 +146,8 @@ impl RecordReader {
         ensures drops { DropsFront self.old self.new }
         ensures takes { (line : Line) → line ≢ Line.Bad → result ≡ NextLine.Line line
             → length self.new.held < length self.old.held }
-        ensures stays { ((line : Line) → line ≢ Line.Bad → result ≢ NextLine.Line line) → self.new ≡ self.old }
+        ensures stays { ((line : Line) → line ≢ Line.Bad → result ≢ NextLine.Line line)
+            → self.new ≡ self.old }
     {
         let cut = cut_line(&self.bytes.as_slice()[self.start..], self.ended);
         self.start += cut.length;
@@ -191,7 +199,7 @@ fn cut_line(held: &[u8], ended: bool) -> LineCut
 
 // The first line where no line feed is among the bytes that a good line can have.
 fn cut_open(held: &[u8], ended: bool) -> LineCut
-    requires { All (λ byte. (byte == 10) ≡ false) (take 130 held.now) }
+    requires { All (λ byte. (byte == line_feed) ≡ false) (take longest_line held.now) }
     ensures { IsFirstCut held.now ended result.noted result.length }
 {
     if held.len() >= LONGEST_LINE {
@@ -208,7 +216,7 @@ fn cut_open(held: &[u8], ended: bool) -> LineCut
 
 // The place of the first line feed.
 fn find_line_feed(bytes: &[u8]) -> Option<usize>
-    ensures { result ≡ position (λ byte. byte == 10) bytes.now }
+    ensures { result ≡ position (λ byte. byte == line_feed) bytes.now }
 {
     bytes.iter().position(|byte| *byte == b'\n')
 }
@@ -304,7 +312,8 @@ fn numbered_item(name: &[u8], number: &[u8]) -> Option<RecordItem>
 
 // The first field of a line, and the bytes behind it.
 fn next_field(line: &[u8]) -> Option<(&[u8], &[u8])>
-    ensures { MatchOption result (fields line.now ≡ []) (λ found. fields line.now ≡ found.0.now ∷ fields found.1.now) }
+    ensures { MatchOption result (fields line.now ≡ [])
+        (λ found. fields line.now ≡ found.0.now ∷ fields found.1.now) }
 {
     match find_field(line) {
         None => None,
@@ -352,7 +361,7 @@ fn drop_front(bytes: &mut ArrayVec<u8, CAPACITY>, count: usize)
 }
 
 fn append(bytes: &mut ArrayVec<u8, CAPACITY>, more: &[u8])
-    requires { length bytes.old.items + length more.now ≤ 4096 }
+    requires { length bytes.old.items + length more.now ≤ capacity }
     ensures { bytes.new.items ≡ bytes.old.items ++ more.now }
 {
     let _ = bytes.try_extend_from_slice(more);
@@ -363,8 +372,8 @@ mod tests {
     use super::*;
     use std::test::Fail;
 
-    // The number of items before the end or the first bad line, and whether a bad line was met, where the record
-    // comes in pieces of this length.
+    // The number of items before the end or the first bad line, and whether a bad line was met,
+    // where the record comes in pieces of this length.
     fn read(bytes: &[u8], piece: usize) -> Option<(u64, bool)> {
         let mut reader = RecordReader::new();
         let mut left = bytes;

@@ -1,6 +1,7 @@
 //! The items of the record, as they are read from its port.
 
-ghost use Rattle.std.specs.Prelude.{◌≡◌, ℕ, ◌+◌, ◌<◌, ◌≤◌, ◌++◌, ◌∷◌, [], List, length, false, IsTrue, OnOk, IfErr, Ok, Some, None};
+ghost use Rattle.std.specs.Prelude.{◌≡◌, ℕ, ◌+◌, ◌<◌, ◌≤◌, ◌++◌, ◌∷◌, [], List, length, false};
+ghost use Rattle.std.specs.Prelude.{IsTrue, OnOk, IfErr, Ok, Some, None};
 ghost use Rattle.bml_ports.specs.Worlds.{WorldState};
 ghost use Rattle.replay_run.specs.Files.{file, read_length, record_limit};
 
@@ -11,7 +12,8 @@ use bml_ports::{Port, World};
 /// The most bytes that a record may give.
 const RECORD_LIMIT: u64 = 1 << 30;
 
-/// The bytes that one read of the record asks for: with a line that isn't whole they fit the reader.
+/// The bytes that one read of the record asks for: with a line that isn't whole they fit the
+/// reader.
 const READ_LENGTH: usize = 3904;
 
 /// The items of the record, as far as it was read.
@@ -27,7 +29,8 @@ pub struct RecordItems {
 }
 
 impl RecordItems {
-    ghost use Rattle.replay_run.specs.RecordProgress.{record_state, IsAt, IsReadable, IsWhole, StopsItems, LeavesItems, work_left};
+    ghost use Rattle.replay_run.specs.RecordProgress.{record_state, IsAt, IsReadable, IsWhole};
+    ghost use Rattle.replay_run.specs.RecordProgress.{StopsItems, LeavesItems, work_left};
     ghost use Rattle.replay_run.specs.RecordReader.{longest_line};
     ghost use Rattle.replay_run.specs.Stopping.{OnlyReads};
     ghost use Rattle.replay_run.specs.declared.record.RecordItem.{RecordItem};
@@ -47,7 +50,8 @@ impl RecordItems {
         }
     }
 
-    /// The next item, and None where the record has no more lines. Lines that ask for nothing are passed over.
+    /// The next item, and None where the record has no more lines. Lines that ask for nothing are
+    /// passed over.
     pub fn next_item<W: World>(&mut self, world: &mut W) -> Result<Option<RecordItem>, Status>
         requires within { self.old.bytes ≤ record_limit }
         requires readable { IsReadable self.old.reader (W.told world.old) }
@@ -57,7 +61,8 @@ impl RecordItems {
         ensures reads { OnlyReads Port.Notes (W.told world.old) (W.told world.new) }
         ensures cause { IfErr result (λ status. StopsItems status
             (W.told world.old).notes.reads (W.told world.new).notes.reads self.new.bytes) }
-        ensures further { (item : RecordItem) → result ≡ Ok (Some item) → self.old.lines < self.new.lines }
+        ensures further { (item : RecordItem) → result ≡ Ok (Some item)
+            → self.old.lines < self.new.lines }
 
         ensures item { (item : RecordItem) → result ≡ Ok (Some item)
             → (notes : List ℕ) (items : List RecordItem)

@@ -1,12 +1,16 @@
 //! A replay of a record over a stream.
 
-ghost use Rattle.std.specs.Prelude.{◌≡◌, ◌≢◌, ℕ, ◌^◌, ◌<◌, ◌≤◌, List, OnOk, IfErr, IsErr, IsTrue, Some, None};
+ghost use Rattle.std.specs.Prelude.{◌≡◌, ◌≢◌, ℕ, ◌^◌, ◌<◌, ◌≤◌, List, OnOk, IfErr, IsErr, IsTrue};
+ghost use Rattle.std.specs.Prelude.{Some, None};
 ghost use Rattle.bml_ports.specs.Worlds.{port_of};
 ghost use Rattle.replay_run.specs.Causes.{IsCaused};
 ghost use Rattle.replay_run.specs.Lines.{end_line};
-ghost use Rattle.replay_run.specs.Opening.{AsksAtMost, AsksInOrder, IsUnasked, LacksFile, LeavesRest, StopsAtOpening, bytes_under};
+ghost use Rattle.replay_run.specs.Opening.{AsksAtMost, AsksInOrder, IsUnasked, LacksFile};
+ghost use Rattle.replay_run.specs.Opening.{LeavesRest, StopsAtOpening, bytes_under};
 ghost use Rattle.replay_run.specs.Outside.{outside};
-ghost use Rattle.replay_run.specs.Replaying.{outcome_of, LacksName, OnlyOpens, OnlyReadsBoth, ReplayEnds, RunEnds, StopsLine, StopsOpening, StopsReplay};
+ghost use Rattle.replay_run.specs.Replaying.{outcome_of, LacksName, OnlyOpens, OnlyReadsBoth};
+ghost use Rattle.replay_run.specs.Replaying.{ReplayEnds, RunEnds, StopsLine, StopsOpening};
+ghost use Rattle.replay_run.specs.Replaying.{StopsReplay};
 ghost use Rattle.replay_run.specs.Stopping.{StopsTurns};
 ghost use Rattle.replay_run.specs.Writing.{WritesOn};
 
@@ -25,9 +29,11 @@ pub fn open<W: World>(world: &mut W, port: Port, name: &Text) -> Result<(), Stat
     requires unasked { (port_of (W.told world.old) port).asked ≡ None }
     ensures opens { OnlyOpens port name.now (W.told world.old) (W.told world.new) }
     ensures asked { OnOk result ((port_of (W.told world.new) port).asked ≡ Some name.now) }
-    ensures cause { IfErr result (λ status. StopsOpening status port (W.told world.old) (W.told world.new)) }
+    ensures cause { IfErr result
+        (λ status. StopsOpening status port (W.told world.old) (W.told world.new)) }
     ensures readable { OnOk result (IsTrue (port_of (W.told world.new) port).readable) }
-    ensures bytes { OnOk result ((bytes : List ℕ) → bytes_under (W.told world.old) name.now ≡ Some bytes
+    ensures bytes { OnOk result ((bytes : List ℕ)
+        → bytes_under (W.told world.old) name.now ≡ Some bytes
         → (port_of (W.told world.new) port).left ≡ Some bytes) }
     ensures lacking { LacksName (W.told world.old) name.now → IsErr result }
 {
@@ -49,7 +55,8 @@ pub fn play_record<W: World, S: Sink>(
     requires notes { IsTrue (W.told world.old).notes.readable }
     ensures reads { OnlyReadsBoth (W.told world.old) (W.told world.new) }
     ensures cause { IfErr result (λ status. StopsReplay status
-        (outside (W.told world.old) (S.told out.old)) (outside (W.told world.new) (S.told out.new))) }
+        (outside (W.told world.old) (S.told out.old))
+        (outside (W.told world.new) (S.told out.new))) }
     ensures ends { ReplayEnds selection
         (outside (W.told world.old) (S.told out.old)) (outside (W.told world.new) (S.told out.new))
         (outcome_of result) }
@@ -97,7 +104,8 @@ pub fn replay<W: World, S: Sink>(
     ensures asked_notes { AsksAtMost (W.told world.new).notes notes.now }
     ensures order { AsksInOrder (outcome_of result) (W.told world.new) }
     ensures cause { IfErr result (λ status. IsCaused status
-        (outside (W.told world.old) (S.told out.old)) (outside (W.told world.new) (S.told out.new))) }
+        (outside (W.told world.old) (S.told out.old))
+        (outside (W.told world.new) (S.told out.new))) }
     ensures obeyed { IfErr result (λ status. status ≢ Status.Usage) }
     ensures ends { RunEnds selection stream.now notes.now
         (outside (W.told world.old) (S.told out.old)) (outside (W.told world.new) (S.told out.new))

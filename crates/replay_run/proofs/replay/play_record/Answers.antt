@@ -4,7 +4,9 @@ use Rattle.bml_ports.specs.Worlds.{PortState}
 use Rattle.replay_run.specs.Midway.{moment}
 use Rattle.replay_run.specs.Outside.{outside}
 use Rattle.replay_run.specs.RecordProgress.{record_state}
-use Rattle.replay_run.proofs.EndingLaws.{Course, ReceiverLaws, left_same, between_same, at_same, between_within, ends_in_items, ends_in_item, ends_with_line, reads_none, reads_notes, reads_stream}
+use Rattle.replay_run.proofs.EndingLaws.{Course, ReceiverLaws, left_same, between_same, at_same}
+use Rattle.replay_run.proofs.EndingLaws.{between_within, ends_in_items, ends_in_item}
+use Rattle.replay_run.proofs.EndingLaws.{ends_with_line, reads_none, reads_notes, reads_stream}
 use Rattle.replay_run.proofs.RecordProgressLaws.{at_front, at_within}
 use Rattle.replay_run.proofs.ProgressLaws.{between_push}
 use Rattle.replay_run.proofs.StoppingLaws.{stops_pushed}
@@ -14,23 +16,27 @@ pub items-init : goal.items-init
 items-init g c = record {
   idle = c.in_ok-player.ensures.idle;
   stream_within = c.in_ok-player.ensures.within;
-  stream_readable = c.in_ok-player.ensures.readable (g.W.World.told c.args.world.now) c.requires.stream;
+  stream_readable = c.in_ok-player.ensures.readable (g.W.World.told c.args.world.now)
+      c.requires.stream;
   notes_within = c.new-items.ensures.within;
   notes_readable = c.new-items.ensures.readable (g.W.World.told c.args.world.now) c.requires.notes;
   reads = reads_none (g.W.World.told c.args.world.now);
   later = omega arith;
   goes = λ stream notes l n. (
     [],
-    c.in_ok-player.ensures.start (outside (g.W.World.told c.args.world.now) (g.S.Sink.told c.args.out.now)) stream l,
+    c.in_ok-player.ensures.start
+        (outside (g.W.World.told c.args.world.now) (g.S.Sink.told c.args.out.now)) stream l,
     c.new-items.ensures.start (g.W.World.told c.args.world.now) notes n,
   );
 }
 
 pub returns-in_err-item-clause-ends : goal.returns-in_err-item-clause-ends
 returns-in_err-item-clause-ends g c =
-    let p = err_from_is_err_and c.from_residual-in_err-item.result c.from_residual-in_err-item.ensures.1 in
+    let p = err_from_is_err_and c.from_residual-in_err-item.result
+    c.from_residual-in_err-item.ensures.1 in
     let stopped = c.in_err-item.ensures in
-    let laws : ReceiverLaws = record { more = c.law_of_outputs.ensures.more; given = c.law_of_receivers.ensures } in
+    let laws : ReceiverLaws =
+    record { more = c.law_of_outputs.ensures.more; given = c.law_of_receivers.ensures } in
     rw (p.1, p.2) (λ stream notes l n.
     let run : Course = record {
       selection = c.args.selection;
@@ -40,7 +46,8 @@ returns-in_err-item-clause-ends g c =
     } in
     let before = c.items.invariant.goes stream notes l n in
     let b = between_same _ _ _ before.0 (left_same _ _ stopped.reads.other) before.1 in
-    ends_in_items laws _ run _ (outside (g.W.World.told c.next_item.new.world) (g.S.Sink.told c.items.out)) before.0
+    ends_in_items laws _ run _
+    (outside (g.W.World.told c.next_item.new.world) (g.S.Sink.told c.items.out)) before.0
     (at_front notes _ before.0 before.2) (record { left = refl; written = refl })
     (between_within _ _ before.0 _ c.items.invariant.stream_within b) c.items.invariant.idle b
     (stopped.stopped notes before.0 before.2))
@@ -55,7 +62,8 @@ items-preserved g c =
       stream_within = done.within;
       stream_readable = done.readable;
       notes_within = next.within;
-      notes_readable = λ e. subst (λ (port : PortState). IsTrue port.readable) (sym done.reads.other) (next.readable e);
+      notes_readable = λ e. subst (λ (port : PortState). IsTrue port.readable)
+          (sym done.reads.other) (next.readable e);
       reads = reads_stream _ _ _ (reads_notes _ _ _ before.reads next.reads) done.reads;
       later = omega (arith, before.later, done.writes);
       goes = λ stream notes l n.
@@ -71,10 +79,12 @@ items-preserved g c =
 
 pub returns-in_err-handle-in-Some-clause-ends : goal.returns-in_err-handle-in-Some-clause-ends
 returns-in_err-handle-in-Some-clause-ends g c =
-    let p = err_from_is_err_and c.from_residual-in_err-handle-in-Some.result c.from_residual-in_err-handle-in-Some.ensures.1 in
+    let p = err_from_is_err_and c.from_residual-in_err-handle-in-Some.result
+    c.from_residual-in_err-handle-in-Some.ensures.1 in
     let next = c.in_ok-item.ensures in
     let stopped = c.in_err-handle-in-Some.ensures in
-    let laws : ReceiverLaws = record { more = c.law_of_outputs.ensures.more; given = c.law_of_receivers.ensures } in
+    let laws : ReceiverLaws =
+    record { more = c.law_of_outputs.ensures.more; given = c.law_of_receivers.ensures } in
     rw (p.1, p.2) (λ stream notes l n.
     let run : Course = record {
       selection = c.args.selection;
@@ -85,7 +95,8 @@ returns-in_err-handle-in-Some-clause-ends g c =
     let item = c.in-Some.item in
     let was = c.items.invariant.goes stream notes l n in
     let b = between_same _ _ _ was.0 (left_same _ _ next.reads.other) was.1 in
-    let after = at_same notes _ _ (was.0 ++ item ∷ []) (left_same _ _ stopped.reads.other) (next.item item (ap Ok c.in-Some.is) notes was.0 was.2) in
+    let after = at_same notes _ _ (was.0 ++ item ∷ []) (left_same _ _ stopped.reads.other)
+    (next.item item (ap Ok c.in-Some.is) notes was.0 was.2) in
     ends_in_item laws _ run _ (was.0 ++ item ∷ []) (at_front notes _ (was.0 ++ item ∷ []) after)
     (at_within notes _ (was.0 ++ item ∷ []) _ next.within after)
     (stops_pushed _ _ _ was.0 item (stopped.stopped _ _ _ b)))
@@ -93,7 +104,8 @@ returns-in_err-handle-in-Some-clause-ends g c =
 pub returns-in-None-clause-ends : goal.returns-in-None-clause-ends
 returns-in-None-clause-ends g c = λ stream notes l n.
     let next = c.in_ok-item.ensures in
-    let laws : ReceiverLaws = record { more = c.law_of_outputs.ensures.more; given = c.law_of_receivers.ensures } in
+    let laws : ReceiverLaws =
+    record { more = c.law_of_outputs.ensures.more; given = c.law_of_receivers.ensures } in
     let run : Course = record {
       selection = c.args.selection;
       stream = stream;
@@ -109,7 +121,8 @@ returns-in-None-clause-ends g c = λ stream notes l n.
     (between_within _ _ was.0 _ c.items.invariant.stream_within b) c.items.invariant.idle b
 
 pub returns-in_err-item-clause-reads : goal.returns-in_err-item-clause-reads
-returns-in_err-item-clause-reads g c = reads_notes _ _ _ c.items.invariant.reads c.in_err-item.ensures.reads
+returns-in_err-item-clause-reads g c =
+    reads_notes _ _ _ c.items.invariant.reads c.in_err-item.ensures.reads
 
 pub returns-in_err-handle-in-Some-clause-reads : goal.returns-in_err-handle-in-Some-clause-reads
 returns-in_err-handle-in-Some-clause-reads g c =
@@ -117,4 +130,5 @@ returns-in_err-handle-in-Some-clause-reads g c =
     c.in_err-handle-in-Some.ensures.reads
 
 pub returns-in-None-clause-reads : goal.returns-in-None-clause-reads
-returns-in-None-clause-reads g c = reads_notes _ _ _ c.items.invariant.reads c.in_ok-item.ensures.reads
+returns-in-None-clause-reads g c =
+    reads_notes _ _ _ c.items.invariant.reads c.in_ok-item.ensures.reads

@@ -23,7 +23,12 @@ invariant-items g l = record {
       → (g.W.World.told l.initial.world).stream.left ≡ Some stream
       → (g.W.World.told l.initial.world).notes.left ≡ Some notes
       → (items : List RecordItem)
-      × IsBetween (record { selection = l.fn.selection; stream = stream; first = (g.S.Sink.told l.initial.out).written })
+      × IsBetween (record {
+        selection = l.fn.selection;
+        stream = stream;
+        first =
+            (g.S.Sink.told l.initial.out).written;
+      })
       (midway.moment l.player (outside (g.W.World.told l.world) (g.S.Sink.told l.out))) items
       × progress.IsAt notes (progress.record_state l.items (g.W.World.told l.world)) items;
 }

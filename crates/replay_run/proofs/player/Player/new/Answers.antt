@@ -4,5 +4,10 @@ use Rattle.replay_run.proofs.player.Player.new.Goals as goal
 
 pub returns-clause-start : goal.returns-clause-start
 returns-clause-start c = λ told stream left.
-    between_start (record { selection = c.args.selection; stream = stream; first = told.sink.written }) _ left refl
+    between_start (record {
+      selection = c.args.selection;
+      stream = stream;
+      first =
+          told.sink.written;
+    }) _ left refl
     c.new.ensures.held c.new.ensures.ended refl refl c.in_ok-new.ensures.stands

@@ -6,9 +6,11 @@ use Rattle.replay_run.proofs.ProgressLaws.{midway_read}
 use Rattle.replay_run.proofs.StoppingLaws.{stops_unread, stops_long, consumed_some}
 use Rattle.replay_run.proofs.player.Player.read_stream.Goals as goal
 
-pub returns-then-self-gt-STREAM_LIMIT-clause-stops : goal.returns-then-self-gt-STREAM_LIMIT-clause-stops
+pub returns-then-self-gt-STREAM_LIMIT-clause-stops :
+    goal.returns-then-self-gt-STREAM_LIMIT-clause-stops
 returns-then-self-gt-STREAM_LIMIT-clause-stops g c = λ sink replay inputs ahead m.
-    stops_long replay _ (outside (g.W.World.told c.read_port.new.self) sink) inputs ahead _ c.in-Ok.count
+    stops_long replay _ (outside (g.W.World.told c.read_port.new.self) sink) inputs ahead _
+    c.in-Ok.count
     (sym c.in-Ok.ensures.count.1) c.if-self-gt-STREAM_LIMIT.true c.in-Ok.ensures.bytes.0 refl m
 
 pub returns-in-Err-clause-stops : goal.returns-in-Err-clause-stops
@@ -16,7 +18,8 @@ returns-in-Err-clause-stops g c = λ sink replay inputs ahead m.
     stops_unread replay _ (outside (g.W.World.told c.read_port.new.self) sink) inputs ahead
     c.requires.within c.in-Err.ensures.bytes refl m
 
-pub returns-else-self-gt-STREAM_LIMIT-clause-goes : goal.returns-else-self-gt-STREAM_LIMIT-clause-goes
+pub returns-else-self-gt-STREAM_LIMIT-clause-goes :
+    goal.returns-else-self-gt-STREAM_LIMIT-clause-goes
 returns-else-self-gt-STREAM_LIMIT-clause-goes g c =
     let bytes = take c.in-Ok.count c.read_port.new.buf in
     let size : length bytes ≡ c.in-Ok.count = sym c.in-Ok.ensures.count.1 in

@@ -29,9 +29,11 @@ returns-clause-stopped g c =
     piece_of_text _ _ _ shown.0 c.deref.ensures.value shown.1 c.clear.ensures.items in
     piece_stops c.write_piece.result _ _ c.write_piece.ensures.short c.write_piece.ensures.fault
     (λ short world replay inputs ahead m.
-    stops_short replay _ (outside world (g.S.Sink.told c.write_piece.new.out)) inputs (inputs ++ Display ∷ []) ahead _
+    stops_short replay _ (outside world (g.S.Sink.told c.write_piece.new.out)) inputs
+    (inputs ++ Display ∷ []) ahead _
     (shown.0 ∷ []) (shown.2 replay.selection inputs) refl
-    (λ start e. subst (λ l. CutShort start (g.S.Sink.told c.write_piece.new.out).written l) same (short start e))
+    (λ start e. subst (λ l. CutShort start (g.S.Sink.told c.write_piece.new.out).written l) same
+    (short start e))
     c.requires.within m)
 
 pub returns-in_err-show-clause-stopped : goal.returns-in_err-show-clause-stopped
@@ -39,4 +41,5 @@ returns-in_err-show-clause-stopped g c =
     let p = err_from_is_err_and c.from_residual.result c.from_residual.ensures.1 in
     rw (p.1, p.2) (λ world replay inputs ahead m.
     stops_further _ replay _ _ _ (record { rest = Display ∷ []; joined = refl })
-    (stops_within replay _ (outside world (g.S.Sink.told c.args.out.now)) inputs ahead refl refl c.requires.within m))
+    (stops_within replay _ (outside world (g.S.Sink.told c.args.out.now)) inputs ahead refl refl
+    c.requires.within m))

@@ -20,7 +20,8 @@ invariant-packets g l = record {
   until : l.last ≡ option_map (λ n. l.initial.self.packets + n) l.fn.most;
   taken : (count : ℕ) × (l.self.packets ≡ l.initial.self.packets + count) × Allows l.fn.most count
       × Handles (Packets count)
-      (moment l.initial.self (outside (g.W.World.told l.initial.world) (g.S.Sink.told l.initial.out)))
+      (moment l.initial.self
+      (outside (g.W.World.told l.initial.world) (g.S.Sink.told l.initial.out)))
       (moment l.self (outside (g.W.World.told l.world) (g.S.Sink.told l.out)));
 }
 

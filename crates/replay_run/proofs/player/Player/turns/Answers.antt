@@ -23,8 +23,10 @@ turns-preserved g c =
     piece_of_texts _ _ _ turned.0 c.deref.ensures.value turned.1 c.clear.ensures.items in
     record {
       goes = λ world replay inputs ahead m.
-          midway_texts replay _ inputs inputs ahead _ turned.0 _ (turned.2 replay.selection inputs) refl
-          (λ start e. c.in_ok-write_piece-in-true.ensures.whole start e ∙ ap (λ l. Some (start ++ l)) same)
+          midway_texts replay _ inputs inputs ahead _ turned.0 _ (turned.2 replay.selection inputs)
+          refl
+          (λ start e. c.in_ok-write_piece-in-true.ensures.whole start e
+          ∙ ap (λ l. Some (start ++ l)) same)
           (c.turns.invariant.goes world replay inputs ahead m);
       bytes = c.turns.invariant.bytes;
       packets = c.turns.invariant.packets;
@@ -32,14 +34,17 @@ turns-preserved g c =
       later = omega (arith, c.turns.invariant.later, c.in_ok-write_piece-in-true.ensures.writes);
     }
 
-pub returns-in_err-write_piece-in-true-clause-stops : goal.returns-in_err-write_piece-in-true-clause-stops
+pub returns-in_err-write_piece-in-true-clause-stops :
+    goal.returns-in_err-write_piece-in-true-clause-stops
 returns-in_err-write_piece-in-true-clause-stops g c =
     let turned = c.in_ok-section_turn.ensures.turned in
-    let p = err_from_is_err_and c.from_residual-in_err-write_piece-in-true.result c.from_residual-in_err-write_piece-in-true.ensures.1 in
+    let p = err_from_is_err_and c.from_residual-in_err-write_piece-in-true.result
+    c.from_residual-in_err-write_piece-in-true.ensures.1 in
     let same : c.deref.result.now ≡ concat turned.0 =
     piece_of_texts _ _ _ turned.0 c.deref.ensures.value turned.1 c.clear.ensures.items in
     rw (p.1, p.2, c.in_err-write_piece-in-true.ensures.fault) (λ world replay inputs ahead m.
-    stops_short replay _ (outside world (g.S.Sink.told c.write_piece.new.out)) inputs inputs ahead _ turned.0
+    stops_short replay _ (outside world (g.S.Sink.told c.write_piece.new.out)) inputs inputs ahead
+    _ turned.0
     (turned.2 replay.selection inputs) refl
     (λ start e. subst (λ l. CutShort start (g.S.Sink.told c.write_piece.new.out).written l) same
     (c.in_err-write_piece-in-true.ensures.short start e))
@@ -48,6 +53,8 @@ returns-in_err-write_piece-in-true-clause-stops g c =
 pub returns-in-false-clause-goes : goal.returns-in-false-clause-goes
 returns-in-false-clause-goes g c = λ world replay inputs ahead m.
     midway_texts replay _ inputs inputs ahead c.section_turn.new.self [] _
-    (λ given s. subst (λ l. StandsFor replay.selection c.section_turn.new.self inputs l) (sym (append-nil given))
+    (λ given s. subst (λ l. StandsFor replay.selection c.section_turn.new.self inputs l)
+    (sym (append-nil given))
     (c.in_ok-section_turn.ensures.stays (ap Ok c.in-false.is) replay.selection inputs given s)) refl
-    (λ start e. e ∙ ap Some (sym (append-nil start))) (c.turns.invariant.goes world replay inputs ahead m)
+    (λ start e. e ∙ ap Some (sym (append-nil start)))
+    (c.turns.invariant.goes world replay inputs ahead m)

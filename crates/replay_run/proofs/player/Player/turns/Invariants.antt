@@ -9,7 +9,8 @@ use Rattle.replay_run.proofs.player.Player.turns.Given as goal
 abbrev pub invariant-turns : goal.invariant-turns
 invariant-turns g l = record {
   goes : (world : WorldState)
-      → Goes (moment l.initial.self (outside world (g.S.Sink.told l.initial.out))) (moment l.self (outside world (g.S.Sink.told l.out)));
+      → Goes (moment l.initial.self (outside world (g.S.Sink.told l.initial.out)))
+      (moment l.self (outside world (g.S.Sink.told l.out)));
   bytes : l.self.bytes ≡ l.initial.self.bytes;
   packets : l.self.packets ≡ l.initial.self.packets;
   cutter : l.self.cutter ≡ l.initial.self.cutter;

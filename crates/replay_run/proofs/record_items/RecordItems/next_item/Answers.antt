@@ -15,7 +15,8 @@ returns-in-Line-Item-clause-item g c = λ item e notes items a.
       left = (g.W.World.told c.lines.world).notes.left;
     }) (items ++ i ∷ [])) same
     (at_item notes _ items _ c.in-Line-Item.item
-    (c.next.ensures.good (Read c.in-Line-Item.item) (λ clash. cc) (rw c.in-Line-Item.field-0-is at c.in-Line-Item.is))
+    (c.next.ensures.good (Read c.in-Line-Item.item) (λ clash. cc)
+    (rw c.in-Line-Item.field-0-is at c.in-Line-Item.is))
     c.next.ensures.drops.ended (c.lines.invariant.goes notes items a))
 
 pub returns-in-Line-Bad-clause-stopped : goal.returns-in-Line-Bad-clause-stopped
@@ -26,7 +27,8 @@ returns-in-Line-Bad-clause-stopped g c = λ notes items a.
 pub returns-in-End-clause-end : goal.returns-in-End-clause-end
 returns-in-End-clause-end g c = λ e notes items a.
     let over = c.next.ensures.end.0 c.in-End.is in
-    at_whole notes _ items over.ended over.none c.lines.invariant.within (c.lines.invariant.goes notes items a)
+    at_whole notes _ items over.ended over.none c.lines.invariant.within
+    (c.lines.invariant.goes notes items a)
 
 pub lines-preserved-in-Line-Nothing : goal.lines-preserved-in-Line-Nothing
 lines-preserved-in-Line-Nothing g c =
@@ -37,7 +39,8 @@ lines-preserved-in-Line-Nothing g c =
       further = omega (arith, before.further);
       readable = λ e. before.readable (sym c.next.ensures.drops.ended ∙ e);
       reads = before.reads;
-      goes = λ notes items a. at_nothing notes _ items _ (c.next.ensures.good Nothing (λ clash. cc) is_nothing)
+      goes = λ notes items a. at_nothing notes _ items _
+          (c.next.ensures.good Nothing (λ clash. cc) is_nothing)
           c.next.ensures.drops.ended (before.goes notes items a);
     }
 
@@ -59,6 +62,7 @@ lines-preserved g c =
       }) items) (sym same) (before.goes notes items a));
     }
 
-pub returns-in_err-read_record-in-NeedMore-clause-reads : goal.returns-in_err-read_record-in-NeedMore-clause-reads
+pub returns-in_err-read_record-in-NeedMore-clause-reads :
+    goal.returns-in_err-read_record-in-NeedMore-clause-reads
 returns-in_err-read_record-in-NeedMore-clause-reads g c =
     only_reads_more _ _ _ _ c.lines.invariant.reads c.in_err-read_record-in-NeedMore.ensures.reads

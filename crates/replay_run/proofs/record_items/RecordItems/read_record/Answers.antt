@@ -6,7 +6,8 @@ use Rattle.replay_run.proofs.RecordProgressLaws.{at_limit, at_read, at_within}
 use Rattle.replay_run.proofs.StoppingLaws.{consumed_some, within_kept}
 use Rattle.replay_run.proofs.record_items.RecordItems.read_record.Goals as goal
 
-pub returns-then-self-gt-RECORD_LIMIT-clause-stopped : goal.returns-then-self-gt-RECORD_LIMIT-clause-stopped
+pub returns-then-self-gt-RECORD_LIMIT-clause-stopped :
+    goal.returns-then-self-gt-RECORD_LIMIT-clause-stopped
 returns-then-self-gt-RECORD_LIMIT-clause-stopped g c = λ notes items a.
     at_limit notes _ items _ (take c.in-Ok.count c.read_port.new.buf) c.in-Ok.count record_limit
     (sym c.in-Ok.ensures.count.1) c.if-self-gt-RECORD_LIMIT.true
@@ -14,9 +15,11 @@ returns-then-self-gt-RECORD_LIMIT-clause-stopped g c = λ notes items a.
 
 pub returns-in-Err-clause-stopped : goal.returns-in-Err-clause-stopped
 returns-in-Err-clause-stopped g c = λ notes items a.
-    within_kept record_limit notes _ _ c.in-Err.ensures.bytes (at_within notes _ items record_limit c.requires.within a)
+    within_kept record_limit notes _ _ c.in-Err.ensures.bytes
+    (at_within notes _ items record_limit c.requires.within a)
 
-pub returns-else-self-gt-RECORD_LIMIT-clause-goes : goal.returns-else-self-gt-RECORD_LIMIT-clause-goes
+pub returns-else-self-gt-RECORD_LIMIT-clause-goes :
+    goal.returns-else-self-gt-RECORD_LIMIT-clause-goes
 returns-else-self-gt-RECORD_LIMIT-clause-goes g c =
     let bytes = take c.in-Ok.count c.read_port.new.buf in
     let size : length bytes ≡ c.in-Ok.count = sym c.in-Ok.ensures.count.1 in
