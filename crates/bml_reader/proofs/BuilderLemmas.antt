@@ -7,7 +7,7 @@ use Rattle.std.proofs.lemmas.List.{reverse-append}
 use Rattle.dom_tree.specs.Items.{Attribute, Item, Content, tag_in, tag_of, attributes_in, attributes_of, value_in, value_of, IsElement, changed_at, with_last_attribute, element_in}
 use Rattle.dom_tree.specs.Items.Content.{Element, Text}
 use Rattle.dom_tree.specs.Walks.{path_of, IsOpen, Extends, KeepsPlaces}
-use Rattle.bml_reader.specs.Parts.{NamesDiffer}
+use Rattle.bml_reader.specs.Markup.{NamesDiffer}
 use Rattle.bml_reader.specs.Nodes.{AreOpen, top_of, numbers_in}
 use Rattle.dom_tree.specs.declared.node_ids.NodeId.{NodeId}
 use Rattle.bml_reader.specs.BuilderViews.{put_attributes, with_attributes, KeepsPlacesOf, IsGrown}
@@ -66,10 +66,10 @@ places-open old new [] k h = tt
 places-open old new (n ∷ ns) k (p, e, o, more) = (k.paths n ∙ p, subst (λ t. IsSome t) (sym (k.tags n)) e, k.open_still n o, places-open old new ns k more)
 
 pub places-same : (items : List Item) → KeepsPlaces items items
-places-same items = record { count = refl; tags = (λ n. refl); paths = (λ n. refl); open_still = (λ n h. h) }
+places-same items = record { count = refl; tags = (λ n. refl); parents = (λ n. refl); children = (λ n. refl); paths = (λ n. refl); open_still = (λ n h. h) }
 
 pub places-chain : (a b c : List Item) → KeepsPlaces a b → KeepsPlaces b c → KeepsPlaces a c
-places-chain a b c h k = record { count = k.count ∙ h.count; tags = (λ n. k.tags n ∙ h.tags n); paths = (λ n. k.paths n ∙ h.paths n); open_still = (λ n o. k.open_still n (h.open_still n o)) }
+places-chain a b c h k = record { count = k.count ∙ h.count; tags = (λ n. k.tags n ∙ h.tags n); parents = (λ n. k.parents n ∙ h.parents n); children = (λ n. k.children n ∙ h.children n); paths = (λ n. k.paths n ∙ h.paths n); open_still = (λ n o. k.open_still n (h.open_still n o)) }
 
 -- Attributes one by one
 

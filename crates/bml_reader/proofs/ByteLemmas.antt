@@ -5,8 +5,8 @@ use Rattle.std.specs.List.{list_all}
 use Rattle.std.proofs.lemmas.Bool.{eq-eqb, eqb-true}
 use Rattle.std.proofs.lemmas.List.{length-append}
 use Rattle.std.proofs.Math.Seq.{take-append_seam}
-use Rattle.bml_reader.specs.Bytes.{front, behind, stripped}
-use Rattle.bml_reader.specs.Parts.{EndsAtFirst}
+use Rattle.bml_reader.specs.Bytes.{front, behind, behind_mark}
+use Rattle.bml_reader.specs.Markup.{EndsAtFirst}
 use Rattle.bml_reader.specs.Lexing.{Found, found, up_to}
 
 pub both : (a b : Bool) → (a && b) ≡ true → (a ≡ true) × (b ≡ true)
@@ -79,56 +79,56 @@ take-front test l = cut-off (front test l) (behind test l) l (front-behind test 
 
 -- Marks
 
-pub stripped-append : (mark x : List ℕ) → stripped mark (mark ++ x) ≡ Some x
-stripped-append [] x = refl
-stripped-append (m ∷ mark) x = rw (eq-eqb m m refl) (stripped-append mark x)
+pub behind_mark-append : (mark x : List ℕ) → behind_mark mark (mark ++ x) ≡ Some x
+behind_mark-append [] x = refl
+behind_mark-append (m ∷ mark) x = rw (eq-eqb m m refl) (behind_mark-append mark x)
 
-stripped-by : (m b : ℕ) (mark l x : List ℕ) (t : Bool) → (b == m) ≡ t → cond t (stripped mark l) None ≡ Some x → (stripped mark l ≡ Some x → l ≡ mark ++ x) → b ∷ l ≡ m ∷ (mark ++ x)
-stripped-by m b mark l x true p e h =
+behind_mark-by : (m b : ℕ) (mark l x : List ℕ) (t : Bool) → (b == m) ≡ t → cond t (behind_mark mark l) None ≡ Some x → (behind_mark mark l ≡ Some x → l ≡ mark ++ x) → b ∷ l ≡ m ∷ (mark ++ x)
+behind_mark-by m b mark l x true p e h =
     let q : b ≡ m = eqb-true b m p in
     let r : l ≡ mark ++ x = h e in
     cc
-stripped-by m b mark l x false p e h = absurd (cc e)
+behind_mark-by m b mark l x false p e h = absurd (cc e)
 
-pub stripped-is : (mark l x : List ℕ) → stripped mark l ≡ Some x → l ≡ mark ++ x
-stripped-is [] l x e = some-same l x e
-stripped-is (m ∷ mark) [] x e = absurd (cc e)
-stripped-is (m ∷ mark) (b ∷ l) x e = stripped-by m b mark l x (b == m) refl e (stripped-is mark l x)
+pub behind_mark-is : (mark l x : List ℕ) → behind_mark mark l ≡ Some x → l ≡ mark ++ x
+behind_mark-is [] l x e = some-same l x e
+behind_mark-is (m ∷ mark) [] x e = absurd (cc e)
+behind_mark-is (m ∷ mark) (b ∷ l) x e = behind_mark-by m b mark l x (b == m) refl e (behind_mark-is mark l x)
 
-stripped-front-by : {A B : Type 0} (f : A → B) (t : Bool) (s : Option B) (s' : Option A) → s ≡ option_map f s' → cond t s None ≡ option_map f (cond t s' None)
-stripped-front-by f true s s' e = e
-stripped-front-by f false s s' e = refl
+behind_mark-front-by : {A B : Type 0} (f : A → B) (t : Bool) (s : Option B) (s' : Option A) → s ≡ option_map f s' → cond t s None ≡ option_map f (cond t s' None)
+behind_mark-front-by f true s s' e = e
+behind_mark-front-by f false s s' e = refl
 
-stripped-front : (mark l x : List ℕ) → length mark ≤ length l → stripped mark (l ++ x) ≡ option_map (λ r. r ++ x) (stripped mark l)
-stripped-front [] l x h = refl
-stripped-front (m ∷ mark) [] x h = absurd (omega arith)
-stripped-front (m ∷ mark) (b ∷ l) x h = stripped-front-by (λ r. r ++ x) (b == m) (stripped mark (l ++ x)) (stripped mark l) (stripped-front mark l x (omega arith))
+behind_mark-front : (mark l x : List ℕ) → length mark ≤ length l → behind_mark mark (l ++ x) ≡ option_map (λ r. r ++ x) (behind_mark mark l)
+behind_mark-front [] l x h = refl
+behind_mark-front (m ∷ mark) [] x h = absurd (omega arith)
+behind_mark-front (m ∷ mark) (b ∷ l) x h = behind_mark-front-by (λ r. r ++ x) (b == m) (behind_mark mark (l ++ x)) (behind_mark mark l) (behind_mark-front mark l x (omega arith))
 
 none-map : {A B : Type 0} (f : A → B) (o : Option A) → option_map f o ≡ None → o ≡ None
 none-map f None e = refl
 none-map f (Some a) e = absurd (cc e)
 
-up_to-here : (mark l rest : List ℕ) → stripped mark l ≡ Some rest → up_to mark l ≡ Some (found [] rest)
+up_to-here : (mark l rest : List ℕ) → behind_mark mark l ≡ Some rest → up_to mark l ≡ Some (found [] rest)
 unfolding up_to
 up_to-here mark [] rest e = rw (e, up_to) refl
 up_to-here mark (b ∷ l) rest e = rw (e, up_to) refl
 
-pub up_to-next : (mark : List ℕ) (b : ℕ) (l : List ℕ) → stripped mark (b ∷ l) ≡ None → up_to mark (b ∷ l) ≡ option_map (λ (f : Found (List ℕ)). found (b ∷ f.it) f.rest) (up_to mark l)
+pub up_to-next : (mark : List ℕ) (b : ℕ) (l : List ℕ) → behind_mark mark (b ∷ l) ≡ None → up_to mark (b ∷ l) ≡ option_map (λ (f : Found (List ℕ)). found (b ∷ f.it) f.rest) (up_to mark l)
 unfolding up_to
 up_to-next mark b l e = rw (e, up_to) refl
 
-up_to-none : (mark : List ℕ) → stripped mark [] ≡ None → up_to mark [] ≡ None
+up_to-none : (mark : List ℕ) → behind_mark mark [] ≡ None → up_to mark [] ≡ None
 unfolding up_to
 up_to-none mark e = rw (e, up_to) refl
 
 -- the mark at its first place is found
 pub up_to-first : (mark inside x : List ℕ) → EndsAtFirst mark inside → up_to mark (inside ++ (mark ++ x)) ≡ Some (found inside x)
-up_to-first mark [] x h = up_to-here mark (mark ++ x) x (stripped-append mark x)
+up_to-first mark [] x h = up_to-here mark (mark ++ x) x (behind_mark-append mark x)
 up_to-first mark (b ∷ inside) x h =
     let long : length mark ≤ length (b ∷ (inside ++ mark)) = omega (arith, length-append inside mark) in
-    let none : stripped mark ((b ∷ (inside ++ mark)) ++ x) ≡ None = stripped-front mark (b ∷ (inside ++ mark)) x long ∙ ap (option_map (λ r. r ++ x)) h.0 in
+    let none : behind_mark mark ((b ∷ (inside ++ mark)) ++ x) ≡ None = behind_mark-front mark (b ∷ (inside ++ mark)) x long ∙ ap (option_map (λ r. r ++ x)) h.0 in
     let same : (b ∷ (inside ++ mark)) ++ x ≡ b ∷ (inside ++ (mark ++ x)) = simp append_assoc in
-    up_to-next mark b (inside ++ (mark ++ x)) (subst (λ l. stripped mark l ≡ None) same none)
+    up_to-next mark b (inside ++ (mark ++ x)) (subst (λ l. behind_mark mark l ≡ None) same none)
     ∙ ap (option_map (λ (f : Found (List ℕ)). found (b ∷ f.it) f.rest)) (up_to-first mark inside x h.1)
 
 -- what is found is the mark at its first place
@@ -136,37 +136,37 @@ pub record UpTo (mark l : List ℕ) (f : Found (List ℕ)) : Type 0 where
   pub is_it : l ≡ f.it ++ (mark ++ f.rest)
   pub first : EndsAtFirst mark f.it
 
-UpTo-here : (mark l rest : List ℕ) → stripped mark l ≡ Some rest → UpTo mark l (found [] rest)
-UpTo-here mark l rest e = record { is_it = stripped-is mark l rest e; first = tt }
+UpTo-here : (mark l rest : List ℕ) → behind_mark mark l ≡ Some rest → UpTo mark l (found [] rest)
+UpTo-here mark l rest e = record { is_it = behind_mark-is mark l rest e; first = tt }
 
-UpTo-next : (mark : List ℕ) (b : ℕ) (l : List ℕ) (g : Found (List ℕ)) → stripped mark (b ∷ l) ≡ None → UpTo mark l g → UpTo mark (b ∷ l) (found (b ∷ g.it) g.rest)
+UpTo-next : (mark : List ℕ) (b : ℕ) (l : List ℕ) (g : Found (List ℕ)) → behind_mark mark (b ∷ l) ≡ None → UpTo mark l g → UpTo mark (b ∷ l) (found (b ∷ g.it) g.rest)
 UpTo-next mark b l g e h =
     let long : length mark ≤ length (b ∷ (g.it ++ mark)) = omega (arith, length-append g.it mark) in
     let same : b ∷ l ≡ (b ∷ (g.it ++ mark)) ++ g.rest = ap (λ z. b ∷ z) h.is_it ∙ sym (simp append_assoc) in
-    let none : stripped mark ((b ∷ (g.it ++ mark)) ++ g.rest) ≡ None = subst (λ z. stripped mark z ≡ None) same e in
-    let front_none : option_map (λ r. r ++ g.rest) (stripped mark (b ∷ (g.it ++ mark))) ≡ None = sym (stripped-front mark (b ∷ (g.it ++ mark)) g.rest long) ∙ none in
-    record { is_it = ap (λ z. b ∷ z) h.is_it; first = (none-map (λ r. r ++ g.rest) (stripped mark (b ∷ (g.it ++ mark))) front_none, h.first) }
+    let none : behind_mark mark ((b ∷ (g.it ++ mark)) ++ g.rest) ≡ None = subst (λ z. behind_mark mark z ≡ None) same e in
+    let front_none : option_map (λ r. r ++ g.rest) (behind_mark mark (b ∷ (g.it ++ mark))) ≡ None = sym (behind_mark-front mark (b ∷ (g.it ++ mark)) g.rest long) ∙ none in
+    record { is_it = ap (λ z. b ∷ z) h.is_it; first = (none-map (λ r. r ++ g.rest) (behind_mark mark (b ∷ (g.it ++ mark))) front_none, h.first) }
 
-up_to-is-here : (mark l rest : List ℕ) (f : Found (List ℕ)) → up_to mark l ≡ Some f → stripped mark l ≡ Some rest → UpTo mark l f
+up_to-is-here : (mark l rest : List ℕ) (f : Found (List ℕ)) → up_to mark l ≡ Some f → behind_mark mark l ≡ Some rest → UpTo mark l f
 up_to-is-here mark l rest f e q = subst (UpTo mark l) (some-same (found [] rest) f (sym (up_to-here mark l rest q) ∙ e)) (UpTo-here mark l rest q)
 
-up_to-is-next : (mark : List ℕ) (b : ℕ) (l : List ℕ) (f : Found (List ℕ)) (u : Option (Found (List ℕ))) → up_to mark l ≡ u → ((g : Found (List ℕ)) → up_to mark l ≡ Some g → UpTo mark l g) → stripped mark (b ∷ l) ≡ None → up_to mark (b ∷ l) ≡ Some f → UpTo mark (b ∷ l) f
+up_to-is-next : (mark : List ℕ) (b : ℕ) (l : List ℕ) (f : Found (List ℕ)) (u : Option (Found (List ℕ))) → up_to mark l ≡ u → ((g : Found (List ℕ)) → up_to mark l ≡ Some g → UpTo mark l g) → behind_mark mark (b ∷ l) ≡ None → up_to mark (b ∷ l) ≡ Some f → UpTo mark (b ∷ l) f
 up_to-is-next mark b l f (Some g) r h q e = subst (UpTo mark (b ∷ l)) (some-same (found (b ∷ g.it) g.rest) f (sym (up_to-next mark b l q ∙ ap (option_map (λ (k : Found (List ℕ)). found (b ∷ k.it) k.rest)) r) ∙ e)) (UpTo-next mark b l g q (h g r))
 up_to-is-next mark b l f None r h q e =
     let n : up_to mark (b ∷ l) ≡ None = up_to-next mark b l q ∙ ap (option_map (λ (k : Found (List ℕ)). found (b ∷ k.it) k.rest)) r in
     absurd (cc)
 
-up_to-is-by : (mark : List ℕ) (b : ℕ) (l : List ℕ) (f : Found (List ℕ)) (s : Option (List ℕ)) → stripped mark (b ∷ l) ≡ s → ((g : Found (List ℕ)) → up_to mark l ≡ Some g → UpTo mark l g) → up_to mark (b ∷ l) ≡ Some f → UpTo mark (b ∷ l) f
+up_to-is-by : (mark : List ℕ) (b : ℕ) (l : List ℕ) (f : Found (List ℕ)) (s : Option (List ℕ)) → behind_mark mark (b ∷ l) ≡ s → ((g : Found (List ℕ)) → up_to mark l ≡ Some g → UpTo mark l g) → up_to mark (b ∷ l) ≡ Some f → UpTo mark (b ∷ l) f
 up_to-is-by mark b l f (Some rest) q h e = up_to-is-here mark (b ∷ l) rest f e q
 up_to-is-by mark b l f None q h e = up_to-is-next mark b l f (up_to mark l) refl h q e
 
-up_to-is-empty : (mark : List ℕ) (f : Found (List ℕ)) (s : Option (List ℕ)) → stripped mark [] ≡ s → up_to mark [] ≡ Some f → UpTo mark [] f
+up_to-is-empty : (mark : List ℕ) (f : Found (List ℕ)) (s : Option (List ℕ)) → behind_mark mark [] ≡ s → up_to mark [] ≡ Some f → UpTo mark [] f
 up_to-is-empty mark f (Some rest) q e = up_to-is-here mark [] rest f e q
 up_to-is-empty mark f None q e = let n : up_to mark [] ≡ None = up_to-none mark q in absurd (cc)
 
 pub up_to-is : (mark l : List ℕ) (f : Found (List ℕ)) → up_to mark l ≡ Some f → UpTo mark l f
-up_to-is mark [] f e = up_to-is-empty mark f (stripped mark []) refl e
-up_to-is mark (b ∷ l) f e = up_to-is-by mark b l f (stripped mark (b ∷ l)) refl (up_to-is mark l) e
+up_to-is mark [] f e = up_to-is-empty mark f (behind_mark mark []) refl e
+up_to-is mark (b ∷ l) f e = up_to-is-by mark b l f (behind_mark mark (b ∷ l)) refl (up_to-is mark l) e
 
 -- What a result says of the steps that led to it
 
@@ -187,7 +187,7 @@ passed false o y e k = absurd (cc e)
 abbrev pub behind_done : List ℕ → Found (List ℕ) → Found (List ℕ)
 behind_done done f = found (done ++ f.it) f.rest
 
-pub split-found : (mark l done rest after : List ℕ) → l ≡ done ++ rest → up_to mark l ≡ option_map (behind_done done) (up_to mark rest) → stripped mark rest ≡ Some after → Some (found (take (length l - length rest) l) after) ≡ up_to mark l
+pub split-found : (mark l done rest after : List ℕ) → l ≡ done ++ rest → up_to mark l ≡ option_map (behind_done done) (up_to mark rest) → behind_mark mark rest ≡ Some after → Some (found (take (length l - length rest) l) after) ≡ up_to mark l
 split-found mark l done rest after e u s =
     ap (λ z. Some (found z after)) (cut-off done rest l e ∙ sym (append-nil done))
     ∙ sym (u ∙ ap (option_map (behind_done done)) (up_to-here mark rest after s))
@@ -196,19 +196,19 @@ behind_done-more : (done : List ℕ) (b : ℕ) (o : Option (Found (List ℕ))) �
 behind_done-more done b None = refl
 behind_done-more done b (Some g) = ap (λ z. Some (found z g.rest)) (sym (append_assoc done (b ∷ []) g.it))
 
-pub split-next : (mark l done rest more : List ℕ) (b : ℕ) → l ≡ done ++ rest → up_to mark l ≡ option_map (behind_done done) (up_to mark rest) → stripped mark rest ≡ None → rest ≡ b ∷ more →
+pub split-next : (mark l done rest more : List ℕ) (b : ℕ) → l ≡ done ++ rest → up_to mark l ≡ option_map (behind_done done) (up_to mark rest) → behind_mark mark rest ≡ None → rest ≡ b ∷ more →
     (further : List ℕ) × (l ≡ further ++ more) × (up_to mark l ≡ option_map (behind_done further) (up_to mark more))
 split-next mark l done rest more b e u s r = (
   done ++ b ∷ [],
   e ∙ (ap (λ z. done ++ z) r ∙ sym (append_assoc done (b ∷ []) more)),
-  u ∙ (ap (λ z. option_map (behind_done done) (up_to mark z)) r ∙ (ap (option_map (behind_done done)) (up_to-next mark b more (subst (λ z. stripped mark z ≡ None) r s)) ∙ behind_done-more done b (up_to mark more))),
+  u ∙ (ap (λ z. option_map (behind_done done) (up_to mark z)) r ∙ (ap (option_map (behind_done done)) (up_to-next mark b more (subst (λ z. behind_mark mark z ≡ None) r s)) ∙ behind_done-more done b (up_to mark more))),
 )
 
 nothing-left : (l : List ℕ) → length l ≡ 0 → l ≡ []
 nothing-left [] e = refl
 nothing-left (b ∷ l) e = absurd (omega (arith, e))
 
-pub split-none : (mark l done rest : List ℕ) → up_to mark l ≡ option_map (behind_done done) (up_to mark rest) → stripped mark rest ≡ None → length rest ≡ 0 → None ≡ up_to mark l
+pub split-none : (mark l done rest : List ℕ) → up_to mark l ≡ option_map (behind_done done) (up_to mark rest) → behind_mark mark rest ≡ None → length rest ≡ 0 → None ≡ up_to mark l
 split-none mark l done rest u s n =
     let r = nothing-left rest n in
-    sym (u ∙ (ap (λ z. option_map (behind_done done) (up_to mark z)) r ∙ ap (option_map (behind_done done)) (up_to-none mark (subst (λ z. stripped mark z ≡ None) r s))))
+    sym (u ∙ (ap (λ z. option_map (behind_done done) (up_to mark z)) r ∙ ap (option_map (behind_done done)) (up_to-none mark (subst (λ z. behind_mark mark z ≡ None) r s))))

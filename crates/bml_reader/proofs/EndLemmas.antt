@@ -1,4 +1,4 @@
--- The loop over parts, and what is answered at its end.
+-- The loop over pieces, and what is answered at its end.
 use Rattle.std.proofs.Common.{◌≡◌, ◌≢◌, ℕ, ◌<◌, ◌≤◌, Bool, true, false, cond, inl, inr, List, [], ◌∷◌, length, Option, Some, None, refl, sym, ◌∙◌, ap, subst, arith}
 use Rattle.std.specs.Prelude.{◌==◌, nat_le, option_map, IfSome, Result, Ok, Err, IfOk, IfErr}
 use Rattle.std.proofs.lemmas.Bool.{eqb-true}
@@ -7,25 +7,25 @@ use Rattle.std.proofs.lemmas.Bool.Decides.{nat_tests}
 use Rattle.dom_tree.specs.Items.{Item}
 use Rattle.dom_tree.specs.Walks.{most_nodes}
 use Rattle.dom_tree.specs.Nested.{Nested, node_count, items_of}
-use Rattle.bml_reader.specs.Parts.{Part, IsPart}
-use Rattle.bml_reader.specs.Parts.Part.{StartTag, EndTag, Run, Cdata, Remark, Doctype}
+use Rattle.bml_reader.specs.Markup.{Markup, IsMarkup}
+use Rattle.bml_reader.specs.Markup.Markup.{StartTag, EndTag, Run, Cdata, Remark, Doctype}
 use Rattle.bml_reader.specs.Grammar.{Reads}
 use Rattle.bml_reader.specs.Faults.{ReadsWell, HasFault}
-use Rattle.bml_reader.specs.Lexing.{Found, found, part_at}
-use Rattle.bml_reader.specs.Machine.{State, Kept, kept_of, start_state, step, IsSound, IsSoundIn}
+use Rattle.bml_reader.specs.Lexing.{Found, found, markup_at}
+use Rattle.bml_reader.specs.Machine.{State, NodesSoFar, few_nodes, start_state, step, IsSound, IsSoundIn}
 use Rattle.bml_reader.specs.ReaderViews.{Seen, seen_of, seen_step, IsTaken, HasDifferentNames, Refuses}
 use Rattle.bml_reader.specs.declared.faults.DocFault.{DocFault}
 use Rattle.bml_reader.specs.declared.faults.DocFault.TheVariants.{Malformed, WrongRoot, TooDeep, TooManyNodes, NoMemory}
 use Rattle.bml_reader.specs.declared.phases.Phase.{Phase}
 use Rattle.bml_reader.specs.declared.phases.Phase.TheVariants.{BeforeDoctype, BeforeRoot, Inside, Behind}
-use Rattle.bml_reader.proofs.PartLemmas.{part_at-is}
+use Rattle.bml_reader.proofs.MarkupLemmas.{markup_at-is}
 use Rattle.bml_reader.proofs.MachineLemmas.{items_from-length}
 use Rattle.bml_reader.proofs.DocumentLemmas.{behind_tree}
-use Rattle.bml_reader.proofs.ReachLemmas.{Reaches, Reaches-start, Reaches-step, stopped-part, stopped-step, reached-end, reached-tree}
+use Rattle.bml_reader.proofs.ReachLemmas.{Reaches, Reaches-start, Reaches-step, stopped-markup, stopped-step, reached-end, reached-tree}
 use Rattle.bml_reader.proofs.SeenLemmas.{kept, seen-follows, sound-step}
 use Rattle.bml_reader.proofs.FaultLemmas.{too-deep, not-too-deep, wrong-root, right-root}
 
-different-in : (p : Part) (spelled more : List ℕ) → IsPart p spelled more → HasDifferentNames p
+different-in : (p : Markup) (spelled more : List ℕ) → IsMarkup p spelled more → HasDifferentNames p
 different-in (StartTag tag attributes e) spelled more h = h.differ
 different-in (EndTag tag) spelled more h = tt
 different-in (Run bytes) spelled more h = tt
@@ -33,39 +33,39 @@ different-in (Cdata bytes) spelled more h = tt
 different-in Remark spelled more h = tt
 different-in Doctype spelled more h = tt
 
-pub different-names : (l : List ℕ) (f : Found Part) → part_at l ≡ Some f → HasDifferentNames f.it
-different-names l f e = let h = part_at-is l f e in different-in f.it h.spelled f.rest h.is_part
+pub different-names : (l : List ℕ) (f : Found Markup) → markup_at l ≡ Some f → HasDifferentNames f.it
+different-names l f e = let h = markup_at-is l f e in different-in f.it h.spelled f.rest h.is_markup
 
--- what the reader keeps is that of the parts so far
+-- what the reader keeps is that of the pieces so far
 pub record Keeps (bytes : List ℕ) (r : Seen) (rest : List ℕ) : Type 0 where
   pub now : State
   pub reaches : Reaches bytes now rest
   pub seen : seen_of now ≡ r
   pub sound : IsSound now
 
-took-by : (p : Part) (s : State) (r new : Seen) (o : Option State) → step p s ≡ o → option_map seen_of o ≡ seen_step p r → IsTaken (seen_step p r) true new → (t : State) × (step p s ≡ Some t) × (seen_of t ≡ new)
+took-by : (p : Markup) (s : State) (r new : Seen) (o : Option State) → step p s ≡ o → option_map seen_of o ≡ seen_step p r → IsTaken (seen_step p r) true new → (t : State) × (step p s ≡ Some t) × (seen_of t ≡ new)
 took-by p s r new (Some t) q e h =
     let same : new ≡ seen_of t = subst (λ z. IsTaken z true new) (sym e) h in
     (t, q, sym same)
 took-by p s r new None q e h = absurd (subst (λ z. IsTaken z true new) (sym e) h)
 
-pub Keeps-step : (bytes : List ℕ) (r new : Seen) (rest behind : List ℕ) (p : Part) → Keeps bytes r rest → part_at rest ≡ Some (found p behind) → IsTaken (seen_step p r) true new → Keeps bytes new behind
+pub Keeps-step : (bytes : List ℕ) (r new : Seen) (rest behind : List ℕ) (p : Markup) → Keeps bytes r rest → markup_at rest ≡ Some (found p behind) → IsTaken (seen_step p r) true new → Keeps bytes new behind
 Keeps-step bytes r new rest behind p k e h =
     let follows : option_map seen_of (step p k.now) ≡ seen_step p r = seen-follows p k.now k.sound ∙ ap (seen_step p) k.seen in
     let t = took-by p k.now r new (step p k.now) refl follows h in
     record { now = t.0; reaches = Reaches-step bytes k.now t.0 rest behind p k.reaches e t.1; seen = t.2; sound = sound-step p k.now t.0 k.sound t.1 }
 
-refused-by : (p : Part) (s : State) (r new : Seen) (o : Option State) → step p s ≡ o → option_map seen_of o ≡ seen_step p r → IsTaken (seen_step p r) false new → step p s ≡ None
+refused-by : (p : Markup) (s : State) (r new : Seen) (o : Option State) → step p s ≡ o → option_map seen_of o ≡ seen_step p r → IsTaken (seen_step p r) false new → step p s ≡ None
 refused-by p s r new (Some t) q e h = absurd (subst (λ z. IsTaken z false new) (sym e) h)
 refused-by p s r new None q e h = q
 
-pub Keeps-refused : (bytes : List ℕ) (r new : Seen) (rest behind : List ℕ) (p : Part) → Keeps bytes r rest → part_at rest ≡ Some (found p behind) → IsTaken (seen_step p r) false new → HasFault bytes Malformed
+pub Keeps-refused : (bytes : List ℕ) (r new : Seen) (rest behind : List ℕ) (p : Markup) → Keeps bytes r rest → markup_at rest ≡ Some (found p behind) → IsTaken (seen_step p r) false new → HasFault bytes Malformed
 Keeps-refused bytes r new rest behind p k e h =
     let follows : option_map seen_of (step p k.now) ≡ seen_step p r = seen-follows p k.now k.sound ∙ ap (seen_step p) k.seen in
     λ tree reads. stopped-step bytes k.now rest behind p tree k.reaches e (refused-by p k.now r new (step p k.now) refl follows h) reads
 
-pub Keeps-stopped : (bytes : List ℕ) (r : Seen) (rest : List ℕ) → Keeps bytes r rest → rest ≢ [] → part_at rest ≡ None → HasFault bytes Malformed
-Keeps-stopped bytes r rest k n e = λ tree reads. stopped-part bytes k.now rest tree k.reaches n e reads
+pub Keeps-stopped : (bytes : List ℕ) (r : Seen) (rest : List ℕ) → Keeps bytes r rest → rest ≢ [] → markup_at rest ≡ None → HasFault bytes Malformed
+Keeps-stopped bytes r rest k n e = λ tree reads. stopped-markup bytes k.now rest tree k.reaches n e reads
 
 pub Keeps-unfinished : (bytes : List ℕ) (r : Seen) (rest : List ℕ) → Keeps bytes r rest → rest ≡ [] → (r.phase ≡ Behind → ⊥) → HasFault bytes Malformed
 Keeps-unfinished bytes r rest k e n = λ tree reads.
@@ -101,7 +101,7 @@ Keeps-end bytes r rest k e h =
 pub count-is : (tree : Nested) → length (items_of tree) ≡ node_count tree
 count-is tree = items_from-length None 0 tree
 
-few-by : (items found_items : List Item) (path : List ℕ) (b : Bool) → nat_le (length items) most_nodes ≡ b → option_map (λ (k : Kept). k.items) (cond b (Some (kept items path)) None) ≡ Some found_items → (length items ≤ most_nodes) × (found_items ≡ items)
+few-by : (items found_items : List Item) (path : List ℕ) (b : Bool) → nat_le (length items) most_nodes ≡ b → option_map (λ (k : NodesSoFar). k.items) (cond b (Some (kept items path)) None) ≡ Some found_items → (length items ≤ most_nodes) × (found_items ≡ items)
 few-by items found_items path true q e = let small : length items ≤ most_nodes = grind (arith, nat_tests) in (small, cc)
 few-by items found_items path false q e = absurd (cc e)
 
@@ -109,9 +109,9 @@ many-by : (items : List Item) (path : List ℕ) (b : Bool) → nat_le (length it
 many-by items path true q e = absurd (cc e)
 many-by items path false q e = grind (arith, nat_tests)
 
-pub AtEnd-well : (bytes : List ℕ) (r : Seen) (items : List Item) → AtEnd bytes r → r.has_other_root ≡ false → r.is_deep ≡ false → option_map (λ (k : Kept). k.items) r.kept ≡ Some items → ReadsWell bytes items
+pub AtEnd-well : (bytes : List ℕ) (r : Seen) (items : List Item) → AtEnd bytes r → r.has_other_root ≡ false → r.is_deep ≡ false → option_map (λ (k : NodesSoFar). k.items) r.kept ≡ Some items → ReadsWell bytes items
 AtEnd-well bytes r items a o d k =
-    let kept_is : option_map (λ (z : Kept). z.items) (kept_of (items_of a.tree) []) ≡ Some items = ap (λ (z : Seen). option_map (λ (w : Kept). w.items) z.kept) a.seen ∙ k in
+    let kept_is : option_map (λ (z : NodesSoFar). z.items) (few_nodes (items_of a.tree) []) ≡ Some items = ap (λ (z : Seen). option_map (λ (w : NodesSoFar). w.items) z.kept) a.seen ∙ k in
     let few = few-by (items_of a.tree) items [] (nat_le (length (items_of a.tree)) most_nodes) refl kept_is in
     record {
       tree = a.tree;
@@ -141,18 +141,18 @@ pub no-rest : (l : List ℕ) → true ≡ (length l == 0) → l ≡ []
 no-rest [] h = refl
 no-rest (b ∷ l) h = let zero_long : length (b ∷ l) ≡ 0 = eqb-true (length (b ∷ l)) 0 (sym h) in absurd (omega (arith, zero_long))
 
-pub part-some : (p : Part) (spelled more : List ℕ) → IsPart p spelled more → 0 < length spelled
-part-some (StartTag tag attributes e) spelled more h = omega (arith, ap length h.end_to_end)
-part-some (EndTag tag) spelled more h = omega (arith, ap length h.end_to_end)
-part-some (Run []) spelled more h = absurd (h.some refl)
-part-some (Run (b ∷ bytes)) spelled more h = omega (arith, ap length h.is_it)
-part-some (Cdata bytes) spelled more h = omega (arith, ap length h.end_to_end)
-part-some Remark spelled more (inl (bytes, h)) = omega (arith, ap length h.end_to_end)
-part-some Remark spelled more (inr (bytes, h)) = omega (arith, ap length h.end_to_end)
-part-some Doctype spelled more h = omega (arith, ap length h.end_to_end)
+pub markup-some : (p : Markup) (spelled more : List ℕ) → IsMarkup p spelled more → 0 < length spelled
+markup-some (StartTag tag attributes e) spelled more h = omega (arith, ap length h.end_to_end)
+markup-some (EndTag tag) spelled more h = omega (arith, ap length h.end_to_end)
+markup-some (Run []) spelled more h = absurd (h.some refl)
+markup-some (Run (b ∷ bytes)) spelled more h = omega (arith, ap length h.is_it)
+markup-some (Cdata bytes) spelled more h = omega (arith, ap length h.end_to_end)
+markup-some Remark spelled more (inl (bytes, h)) = omega (arith, ap length h.end_to_end)
+markup-some Remark spelled more (inr (bytes, h)) = omega (arith, ap length h.end_to_end)
+markup-some Doctype spelled more h = omega (arith, ap length h.end_to_end)
 
-pub part-shorter : (l : List ℕ) (f : Found Part) → part_at l ≡ Some f → length f.rest < length l
-part-shorter l f e = let h = part_at-is l f e in omega (arith, ap length h.is_it, length-append h.spelled f.rest, part-some f.it h.spelled f.rest h.is_part)
+pub markup-shorter : (l : List ℕ) (f : Found Markup) → markup_at l ≡ Some f → length f.rest < length l
+markup-shorter l f e = let h = markup_at-is l f e in omega (arith, ap length h.is_it, length-append h.spelled f.rest, markup-some f.it h.spelled f.rest h.is_markup)
 
 pub ok-all : {A E : Type 0} (r : Result A E) (P Q R S : A → Type 0) → IfOk r P → IfOk r Q → IfOk r R → ((a : A) → P a → Q a → R a → S a) → IfOk r S
 ok-all (Ok a) P Q R S p q s k = k a p q s

@@ -5,7 +5,8 @@ use Rattle.indexmap.specs.IndexMap.{insert_entry}
 use Rattle.indexmap.proofs.CallerLemmas.{insert_entry-new}
 use Rattle.std.specs.HashMap.{HashMap, get}
 use Rattle.std.specs.Map.{lookup}
-use Rattle.dom_tree.specs.Items.{Attribute, is_same, value_in}
+use Rattle.bml_bytes.specs.Words.{is_same}
+use Rattle.dom_tree.specs.Items.{Attribute, value_in}
 use Rattle.bml_reader.specs.AttributeViews.{attribute_of_entry, attributes_in_map}
 
 value_in-cond : (b : Bool) (v : List ℕ) (o : Option Attribute) (a : Attribute) (p : Option (List ℕ)) → option_map (λ x. x.value) o ≡ p → option_map (λ x. x.value) (cond b (Some a) o) ≡ cond b (Some a.value) p

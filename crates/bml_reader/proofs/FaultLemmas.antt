@@ -2,7 +2,7 @@
 use Rattle.std.proofs.Common.{◌≡◌, ℕ, suc, ◌+◌, ◌<◌, ◌≤◌, Bool, true, false, List, refl, sym, ◌∙◌, ap, arith}
 use Rattle.std.specs.Prelude.{◌||◌, not, nat_le, nat_lt, max, codes as ascii}
 use Rattle.std.proofs.lemmas.Bool.Decides.{nat_tests}
-use Rattle.dom_tree.specs.Items.{is_same}
+use Rattle.bml_bytes.specs.Words.{is_same}
 use Rattle.dom_tree.specs.Nested.{Nested, items_of}
 use Rattle.dom_tree.specs.Nested.Nested.{NoNodes, ElementNode, TextNode}
 use Rattle.bml_reader.specs.Faults.{most_levels, levels, HasWrongRoot, IsTooDeep}

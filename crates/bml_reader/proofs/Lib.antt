@@ -1,7 +1,7 @@
 pub mod ByteLemmas
 pub mod TagLemmas
 pub mod ReferenceLemmas
-pub mod PartLemmas
+pub mod MarkupLemmas
 pub mod MachineLemmas
 pub mod DocumentLemmas
 pub mod EntryLemmas

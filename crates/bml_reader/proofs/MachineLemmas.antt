@@ -1,29 +1,30 @@
--- What is known once the parts of a document are read is its tree, and parts that can be read are a document.
+-- What is known once the pieces of a document are read is its tree, and pieces that can be read are a document.
 use Rattle.std.proofs.Common.{◌≡◌, ℕ, suc, ◌+◌, Bool, true, false, cond, List, [], ◌∷◌, ◌++◌, length, Option, Some, None, refl, sym, ◌∙◌, ap, arith, append_assoc, append-nil}
 use Rattle.std.specs.Prelude.{◌&&◌, ◌||◌, nat_le, nat_eq, option_and_then}
 use Rattle.std.specs.Cmp.Lexicographic.{pointwise}
 use Rattle.std.proofs.lemmas.Bool.{eq-eqb, eqb-true}
 use Rattle.std.proofs.lemmas.List.{length-append}
 use Rattle.bml_bytes.specs.Codes.{codes}
-use Rattle.dom_tree.specs.Items.{Attribute, Item, is_same}
+use Rattle.bml_bytes.specs.Words.{is_same}
+use Rattle.dom_tree.specs.Items.{Attribute, Item}
 use Rattle.dom_tree.specs.Items.Content.{Element as ElementContent, Text as TextContent}
 use Rattle.dom_tree.specs.Nested.{Nested, node_count, items_from}
 use Rattle.dom_tree.specs.Nested.Nested.{NoNodes, ElementNode, TextNode}
 use Rattle.bml_reader.specs.References.{read_references}
-use Rattle.bml_reader.specs.Parts.{Part}
-use Rattle.bml_reader.specs.Parts.Part.{StartTag, EndTag, Run, Cdata, Remark}
-use Rattle.bml_reader.specs.Grammar.{Contents, parts_of, IsContent, is_left_out, text_before, nodes_of}
+use Rattle.bml_reader.specs.Markup.{Markup}
+use Rattle.bml_reader.specs.Markup.Markup.{StartTag, EndTag, Run, Cdata, Remark}
+use Rattle.bml_reader.specs.Grammar.{Contents, markup_of, IsContent, is_left_out, text_before, nodes_of}
 use Rattle.bml_reader.specs.Grammar.Contents.{Nothing, Text, Section, Aside, DocumentType, Element, EmptyElement}
 use Rattle.bml_reader.specs.Faults.{most_levels}
 use Rattle.bml_reader.specs.Machine.{State, Opened, items_with_text, phase_of, step, steps}
 
--- One part, and several
+-- One piece, and several
 
-pub steps-one : (p : Part) (ps : List Part) (s t : State) → step p s ≡ Some t → steps (p ∷ ps) s ≡ steps ps t
+pub steps-one : (p : Markup) (ps : List Markup) (s t : State) → step p s ≡ Some t → steps (p ∷ ps) s ≡ steps ps t
 unfolding steps
 steps-one p ps s t e = ap (option_and_then (steps ps)) e
 
-pub steps-refused : (p : Part) (ps : List Part) (s : State) → step p s ≡ None → steps (p ∷ ps) s ≡ None
+pub steps-refused : (p : Markup) (ps : List Markup) (s : State) → step p s ≡ None → steps (p ∷ ps) s ≡ None
 unfolding steps
 steps-refused p ps s e = ap (option_and_then (steps ps)) e
 
@@ -31,11 +32,11 @@ pub steps-none : (s : State) → steps [] s ≡ Some s
 unfolding steps
 steps-none s = refl
 
-steps-append-by : (ps qs : List Part) (o : Option State) → ((t : State) → steps (ps ++ qs) t ≡ option_and_then (steps qs) (steps ps t)) → option_and_then (steps (ps ++ qs)) o ≡ option_and_then (steps qs) (option_and_then (steps ps) o)
+steps-append-by : (ps qs : List Markup) (o : Option State) → ((t : State) → steps (ps ++ qs) t ≡ option_and_then (steps qs) (steps ps t)) → option_and_then (steps (ps ++ qs)) o ≡ option_and_then (steps qs) (option_and_then (steps ps) o)
 steps-append-by ps qs None k = refl
 steps-append-by ps qs (Some t) k = k t
 
-pub steps-append : (ps qs : List Part) (s : State) → steps (ps ++ qs) s ≡ option_and_then (steps qs) (steps ps s)
+pub steps-append : (ps qs : List Markup) (s : State) → steps (ps ++ qs) s ≡ option_and_then (steps qs) (steps ps s)
 unfolding steps
 steps-append [] qs s = refl
 steps-append (p ∷ ps) qs s = steps-append-by ps qs (step p s) (λ t. steps-append ps qs t)
@@ -157,8 +158,8 @@ unfolding step
 step-start tag attributes o outer text items deep = refl
 
 -- the contents of an element up to its end tag
-pub inside : (c : Contents) (o : Opened) (outer : List Opened) (text : List ℕ) (items : List Item) (deep : Bool) (ps : List Part) → IsContent c →
-    steps (parts_of c ++ (EndTag o.tag ∷ ps)) (at_elements (o ∷ outer) text items deep)
+pub inside : (c : Contents) (o : Opened) (outer : List Opened) (text : List ℕ) (items : List Item) (deep : Bool) (ps : List Markup) → IsContent c →
+    steps (markup_of c ++ (EndTag o.tag ∷ ps)) (at_elements (o ∷ outer) text items deep)
     ≡ steps ps (at_elements outer [] (items ++ items_from (Some o.number) (length items) (nodes_of o.tag text c)) (deep || goes_deep (suc (length outer)) (nodes_of o.tag text c)))
 inside Nothing o outer text items deep ps h =
     let f = items_with_text (o ∷ outer) text items in
@@ -168,13 +169,13 @@ inside Nothing o outer text items deep ps h =
     ∙ (ap (λ z. steps ps (at_elements outer [] z deep)) same
     ∙ ap (λ z. steps ps (at_elements outer [] (items ++ items_from (Some o.number) (length items) (text_before o.tag text NoNodes)) z)) flat)
 inside (Text bytes c) o outer text items deep ps h =
-    steps-one (Run bytes) (parts_of c ++ (EndTag o.tag ∷ ps)) (at_elements (o ∷ outer) text items deep) (at_elements (o ∷ outer) (text ++ read_references bytes) items deep) (step-run bytes o outer text items deep)
+    steps-one (Run bytes) (markup_of c ++ (EndTag o.tag ∷ ps)) (at_elements (o ∷ outer) text items deep) (at_elements (o ∷ outer) (text ++ read_references bytes) items deep) (step-run bytes o outer text items deep)
     ∙ inside c o outer (text ++ read_references bytes) items deep ps h
 inside (Section bytes c) o outer text items deep ps h =
-    steps-one (Cdata bytes) (parts_of c ++ (EndTag o.tag ∷ ps)) (at_elements (o ∷ outer) text items deep) (at_elements (o ∷ outer) (text ++ bytes) items deep) (step-cdata bytes o outer text items deep)
+    steps-one (Cdata bytes) (markup_of c ++ (EndTag o.tag ∷ ps)) (at_elements (o ∷ outer) text items deep) (at_elements (o ∷ outer) (text ++ bytes) items deep) (step-cdata bytes o outer text items deep)
     ∙ inside c o outer (text ++ bytes) items deep ps h
 inside (Aside c) o outer text items deep ps h =
-    steps-one Remark (parts_of c ++ (EndTag o.tag ∷ ps)) (at_elements (o ∷ outer) text items deep) (at_elements (o ∷ outer) text items deep) (step-remark o outer text items deep)
+    steps-one Remark (markup_of c ++ (EndTag o.tag ∷ ps)) (at_elements (o ∷ outer) text items deep) (at_elements (o ∷ outer) text items deep) (step-remark o outer text items deep)
     ∙ inside c o outer text items deep ps h
 inside (DocumentType c) o outer text items deep ps h = absurd h
 inside (Element tag attributes i c) o outer text items deep ps h =
@@ -189,13 +190,13 @@ inside (Element tag attributes i c) o outer text items deep ps h =
     let inner = (f ++ x ∷ []) ++ items_from (Some n) (length (f ++ x ∷ [])) children in
     let deep1 = deep || here in
     let deep2 = deep1 || goes_deep (suc level) children in
-    let order : (parts_of i ++ (EndTag tag ∷ parts_of c)) ++ behind ≡ parts_of i ++ (EndTag tag ∷ (parts_of c ++ behind)) = append_assoc (parts_of i) (EndTag tag ∷ parts_of c) behind in
+    let order : (markup_of i ++ (EndTag tag ∷ markup_of c)) ++ behind ≡ markup_of i ++ (EndTag tag ∷ (markup_of c ++ behind)) = append_assoc (markup_of i) (EndTag tag ∷ markup_of c) behind in
     let items_same : inner ++ items_from (Some o.number) (length inner) following ≡ items ++ items_from (Some o.number) (length items) (text_before o.tag text (ElementNode tag attributes children following)) = element-items f (Some o.number) tag attributes children following ∙ text-items o outer text items (ElementNode tag attributes children following) in
     let deep_same : (deep2 || goes_deep level following) ≡ (deep || goes_deep level (text_before o.tag text (ElementNode tag attributes children following))) =
     or-assoc deep1 (goes_deep (suc level) children) (goes_deep level following) ∙ (or-assoc deep here (goes_deep (suc level) children || goes_deep level following) ∙ ap (λ z. deep || z) (text-deep level o.tag text (ElementNode tag attributes children following))) in
     ap (λ z. steps (StartTag tag attributes false ∷ z) (at_elements (o ∷ outer) text items deep)) order
-    ∙ (steps-one (StartTag tag attributes false) (parts_of i ++ (EndTag tag ∷ (parts_of c ++ behind))) (at_elements (o ∷ outer) text items deep) (at_elements (opened_at tag n ∷ (o ∷ outer)) [] (f ++ x ∷ []) deep1) (step-start tag attributes o outer text items deep)
-    ∙ (inside i (opened_at tag n) (o ∷ outer) [] (f ++ x ∷ []) deep1 (parts_of c ++ behind) h.0
+    ∙ (steps-one (StartTag tag attributes false) (markup_of i ++ (EndTag tag ∷ (markup_of c ++ behind))) (at_elements (o ∷ outer) text items deep) (at_elements (opened_at tag n ∷ (o ∷ outer)) [] (f ++ x ∷ []) deep1) (step-start tag attributes o outer text items deep)
+    ∙ (inside i (opened_at tag n) (o ∷ outer) [] (f ++ x ∷ []) deep1 (markup_of c ++ behind) h.0
     ∙ (inside c o outer [] inner deep2 ps h.1
     ∙ (ap (λ z. steps ps (at_elements outer [] z (deep2 || goes_deep level following))) items_same
     ∙ ap (λ z. steps ps (at_elements outer [] (items ++ items_from (Some o.number) (length items) (text_before o.tag text (ElementNode tag attributes children following))) z)) deep_same))))
@@ -212,7 +213,7 @@ inside (EmptyElement tag attributes c) o outer text items deep ps h =
     let items_same : (f ++ x ∷ []) ++ items_from (Some o.number) (length (f ++ x ∷ [])) following ≡ items ++ items_from (Some o.number) (length items) (text_before o.tag text node) =
     ap (λ z. z ++ items_from (Some o.number) (length z) following) nothing ∙ (element-items f (Some o.number) tag attributes NoNodes following ∙ text-items o outer text items node) in
     let deep_same : (deep1 || goes_deep level following) ≡ (deep || goes_deep level (text_before o.tag text node)) = or-assoc deep here (goes_deep level following) ∙ ap (λ z. deep || z) (text-deep level o.tag text node) in
-    steps-one (StartTag tag attributes true) (parts_of c ++ behind) (at_elements (o ∷ outer) text items deep) (at_elements (o ∷ outer) [] (f ++ x ∷ []) deep1) (step-empty tag attributes o outer text items deep)
+    steps-one (StartTag tag attributes true) (markup_of c ++ behind) (at_elements (o ∷ outer) text items deep) (at_elements (o ∷ outer) [] (f ++ x ∷ []) deep1) (step-empty tag attributes o outer text items deep)
     ∙ (inside c o outer [] (f ++ x ∷ []) deep1 ps h
     ∙ (ap (λ z. steps ps (at_elements outer [] z (deep1 || goes_deep level following))) items_same
     ∙ ap (λ z. steps ps (at_elements outer [] (items ++ items_from (Some o.number) (length items) (text_before o.tag text node)) z)) deep_same))

@@ -2,41 +2,41 @@
 use Rattle.std.proofs.Common.{◌≡◌, ◌≢◌, ℕ, true, false, List, [], ◌∷◌, ◌++◌, Some, None, refl, sym, ◌∙◌, ap, subst, append_assoc, append-nil}
 use Rattle.std.specs.Prelude.{option_and_then}
 use Rattle.dom_tree.specs.Nested.{Nested}
-use Rattle.bml_reader.specs.Parts.{Part, IsPart, Spells}
-use Rattle.bml_reader.specs.Parts.Part.{StartTag, EndTag, Run, Cdata, Remark, Doctype}
-use Rattle.bml_reader.specs.Grammar.{Contents, parts_of, tree_of, Reads}
+use Rattle.bml_reader.specs.Markup.{Markup, IsMarkup, Spells}
+use Rattle.bml_reader.specs.Markup.Markup.{StartTag, EndTag, Run, Cdata, Remark, Doctype}
+use Rattle.bml_reader.specs.Grammar.{Contents, markup_of, tree_of, Reads}
 use Rattle.bml_reader.specs.Grammar.Contents.{Nothing, Text, Section, Aside, DocumentType, Element, EmptyElement}
-use Rattle.bml_reader.specs.Lexing.{Found, found, part_at}
+use Rattle.bml_reader.specs.Lexing.{Found, found, markup_at}
 use Rattle.bml_reader.specs.Machine.{State, start_state, step, steps}
 use Rattle.bml_reader.specs.declared.phases.Phase.TheVariants.{Behind}
 use Rattle.bml_reader.proofs.ByteLemmas.{some-same}
-use Rattle.bml_reader.proofs.PartLemmas.{part_at-part, part_at-is, part_at-empty}
+use Rattle.bml_reader.proofs.MarkupLemmas.{markup_at-markup, markup_at-is, markup_at-empty}
 use Rattle.bml_reader.proofs.MachineLemmas.{steps-none, steps-one, steps-refused, steps-append}
 use Rattle.bml_reader.proofs.DocumentLemmas.{behind_tree, document, read-document}
 
--- The first part of what is spelled
+-- The first piece of what is spelled
 
-found-part : (p : Part) (bytes spelled more : List ℕ) → bytes ≡ spelled ++ more → IsPart p spelled more → part_at bytes ≡ Some (found p more)
-found-part p bytes spelled more e h = ap part_at e ∙ part_at-part p spelled more h
+found-markup : (p : Markup) (bytes spelled more : List ℕ) → bytes ≡ spelled ++ more → IsMarkup p spelled more → markup_at bytes ≡ Some (found p more)
+found-markup p bytes spelled more e h = ap markup_at e ∙ markup_at-markup p spelled more h
 
-no-part : (p : Part) (ps : List Part) (bytes : List ℕ) → Spells (p ∷ ps) bytes → part_at bytes ≡ None → ⊥
-no-part p ps bytes (spelled, more, e, h, s) n = let f = found-part p bytes spelled more e h in cc
+no-markup : (p : Markup) (ps : List Markup) (bytes : List ℕ) → Spells (p ∷ ps) bytes → markup_at bytes ≡ None → ⊥
+no-markup p ps bytes (spelled, more, e, h, s) n = let f = found-markup p bytes spelled more e h in cc
 
-first-part : {P : Type 0} (p q : Part) (ps : List Part) (bytes rest : List ℕ) → Spells (p ∷ ps) bytes → part_at bytes ≡ Some (found q rest) → (p ≡ q → Spells ps rest → P) → P
-first-part p q ps bytes rest (spelled, more, e, h, s) f k =
-    let same : found p more ≡ found q rest = some-same (found p more) (found q rest) (sym (found-part p bytes spelled more e h) ∙ f) in
-    k (ap (λ (x : Found Part). x.it) same) (subst (Spells ps) (ap (λ (x : Found Part). x.rest) same) s)
+first-markup : {P : Type 0} (p q : Markup) (ps : List Markup) (bytes rest : List ℕ) → Spells (p ∷ ps) bytes → markup_at bytes ≡ Some (found q rest) → (p ≡ q → Spells ps rest → P) → P
+first-markup p q ps bytes rest (spelled, more, e, h, s) f k =
+    let same : found p more ≡ found q rest = some-same (found p more) (found q rest) (sym (found-markup p bytes spelled more e h) ∙ f) in
+    k (ap (λ (x : Found Markup). x.it) same) (subst (Spells ps) (ap (λ (x : Found Markup). x.rest) same) s)
 
--- Bytes are spelled by one list of parts
+-- Bytes are spelled by one list of pieces
 
-pub one-list : (ps qs : List Part) (bytes : List ℕ) → Spells ps bytes → Spells qs bytes → ps ≡ qs
+pub one-list : (ps qs : List Markup) (bytes : List ℕ) → Spells ps bytes → Spells qs bytes → ps ≡ qs
 one-list [] [] bytes a b = refl
-one-list [] (q ∷ qs) bytes a b = absurd (no-part q qs bytes b (ap part_at a ∙ part_at-empty))
-one-list (p ∷ ps) [] bytes a b = absurd (no-part p ps bytes a (ap part_at b ∙ part_at-empty))
+one-list [] (q ∷ qs) bytes a b = absurd (no-markup q qs bytes b (ap markup_at a ∙ markup_at-empty))
+one-list (p ∷ ps) [] bytes a b = absurd (no-markup p ps bytes a (ap markup_at b ∙ markup_at-empty))
 one-list (p ∷ ps) (q ∷ qs) bytes (spelled, more, e, h, s) b =
-    first-part q p qs bytes more b (found-part p bytes spelled more e h) (λ same r. ap (λ z. z ∷ ps) (sym same) ∙ ap (λ z. q ∷ z) (one-list ps qs more s r))
+    first-markup q p qs bytes more b (found-markup p bytes spelled more e h) (λ same r. ap (λ z. z ∷ ps) (sym same) ∙ ap (λ z. q ∷ z) (one-list ps qs more s r))
 
--- Parts are those of one syntax
+-- Pieces are those of one syntax
 
 -- contents with other contents behind them
 abbrev joined : Contents → Contents → Contents
@@ -57,8 +57,8 @@ joined-nothing (DocumentType c) = ap DocumentType (joined-nothing c)
 joined-nothing (Element tag attributes i c) = ap (Element tag attributes i) (joined-nothing c)
 joined-nothing (EmptyElement tag attributes c) = ap (EmptyElement tag attributes) (joined-nothing c)
 
--- one part in front of contents that are parted by end tags
-abbrev put : Part → List Contents → List Contents
+-- one piece in front of contents that are parted by end tags
+abbrev put : Markup → List Contents → List Contents
 put (EndTag tag) stack = Nothing ∷ stack
 put (StartTag tag attributes true) [] = []
 put (StartTag tag attributes true) (c ∷ more) = EmptyElement tag attributes c ∷ more
@@ -74,54 +74,54 @@ put Remark (c ∷ more) = Aside c ∷ more
 put Doctype [] = []
 put Doctype (c ∷ more) = DocumentType c ∷ more
 
-abbrev sorted : List Part → List Contents
+abbrev sorted : List Markup → List Contents
 sorted [] = Nothing ∷ []
 sorted (p ∷ ps) = put p (sorted ps)
 
-sorted-parts : (c d : Contents) (more : List Contents) (ps : List Part) → sorted ps ≡ d ∷ more → sorted (parts_of c ++ ps) ≡ joined c d ∷ more
-sorted-parts Nothing d more ps e = e
-sorted-parts (Text bytes c) d more ps e = ap (put (Run bytes)) (sorted-parts c d more ps e)
-sorted-parts (Section bytes c) d more ps e = ap (put (Cdata bytes)) (sorted-parts c d more ps e)
-sorted-parts (Aside c) d more ps e = ap (put Remark) (sorted-parts c d more ps e)
-sorted-parts (DocumentType c) d more ps e = ap (put Doctype) (sorted-parts c d more ps e)
-sorted-parts (Element tag attributes i c) d more ps e =
-    let behind : sorted (EndTag tag ∷ (parts_of c ++ ps)) ≡ Nothing ∷ (joined c d ∷ more) = ap (λ z. Nothing ∷ z) (sorted-parts c d more ps e) in
-    let all : sorted (parts_of i ++ (EndTag tag ∷ (parts_of c ++ ps))) ≡ i ∷ (joined c d ∷ more) = sorted-parts i Nothing (joined c d ∷ more) (EndTag tag ∷ (parts_of c ++ ps)) behind ∙ ap (λ z. z ∷ (joined c d ∷ more)) (joined-nothing i) in
-    ap (λ z. put (StartTag tag attributes false) (sorted z)) (append_assoc (parts_of i) (EndTag tag ∷ parts_of c) ps) ∙ ap (put (StartTag tag attributes false)) all
-sorted-parts (EmptyElement tag attributes c) d more ps e = ap (put (StartTag tag attributes true)) (sorted-parts c d more ps e)
+sorted-markup : (c d : Contents) (more : List Contents) (ps : List Markup) → sorted ps ≡ d ∷ more → sorted (markup_of c ++ ps) ≡ joined c d ∷ more
+sorted-markup Nothing d more ps e = e
+sorted-markup (Text bytes c) d more ps e = ap (put (Run bytes)) (sorted-markup c d more ps e)
+sorted-markup (Section bytes c) d more ps e = ap (put (Cdata bytes)) (sorted-markup c d more ps e)
+sorted-markup (Aside c) d more ps e = ap (put Remark) (sorted-markup c d more ps e)
+sorted-markup (DocumentType c) d more ps e = ap (put Doctype) (sorted-markup c d more ps e)
+sorted-markup (Element tag attributes i c) d more ps e =
+    let behind : sorted (EndTag tag ∷ (markup_of c ++ ps)) ≡ Nothing ∷ (joined c d ∷ more) = ap (λ z. Nothing ∷ z) (sorted-markup c d more ps e) in
+    let all : sorted (markup_of i ++ (EndTag tag ∷ (markup_of c ++ ps))) ≡ i ∷ (joined c d ∷ more) = sorted-markup i Nothing (joined c d ∷ more) (EndTag tag ∷ (markup_of c ++ ps)) behind ∙ ap (λ z. z ∷ (joined c d ∷ more)) (joined-nothing i) in
+    ap (λ z. put (StartTag tag attributes false) (sorted z)) (append_assoc (markup_of i) (EndTag tag ∷ markup_of c) ps) ∙ ap (put (StartTag tag attributes false)) all
+sorted-markup (EmptyElement tag attributes c) d more ps e = ap (put (StartTag tag attributes true)) (sorted-markup c d more ps e)
 
-sorted-alone : (c : Contents) → sorted (parts_of c) ≡ c ∷ []
-sorted-alone c = ap sorted (sym (append-nil (parts_of c))) ∙ (sorted-parts c Nothing [] [] refl ∙ ap (λ z. z ∷ []) (joined-nothing c))
+sorted-alone : (c : Contents) → sorted (markup_of c) ≡ c ∷ []
+sorted-alone c = ap sorted (sym (append-nil (markup_of c))) ∙ (sorted-markup c Nothing [] [] refl ∙ ap (λ z. z ∷ []) (joined-nothing c))
 
-one-syntax : (c d : Contents) → parts_of c ≡ parts_of d → c ≡ d
+one-syntax : (c d : Contents) → markup_of c ≡ markup_of d → c ≡ d
 one-syntax c d e = let same : c ∷ [] ≡ d ∷ [] = sym (sorted-alone c) ∙ (ap sorted e ∙ sorted-alone d) in cc
 
 -- bytes stand for one tree
 pub one-tree : (bytes : List ℕ) (one other : Nested) → Reads bytes one → Reads bytes other → one ≡ other
 one-tree bytes one other a b =
-    a.stands_for ∙ (ap tree_of (one-syntax a.document b.document (one-list (parts_of a.document) (parts_of b.document) bytes a.spelled b.spelled)) ∙ sym b.stands_for)
+    a.stands_for ∙ (ap tree_of (one-syntax a.document b.document (one-list (markup_of a.document) (markup_of b.document) bytes a.spelled b.spelled)) ∙ sym b.stands_for)
 
 -- How far the bytes are read
 
--- once these parts are read, what is left to read is the rest
+-- once these pieces are read, what is left to read is the rest
 pub record Reaches (bytes : List ℕ) (now : State) (rest : List ℕ) : Type 0 where
-  pub done : List Part
+  pub done : List Markup
   pub taken : steps done start_state ≡ Some now
-  pub on : (ps : List Part) → Spells ps rest → Spells (done ++ ps) bytes
-  pub back : (ps : List Part) → Spells ps bytes → (more : List Part) × (ps ≡ done ++ more) × Spells more rest
+  pub on : (ps : List Markup) → Spells ps rest → Spells (done ++ ps) bytes
+  pub back : (ps : List Markup) → Spells ps bytes → (more : List Markup) × (ps ≡ done ++ more) × Spells more rest
 
 pub Reaches-start : (bytes : List ℕ) → Reaches bytes start_state bytes
 Reaches-start bytes = record { done = []; taken = steps-none start_state; on = (λ ps h. h); back = (λ ps h. (ps, refl, h)) }
 
-spells-front : (p : Part) (ps : List Part) (rest behind : List ℕ) → part_at rest ≡ Some (found p behind) → Spells ps behind → Spells (p ∷ ps) rest
-spells-front p ps rest behind e h = let a = part_at-is rest (found p behind) e in (a.spelled, behind, a.is_it, a.is_part, h)
+spells-front : (p : Markup) (ps : List Markup) (rest behind : List ℕ) → markup_at rest ≡ Some (found p behind) → Spells ps behind → Spells (p ∷ ps) rest
+spells-front p ps rest behind e h = let a = markup_at-is rest (found p behind) e in (a.spelled, behind, a.is_it, a.is_markup, h)
 
-further-back : (done : List Part) (p : Part) (rest behind : List ℕ) (ps more : List Part) → part_at rest ≡ Some (found p behind) → ps ≡ done ++ more → Spells more rest → (further : List Part) × (ps ≡ (done ++ p ∷ []) ++ further) × Spells further behind
-further-back done p rest behind ps [] e q h = absurd (let n : part_at rest ≡ None = ap part_at h ∙ part_at-empty in cc)
-further-back done p rest behind ps (r ∷ more) e q h = first-part r p more rest behind h e (λ same s.
+further-back : (done : List Markup) (p : Markup) (rest behind : List ℕ) (ps more : List Markup) → markup_at rest ≡ Some (found p behind) → ps ≡ done ++ more → Spells more rest → (further : List Markup) × (ps ≡ (done ++ p ∷ []) ++ further) × Spells further behind
+further-back done p rest behind ps [] e q h = absurd (let n : markup_at rest ≡ None = ap markup_at h ∙ markup_at-empty in cc)
+further-back done p rest behind ps (r ∷ more) e q h = first-markup r p more rest behind h e (λ same s.
     (more, q ∙ (ap (λ z. done ++ (z ∷ more)) same ∙ sym (append_assoc done (p ∷ []) more)), s))
 
-pub Reaches-step : (bytes : List ℕ) (now next : State) (rest behind : List ℕ) (p : Part) → Reaches bytes now rest → part_at rest ≡ Some (found p behind) → step p now ≡ Some next → Reaches bytes next behind
+pub Reaches-step : (bytes : List ℕ) (now next : State) (rest behind : List ℕ) (p : Markup) → Reaches bytes now rest → markup_at rest ≡ Some (found p behind) → step p now ≡ Some next → Reaches bytes next behind
 Reaches-step bytes now next rest behind p r e t = record {
   done = r.done ++ p ∷ [];
   taken = steps-append r.done (p ∷ []) start_state ∙ (ap (option_and_then (steps (p ∷ []))) r.taken ∙ (steps-one p [] now next t ∙ steps-none next));
@@ -130,33 +130,33 @@ Reaches-step bytes now next rest behind p r e t = record {
 }
 
 -- what is left of a document that the bytes are
-left-of : (bytes : List ℕ) (now : State) (rest : List ℕ) (tree : Nested) → Reaches bytes now rest → Reads bytes tree → (more : List Part) × (steps more now ≡ Some (behind_tree tree)) × Spells more rest
+left-of : (bytes : List ℕ) (now : State) (rest : List ℕ) (tree : Nested) → Reaches bytes now rest → Reads bytes tree → (more : List Markup) × (steps more now ≡ Some (behind_tree tree)) × Spells more rest
 left-of bytes now rest tree r h =
-    let b = r.back (parts_of h.document) h.spelled in
-    let whole : steps (parts_of h.document) start_state ≡ Some (behind_tree tree) = document h.document h.is_document ∙ ap (λ z. Some (behind_tree z)) (sym h.stands_for) in
-    let split : steps (parts_of h.document) start_state ≡ steps b.0 now = ap (λ z. steps z start_state) b.1 ∙ (steps-append r.done b.0 start_state ∙ ap (option_and_then (steps b.0)) r.taken) in
+    let b = r.back (markup_of h.document) h.spelled in
+    let whole : steps (markup_of h.document) start_state ≡ Some (behind_tree tree) = document h.document h.is_document ∙ ap (λ z. Some (behind_tree z)) (sym h.stands_for) in
+    let split : steps (markup_of h.document) start_state ≡ steps b.0 now = ap (λ z. steps z start_state) b.1 ∙ (steps-append r.done b.0 start_state ∙ ap (option_and_then (steps b.0)) r.taken) in
     (b.0, sym split ∙ whole, b.2)
 
-stopped-part-by : (more : List Part) (rest : List ℕ) → Spells more rest → rest ≢ [] → part_at rest ≡ None → ⊥
-stopped-part-by [] rest h n e = n h
-stopped-part-by (p ∷ more) rest h n e = no-part p more rest h e
+stopped-markup-by : (more : List Markup) (rest : List ℕ) → Spells more rest → rest ≢ [] → markup_at rest ≡ None → ⊥
+stopped-markup-by [] rest h n e = n h
+stopped-markup-by (p ∷ more) rest h n e = no-markup p more rest h e
 
--- no part stands there
-pub stopped-part : (bytes : List ℕ) (now : State) (rest : List ℕ) (tree : Nested) → Reaches bytes now rest → rest ≢ [] → part_at rest ≡ None → Reads bytes tree → ⊥
-stopped-part bytes now rest tree r n e h = let l = left-of bytes now rest tree r h in stopped-part-by l.0 rest l.2 n e
+-- no piece stands there
+pub stopped-markup : (bytes : List ℕ) (now : State) (rest : List ℕ) (tree : Nested) → Reaches bytes now rest → rest ≢ [] → markup_at rest ≡ None → Reads bytes tree → ⊥
+stopped-markup bytes now rest tree r n e h = let l = left-of bytes now rest tree r h in stopped-markup-by l.0 rest l.2 n e
 
-stopped-step-by : (more : List Part) (now f : State) (rest behind : List ℕ) (p : Part) → Spells more rest → steps more now ≡ Some f → part_at rest ≡ Some (found p behind) → step p now ≡ None → ⊥
-stopped-step-by [] now f rest behind p h s e t = let n : part_at rest ≡ None = ap part_at h ∙ part_at-empty in cc
-stopped-step-by (q ∷ more) now f rest behind p h s e t = first-part q p more rest behind h e (λ same k.
+stopped-step-by : (more : List Markup) (now f : State) (rest behind : List ℕ) (p : Markup) → Spells more rest → steps more now ≡ Some f → markup_at rest ≡ Some (found p behind) → step p now ≡ None → ⊥
+stopped-step-by [] now f rest behind p h s e t = let n : markup_at rest ≡ None = ap markup_at h ∙ markup_at-empty in cc
+stopped-step-by (q ∷ more) now f rest behind p h s e t = first-markup q p more rest behind h e (λ same k.
     let n : steps (q ∷ more) now ≡ None = ap (λ z. steps (z ∷ more) now) same ∙ steps-refused p more now t in cc)
 
--- the part can't stand there
-pub stopped-step : (bytes : List ℕ) (now : State) (rest behind : List ℕ) (p : Part) (tree : Nested) → Reaches bytes now rest → part_at rest ≡ Some (found p behind) → step p now ≡ None → Reads bytes tree → ⊥
+-- the piece can't stand there
+pub stopped-step : (bytes : List ℕ) (now : State) (rest behind : List ℕ) (p : Markup) (tree : Nested) → Reaches bytes now rest → markup_at rest ≡ Some (found p behind) → step p now ≡ None → Reads bytes tree → ⊥
 stopped-step bytes now rest behind p tree r e t h = let l = left-of bytes now rest tree r h in stopped-step-by l.0 now (behind_tree tree) rest behind p l.2 l.1 e t
 
-stopped-end-by : (more : List Part) (now f : State) (rest : List ℕ) → rest ≡ [] → Spells more rest → steps more now ≡ Some f → now ≡ f
+stopped-end-by : (more : List Markup) (now f : State) (rest : List ℕ) → rest ≡ [] → Spells more rest → steps more now ≡ Some f → now ≡ f
 stopped-end-by [] now f rest e h s = some-same now f (sym (steps-none now) ∙ s)
-stopped-end-by (p ∷ more) now f rest e h s = absurd (no-part p more rest h (ap part_at e ∙ part_at-empty))
+stopped-end-by (p ∷ more) now f rest e h s = absurd (no-markup p more rest h (ap markup_at e ∙ markup_at-empty))
 
 -- at the end all that is known is that of the tree
 pub reached-end : (bytes : List ℕ) (now : State) (rest : List ℕ) (tree : Nested) → Reaches bytes now rest → rest ≡ [] → Reads bytes tree → now ≡ behind_tree tree
@@ -167,6 +167,6 @@ pub reached-tree : (bytes : List ℕ) (now : State) (rest : List ℕ) → Reache
 reached-tree bytes now rest r e h =
     let k = read-document r.done now r.taken h in
     let all : Spells (r.done ++ []) bytes = r.on [] e in
-    let spelled : Spells (parts_of k.0) bytes = subst (λ z. Spells z bytes) (append-nil r.done ∙ k.2) all in
+    let spelled : Spells (markup_of k.0) bytes = subst (λ z. Spells z bytes) (append-nil r.done ∙ k.2) all in
     let reads : Reads bytes (tree_of k.0) = record { document = k.0; is_document = k.1; spelled = spelled; stands_for = refl } in
     (tree_of k.0, reads, reached-end bytes now rest (tree_of k.0) r e reads)

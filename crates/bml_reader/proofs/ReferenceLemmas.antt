@@ -5,9 +5,9 @@ use Rattle.std.proofs.lemmas.Bool.Decides.{nat_tests}
 use Rattle.std.proofs.lemmas.List.{length-append}
 use Rattle.std.proofs.Math.Nat.{mul-le-mul_left}
 use Rattle.std.proofs.Math.Seq.{drop-append_seam}
-use Rattle.bml_reader.specs.Bytes.{is_digit, is_hex_digit, front, behind, stripped}
+use Rattle.bml_reader.specs.Bytes.{is_digit, is_hex_digit, front, behind, behind_mark}
 use Rattle.bml_reader.specs.References.{Reference, hex_value, number_behind, closed_by, number_at, numeric_at, named_or, reference_at, read_behind}
-use Rattle.bml_reader.proofs.ByteLemmas.{some-same, front-behind, stripped-is, passed}
+use Rattle.bml_reader.proofs.ByteLemmas.{some-same, front-behind, behind_mark-is, passed}
 
 big : (base n : ℕ) (ds : List ℕ) → 0 < base → 128 ≤ n → 128 ≤ number_behind base n ds
 big base n [] p h = h
@@ -53,12 +53,12 @@ Suffix l r = (d : List ℕ) × (l ≡ d ++ r)
 Suffix-cons : (b : ℕ) (l r : List ℕ) → Suffix l r → Suffix (b ∷ l) r
 Suffix-cons b l r (d, e) = (b ∷ d, ap (λ z. b ∷ z) e)
 
-named_or-by : (name : List ℕ) (character : ℕ) (l : List ℕ) (other : Option Reference) (r : Reference) (s : Option (List ℕ)) → stripped name l ≡ s → elim s [ Some rest ↦ Some (record { character = character; rest = rest }) | None ↦ other ] ≡ Some r → (other ≡ Some r → Suffix l r.rest) → Suffix l r.rest
-named_or-by name character l other r (Some rest) q e k = subst (λ (x : Reference). Suffix l x.rest) (some-same (record { character = character; rest = rest }) r e) (name, stripped-is name l rest q)
+named_or-by : (name : List ℕ) (character : ℕ) (l : List ℕ) (other : Option Reference) (r : Reference) (s : Option (List ℕ)) → behind_mark name l ≡ s → elim s [ Some rest ↦ Some (record { character = character; rest = rest }) | None ↦ other ] ≡ Some r → (other ≡ Some r → Suffix l r.rest) → Suffix l r.rest
+named_or-by name character l other r (Some rest) q e k = subst (λ (x : Reference). Suffix l x.rest) (some-same (record { character = character; rest = rest }) r e) (name, behind_mark-is name l rest q)
 named_or-by name character l other r None q e k = k e
 
 named_or-suffix : (name : List ℕ) (character : ℕ) (l : List ℕ) (other : Option Reference) (r : Reference) → named_or name character l other ≡ Some r → (other ≡ Some r → Suffix l r.rest) → Suffix l r.rest
-named_or-suffix name character l other r e k = named_or-by name character l other r (stripped name l) refl e k
+named_or-suffix name character l other r e k = named_or-by name character l other r (behind_mark name l) refl e k
 
 closed_by-suffix : (n : ℕ) (l : List ℕ) (r : Reference) → closed_by n l ≡ Some r → Suffix l r.rest
 unfolding closed_by
@@ -81,10 +81,10 @@ unfolding numeric_at
 numeric_at-suffix [] r e = absurd (cc e)
 numeric_at-suffix (b ∷ l) r e = numeric_at-by b l r (b == 120) e
 
-number-behind-hash : (l : List ℕ) (r : Reference) (s : Option (List ℕ)) → stripped (ascii "#") l ≡ s → elim s [ Some rest ↦ numeric_at rest | None ↦ None ] ≡ Some r → Suffix l r.rest
+number-behind-hash : (l : List ℕ) (r : Reference) (s : Option (List ℕ)) → behind_mark (ascii "#") l ≡ s → elim s [ Some rest ↦ numeric_at rest | None ↦ None ] ≡ Some r → Suffix l r.rest
 number-behind-hash l r (Some rest) q e =
     let h = numeric_at-suffix rest r e in
-    (ascii "#" ++ h.0, stripped-is (ascii "#") l rest q ∙ ap (λ z. ascii "#" ++ z) h.1)
+    (ascii "#" ++ h.0, behind_mark-is (ascii "#") l rest q ∙ ap (λ z. ascii "#" ++ z) h.1)
 number-behind-hash l r None q e = absurd (cc e)
 
 pub reference_at-suffix : (l : List ℕ) (r : Reference) → reference_at l ≡ Some r → Suffix l r.rest
@@ -95,7 +95,7 @@ reference_at-suffix l r e =
     named_or-suffix (ascii "amp;") 38 l _ r e2 (λ e3.
     named_or-suffix (ascii "quot;") 34 l _ r e3 (λ e4.
     named_or-suffix (ascii "apos;") 39 l _ r e4 (λ e5.
-    number-behind-hash l r (stripped (ascii "#") l) refl e5)))))
+    number-behind-hash l r (behind_mark (ascii "#") l) refl e5)))))
 
 -- Reading goes on behind a reference
 

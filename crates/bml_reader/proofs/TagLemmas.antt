@@ -7,11 +7,11 @@ use Rattle.std.proofs.lemmas.Bool.Decides.{nat_tests}
 use Rattle.std.proofs.lemmas.List.{length-append}
 use Rattle.bml_bytes.specs.Codes.{codes}
 use Rattle.dom_tree.specs.Items.{Attribute, value_in}
-use Rattle.bml_reader.specs.Bytes.{front, behind, stripped, is_white, is_letter, is_digit, is_name_start, is_name_byte, is_name, is_value_byte, is_quote}
+use Rattle.bml_reader.specs.Bytes.{front, behind, behind_mark, is_white, is_letter, is_digit, is_name_start, is_name_byte, is_name, is_value_byte, is_quote}
 use Rattle.bml_reader.specs.References.{read_references}
-use Rattle.bml_reader.specs.Parts.{IsWhite, IsAttribute, SpellsAttributes, NamesDiffer, tag_end}
+use Rattle.bml_reader.specs.Markup.{IsWhite, IsAttribute, SpellsAttributes, NamesDiffer, tag_end}
 use Rattle.bml_reader.specs.Lexing.{Found, found, Written, Inner, name_at, equals_at, closed_value, value_at, value_of_name, attribute_at, attribute_of, tag_end_at, inner_at}
-use Rattle.bml_reader.proofs.ByteLemmas.{both, both-back, some-same, Ends, front-cons, front-run, behind-run, front-behind, front-all, behind-ends, stripped-append, stripped-is, mapped, chained, passed}
+use Rattle.bml_reader.proofs.ByteLemmas.{both, both-back, some-same, Ends, front-cons, front-run, behind-run, front-behind, front-all, behind-ends, behind_mark-append, behind_mark-is, mapped, chained, passed}
 
 -- Bytes of one kind that aren't of another
 
@@ -109,7 +109,7 @@ pub equals_at-is : (left right x : List ℕ) → IsWhite left → IsWhite right 
 unfolding equals_at
 equals_at-is left right x l r e =
     let w : behind is_white (left ++ (61 ∷ (right ++ x))) ≡ 61 ∷ (right ++ x) = behind-run is_white left (61 ∷ (right ++ x)) l (equals-no-white (right ++ x)) in
-    ap (λ z. option_map (behind is_white) (stripped (ascii "=") z)) w ∙ ap Some (behind-run is_white right x r e)
+    ap (λ z. option_map (behind is_white) (behind_mark (ascii "=") z)) w ∙ ap Some (behind-run is_white right x r e)
 
 pub value_at-value : (quote : ℕ) (value x : List ℕ) → is_quote quote ≡ true → list_all (is_value_byte quote) value ≡ true → value_at (quote ∷ (value ++ (quote ∷ x))) ≡ Some (found value x)
 unfolding value_at closed_value
@@ -118,8 +118,8 @@ value_at-value quote value x q v =
     let r : behind (is_value_byte quote) (value ++ (quote ∷ x)) ≡ quote ∷ x = behind-run (is_value_byte quote) value (quote ∷ x) v (quote-ends quote) in
     by (is_quote quote) q (front (is_value_byte quote) (value ++ (quote ∷ x))) (behind (is_value_byte quote) (value ++ (quote ∷ x))) f r
   where
-    by : {quote : ℕ} {value x : List ℕ} (t : Bool) → t ≡ true → (f r : List ℕ) → f ≡ value → r ≡ quote ∷ x → cond t (option_map (found f) (stripped (quote ∷ []) r)) None ≡ Some (found value x)
-    by {quote} {value} {x} true q f r e g = ap (λ z. option_map (found f) (stripped (quote ∷ []) z)) g ∙ (ap (option_map (found f)) (stripped-append (quote ∷ []) x) ∙ ap (λ z. Some (found z x)) e)
+    by : {quote : ℕ} {value x : List ℕ} (t : Bool) → t ≡ true → (f r : List ℕ) → f ≡ value → r ≡ quote ∷ x → cond t (option_map (found f) (behind_mark (quote ∷ []) r)) None ≡ Some (found value x)
+    by {quote} {value} {x} true q f r e g = ap (λ z. option_map (found f) (behind_mark (quote ∷ []) z)) g ∙ (ap (option_map (found f)) (behind_mark-append (quote ∷ []) x) ∙ ap (λ z. Some (found z x)) e)
     by {quote} {value} {x} false q f r e g = absurd (cc q)
 
 -- Attributes
@@ -168,10 +168,10 @@ record EqualsAt (r r1 : List ℕ) : Type 0 where
 
 equals_at-found : (r r1 : List ℕ) → equals_at r ≡ Some r1 → EqualsAt r r1
 unfolding equals_at
-equals_at-found r r1 e = mapped (behind is_white) (stripped (ascii "=") (behind is_white r)) r1 e (λ r2 s b. record {
+equals_at-found r r1 e = mapped (behind is_white) (behind_mark (ascii "=") (behind is_white r)) r1 e (λ r2 s b. record {
   left = front is_white r;
   right = front is_white r2;
-  is_it = front-behind is_white r ∙ ap (λ z. front is_white r ++ z) (stripped-is (ascii "=") (behind is_white r) r2 s ∙ ap (λ z. 61 ∷ z) (front-behind is_white r2 ∙ ap (λ z. front is_white r2 ++ z) b));
+  is_it = front-behind is_white r ∙ ap (λ z. front is_white r ++ z) (behind_mark-is (ascii "=") (behind is_white r) r2 s ∙ ap (λ z. 61 ∷ z) (front-behind is_white r2 ∙ ap (λ z. front is_white r2 ++ z) b));
   whites = (front-all is_white r, front-all is_white r2);
 })
 
@@ -182,10 +182,10 @@ record ValueAt (r : List ℕ) (v : Found (List ℕ)) : Type 0 where
 
 closed_value-found : (q : ℕ) (qs : List ℕ) (v : Found (List ℕ)) → is_quote q ≡ true → closed_value q qs ≡ Some v → ValueAt (q ∷ qs) v
 unfolding closed_value
-closed_value-found q qs v i e = mapped (found (front (is_value_byte q) qs)) (stripped (q ∷ []) (behind (is_value_byte q) qs)) v e (λ rest s f.
+closed_value-found q qs v i e = mapped (found (front (is_value_byte q) qs)) (behind_mark (q ∷ []) (behind (is_value_byte q) qs)) v e (λ rest s f.
     subst (ValueAt (q ∷ qs)) f (record {
       quote = q;
-      is_it = ap (λ z. q ∷ z) (front-behind (is_value_byte q) qs ∙ ap (λ z. front (is_value_byte q) qs ++ z) (stripped-is (q ∷ []) (behind (is_value_byte q) qs) rest s));
+      is_it = ap (λ z. q ∷ z) (front-behind (is_value_byte q) qs ∙ ap (λ z. front (is_value_byte q) qs ++ z) (behind_mark-is (q ∷ []) (behind (is_value_byte q) qs) rest s));
       quoted = (i, front-all (is_value_byte q) qs);
     }))
 
@@ -194,8 +194,8 @@ unfolding value_at
 value_at-found [] v e = absurd (cc e)
 value_at-found (q ∷ qs) v e = passed (is_quote q) (closed_value q qs) v e (λ i f. closed_value-found q qs v i f)
 
-attribute_at-parts : (c : ℕ) (cs : List ℕ) (n : Found (List ℕ)) (r1 : List ℕ) (v : Found (List ℕ)) → is_white c ≡ true → NameAt (behind is_white (c ∷ cs)) n → EqualsAt n.rest r1 → ValueAt r1 v → AttributeAt (c ∷ cs) (found (record { name = n.it; value = v.it }) v.rest)
-attribute_at-parts c cs n r1 v w h e q =
+attribute_at-markup : (c : ℕ) (cs : List ℕ) (n : Found (List ℕ)) (r1 : List ℕ) (v : Found (List ℕ)) → is_white c ≡ true → NameAt (behind is_white (c ∷ cs)) n → EqualsAt n.rest r1 → ValueAt r1 v → AttributeAt (c ∷ cs) (found (record { name = n.it; value = v.it }) v.rest)
+attribute_at-markup c cs n r1 v w h e q =
     let before : List ℕ = front is_white cs in
     let whites : front is_white (c ∷ cs) ≡ c ∷ before = front-cons is_white c cs w in
     let spelled : List ℕ = c ∷ (before ++ (n.it ++ (e.left ++ (61 ∷ (e.right ++ (q.quote ∷ (v.it ++ q.quote ∷ []))))))) in
@@ -235,18 +235,18 @@ attribute_at-is (c ∷ cs) f e =
     passed (is_white c) (option_and_then value_of_name (name_at (behind is_white (c ∷ cs)))) f e (λ w g.
     chained value_of_name (name_at (behind is_white (c ∷ cs))) f g (λ n p q.
     value_of_name-found n f q (λ r1 v s t u.
-    subst (AttributeAt (c ∷ cs)) u (attribute_at-parts c cs n r1 v w (name_at-is (behind is_white (c ∷ cs)) n p) s t))))
+    subst (AttributeAt (c ∷ cs)) u (attribute_at-markup c cs n r1 v w (name_at-is (behind is_white (c ∷ cs)) n p) s t))))
 
 -- The inside of a start tag
 
-no-gt : (l x : List ℕ) (b : ℕ) → (b == 62) ≡ false → stripped (ascii ">") (b ∷ x) ≡ None
+no-gt : (l x : List ℕ) (b : ℕ) → (b == 62) ≡ false → behind_mark (ascii ">") (b ∷ x) ≡ None
 no-gt l x b e = rw e refl
 
 -- the end of a tag is found behind white
 pub tag_end_at-end : (white x : List ℕ) (e : Bool) → IsWhite white → tag_end_at (white ++ (tag_end e ++ x)) ≡ Some (found e x)
 unfolding tag_end_at
-tag_end_at-end white x true w = ap (λ z. elim (stripped (ascii ">") z) [ Some rest ↦ Some (found false rest) | None ↦ option_map (found true) (stripped (ascii "/>") z) ]) (behind-run is_white white (tag_end true ++ x) w (white-tag_end true x))
-tag_end_at-end white x false w = ap (λ z. elim (stripped (ascii ">") z) [ Some rest ↦ Some (found false rest) | None ↦ option_map (found true) (stripped (ascii "/>") z) ]) (behind-run is_white white (tag_end false ++ x) w (white-tag_end false x))
+tag_end_at-end white x true w = ap (λ z. elim (behind_mark (ascii ">") z) [ Some rest ↦ Some (found false rest) | None ↦ option_map (found true) (behind_mark (ascii "/>") z) ]) (behind-run is_white white (tag_end true ++ x) w (white-tag_end true x))
+tag_end_at-end white x false w = ap (λ z. elim (behind_mark (ascii ">") z) [ Some rest ↦ Some (found false rest) | None ↦ option_map (found true) (behind_mark (ascii "/>") z) ]) (behind-run is_white white (tag_end false ++ x) w (white-tag_end false x))
 
 -- a name behind white ends no tag
 tag_end_at-name : (white name x : List ℕ) → IsWhite white → is_name name ≡ true → tag_end_at (white ++ (name ++ x)) ≡ None
@@ -254,7 +254,7 @@ unfolding tag_end_at
 tag_end_at-name white [] x w n = absurd (cc n)
 tag_end_at-name white (c ∷ cs) x w n =
     let s = start-no-end c (both (is_name_start c) (list_all is_name_byte cs) n).0 in
-    ap (λ z. elim (stripped (ascii ">") z) [ Some rest ↦ Some (found false rest) | None ↦ option_map (found true) (stripped (ascii "/>") z) ]) (behind-run is_white white ((c ∷ cs) ++ x) w (name-no-white (c ∷ cs) x n))
+    ap (λ z. elim (behind_mark (ascii ">") z) [ Some rest ↦ Some (found false rest) | None ↦ option_map (found true) (behind_mark (ascii "/>") z) ]) (behind-run is_white white ((c ∷ cs) ++ x) w (name-no-white (c ∷ cs) x n))
     ∙ rw (s.0, s.1) refl
 
 tag_end_at-attribute : (a : Attribute) (s x : List ℕ) → IsAttribute a s → tag_end_at (s ++ x) ≡ None
@@ -329,19 +329,19 @@ record TagEndAt (l : List ℕ) (f : Found Bool) : Type 0 where
   is_it : l ≡ white ++ (tag_end f.it ++ f.rest)
   is_white : IsWhite white
 
-tag_end_at-gt : (l rest : List ℕ) → stripped (ascii ">") (behind is_white l) ≡ Some rest → TagEndAt l (found false rest)
-tag_end_at-gt l rest e = record { white = front is_white l; is_it = front-behind is_white l ∙ ap (λ z. front is_white l ++ z) (stripped-is (ascii ">") (behind is_white l) rest e); is_white = front-all is_white l }
+tag_end_at-gt : (l rest : List ℕ) → behind_mark (ascii ">") (behind is_white l) ≡ Some rest → TagEndAt l (found false rest)
+tag_end_at-gt l rest e = record { white = front is_white l; is_it = front-behind is_white l ∙ ap (λ z. front is_white l ++ z) (behind_mark-is (ascii ">") (behind is_white l) rest e); is_white = front-all is_white l }
 
-tag_end_at-slash : (l rest : List ℕ) → stripped (ascii "/>") (behind is_white l) ≡ Some rest → TagEndAt l (found true rest)
-tag_end_at-slash l rest e = record { white = front is_white l; is_it = front-behind is_white l ∙ ap (λ z. front is_white l ++ z) (stripped-is (ascii "/>") (behind is_white l) rest e); is_white = front-all is_white l }
+tag_end_at-slash : (l rest : List ℕ) → behind_mark (ascii "/>") (behind is_white l) ≡ Some rest → TagEndAt l (found true rest)
+tag_end_at-slash l rest e = record { white = front is_white l; is_it = front-behind is_white l ∙ ap (λ z. front is_white l ++ z) (behind_mark-is (ascii "/>") (behind is_white l) rest e); is_white = front-all is_white l }
 
-tag_end_at-by : (l : List ℕ) (f : Found Bool) (s : Option (List ℕ)) → stripped (ascii ">") (behind is_white l) ≡ s → elim s [ Some rest ↦ Some (found false rest) | None ↦ option_map (found true) (stripped (ascii "/>") (behind is_white l)) ] ≡ Some f → TagEndAt l f
+tag_end_at-by : (l : List ℕ) (f : Found Bool) (s : Option (List ℕ)) → behind_mark (ascii ">") (behind is_white l) ≡ s → elim s [ Some rest ↦ Some (found false rest) | None ↦ option_map (found true) (behind_mark (ascii "/>") (behind is_white l)) ] ≡ Some f → TagEndAt l f
 tag_end_at-by l f (Some rest) q e = subst (TagEndAt l) (some-same (found false rest) f e) (tag_end_at-gt l rest q)
-tag_end_at-by l f None q e = mapped (found true) (stripped (ascii "/>") (behind is_white l)) f e (λ rest s p. subst (TagEndAt l) p (tag_end_at-slash l rest s))
+tag_end_at-by l f None q e = mapped (found true) (behind_mark (ascii "/>") (behind is_white l)) f e (λ rest s p. subst (TagEndAt l) p (tag_end_at-slash l rest s))
 
 tag_end_at-found : (l : List ℕ) (f : Found Bool) → tag_end_at l ≡ Some f → TagEndAt l f
 unfolding tag_end_at
-tag_end_at-found l f e = tag_end_at-by l f (stripped (ascii ">") (behind is_white l)) refl e
+tag_end_at-found l f e = tag_end_at-by l f (behind_mark (ascii ">") (behind is_white l)) refl e
 
 InnerAt-end : (before : List Attribute) (l : List ℕ) (end : Found Bool) → TagEndAt l end → InnerAt before l (found (record { attributes = before; is_empty = end.it }) end.rest)
 InnerAt-end before l end h = record { attributes = []; inner = []; white = h.white; all = sym (append-nil before); is_it = h.is_it; spelled = refl; is_white = h.is_white; differ = tt }

@@ -14,7 +14,8 @@ is_digit byte = nat_le 48 byte && nat_le byte 57
 
 -- a digit of a hexadecimal number
 unfoldable pub is_hex_digit : ℕ → Bool
-is_hex_digit byte = is_digit byte || ((nat_le 65 byte && nat_le byte 70) || (nat_le 97 byte && nat_le byte 102))
+is_hex_digit byte =
+    is_digit byte || ((nat_le 65 byte && nat_le byte 70) || (nat_le 97 byte && nat_le byte 102))
 
 -- the first byte of a name: a letter or `_`
 unfoldable pub is_name_start : ℕ → Bool
@@ -22,7 +23,8 @@ is_name_start byte = is_letter byte || (byte == 95)
 
 -- a byte of a name: also a digit, `-`, `.` and `:`
 unfoldable pub is_name_byte : ℕ → Bool
-is_name_byte byte = is_name_start byte || (is_digit byte || ((byte == 45) || ((byte == 46) || (byte == 58))))
+is_name_byte byte =
+    is_name_start byte || (is_digit byte || ((byte == 45) || ((byte == 46) || (byte == 58))))
 
 abbrev pub is_name : List ℕ → Bool
 is_name [] = false
@@ -54,7 +56,7 @@ behind test [] = []
 behind test (byte ∷ bytes) = if test byte then behind test bytes else byte ∷ bytes
 
 -- what stands behind the mark at the front, and none where it isn't there
-abbrev pub stripped : List ℕ → List ℕ → Option (List ℕ)
-stripped [] bytes = Some bytes
-stripped (m ∷ mark) [] = None
-stripped (m ∷ mark) (byte ∷ bytes) = if byte == m then stripped mark bytes else None
+abbrev pub behind_mark : List ℕ → List ℕ → Option (List ℕ)
+behind_mark [] bytes = Some bytes
+behind_mark (m ∷ mark) [] = None
+behind_mark (m ∷ mark) (byte ∷ bytes) = if byte == m then behind_mark mark bytes else None

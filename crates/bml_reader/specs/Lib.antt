@@ -1,14 +1,14 @@
 pub mod Bytes
 pub mod References
-pub mod Parts
+pub mod Markup
 pub mod Grammar
 pub mod Faults
 pub mod Lexing
 pub mod Machine
 pub mod Views
 pub mod ReferenceViews
-pub mod PartKinds
-pub mod PartViews
+pub mod MarkupKinds
+pub mod MarkupViews
 pub mod AttributeViews
 pub mod TagViews
 pub mod Nodes

@@ -4,7 +4,7 @@ use Rattle.dom_tree.specs.Items.{Attribute, Item, IsElement}
 use Rattle.dom_tree.specs.Items.Content.{Element, Text}
 use Rattle.dom_tree.specs.Walks.{path_of, IsOpen}
 use Rattle.dom_tree.specs.declared.node_ids.NodeId.{NodeId}
-use Rattle.bml_reader.specs.Machine.{Kept, kept_of}
+use Rattle.bml_reader.specs.Machine.{NodesSoFar, few_nodes}
 
 abbrev pub top_of : List ℕ → Option ℕ
 top_of [] = None
@@ -15,28 +15,35 @@ path_with true number path = path
 path_with false number path = number ∷ path
 
 -- with one element more, which stays open unless it is empty
-abbrev pub kept_with_element : List ℕ → List Attribute → Bool → Kept → Option Kept
-kept_with_element tag attributes is_empty k = kept_of (k.items ++ record { parent = top_of k.path; content = Element tag attributes } ∷ []) (path_with is_empty (length k.items) k.path)
+abbrev pub nodes_with_element : List ℕ → List Attribute → Bool → NodesSoFar → Option NodesSoFar
+nodes_with_element tag attributes is_empty k =
+    few_nodes (k.items
+    ++ record {
+      parent = top_of k.path;
+      content = Element tag attributes;
+    } ∷ []) (path_with is_empty (length k.items) k.path)
 
 -- with one text more
-abbrev pub kept_with_text : List ℕ → Kept → Option Kept
-kept_with_text text k = kept_of (k.items ++ record { parent = top_of k.path; content = Text text } ∷ []) k.path
+abbrev pub nodes_with_text : List ℕ → NodesSoFar → Option NodesSoFar
+nodes_with_text text k =
+    few_nodes (k.items ++ record { parent = top_of k.path; content = Text text } ∷ []) k.path
 
 abbrev pub without_first : List ℕ → List ℕ
 without_first [] = []
 without_first (_ ∷ path) = path
 
 -- once the innermost open element has ended
-abbrev pub kept_outside : Kept → Kept
-kept_outside k = record { items = k.items; path = without_first k.path }
+abbrev pub nodes_outside : NodesSoFar → NodesSoFar
+nodes_outside k = record { items = k.items; path = without_first k.path }
 
 -- the path's elements are open, from the innermost on
 abbrev pub AreOpen : List Item → List ℕ → Type 0
 AreOpen items [] = Unit {0}
-AreOpen items (n ∷ path) = (path_of items n ≡ n ∷ path) × IsElement items n × IsOpen items n × AreOpen items path
+AreOpen items (n ∷ path) =
+    (path_of items n ≡ n ∷ path) × IsElement items n × IsOpen items n × AreOpen items path
 
 -- only the root hangs in nothing
-abbrev pub IsRootNext : Kept → Type 0
+abbrev pub IsRootNext : NodesSoFar → Type 0
 IsRootNext k = k.path ≡ [] → k.items ≡ []
 
 abbrev pub numbers_in : List NodeId → List ℕ

@@ -1,21 +1,40 @@
--- What bytes read as, computed from them part by part. It isn't what a document is (`Grammar`), nor what is
--- wrong with one (`Faults`): that it agrees with both is a law, `law_of_readings`.
-use Rattle.std.specs.Prelude.{ℕ, zero, suc, nat_le, Bool, true, false, not, if◌then◌else◌, List, [], ◌∷◌, length, Option, Some, None, option_and_then, Result, Ok, Err, codes as ascii}
-use Rattle.dom_tree.specs.Items.{Item, is_same, tag_in}
+-- What bytes read as. `IsReading` says it by the grammar: the nodes of the document that they are,
+-- or the first fault that they have. `reading_of` is the same as a function of the bytes, computed
+-- piece by piece; its law is `law_of_readings`: a result is `reading_of bytes` exactly where it is
+-- the bytes' reading. So whoever meets `reading_of` may take `IsReading` for it, and needs neither
+-- `Machine` nor `Lexing`. (This project's own; the grammar is that of `Grammar`, the faults and
+-- their order those of `Faults`.)
+use Rattle.std.specs.Prelude.{◌≢◌, ℕ, zero, suc, nat_le, Bool, true, false, not, if◌then◌else◌, List, [], ◌∷◌, length, Option, Some, None, option_and_then, Result, Ok, Err, codes as ascii}
+use Rattle.bml_bytes.specs.Words.{is_same}
+use Rattle.dom_tree.specs.Items.{Item, tag_in}
 use Rattle.dom_tree.specs.Walks.{most_nodes}
-use Rattle.bml_reader.specs.Parts.{Part}
-use Rattle.bml_reader.specs.Lexing.{Found, part_at}
+use Rattle.bml_reader.specs.Faults.{HasFault, ReadsWell}
+use Rattle.bml_reader.specs.Markup.{Markup}
+use Rattle.bml_reader.specs.Lexing.{Found, markup_at}
 use Rattle.bml_reader.specs.Machine.{State, start_state, step}
 use Rattle.bml_reader.specs.declared.faults.DocFault.{DocFault}
-use Rattle.bml_reader.specs.declared.faults.DocFault.TheVariants.{Malformed, WrongRoot, TooDeep, TooManyNodes}
+use Rattle.bml_reader.specs.declared.faults.DocFault.TheVariants.{Malformed, WrongRoot, TooDeep, TooManyNodes, NoMemory}
 use Rattle.bml_reader.specs.declared.phases.Phase.{Phase}
 use Rattle.bml_reader.specs.declared.phases.Phase.TheVariants.{BeforeDoctype, BeforeRoot, Inside, Behind}
 
--- what the parts at the front of the bytes leave, one after the other, to the end; at most so many
-unfoldable pub read_parts : ℕ → List ℕ → State → Option State
-read_parts zero bytes s = None
-read_parts (suc most) [] s = Some s
-read_parts (suc most) (byte ∷ bytes) s = option_and_then (λ (f : Found Part). option_and_then (read_parts most f.rest) (step f.it s)) (part_at (byte ∷ bytes))
+-- By the grammar
+
+-- the result is the nodes of the document that the bytes are, in document order, or the first fault
+-- that they have: Malformed where no tree stands for them, and else what is wrong with the one that
+-- does; want of memory is no fault of bytes
+abbrev pub IsReading : List ℕ → Result (List Item) DocFault → Type 0
+IsReading bytes (Ok items) = ReadsWell bytes items
+IsReading bytes (Err fault) = (fault ≢ NoMemory) × HasFault bytes fault
+
+-- As a function of the bytes (a device of the proofs, up to `reading_of`)
+
+-- what the pieces at the front of the bytes leave, one after the other, to the end; at most so many
+unfoldable pub read_markup : ℕ → List ℕ → State → Option State
+read_markup zero bytes s = None
+read_markup (suc most) [] s = Some s
+read_markup (suc most) (byte ∷ bytes) s =
+    option_and_then (λ (f : Found Markup). option_and_then (read_markup most f.rest) (step f.it s))
+    (markup_at (byte ∷ bytes))
 
 -- the root is another element than `bml`
 abbrev pub is_other_root : Option (List ℕ) → Bool
@@ -33,21 +52,27 @@ is_behind BeforeRoot = false
 is_behind Inside = false
 is_behind Behind = true
 
--- a document with these nodes, whose root is another element than `bml` or not, and in which an element stands
--- past the last level or not: the first fault that it has, or its nodes in document order
-abbrev pub judged_nodes : Bool → Bool → List Item → Result (List Item) DocFault
-judged_nodes other deep items = if other then Err WrongRoot else (if deep then Err TooDeep else (if nat_le (length items) most_nodes then Ok items else Err TooManyNodes))
+-- a document with these nodes, whose root is another element than `bml` or not, and in which an
+-- element stands past the last level or not: the first fault that it has, or its nodes in document
+-- order
+abbrev pub result_of_nodes : Bool → Bool → List Item → Result (List Item) DocFault
+result_of_nodes other deep items =
+    if other then Err WrongRoot
+    else (if deep then Err TooDeep
+    else (if nat_le (length items) most_nodes then Ok items else Err TooManyNodes))
 
 -- what bytes come to that are read to their end, where this is known of them
-abbrev pub judged : State → Result (List Item) DocFault
-judged s = if is_behind s.phase then judged_nodes (has_other_root s.items) s.is_deep s.items else Err Malformed
+abbrev pub result_of_state : State → Result (List Item) DocFault
+result_of_state s =
+    if is_behind s.phase then result_of_nodes (has_other_root s.items) s.is_deep s.items
+    else Err Malformed
 
 -- and where they are read to their end or not
-abbrev pub judged_where_read : Option State → Result (List Item) DocFault
-judged_where_read None = Err Malformed
-judged_where_read (Some s) = judged s
+abbrev pub result_where_read : Option State → Result (List Item) DocFault
+result_where_read None = Err Malformed
+result_where_read (Some s) = result_of_state s
 
--- what bytes read as: the nodes of the document that they are, in document order, or the first fault that they
--- have; each part has a byte, so that there are never more parts than bytes
+-- what bytes read as, which `law_of_readings` ties to `IsReading`; each piece has a byte, so that
+-- there are never more pieces than bytes
 unfoldable pub reading_of : List ℕ → Result (List Item) DocFault
-reading_of bytes = judged_where_read (read_parts (suc (length bytes)) bytes start_state)
+reading_of bytes = result_where_read (read_markup (suc (length bytes)) bytes start_state)

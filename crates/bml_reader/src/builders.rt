@@ -4,7 +4,7 @@ ghost use Rattle.std.specs.Prelude.{◌≡◌, ◌≢◌, ◌<◌, [], ◌∷◌
 ghost use Rattle.dom_tree.specs.Items.{IsElement, attributes_of, changed_at, element_in, text_node_in};
 ghost use Rattle.dom_tree.specs.Items.Content.{Element};
 ghost use Rattle.dom_tree.specs.Walks.{most_nodes, KeepsPlaces};
-ghost use Rattle.bml_reader.specs.Parts.{NamesDiffer};
+ghost use Rattle.bml_reader.specs.Markup.{NamesDiffer};
 ghost use Rattle.bml_reader.specs.AttributeViews.{attribute_of_entry, attributes_in_map};
 ghost use Rattle.bml_reader.specs.Nodes.{top_of, path_with, numbers_in};
 ghost use Rattle.bml_reader.specs.BuilderViews.{items_or_none, IsGrown, with_attributes, KeepsPlacesOf};
@@ -15,9 +15,9 @@ use indexmap::IndexMap;
 use std::alloc::Global;
 use std::marker::Model;
 
-/// The nodes of a document so far and the path of its open elements. Once there are more nodes than a tree
-/// may have, they are let go. Contracts see the nodes and the path, from the innermost element on, or None
-/// once they are let go.
+/// The nodes of a document so far and the path of its open elements. Once there are more nodes than
+/// a tree may have, they are let go. Contracts see the nodes and the path, from the innermost
+/// element on, or None once they are let go.
 #[derive(Drop)]
 pub struct TreeBuilder {
     tree: Option<Tree>,
@@ -27,12 +27,12 @@ pub struct TreeBuilder {
 
 impl Model for TreeBuilder {
     ghost use Rattle.std.specs.Prelude.{Option};
-    ghost use Rattle.bml_reader.specs.Machine.{Kept};
-    ghost use Rattle.bml_reader.specs.BuilderViews.{kept_by, IsBuilding};
+    ghost use Rattle.bml_reader.specs.Machine.{NodesSoFar};
+    ghost use Rattle.bml_reader.specs.BuilderViews.{nodes_by, IsBuilding};
 
-    ghost Value = { Option Kept };
+    ghost Value = { Option NodesSoFar };
 
-    ghost view = { λ builder. kept_by builder.is_full builder.tree builder.path.items };
+    ghost view = { λ builder. nodes_by builder.is_full builder.tree builder.path.items };
 
     ghost invariant = { λ builder. IsBuilding builder.is_full builder.tree builder.path.items };
 }
@@ -40,7 +40,7 @@ impl Model for TreeBuilder {
 impl TreeBuilder {
     ghost use Rattle.std.specs.Prelude.{nat_le, true, IsNone};
     ghost use Rattle.std.specs.Option.{option_and_then};
-    ghost use Rattle.bml_reader.specs.Nodes.{kept_with_element, kept_with_text, kept_outside, IsRootNext};
+    ghost use Rattle.bml_reader.specs.Nodes.{nodes_with_element, nodes_with_text, nodes_outside, IsRootNext};
 
     /// No nodes.
     pub fn new(alloc: Global) -> TreeBuilder
@@ -53,7 +53,8 @@ impl TreeBuilder {
         }
     }
 
-    /// Adds an element, the root or a child of the innermost open one. It stays open unless it is empty.
+    /// Adds an element, the root or a child of the innermost open one. It stays open unless it is
+    /// empty.
     pub fn add_element(
         &mut self,
         alloc: Global,
@@ -63,7 +64,9 @@ impl TreeBuilder {
     ) -> Result<(), NoMemory>
         requires names { NamesDiffer [] (attributes_in_map attributes.now) }
         requires root { IfSome self.old IsRootNext }
-        ensures { OnOk result (self.new ≡ option_and_then (kept_with_element tag (attributes_in_map attributes.now) is_empty) self.old) }
+        ensures { OnOk result (self.new
+            ≡ option_and_then
+            (nodes_with_element tag (attributes_in_map attributes.now) is_empty) self.old) }
     {
         if self.has_no_room() {
             self.let_go();
@@ -82,7 +85,7 @@ impl TreeBuilder {
     /// Adds a text as a child of the innermost open element.
     pub fn add_text(&mut self, text: Text) -> Result<(), NoMemory>
         requires { IfSome self.old (λ k. k.path ≢ []) }
-        ensures { OnOk result (self.new ≡ option_and_then (kept_with_text text) self.old) }
+        ensures { OnOk result (self.new ≡ option_and_then (nodes_with_text text) self.old) }
     {
         if self.has_no_room() {
             self.let_go();
@@ -93,7 +96,7 @@ impl TreeBuilder {
 
     /// Ends the innermost open element.
     pub fn close(&mut self)
-        ensures { self.new ≡ option_map kept_outside self.old }
+        ensures { self.new ≡ option_map nodes_outside self.old }
     {
         self.path.pop();
     }
@@ -129,8 +132,8 @@ impl TreeBuilder {
     }
 }
 
-// Adds an element, the root or a child of the last of the open ones. It is open from then on, unless it is
-// empty.
+// Adds an element, the root or a child of the last of the open ones. It is open from then on,
+// unless it is empty.
 fn grow_element(
     alloc: Global,
     tree: &mut Option<Tree>,
@@ -143,8 +146,14 @@ fn grow_element(
     requires root { numbers_in path.old.items ≡ [] → items_or_none tree.old ≡ [] }
     requires room { length (items_or_none tree.old) < most_nodes }
     requires names { NamesDiffer [] (attributes_in_map attributes.now) }
-    ensures added { OnOk result (tree.new ≡ Some (items_or_none tree.old ++ record { parent = top_of (numbers_in path.old.items); content = Element tag (attributes_in_map attributes.now) } ∷ [])) }
-    ensures path { OnOk result (numbers_in path.new.items ≡ path_with is_empty (length (items_or_none tree.old)) (numbers_in path.old.items)) }
+    ensures added { OnOk result (tree.new
+        ≡ Some (items_or_none tree.old
+        ++ record {
+          parent = top_of (numbers_in path.old.items);
+          content = Element tag (attributes_in_map attributes.now);
+        } ∷ [])) }
+    ensures path { OnOk result (numbers_in path.new.items
+        ≡ path_with is_empty (length (items_or_none tree.old)) (numbers_in path.old.items)) }
     ensures still { IsGrown tree.new (numbers_in path.new.items) }
 {
     let node = grow(alloc, tree, path.as_slice(), tag)?;
@@ -165,7 +174,8 @@ fn grow(
     requires grown { IsGrown tree.old (numbers_in path.now) }
     requires root { numbers_in path.now ≡ [] → items_or_none tree.old ≡ [] }
     requires room { length (items_or_none tree.old) < most_nodes }
-    ensures added { OnOk result (tree.new ≡ Some (items_or_none tree.old ++ element_in (top_of (numbers_in path.now)) tag ∷ [])) }
+    ensures added { OnOk result (tree.new
+        ≡ Some (items_or_none tree.old ++ element_in (top_of (numbers_in path.now)) tag ∷ [])) }
     ensures number { IfOk result (λ node. node.0 ≡ length (items_or_none tree.old)) }
     ensures open { IfOk result (λ node. IsGrown tree.new (node.0 ∷ numbers_in path.now)) }
     ensures still { IsGrown tree.new (numbers_in path.now) }
@@ -189,7 +199,8 @@ fn grow_inside(
     requires grown { IsGrown tree.old (numbers_in path.now) }
     requires parent { top_of (numbers_in path.now) ≡ Some parent.0 }
     requires room { length (items_or_none tree.old) < most_nodes }
-    ensures added { OnOk result (tree.new ≡ Some (items_or_none tree.old ++ element_in (Some parent.0) tag ∷ [])) }
+    ensures added { OnOk result (tree.new
+        ≡ Some (items_or_none tree.old ++ element_in (Some parent.0) tag ∷ [])) }
     ensures number { IfOk result (λ node. node.0 ≡ length (items_or_none tree.old)) }
     ensures open { IfOk result (λ node. IsGrown tree.new (node.0 ∷ numbers_in path.now)) }
     ensures still { IsGrown tree.new (numbers_in path.now) }
@@ -208,7 +219,8 @@ fn grow_text(tree: &mut Option<Tree>, path: &[NodeId], text: Text) -> Result<(),
     requires grown { IsGrown tree.old (numbers_in path.now) }
     requires open { numbers_in path.now ≢ [] }
     requires room { length (items_or_none tree.old) < most_nodes }
-    ensures added { OnOk result (tree.new ≡ Some (items_or_none tree.old ++ text_node_in (top_of (numbers_in path.now)) text ∷ [])) }
+    ensures added { OnOk result (tree.new
+        ≡ Some (items_or_none tree.old ++ text_node_in (top_of (numbers_in path.now)) text ∷ [])) }
     ensures open { IsGrown tree.new (numbers_in path.now) }
     ensures err { OnErr result (tree.new ≡ tree.old) }
 {
@@ -230,7 +242,9 @@ fn give_attributes(
     requires element { IfSome tree.old (λ items. IsElement items node.0) }
     requires plain { IfSome tree.old (λ items. attributes_of items node.0 ≡ []) }
     requires names { NamesDiffer [] (attributes_in_map attributes.now) }
-    ensures ok { OnOk result (tree.new ≡ option_map (changed_at (with_attributes (attributes_in_map attributes.now)) node.0) tree.old) }
+    ensures ok { OnOk result (tree.new
+        ≡ option_map (changed_at (with_attributes (attributes_in_map attributes.now)) node.0)
+        tree.old) }
     ensures places { KeepsPlacesOf tree.old tree.new }
 {
     match tree {
@@ -248,7 +262,8 @@ fn give_each(
     requires element { IsElement tree.old node.0 }
     requires plain { attributes_of tree.old node.0 ≡ [] }
     requires names { NamesDiffer [] (attributes_in_map attributes.now) }
-    ensures ok { OnOk result (tree.new ≡ changed_at (with_attributes (attributes_in_map attributes.now)) node.0 tree.old) }
+    ensures ok { OnOk result (tree.new
+        ≡ changed_at (with_attributes (attributes_in_map attributes.now)) node.0 tree.old) }
     ensures places { KeepsPlaces tree.old tree.new }
 {
     let mut place = 0;
@@ -263,7 +278,8 @@ fn give_each(
 // The attribute at a place in the order written.
 fn attribute_at(attributes: &IndexMap<Text, Text>, place: usize) -> Result<(Text, Text), NoMemory>
     requires { place < length (attributes_in_map attributes.now) }
-    ensures { IfOk result (λ entry. slice_get (attributes_in_map attributes.now) place ≡ Some (attribute_of_entry entry)) }
+    ensures { IfOk result (λ entry. slice_get (attributes_in_map attributes.now) place
+        ≡ Some (attribute_of_entry entry)) }
 {
     match attributes.get_index(place) {
         Some((name, value)) => Ok((name.share()?, value.share()?)),

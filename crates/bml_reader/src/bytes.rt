@@ -1,7 +1,7 @@
 //! What stands at the front of some bytes.
 
 ghost use Rattle.std.specs.Prelude.{◌≡◌, ◌≤◌, length, option_map, option_copied};
-ghost use Rattle.bml_reader.specs.Bytes.{front, behind, stripped as spec_stripped, is_letter as spec_is_letter, is_digit as spec_is_digit, is_name_start as spec_is_name_start};
+ghost use Rattle.bml_reader.specs.Bytes.{front, behind, behind_mark as spec_behind_mark, is_letter as spec_is_letter, is_digit as spec_is_digit, is_name_start as spec_is_name_start};
 ghost use Rattle.bml_reader.specs.Lexing.{up_to};
 ghost use Rattle.bml_reader.specs.Views.{in_class, found_bytes};
 
@@ -68,8 +68,8 @@ pub fn split_run(class: ByteClass, bytes: &[u8]) -> (&[u8], &[u8])
 }
 
 /// What stands behind the mark at the front, and None where it isn't there.
-pub fn stripped<'a>(bytes: &'a [u8], mark: &[u8]) -> Option<&'a [u8]>
-    ensures { option_copied result ≡ spec_stripped mark.now bytes.now }
+pub fn behind_mark<'a>(bytes: &'a [u8], mark: &[u8]) -> Option<&'a [u8]>
+    ensures { option_copied result ≡ spec_behind_mark mark.now bytes.now }
 {
     let mut rest = bytes;
     let mut left = mark;
@@ -90,7 +90,7 @@ pub fn split_at_mark<'a>(bytes: &'a [u8], mark: &[u8]) -> Option<(&'a [u8], &'a 
 {
     let mut rest = bytes;
     'places: loop {
-        if let Some(behind) = stripped(rest, mark) {
+        if let Some(behind) = behind_mark(rest, mark) {
             return Some((&bytes[..bytes.len() - rest.len()], behind));
         }
         match rest.split_first() {

@@ -4,7 +4,8 @@ use bml_bytes::NoMemory as MemoryGone;
 use std::alloc::{AllocError, AllocFailed};
 use thiserror::Error;
 
-/// Why bytes weren't read as a document. The first fault that they have is told, in the order written here.
+/// Why bytes weren't read as a document. The first fault that they have is told, in the order
+/// written here.
 #[derive(Clone, Copy, Debug, PartialEq, Eq, Error)]
 pub enum DocFault {
     /// They aren't in the grammar.

@@ -1,17 +1,17 @@
-//! Reading a document part by part.
+//! Reading a document piece by piece.
 
 ghost use Rattle.std.specs.Prelude.{◌≡◌, not, codes as ascii};
-ghost use Rattle.dom_tree.specs.Items.{is_same};
+ghost use Rattle.bml_bytes.specs.Words.{is_same};
 ghost use Rattle.std.specs.List.{list_all};
 ghost use Rattle.bml_reader.specs.Bytes.{is_white as spec_is_white};
 ghost use Rattle.bml_reader.specs.Grammar.{is_left_out as spec_is_left_out, drops_white as spec_drops_white};
-ghost use Rattle.bml_reader.specs.PartViews.{part_of};
-ghost use Rattle.bml_reader.specs.PartKinds.{is_misc as spec_is_misc};
+ghost use Rattle.bml_reader.specs.MarkupViews.{seen_markup};
+ghost use Rattle.bml_reader.specs.MarkupKinds.{is_misc as spec_is_misc};
 
 use crate::builders::TreeBuilder;
 use crate::bytes::{ByteClass, behind_run};
 use crate::faults::DocFault;
-use crate::parts::{Part, StartTag};
+use crate::markup::{Markup, StartTag};
 use crate::phases::Phase;
 use crate::references::push_read;
 use bml_bytes::{NoMemory, Text};
@@ -21,18 +21,7 @@ use std::alloc::Global;
 /// The most levels of elements.
 const MOST_LEVELS: usize = 64;
 
-// The tag of the root, and those of the other elements in which white text is no node.
-const BML: [u16; 3] = [0x62, 0x6D, 0x6C];
-
-const HEAD: [u16; 4] = [0x68, 0x65, 0x61, 0x64];
-
-const BODY: [u16; 4] = [0x62, 0x6F, 0x64, 0x79];
-
-const DIV: [u16; 3] = [0x64, 0x69, 0x76];
-
-const BEVENT: [u16; 6] = [0x62, 0x65, 0x76, 0x65, 0x6E, 0x74];
-
-/// What is known of a document once some of its parts are read.
+/// What is known of a document once some of its pieces are read.
 #[derive(Drop)]
 pub struct Reader {
     pub alloc: Global,
@@ -42,7 +31,8 @@ pub struct Reader {
     // the text since the last tag
     pub text: Vec<u8>,
     pub builder: TreeBuilder,
-    // whether the root is another element than `bml`, and whether an element stood past the last level
+    // whether the root is another element than `bml`, and whether an element stood past the last
+    // level
     pub has_other_root: bool,
     pub is_deep: bool,
 }
@@ -51,7 +41,7 @@ impl Reader {
     ghost use Rattle.std.specs.Prelude.{◌≢◌, ◌↔◌, [], Some, None, true, false, IfOk, IfErr, OnOk, IfSome, IsTrue, option_map, reverse};
     ghost use Rattle.bml_reader.specs.Machine.{start_state};
     ghost use Rattle.bml_reader.specs.AttributeViews.{attributes_in_map};
-    ghost use Rattle.bml_reader.specs.Parts.{NamesDiffer};
+    ghost use Rattle.bml_reader.specs.Markup.{NamesDiffer};
     ghost use Rattle.bml_reader.specs.Nodes.{IsRootNext};
     ghost use Rattle.bml_reader.specs.declared.phases.Phase.TheVariants.{BeforeDoctype, BeforeRoot, Inside, Behind};
     ghost use Rattle.bml_reader.specs.ReaderViews.{seen_of, seen_by, seen_step, seen_before_doctype, seen_before_root, seen_inside, seen_misc, seen_started, seen_flushed, seen_ended, with_root, seen_in_phase, phase_of_tags, IsTaken, IsReady, IsReadyIn, HasDifferentNames, Refuses};
@@ -71,18 +61,20 @@ impl Reader {
         }
     }
 
-    /// Takes one part more, and answers whether it can stand there.
+    /// Takes one piece more, and answers whether it can stand there.
     #[tactic(auto, unfolding(crate::specs::ReaderViews::seen_step))]
-    pub fn take(&mut self, part: Part) -> Result<bool, NoMemory>
+    pub fn take(&mut self, markup: Markup) -> Result<bool, NoMemory>
         requires ready { IsReady (seen_by self.old) }
-        requires names { HasDifferentNames (part_of part) }
-        ensures { IfOk result (λ taken. IsTaken (seen_step (part_of part.entry) (seen_by self.old)) taken (seen_by self.new)) }
+        requires names { HasDifferentNames (seen_markup markup) }
+        ensures { IfOk result (λ taken.
+            IsTaken (seen_step (seen_markup markup.entry) (seen_by self.old)) taken
+            (seen_by self.new)) }
     {
         match self.phase {
-            Phase::BeforeDoctype => self.take_before_doctype(part),
-            Phase::BeforeRoot => self.take_before_root(part),
-            Phase::Inside => self.take_inside(part),
-            Phase::Behind => Ok(is_misc(&part)),
+            Phase::BeforeDoctype => self.take_before_doctype(markup),
+            Phase::BeforeRoot => self.take_before_root(markup),
+            Phase::Inside => self.take_inside(markup),
+            Phase::Behind => Ok(is_misc(&markup)),
         }
     }
 
@@ -99,7 +91,8 @@ impl Reader {
         ensures root { IfOk result (λ tree. self.has_other_root ≡ false) }
         ensures depth { IfOk result (λ tree. self.is_deep ≡ false) }
         ensures tree { IfOk result (λ tree. option_map (λ k. k.items) self.builder ≡ Some tree) }
-        ensures err { IfErr result (λ fault. Refuses fault self.has_other_root self.is_deep self.builder) }
+        ensures err { IfErr result (λ fault.
+            Refuses fault self.has_other_root self.is_deep self.builder) }
     {
         if self.has_other_root {
             return Err(DocFault::WrongRoot);
@@ -113,53 +106,59 @@ impl Reader {
         }
     }
 
-    fn take_before_doctype(&mut self, part: Part) -> Result<bool, NoMemory>
+    fn take_before_doctype(&mut self, markup: Markup) -> Result<bool, NoMemory>
         requires ready { IsReadyIn BeforeRoot (seen_by self.old) }
-        requires names { HasDifferentNames (part_of part) }
-        ensures { IfOk result (λ taken. IsTaken (seen_before_doctype (part_of part.entry) (seen_by self.old)) taken (seen_by self.new)) }
+        requires names { HasDifferentNames (seen_markup markup) }
+        ensures { IfOk result (λ taken.
+            IsTaken (seen_before_doctype (seen_markup markup.entry) (seen_by self.old)) taken
+            (seen_by self.new)) }
     {
-        match part {
-            Part::Doctype => {
+        match markup {
+            Markup::Doctype => {
                 self.phase = Phase::BeforeRoot;
                 Ok(true)
             }
-            Part::StartTag(start) => self.start_root(start),
-            part => Ok(is_misc(&part)),
+            Markup::StartTag(start) => self.start_root(start),
+            markup => Ok(is_misc(&markup)),
         }
     }
 
-    fn take_before_root(&mut self, part: Part) -> Result<bool, NoMemory>
+    fn take_before_root(&mut self, markup: Markup) -> Result<bool, NoMemory>
         requires ready { IsReadyIn BeforeRoot (seen_by self.old) }
-        requires names { HasDifferentNames (part_of part) }
-        ensures { IfOk result (λ taken. IsTaken (seen_before_root (part_of part.entry) (seen_by self.old)) taken (seen_by self.new)) }
+        requires names { HasDifferentNames (seen_markup markup) }
+        ensures { IfOk result (λ taken.
+            IsTaken (seen_before_root (seen_markup markup.entry) (seen_by self.old)) taken
+            (seen_by self.new)) }
     {
-        match part {
-            Part::StartTag(start) => self.start_root(start),
-            part => Ok(is_misc(&part)),
+        match markup {
+            Markup::StartTag(start) => self.start_root(start),
+            markup => Ok(is_misc(&markup)),
         }
     }
 
-    fn take_inside(&mut self, part: Part) -> Result<bool, NoMemory>
+    fn take_inside(&mut self, markup: Markup) -> Result<bool, NoMemory>
         requires ready { IsReadyIn Inside (seen_by self.old) }
-        requires names { HasDifferentNames (part_of part) }
-        ensures { IfOk result (λ taken. IsTaken (seen_inside (part_of part.entry) (seen_by self.old)) taken (seen_by self.new)) }
+        requires names { HasDifferentNames (seen_markup markup) }
+        ensures { IfOk result (λ taken.
+            IsTaken (seen_inside (seen_markup markup.entry) (seen_by self.old)) taken
+            (seen_by self.new)) }
     {
-        match part {
-            Part::StartTag(start) => self.start_inside(start),
-            Part::EndTag(name) => {
+        match markup {
+            Markup::StartTag(start) => self.start_inside(start),
+            Markup::EndTag(name) => {
                 let tag = Text::of_bytes(self.alloc, name)?;
                 self.end(tag)
             }
-            Part::Run(bytes) => {
+            Markup::Run(bytes) => {
                 push_read(bytes, &mut self.text)?;
                 Ok(true)
             }
-            Part::Cdata(bytes) => {
+            Markup::Cdata(bytes) => {
                 self.text.extend_from_slice(bytes)?;
                 Ok(true)
             }
-            Part::Remark => Ok(true),
-            Part::Doctype => Ok(false),
+            Markup::Remark => Ok(true),
+            Markup::Doctype => Ok(false),
         }
     }
 
@@ -167,7 +166,11 @@ impl Reader {
     fn start_root(&mut self, start: StartTag) -> Result<bool, NoMemory>
         requires ready { IsReadyIn BeforeRoot (seen_by self.old) }
         requires names { NamesDiffer [] (attributes_in_map start.inside.attributes) }
-        ensures { IfOk result (λ taken. IsTaken (Some (seen_started start.tag (attributes_in_map start.inside.attributes) start.inside.is_empty (with_root start.tag (seen_by self.old)))) taken (seen_by self.new)) }
+        ensures { IfOk result (λ taken.
+            IsTaken (Some
+            (seen_started start.tag
+            (attributes_in_map start.inside.attributes) start.inside.is_empty
+            (with_root start.tag (seen_by self.old)))) taken (seen_by self.new)) }
     {
         self.has_other_root = is_other_root(&start.tag);
         self.start(start)?;
@@ -178,7 +181,11 @@ impl Reader {
     fn start_inside(&mut self, start: StartTag) -> Result<bool, NoMemory>
         requires ready { IsReadyIn Inside (seen_by self.old) }
         requires names { NamesDiffer [] (attributes_in_map start.inside.attributes) }
-        ensures { IfOk result (λ taken. IsTaken (Some (seen_started start.tag (attributes_in_map start.inside.attributes) start.inside.is_empty (seen_flushed (seen_by self.old)))) taken (seen_by self.new)) }
+        ensures { IfOk result (λ taken.
+            IsTaken (Some
+            (seen_started start.tag
+            (attributes_in_map start.inside.attributes) start.inside.is_empty
+            (seen_flushed (seen_by self.old)))) taken (seen_by self.new)) }
     {
         self.flush()?;
         self.start(start)?;
@@ -189,7 +196,9 @@ impl Reader {
     fn start(&mut self, start: StartTag) -> Result<(), NoMemory>
         requires root { IfSome self.old.builder IsRootNext }
         requires names { NamesDiffer [] (attributes_in_map start.inside.attributes) }
-        ensures { OnOk result (seen_by self.new ≡ seen_started start.tag (attributes_in_map start.inside.attributes) start.inside.is_empty (seen_by self.old)) }
+        ensures { OnOk result (seen_by self.new
+            ≡ seen_started start.tag
+            (attributes_in_map start.inside.attributes) start.inside.is_empty (seen_by self.old)) }
     {
         let StartTag { tag, inside } = start;
         self.is_deep = self.is_deep || self.tags.len() >= MOST_LEVELS;
@@ -209,7 +218,9 @@ impl Reader {
     // Ends the innermost element, where this is its tag.
     fn end(&mut self, tag: Text) -> Result<bool, NoMemory>
         requires ready { IsReadyIn Inside (seen_by self.old) }
-        ensures { IfOk result (λ taken. IsTaken (seen_ended tag (seen_by self.old).tags (seen_by self.old)) taken (seen_by self.new)) }
+        ensures { IfOk result (λ taken.
+            IsTaken (seen_ended tag (seen_by self.old).tags (seen_by self.old)) taken
+            (seen_by self.new)) }
     {
         match self.tags.last() {
             Some(innermost) if tag == *innermost => {}
@@ -241,7 +252,8 @@ impl Reader {
 
     // Notes whether the root has ended.
     fn settle(&mut self)
-        ensures { seen_by self.new ≡ seen_in_phase (phase_of_tags (reverse self.old.tags.items)) (seen_by self.old) }
+        ensures { seen_by self.new
+            ≡ seen_in_phase (phase_of_tags (reverse self.old.tags.items)) (seen_by self.old) }
     {
         self.phase = if self.tags.is_empty() {
             Phase::Behind
@@ -251,13 +263,13 @@ impl Reader {
     }
 }
 
-// Whether the part is white space or a remark.
-fn is_misc(part: &Part) -> bool
-    ensures { result ≡ spec_is_misc (part_of part.now) }
+// Whether the piece is white space or a remark.
+fn is_misc(markup: &Markup) -> bool
+    ensures { result ≡ spec_is_misc (seen_markup markup.now) }
 {
-    match part {
-        Part::Run(bytes) => is_white(bytes),
-        Part::Remark => true,
+    match markup {
+        Markup::Run(bytes) => is_white(bytes),
+        Markup::Remark => true,
         _ => false,
     }
 }
@@ -266,7 +278,7 @@ fn is_misc(part: &Part) -> bool
 fn is_other_root(tag: &Text) -> bool
     ensures { result ≡ not (is_same tag.now (ascii "bml")) }
 {
-    tag.codes() != BML.as_slice()
+    !tag.is_word("bml")
 }
 
 fn is_white(bytes: &[u8]) -> bool
@@ -286,10 +298,9 @@ fn is_left_out(tag: &Text, text: &[u8]) -> bool
 fn drops_white(tag: &Text) -> bool
     ensures { result ≡ spec_drops_white tag.now }
 {
-    let tag = tag.codes();
-    tag == BML.as_slice()
-        || tag == HEAD.as_slice()
-        || tag == BODY.as_slice()
-        || tag == DIV.as_slice()
-        || tag == BEVENT.as_slice()
+    tag.is_word("bml")
+        || tag.is_word("head")
+        || tag.is_word("body")
+        || tag.is_word("div")
+        || tag.is_word("bevent")
 }

@@ -6,7 +6,7 @@ ghost use Rattle.bml_reader.specs.References.{read_references, read_behind, refe
 ghost use Rattle.bml_reader.specs.ReferenceViews.{found_reference};
 ghost use Rattle.bml_reader.specs.Views.{in_class};
 
-use crate::bytes::{ByteClass, split_run, stripped};
+use crate::bytes::{ByteClass, behind_mark, split_run};
 use bml_bytes::{NoMemory, Text};
 use std::alloc::Global;
 
@@ -33,7 +33,8 @@ pub fn push_read(bytes: &[u8], out: &mut Vec<u8>) -> Result<(), NoMemory>
 
 // The first byte, or the character of the reference at the front, and what stands behind it.
 fn character(bytes: &[u8]) -> Option<(u8, &[u8])>
-    ensures read { MatchOption result (bytes.now ≡ []) (λ found. read_behind 0 bytes.now ≡ found.0 ∷ read_behind 0 found.1.now) }
+    ensures read { MatchOption result (bytes.now ≡ []) (λ found. read_behind 0 bytes.now
+        ≡ found.0 ∷ read_behind 0 found.1.now) }
     ensures shorter { IfSome result (λ found. length found.1.now < length bytes.now) }
 {
     let (byte, more) = bytes.split_first()?;
@@ -51,27 +52,27 @@ fn character(bytes: &[u8]) -> Option<(u8, &[u8])>
 fn reference(bytes: &[u8]) -> Option<(u8, &[u8])>
     ensures { option_map found_reference result ≡ reference_at bytes.now }
 {
-    match stripped(bytes, b"lt;") {
+    match behind_mark(bytes, b"lt;") {
         Some(rest) => return Some((b'<', rest)),
         None => {}
     }
-    match stripped(bytes, b"gt;") {
+    match behind_mark(bytes, b"gt;") {
         Some(rest) => return Some((b'>', rest)),
         None => {}
     }
-    match stripped(bytes, b"amp;") {
+    match behind_mark(bytes, b"amp;") {
         Some(rest) => return Some((b'&', rest)),
         None => {}
     }
-    match stripped(bytes, b"quot;") {
+    match behind_mark(bytes, b"quot;") {
         Some(rest) => return Some((b'"', rest)),
         None => {}
     }
-    match stripped(bytes, b"apos;") {
+    match behind_mark(bytes, b"apos;") {
         Some(rest) => return Some((b'\'', rest)),
         None => {}
     }
-    match stripped(bytes, b"#") {
+    match behind_mark(bytes, b"#") {
         Some(rest) => numeric(rest),
         None => None,
     }
@@ -89,7 +90,8 @@ fn numeric(bytes: &[u8]) -> Option<(u8, &[u8])>
     }
 }
 
-// The character whose number the digits at the front are, where there are some and `;` stands behind them.
+// The character whose number the digits at the front are, where there are some and `;` stands
+// behind them.
 #[tactic(auto, unfolding(crate::specs::References::number_at))]
 fn number(class: ByteClass, base: u32, bytes: &[u8]) -> Option<(u8, &[u8])>
     requires some { 0 < base }
@@ -100,7 +102,7 @@ fn number(class: ByteClass, base: u32, bytes: &[u8]) -> Option<(u8, &[u8])>
     if digits.is_empty() {
         return None;
     }
-    closed(number_of(base, digits), rest)
+    outside_element(number_of(base, digits), rest)
 }
 
 // The number of some digits, or 128 where it isn't below that.
@@ -143,7 +145,7 @@ fn digit_value(digit: u8) -> u8
 
 // The character of this number, where there is one and `;` stands at the front.
 #[tactic(auto, unfolding(crate::specs::References::closed_by))]
-fn closed(number: u8, bytes: &[u8]) -> Option<(u8, &[u8])>
+fn outside_element(number: u8, bytes: &[u8]) -> Option<(u8, &[u8])>
     ensures { option_map found_reference result ≡ closed_by number bytes.now }
 {
     match bytes.split_first() {

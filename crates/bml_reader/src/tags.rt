@@ -9,14 +9,14 @@ ghost use Rattle.bml_reader.specs.Views.{found_bytes, found_written, found_flag}
 ghost use Rattle.bml_reader.specs.TagViews.{found_inner};
 ghost use Rattle.std.specs.Option.{option_copied};
 
-use crate::bytes::{ByteClass, behind_run, is_name_start, split_run, stripped};
+use crate::bytes::{ByteClass, behind_mark, behind_run, is_name_start, split_run};
 use crate::references::referring_text;
 use bml_bytes::{NoMemory, Text};
 use indexmap::IndexMap;
 use std::alloc::Global;
 
-/// What stands in a start tag behind its name: the attributes, in the order written, and whether the element
-/// ends with the tag.
+/// What stands in a start tag behind its name: the attributes, in the order written, and whether
+/// the element ends with the tag.
 #[derive(Drop)]
 pub struct Inside {
     pub attributes: IndexMap<Text, Text>,
@@ -36,7 +36,8 @@ pub fn name(bytes: &[u8]) -> Option<(&[u8], &[u8])>
 
 /// What stands in a start tag behind its name, and what stands behind the tag.
 pub fn inside_tag(alloc: Global, bytes: &[u8]) -> Result<Option<(Inside, &[u8])>, NoMemory>
-    ensures { IfOk result (λ found. option_map found_inner found ≡ inner_at (suc (length bytes.now)) [] bytes.now) }
+    ensures { IfOk result (λ found. option_map found_inner found
+        ≡ inner_at (suc (length bytes.now)) [] bytes.now) }
 {
     let mut attributes: IndexMap<Text, Text> = IndexMap::new(alloc);
     let mut rest = bytes;
@@ -71,8 +72,11 @@ fn add_attribute(
     name: Text,
     value: Text,
 ) -> Result<bool, NoMemory>
-    ensures new { IfOk result (λ added. is_some (value_in (attributes_in_map attributes.old) name) ≡ not added) }
-    ensures last { IfOk result (λ added. added ≡ true → attributes_in_map attributes.new ≡ attributes_in_map attributes.old ++ record { name = name; value = value } ∷ []) }
+    ensures new { IfOk result (λ added. is_some (value_in (attributes_in_map attributes.old) name)
+        ≡ not added) }
+    ensures last { IfOk result (λ added. added ≡ true
+        → attributes_in_map attributes.new
+        ≡ attributes_in_map attributes.old ++ record { name = name; value = value } ∷ []) }
 {
     match attributes.get(&name) {
         Some(_) => Ok(false),
@@ -89,15 +93,16 @@ fn tag_end(bytes: &[u8]) -> Option<(bool, &[u8])>
     ensures { option_map found_flag result ≡ tag_end_at bytes.now }
 {
     let bytes = behind_run(ByteClass::White, bytes);
-    match stripped(bytes, b">") {
+    match behind_mark(bytes, b">") {
         Some(rest) => return Some((false, rest)),
         None => {}
     }
-    let rest = stripped(bytes, b"/>")?;
+    let rest = behind_mark(bytes, b"/>")?;
     Some((true, rest))
 }
 
-// The name and the value of the attribute at the front, which begins with white, and what stands behind it.
+// The name and the value of the attribute at the front, which begins with white, and what stands
+// behind it.
 #[tactic(auto, unfolding(crate::specs::Lexing::attribute_at, crate::specs::Lexing::value_of_name))]
 fn attribute(bytes: &[u8]) -> Option<(&[u8], &[u8], &[u8])>
     ensures { option_map found_written result ≡ attribute_at bytes.now }
@@ -116,7 +121,7 @@ fn attribute(bytes: &[u8]) -> Option<(&[u8], &[u8], &[u8])>
 fn equals(bytes: &[u8]) -> Option<&[u8]>
     ensures { option_copied result ≡ equals_at bytes.now }
 {
-    let rest = stripped(behind_run(ByteClass::White, bytes), b"=")?;
+    let rest = behind_mark(behind_run(ByteClass::White, bytes), b"=")?;
     Some(behind_run(ByteClass::White, rest))
 }
 
@@ -130,6 +135,6 @@ fn value(bytes: &[u8]) -> Option<(&[u8], &[u8])>
         return None;
     }
     let (value, rest) = split_run(ByteClass::ValueByte(*quote), rest);
-    let rest = stripped(rest, &[*quote])?;
+    let rest = behind_mark(rest, &[*quote])?;
     Some((value, rest))
 }

@@ -6,8 +6,8 @@ use dom_tree::{NodeId, Tree};
 use std::alloc::Global;
 use std::test::Fail;
 
-// The nodes in document order: for each the number of its parent, and then `<tag name="value">` or the text
-// in quotes.
+// The nodes in document order: for each the number of its parent, and then `<tag name="value">` or
+// the text in quotes.
 fn shown(alloc: Global, tree: &Tree) -> Result<Vec<u8>, DocFault> {
     let mut out = Vec::new(alloc);
     for number in 0..tree.node_count() {

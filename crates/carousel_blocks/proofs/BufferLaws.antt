@@ -5,7 +5,7 @@ use Rattle.std.proofs.lemmas.List.{take-append-drop, take_at, drop_at, take_all,
 use Rattle.std.proofs.Math.Nat.{le-div_iff_mul-le, mul_comm}
 use Rattle.carousel_blocks.specs.declared.buffer.Shape.{Shape}
 use Rattle.carousel_blocks.specs.InForce.{block_count}
-use Rattle.carousel_blocks.specs.Held.{joined}
+use Rattle.carousel_blocks.specs.Held.{joined_bytes}
 use Rattle.carousel_blocks.specs.Buffers.{blocks_in, missing_in, is_unmarked, is_missing, all_came, overwritten, IsSound, BufferState, shape_length, with_block_at}
 
 pub complete_by_missing : (size : ℕ) (marks : List Bool) (bytes : List ℕ) → (missing_in marks == 0) ≡ all_came (blocks_in size marks bytes)
@@ -170,21 +170,21 @@ room_by shape marks bytes missing n block v e sound h l =
 
 -- ---- all blocks
 
-pub is_some-joined : (blocks : List (Option (List ℕ))) → is_some (joined blocks) ≡ all_came blocks
+pub is_some-joined : (blocks : List (Option (List ℕ))) → is_some (joined_bytes blocks) ≡ all_came blocks
 is_some-joined [] = refl
 is_some-joined (None ∷ blocks) = refl
-is_some-joined (Some block ∷ blocks) = mapped (joined blocks) ∙ is_some-joined blocks where
+is_some-joined (Some block ∷ blocks) = mapped (joined_bytes blocks) ∙ is_some-joined blocks where
   mapped : (x : Option (List ℕ)) → is_some (option_map (λ behind. block ++ behind) x) ≡ is_some x
   mapped None = refl
   mapped (Some y) = refl
 
-pub joined_none : (blocks : List (Option (List ℕ))) → all_came blocks ≡ false → None ≡ joined blocks
-joined_none blocks h = absent (joined blocks) (is_some-joined blocks ∙ h) where
+pub joined_none : (blocks : List (Option (List ℕ))) → all_came blocks ≡ false → None ≡ joined_bytes blocks
+joined_none blocks h = absent (joined_bytes blocks) (is_some-joined blocks ∙ h) where
   absent : (x : Option (List ℕ)) → is_some x ≡ false → None ≡ x
   absent None h = refl
   absent (Some y) h = cc
 
-pub joined_all : (size : ℕ) (marks : List Bool) (bytes : List ℕ) → missing_in marks ≡ 0 → length bytes ≤ length marks * size → joined (blocks_in size marks bytes) ≡ Some bytes
+pub joined_all : (size : ℕ) (marks : List Bool) (bytes : List ℕ) → missing_in marks ≡ 0 → length bytes ≤ length marks * size → joined_bytes (blocks_in size marks bytes) ≡ Some bytes
 joined_all size [] bytes h l = nothing bytes (omega arith) where
   nothing : (xs : List ℕ) → length xs ≤ 0 → ◌≡◌ {A = Option (List ℕ)} (Some []) (Some xs)
   nothing [] l = refl
@@ -245,12 +245,12 @@ view_staged shape bytes marks number block room unmarked =
     (blocks_in-staged shape.block_size marks bytes block number (number * shape.block_size) unmarked refl room.start room.size)
 
 -- the bytes, where no block is missing
-pub joined_sound : (size total : ℕ) (bytes : List ℕ) (marks : List Bool) (missing : ℕ) → IsSound size total bytes marks missing → missing ≡ 0 → joined (blocks_in size marks bytes) ≡ Some bytes
+pub joined_sound : (size total : ℕ) (bytes : List ℕ) (marks : List Bool) (missing : ℕ) → IsSound size total bytes marks missing → missing ≡ 0 → joined_bytes (blocks_in size marks bytes) ≡ Some bytes
 joined_sound size total bytes marks missing sound none =
     joined_all size marks bytes (let m = sound.missing_is in omega arith) (let s = sound.size_is in let k = sound.covers in rw sound.count (omega arith))
 
 -- no bytes, where one is
-pub joined_unsound : (size total : ℕ) (bytes : List ℕ) (marks : List Bool) (missing : ℕ) → IsSound size total bytes marks missing → 0 < missing → None ≡ joined (blocks_in size marks bytes)
+pub joined_unsound : (size total : ℕ) (bytes : List ℕ) (marks : List Bool) (missing : ℕ) → IsSound size total bytes marks missing → 0 < missing → None ≡ joined_bytes (blocks_in size marks bytes)
 joined_unsound size total bytes marks missing sound some =
     joined_none (blocks_in size marks bytes) (sym (complete_by_missing size marks bytes) ∙ more (missing_in marks) (let m = sound.missing_is in omega arith)) where
       more : (n : ℕ) → 0 < n → (n == 0) ≡ false
@@ -258,16 +258,16 @@ joined_unsound size total bytes marks missing sound some =
 
 -- the bytes with the block, where it is the only one that is missing
 pub whole_staged : (shape : Shape) (bytes : List ℕ) (marks : List Bool) (missing number : ℕ) (block : List ℕ) → IsSound shape.block_size shape.size bytes marks missing → HasRoom shape bytes number block → is_unmarked (slice_get marks number) ≡ true → missing ≤ 1
-    → Some (overwritten (number * shape.block_size) block bytes) ≡ joined (slice_set (blocks_in shape.block_size marks bytes) number (Some block))
+    → Some (overwritten (number * shape.block_size) block bytes) ≡ joined_bytes (slice_set (blocks_in shape.block_size marks bytes) number (Some block))
 whole_staged shape bytes marks missing number block sound room unmarked last =
     sym (joined_sound shape.block_size shape.size (overwritten (number * shape.block_size) block bytes) (slice_set marks number true) (missing - 1) (sound_with shape bytes marks missing number block sound room unmarked) (omega arith))
-    ∙ ap (λ b. joined b.blocks) (view_with shape bytes marks number block room unmarked)
+    ∙ ap (λ b. joined_bytes b.blocks) (view_with shape bytes marks number block room unmarked)
 
 pub part_staged : (shape : Shape) (bytes : List ℕ) (marks : List Bool) (missing number : ℕ) (block : List ℕ) → IsSound shape.block_size shape.size bytes marks missing → HasRoom shape bytes number block → is_unmarked (slice_get marks number) ≡ true → 1 < missing
-    → None ≡ joined (slice_set (blocks_in shape.block_size marks bytes) number (Some block))
+    → None ≡ joined_bytes (slice_set (blocks_in shape.block_size marks bytes) number (Some block))
 part_staged shape bytes marks missing number block sound room unmarked more =
     joined_unsound shape.block_size shape.size (overwritten (number * shape.block_size) block bytes) (slice_set marks number true) (missing - 1) (sound_with shape bytes marks missing number block sound room unmarked) (omega arith)
-    ∙ ap (λ b. joined b.blocks) (view_with shape bytes marks number block room unmarked)
+    ∙ ap (λ b. joined_bytes b.blocks) (view_with shape bytes marks number block room unmarked)
 
 -- so many blocks of that size are at least as many bytes
 pub covered : (block_size size : ℕ) → size ≤ block_count (suc block_size) size * suc block_size

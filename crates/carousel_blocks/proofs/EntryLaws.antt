@@ -9,7 +9,7 @@ use Rattle.carousel_blocks.specs.declared.standing.Standing.{Standing}
 use Rattle.carousel_blocks.specs.declared.changes.Change.{Change}
 use Rattle.carousel_blocks.specs.Message.{Message, Indication, Data}
 use Rattle.carousel_blocks.specs.InForce.{later, in_force, standings, standing_of, is_of_module}
-use Rattle.carousel_blocks.specs.Held.{Kept, kept, is_asked, count_of, joined, same_standing, unchanged, bytes_by, bytes_kept, held}
+use Rattle.carousel_blocks.specs.Held.{Kept, kept_module, is_asked, count_of, joined_bytes, same_standing, unchanged, bytes_by, bytes_kept, bytes_held}
 use Rattle.carousel_blocks.specs.Buffers.{is_missing, all_came}
 use Rattle.carousel_blocks.specs.Modules.{kept_for, blocks_kept, standing_kept}
 use Rattle.carousel_blocks.specs.Changes.{gone, appeared, changed, completed, line_of, change_at}
@@ -18,8 +18,8 @@ use Rattle.carousel_blocks.specs.Carousel.{entry_in_force, put_after}
 use Rattle.carousel_blocks.specs.Staging.{IsSameModule, whole_by, whole_with}
 use Rattle.carousel_blocks.proofs.BufferLaws.{is_some-joined, joined_none}
 use Rattle.carousel_blocks.proofs.StandingLaws.{same_is_equal, same_standing_yes}
-use Rattle.carousel_blocks.proofs.HistoryLaws.{in_force-append, later_data, found_number, kept-data, kept-same, kept-other, answer-put}
-use Rattle.carousel_blocks.proofs.ToldLaws.{change_between, change_at-kept, change_at-block, standing_of-kept, missing_one, not_true, kept-others, bytes_stay}
+use Rattle.carousel_blocks.proofs.HistoryLaws.{in_force-append, later_data, found_number, kept_module-data, kept_module-same, kept_module-other, answer-put}
+use Rattle.carousel_blocks.proofs.ToldLaws.{change_between, change_at-kept, change_at-block, standing_of-kept, missing_one, not_true, kept_module-others, bytes_stay}
 use Rattle.carousel_blocks.proofs.StageLaws.{held_is, whole-known}
 
 -- ---- one message more
@@ -60,17 +60,17 @@ the_kept : (x y : Option Kept) (k l : Kept) → x ≡ y → x ≡ Some k → y �
 the_kept x y k l e a b = let p = sym b ∙ sym e ∙ a in cc
 
 -- a module that is held stays held with the same bytes, as long as its entry stays the same
-bytes_last : (h : List Message) (x : Message) (n : ℕ) (k l : Kept) → kept h n ≡ Some k → kept (h ++ x ∷ []) n ≡ Some l → same_standing k.standing l.standing ≡ true
+bytes_last : (h : List Message) (x : Message) (n : ℕ) (k l : Kept) → kept_module h n ≡ Some k → kept_module (h ++ x ∷ []) n ≡ Some l → same_standing k.standing l.standing ≡ true
     → (bytes : List ℕ) → bytes_kept k ≡ Some bytes → bytes_kept l ≡ Some bytes
 bytes_last h (Data block) n k l there now same bytes e =
-    let q : l ≡ with_block block k = the_kept (option_map (with_block block) (kept h n)) (kept (h ++ Data block ∷ []) n) (with_block block k) l (sym (kept-data h block n)) (ap (option_map (with_block block)) there) now in
+    let q : l ≡ with_block block k = the_kept (option_map (with_block block) (kept_module h n)) (kept_module (h ++ Data block ∷ []) n) (with_block block k) l (sym (kept_module-data h block n)) (ap (option_map (with_block block)) there) now in
     ap bytes_kept (q ∙ with_block_held k block bytes e) ∙ e
 bytes_last h (Indication dii) n k l there now same bytes e = by (later_cases (in_force h) dii) where
   by : (later (in_force h) (Indication dii) ≡ in_force h) ⊎ (later (in_force h) (Indication dii) ≡ Some dii) → bytes_kept l ≡ Some bytes
-  by (inl f) = ap bytes_kept (the_kept (kept h n) (kept (h ++ Indication dii ∷ []) n) k l (sym (kept-same h dii n f)) there now) ∙ e
-  by (inr f) = bytes_stay (kept h) n k l (find (is_of_module n) (standings dii)) there (λ s g. found_number n (standings dii) s g) (sym now ∙ kept-other h dii n f) same ∙ e
+  by (inl f) = ap bytes_kept (the_kept (kept_module h n) (kept_module (h ++ Indication dii ∷ []) n) k l (sym (kept_module-same h dii n f)) there now) ∙ e
+  by (inr f) = bytes_stay (kept_module h) n k l (find (is_of_module n) (standings dii)) there (λ s g. found_number n (standings dii) s g) (sym now ∙ kept_module-other h dii n f) same ∙ e
 
-nothing_joined : (count : ℕ) (bytes : List ℕ) → joined (replicate count None) ≡ Some bytes → bytes ≡ []
+nothing_joined : (count : ℕ) (bytes : List ℕ) → joined_bytes (replicate count None) ≡ Some bytes → bytes ≡ []
 nothing_joined zero bytes h = cc
 nothing_joined (suc count) bytes h = cc
 
@@ -79,9 +79,9 @@ nothing_held None count bytes h = nothing_joined count bytes h
 nothing_held (Some cause) count bytes h = cc
 
 -- a module whose entry is new or another one, and that is held at once, has no bytes
-fresh_bytes : (h : List Message) (x : Message) (n : ℕ) (l : Kept) → kept (h ++ x ∷ []) n ≡ Some l → unchanged (standing_kept (kept h n)) (Some l.standing) ≡ false
+fresh_bytes : (h : List Message) (x : Message) (n : ℕ) (l : Kept) → kept_module (h ++ x ∷ []) n ≡ Some l → unchanged (standing_kept (kept_module h n)) (Some l.standing) ≡ false
     → (bytes : List ℕ) → bytes_kept l ≡ Some bytes → bytes ≡ []
-fresh_bytes h (Data block) n l now other bytes e = by (kept h n) (kept (h ++ Data block ∷ []) n) (kept-data h block n) now other where
+fresh_bytes h (Data block) n l now other bytes e = by (kept_module h n) (kept_module (h ++ Data block ∷ []) n) (kept_module-data h block n) now other where
   by : (x y : Option Kept) → y ≡ option_map (with_block block) x → y ≡ Some l → unchanged (standing_kept x) (Some l.standing) ≡ false → bytes ≡ []
   by None y d now other = cc
   by (Some k) y d now other =
@@ -91,19 +91,19 @@ fresh_bytes h (Indication dii) n l now other bytes e = by (later_cases (in_force
   still : (x : Option Kept) → x ≡ Some l → unchanged (standing_kept x) (Some l.standing) ≡ false → bytes ≡ []
   still x is other = let p = sym (same_standing_yes l.standing) ∙ sym (ap (λ y. unchanged (standing_kept y) (Some l.standing)) is) ∙ other in cc
 
-  replaced : (f : Option Standing) → ((s : Standing) → f ≡ Some s → s.entry.id ≡ n) → option_map (kept_for (kept h)) f ≡ Some l → bytes ≡ []
+  replaced : (f : Option Standing) → ((s : Standing) → f ≡ Some s → s.entry.id ≡ n) → option_map (kept_for (kept_module h)) f ≡ Some l → bytes ≡ []
   replaced None number is = cc
   replaced (Some s) number is =
-      let q : l ≡ kept_for (kept h) s = let p = is in cc in
-      let moved : unchanged (standing_kept (kept h s.entry.id)) (Some s) ≡ false =
-      ap₂ (λ (m : ℕ) (z : Standing). unchanged (standing_kept (kept h m)) (Some z)) (number s refl) (sym (ap (λ z. z.standing) q)) ∙ other in
+      let q : l ≡ kept_for (kept_module h) s = let p = is in cc in
+      let moved : unchanged (standing_kept (kept_module h s.entry.id)) (Some s) ≡ false =
+      ap₂ (λ (m : ℕ) (z : Standing). unchanged (standing_kept (kept_module h m)) (Some z)) (number s refl) (sym (ap (λ z. z.standing) q)) ∙ other in
       let blocks : l.blocks ≡ replicate (count_of s) None =
-      ap (λ z. z.blocks) q ∙ ap (λ (t : Bool). if t then blocks_kept (kept h s.entry.id) else replicate (count_of s) None) moved in
+      ap (λ z. z.blocks) q ∙ ap (λ (t : Bool). if t then blocks_kept (kept_module h s.entry.id) else replicate (count_of s) None) moved in
       nothing_held l.standing.skip (count_of s) bytes (sym (ap (bytes_by l.standing.skip) blocks) ∙ e)
 
   by : (later (in_force h) (Indication dii) ≡ in_force h) ⊎ (later (in_force h) (Indication dii) ≡ Some dii) → bytes ≡ []
-  by (inl f) = still (kept h n) (sym (kept-same h dii n f) ∙ now) other
-  by (inr f) = replaced (find (is_of_module n) (standings dii)) (λ s g. found_number n (standings dii) s g) (sym (kept-other h dii n f) ∙ now)
+  by (inl f) = still (kept_module h n) (sym (kept_module-same h dii n f) ∙ now) other
+  by (inr f) = replaced (find (is_of_module n) (standings dii)) (λ s g. found_number n (standings dii) s g) (sym (kept_module-other h dii n f) ∙ now)
 
 -- ---- no change
 
@@ -126,7 +126,7 @@ same_between n (Some k) (Some l) last h = by (same_standing k.standing l.standin
 
 pub same_module : (h : List Message) (x : Message) (n : ℕ) → change_at h (h ++ x ∷ []) n ≡ None → IsSameModule h (h ++ x ∷ []) n
 same_module h x n none =
-    let same = same_between n (kept h n) (kept (h ++ x ∷ []) n) (λ k l a b s bytes e. bytes_last h x n k l a b s bytes e) (sym (change_at-kept h (h ++ x ∷ []) n) ∙ none) in
+    let same = same_between n (kept_module h n) (kept_module (h ++ x ∷ []) n) (λ k l a b s bytes e. bytes_last h x n k l a b s bytes e) (sym (change_at-kept h (h ++ x ∷ []) n) ∙ none) in
     let standing = standing_of-kept (h ++ x ∷ []) n ∙ same.standing ∙ sym (standing_of-kept h n) in
     record {
       info = ap (λ s. option_map (λ entry. entry.info) (option_map (λ (z : Standing). z.entry) s)) standing;
@@ -147,9 +147,9 @@ fresh_between n (Some k) (Some l) change h status bytes e fresh = by (same_stand
   by true f false g = cc
   by false f u g = fresh l refl f e
 
-pub new_entry : (h : List Message) (x : Message) (n : ℕ) (change : Change) (bytes : List ℕ) → change_at h (h ++ x ∷ []) n ≡ Some change → is_some change.status ≡ true → held (h ++ x ∷ []) n ≡ Some bytes → bytes ≡ []
+pub new_entry : (h : List Message) (x : Message) (n : ℕ) (change : Change) (bytes : List ℕ) → change_at h (h ++ x ∷ []) n ≡ Some change → is_some change.status ≡ true → bytes_held (h ++ x ∷ []) n ≡ Some bytes → bytes ≡ []
 new_entry h x n change bytes told status e =
-    fresh_between n (kept h n) (kept (h ++ x ∷ []) n) change (sym (change_at-kept h (h ++ x ∷ []) n) ∙ told) status bytes (sym (held_is (h ++ x ∷ []) n) ∙ e)
+    fresh_between n (kept_module h n) (kept_module (h ++ x ∷ []) n) change (sym (change_at-kept h (h ++ x ∷ []) n) ∙ told) status bytes (sym (held_is (h ++ x ∷ []) n) ∙ e)
     (λ l now other b. fresh_bytes h x n l now other bytes b)
 
 -- ---- the last block
@@ -177,23 +177,23 @@ completes n (Some k) (Some l) change h status = by (same_standing k.standing l.s
   by true f (Some b) now p q e = cc
   by true f None (Some b) p q e = record { old = k; new = l; there = refl; now = refl; same = f; lacks = p; bytes = b; whole = q }
 
-pub completes_at : (h : List Message) (x : Message) (n : ℕ) (change : Change) → change_at h (h ++ x ∷ []) n ≡ Some change → change.status ≡ None → Completes (kept h n) (kept (h ++ x ∷ []) n)
-completes_at h x n change told status = completes n (kept h n) (kept (h ++ x ∷ []) n) change (sym (change_at-kept h (h ++ x ∷ []) n) ∙ told) status
+pub completes_at : (h : List Message) (x : Message) (n : ℕ) (change : Change) → change_at h (h ++ x ∷ []) n ≡ Some change → change.status ≡ None → Completes (kept_module h n) (kept_module (h ++ x ∷ []) n)
+completes_at h x n change told status = completes n (kept_module h n) (kept_module (h ++ x ∷ []) n) change (sym (change_at-kept h (h ++ x ∷ []) n) ∙ told) status
 
 -- the entry is the same
-pub completed_info : (h : List Message) (x : Message) (n : ℕ) → Completes (kept h n) (kept (h ++ x ∷ []) n)
+pub completed_info : (h : List Message) (x : Message) (n : ℕ) → Completes (kept_module h n) (kept_module (h ++ x ∷ []) n)
     → option_map (λ entry. entry.info) (entry_in_force (h ++ x ∷ []) n) ≡ option_map (λ entry. entry.info) (entry_in_force h n)
 completed_info h x n c =
     ap (λ s. option_map (λ entry. entry.info) (option_map (λ (z : Standing). z.entry) s))
     (standing_of-kept (h ++ x ∷ []) n ∙ ap standing_kept c.now ∙ ap (λ s. Some s) (sym (same_is_equal c.old.standing c.new.standing c.same)) ∙ sym (ap standing_kept c.there) ∙ sym (standing_of-kept h n))
 
-pub completed_before : (h : List Message) (x : Message) (n : ℕ) → Completes (kept h n) (kept (h ++ x ∷ []) n) → held h n ≡ None
+pub completed_before : (h : List Message) (x : Message) (n : ℕ) → Completes (kept_module h n) (kept_module (h ++ x ∷ []) n) → bytes_held h n ≡ None
 completed_before h x n c = held_is h n ∙ ap (option_and_then bytes_kept) c.there ∙ c.lacks
 
-pub completed_held : (h : List Message) (x : Message) (n : ℕ) (c : Completes (kept h n) (kept (h ++ x ∷ []) n)) → held (h ++ x ∷ []) n ≡ Some c.bytes
+pub completed_held : (h : List Message) (x : Message) (n : ℕ) (c : Completes (kept_module h n) (kept_module (h ++ x ∷ []) n)) → bytes_held (h ++ x ∷ []) n ≡ Some c.bytes
 completed_held h x n c = held_is (h ++ x ∷ []) n ∙ ap (option_and_then bytes_kept) c.now ∙ c.whole
 
-joined_by : (skip : Option SkipCause) (blocks : List (Option (List ℕ))) (bytes : List ℕ) → bytes_by skip blocks ≡ Some bytes → joined blocks ≡ Some bytes
+joined_by : (skip : Option SkipCause) (blocks : List (Option (List ℕ))) (bytes : List ℕ) → bytes_by skip blocks ≡ Some bytes → joined_bytes blocks ≡ Some bytes
 joined_by None blocks bytes h = h
 joined_by (Some cause) blocks bytes h = cc
 
@@ -202,29 +202,29 @@ not_same : {X : Type 0} (x y : Option Kept) (c : Completes x y) → y ≡ x → 
 not_same x y c e = absurd (let q = sym (ap (option_and_then bytes_kept) c.now) ∙ ap (option_and_then bytes_kept) e ∙ ap (option_and_then bytes_kept) c.there in let p = sym c.whole ∙ q ∙ c.lacks in cc)
 
 -- a module is completed by a block of its own
-completed_by : (h : List Message) (block : DataBlock) (n : ℕ) → n ≡ block.«module» → (c : Completes (kept h n) (kept (h ++ Data block ∷ []) n)) → whole_by h block (put_after h block) ≡ Some (n, c.bytes)
+completed_by : (h : List Message) (block : DataBlock) (n : ℕ) → n ≡ block.«module» → (c : Completes (kept_module h n) (kept_module (h ++ Data block ∷ []) n)) → whole_by h block (put_after h block) ≡ Some (n, c.bytes)
 completed_by h block n own c =
-    sym (whole-known h block) ∙ ap (λ m. whole_to (kept h m) block) (sym own) ∙ ap (λ k. whole_to k block) c.there ∙ by (is_wanted c.old block) refl
+    sym (whole-known h block) ∙ ap (λ m. whole_to (kept_module h m) block) (sym own) ∙ ap (λ k. whole_to k block) c.there ∙ by (is_wanted c.old block) refl
     ∙ ap (λ m. let w : ℕ × List ℕ = (m, c.bytes) in Some w) (sym own)
   where
     moved : (t : Bool) → is_wanted c.old block ≡ t → c.new ≡ (if t then (let with : Kept = record { standing = c.old.standing; blocks = slice_set c.old.blocks block.number (Some block.block) } in with) else c.old)
     moved t e =
-        the_kept (option_map (with_block block) (kept h n)) (kept (h ++ Data block ∷ []) n) (with_block block c.old) c.new (sym (kept-data h block n)) (ap (option_map (with_block block)) c.there) c.now
+        the_kept (option_map (with_block block) (kept_module h n)) (kept_module (h ++ Data block ∷ []) n) (with_block block c.old) c.new (sym (kept_module-data h block n)) (ap (option_map (with_block block)) c.there) c.now
         ∙ ap (λ (u : Bool). if u then (let with : Kept = record { standing = c.old.standing; blocks = slice_set c.old.blocks block.number (Some block.block) } in with) else c.old) e
 
     by : (t : Bool) → is_wanted c.old block ≡ t
-        → (if t then option_map {U = ℕ × List ℕ} (λ bytes. (block.«module», bytes)) (joined (slice_set c.old.blocks block.number (Some block.block))) else None) ≡ Some (block.«module», c.bytes)
+        → (if t then option_map {U = ℕ × List ℕ} (λ bytes. (block.«module», bytes)) (joined_bytes (slice_set c.old.blocks block.number (Some block.block))) else None) ≡ Some (block.«module», c.bytes)
     by true e =
         ap (option_map {U = ℕ × List ℕ} (λ bytes. (block.«module», bytes)))
         (joined_by c.old.standing.skip (slice_set c.old.blocks block.number (Some block.block)) c.bytes (sym (ap bytes_kept (moved true e)) ∙ c.whole))
     by false e = absurd (let p = sym c.lacks ∙ sym (ap bytes_kept (moved false e)) ∙ c.whole in cc)
 
-pub completed_whole : (h : List Message) (x : Message) (n : ℕ) (c : Completes (kept h n) (kept (h ++ x ∷ []) n)) → whole_with h (Some x) ≡ Some (n, c.bytes)
+pub completed_whole : (h : List Message) (x : Message) (n : ℕ) (c : Completes (kept_module h n) (kept_module (h ++ x ∷ []) n)) → whole_with h (Some x) ≡ Some (n, c.bytes)
 completed_whole h (Indication dii) n c = by (later_cases (in_force h) dii) where
   by : (later (in_force h) (Indication dii) ≡ in_force h) ⊎ (later (in_force h) (Indication dii) ≡ Some dii) → ◌≡◌ {A = Option (ℕ × List ℕ)} None (Some (n, c.bytes))
-  by (inl f) = not_same (kept h n) (kept (h ++ Indication dii ∷ []) n) c (kept-same h dii n f)
+  by (inl f) = not_same (kept_module h n) (kept_module (h ++ Indication dii ∷ []) n) c (kept_module-same h dii n f)
   by (inr f) =
-      let stay = bytes_stay (kept h) n c.old c.new (find (is_of_module n) (standings dii)) c.there (λ s g. found_number n (standings dii) s g) (sym c.now ∙ kept-other h dii n f) c.same in
+      let stay = bytes_stay (kept_module h) n c.old c.new (find (is_of_module n) (standings dii)) c.there (λ s g. found_number n (standings dii) s g) (sym c.now ∙ kept_module-other h dii n f) c.same in
       absurd (let p = sym c.lacks ∙ sym stay ∙ c.whole in cc)
 completed_whole h (Data block) n c = by (nat_eq n block.«module») refl where
   apart : (a b : ℕ) → nat_eq a b ≡ false → a ≢ b
@@ -232,7 +232,7 @@ completed_whole h (Data block) n c = by (nat_eq n block.«module») refl where
 
   by : (t : Bool) → nat_eq n block.«module» ≡ t → whole_by h block (put_after h block) ≡ Some (n, c.bytes)
   by true e = completed_by h block n (eqb-true n block.«module» e) c
-  by false e = not_same (kept h n) (kept (h ++ Data block ∷ []) n) c (kept-others h block n (apart n block.«module» e))
+  by false e = not_same (kept_module h n) (kept_module (h ++ Data block ∷ []) n) c (kept_module-others h block n (apart n block.«module» e))
 
 -- what a message makes whole is told
 pub record Told (change : Option Change) : Type 0 where
@@ -240,7 +240,7 @@ pub record Told (change : Option Change) : Type 0 where
   pub is : change ≡ Some value
   pub status : value.status ≡ None
 
-told_whole : (h : List Message) (block : DataBlock) (n : ℕ) (bytes : List ℕ) (k : Option Kept) → kept h block.«module» ≡ k → whole_to k block ≡ Some (n, bytes) → Told (change_at h (h ++ Data block ∷ []) n)
+told_whole : (h : List Message) (block : DataBlock) (n : ℕ) (bytes : List ℕ) (k : Option Kept) → kept_module h block.«module» ≡ k → whole_to k block ≡ Some (n, bytes) → Told (change_at h (h ++ Data block ∷ []) n)
 told_whole h block n bytes None there w = cc
 told_whole h block n bytes (Some k) there w = by (is_wanted k block) refl (all_came with) refl w where
   with : List (Option (List ℕ))
@@ -254,13 +254,13 @@ told_whole h block n bytes (Some k) there w = by (is_wanted k block) refl (all_c
     number_in (Some z) = z.0
 
   by : (t : Bool) → is_wanted k block ≡ t → (u : Bool) → all_came (slice_set k.blocks block.number (Some block.block)) ≡ u
-      → (if t then option_map {U = ℕ × List ℕ} (λ bytes. (block.«module», bytes)) (joined (slice_set k.blocks block.number (Some block.block))) else None) ≡ Some (n, bytes) → Told (change_at h (h ++ Data block ∷ []) n)
+      → (if t then option_map {U = ℕ × List ℕ} (λ bytes. (block.«module», bytes)) (joined_bytes (slice_set k.blocks block.number (Some block.block))) else None) ≡ Some (n, bytes) → Told (change_at h (h ++ Data block ∷ []) n)
   by false f u g e = cc
   by true f false g e = absurd (let p = ap (option_map {U = ℕ × List ℕ} (λ bytes. (block.«module», bytes))) (joined_none with g) ∙ e in cc)
   by true f true g e =
       record {
         value = completed block.«module» k.standing.entry;
-        is = ap (change_at h (h ++ Data block ∷ [])) (number_of (joined with) e) ∙ change_at-block h block ∙ ap (block_change (standing_of (in_force h))) (sym (answer-put h block) ∙ ap (λ z. answer_to z block) there)
+        is = ap (change_at h (h ++ Data block ∷ [])) (number_of (joined_bytes with) e) ∙ change_at-block h block ∙ ap (block_change (standing_of (in_force h))) (sym (answer-put h block) ∙ ap (λ z. answer_to z block) there)
             ∙ ap₂ (λ (t u : Bool). block_change (standing_of (in_force h)) (if t then (if u then puts.Completed block.«module» else puts.Kept) else puts.Ignored)) f g
             ∙ ap (option_map (λ (s : Standing). completed block.«module» s.entry)) (standing_of-kept h block.«module» ∙ ap standing_kept there);
         status = refl;
@@ -268,7 +268,7 @@ told_whole h block n bytes (Some k) there w = by (is_wanted k block) refl (all_c
 
 pub whole_told : (h : List Message) (x : Message) (n : ℕ) (bytes : List ℕ) → whole_with h (Some x) ≡ Some (n, bytes) → Told (change_at h (h ++ x ∷ []) n)
 whole_told h (Indication dii) n bytes w = cc
-whole_told h (Data block) n bytes w = told_whole h block n bytes (kept h block.«module») refl (whole-known h block ∙ w)
+whole_told h (Data block) n bytes w = told_whole h block n bytes (kept_module h block.«module») refl (whole-known h block ∙ w)
 
 -- ---- the DII in force
 

@@ -10,7 +10,7 @@ use Rattle.carousel_blocks.specs.declared.standing.SkipCause.{SkipCause}
 use Rattle.carousel_blocks.specs.declared.standing.Standing.{Standing}
 use Rattle.carousel_blocks.specs.Message.{Message, Indication, Data}
 use Rattle.carousel_blocks.specs.InForce.{later, in_force, standings, standing_of, is_of_module}
-use Rattle.carousel_blocks.specs.Held.{asked_count, count_of, is_asked, is_asked_by, asked_block, unchanged, stays, counting, first_of, blocks_from, Kept, kept_with, kept, bytes_by, bytes_kept, held}
+use Rattle.carousel_blocks.specs.Held.{asked_count, count_of, is_asked, is_asked_by, asked_block, unchanged, stays, counting_blocks, first_of, blocks_from, Kept, kept_with, kept_module, bytes_by, bytes_kept, bytes_held}
 use Rattle.carousel_blocks.specs.Buffers.{is_missing, all_came}
 use Rattle.carousel_blocks.specs.Modules.{kept_for, blocks_for, blocks_kept, standing_kept}
 use Rattle.carousel_blocks.specs.Steps.{with_block, answer_kept, answer_to}
@@ -149,12 +149,12 @@ stays_end s f m (y ∷ h) e = stays_end s (later f y) m h (second (unchanged s (
   second false b h = cc
 
 -- the law of one message more
-pub counting-append : (f : Option Dii) (m : ℕ) (h : List Message) (x : Message) → counting f m (h ++ x ∷ [])
-    ≡ (if unchanged (standing_of (fold later f h) m) (standing_of (later (fold later f h) x) m) then counting f m h ++ option_to_list (asked_block (standing_of (fold later f h) m) x) else [])
-counting-append f m [] x = append-nil (if unchanged (standing_of f m) (standing_of (later f x) m) then option_to_list (asked_block (standing_of f m) x) else [])
-counting-append f m (y ∷ h) x =
-    ap₂ (λ (t : Bool) (l : List DataBlock). (if t then a else []) ++ l) (stays_more s g m h x) (counting-append g m h x)
-    ∙ joins (stays s g m h) (unchanged e e2) (unchanged s e2) (counting g m h) (option_to_list (asked_block e x)) (λ t. ap (λ z. unchanged z e2) (unchanged_equal s e (stays_end s g m h t)))
+pub counting_blocks-append : (f : Option Dii) (m : ℕ) (h : List Message) (x : Message) → counting_blocks f m (h ++ x ∷ [])
+    ≡ (if unchanged (standing_of (fold later f h) m) (standing_of (later (fold later f h) x) m) then counting_blocks f m h ++ option_to_list (asked_block (standing_of (fold later f h) m) x) else [])
+counting_blocks-append f m [] x = append-nil (if unchanged (standing_of f m) (standing_of (later f x) m) then option_to_list (asked_block (standing_of f m) x) else [])
+counting_blocks-append f m (y ∷ h) x =
+    ap₂ (λ (t : Bool) (l : List DataBlock). (if t then a else []) ++ l) (stays_more s g m h x) (counting_blocks-append g m h x)
+    ∙ joins (stays s g m h) (unchanged e e2) (unchanged s e2) (counting_blocks g m h) (option_to_list (asked_block e x)) (λ t. ap (λ z. unchanged z e2) (unchanged_equal s e (stays_end s g m h t)))
   where
     g : Option Dii
     g = later f y
@@ -187,15 +187,15 @@ in_force-append h x = fold-append later None h x
 -- ---- what is kept
 
 -- nothing of a module without an entry counts; what counts of one that stays stays
-kept-by : (h : List Message) (x : Message) (m : ℕ) → kept (h ++ x ∷ []) m
-    ≡ option_map (kept_with (if unchanged (standing_of (in_force h) m) (standing_of (later (in_force h) x) m) then counting None m h ++ option_to_list (asked_block (standing_of (in_force h) m) x) else [])) (standing_of (later (in_force h) x) m)
-kept-by h x m = ap₂ (λ (c : List DataBlock) (f : Option Dii). option_map (kept_with c) (standing_of f m)) (counting-append None m h x) (in_force-append h x)
+kept_module-by : (h : List Message) (x : Message) (m : ℕ) → kept_module (h ++ x ∷ []) m
+    ≡ option_map (kept_with (if unchanged (standing_of (in_force h) m) (standing_of (later (in_force h) x) m) then counting_blocks None m h ++ option_to_list (asked_block (standing_of (in_force h) m) x) else [])) (standing_of (later (in_force h) x) m)
+kept_module-by h x m = ap₂ (λ (c : List DataBlock) (f : Option Dii). option_map (kept_with c) (standing_of f m)) (counting_blocks-append None m h x) (in_force-append h x)
 
-pub kept-data : (h : List Message) (block : DataBlock) (m : ℕ) → kept (h ++ Data block ∷ []) m ≡ option_map (with_block block) (kept h m)
-kept-data h block m =
-    kept-by h (Data block) m
-    ∙ ap (λ f. option_map (kept_with (if unchanged (standing_of (in_force h) m) (standing_of f m) then counting None m h ++ option_to_list (asked_block (standing_of (in_force h) m) (Data block)) else [])) (standing_of f m)) (later_data (in_force h) block)
-    ∙ by (standing_of (in_force h) m) (counting None m h) where
+pub kept_module-data : (h : List Message) (block : DataBlock) (m : ℕ) → kept_module (h ++ Data block ∷ []) m ≡ option_map (with_block block) (kept_module h m)
+kept_module-data h block m =
+    kept_module-by h (Data block) m
+    ∙ ap (λ f. option_map (kept_with (if unchanged (standing_of (in_force h) m) (standing_of f m) then counting_blocks None m h ++ option_to_list (asked_block (standing_of (in_force h) m) (Data block)) else [])) (standing_of f m)) (later_data (in_force h) block)
+    ∙ by (standing_of (in_force h) m) (counting_blocks None m h) where
       asked : (t : Bool) (s : Standing) (c : List DataBlock) → is_asked s block ≡ t → kept_with (c ++ option_to_list (if t then Some block else None)) s ≡ with_block block (kept_with c s)
       asked true s c e = kept_with-asked s c block e
       asked false s c e = ap (λ l. kept_with l s) (append-nil c) ∙ sym (with_block_not block (kept_with c s) e)
@@ -212,11 +212,11 @@ kept_again (Some s) c =
     ap (λ (t : Bool). Some (kept_with (if t then c ++ [] else []) s)) (same_standing_yes s) ∙ ap (λ l. Some (kept_with l s)) (append-nil c)
 
 -- a DII with the transactionId in force
-pub kept-same : (h : List Message) (dii : Dii) (m : ℕ) → later (in_force h) (Indication dii) ≡ in_force h → kept (h ++ Indication dii ∷ []) m ≡ kept h m
-kept-same h dii m e =
-    kept-by h (Indication dii) m
-    ∙ ap (λ f. option_map (kept_with (if unchanged (standing_of (in_force h) m) (standing_of f m) then counting None m h ++ [] else [])) (standing_of f m)) e
-    ∙ kept_again (standing_of (in_force h) m) (counting None m h)
+pub kept_module-same : (h : List Message) (dii : Dii) (m : ℕ) → later (in_force h) (Indication dii) ≡ in_force h → kept_module (h ++ Indication dii ∷ []) m ≡ kept_module h m
+kept_module-same h dii m e =
+    kept_module-by h (Indication dii) m
+    ∙ ap (λ f. option_map (kept_with (if unchanged (standing_of (in_force h) m) (standing_of f m) then counting_blocks None m h ++ [] else [])) (standing_of f m)) e
+    ∙ kept_again (standing_of (in_force h) m) (counting_blocks None m h)
 
 pub found_number : (m : ℕ) (l : List Standing) (n : Standing) → find (is_of_module m) l ≡ Some n → n.entry.id ≡ m
 found_number m [] n h = cc
@@ -226,10 +226,10 @@ found_number m (s ∷ l) n h = by (s.entry.id == m) refl (found_number m l n) h 
   by false e again h = again h
 
 -- another DII
-pub kept-other : (h : List Message) (dii : Dii) (m : ℕ) → later (in_force h) (Indication dii) ≡ Some dii → kept (h ++ Indication dii ∷ []) m ≡ option_map (kept_for (kept h)) (find (is_of_module m) (standings dii))
-kept-other h dii m e =
-    kept-by h (Indication dii) m
-    ∙ ap (λ f. option_map (kept_with (if unchanged (standing_of (in_force h) m) (standing_of f m) then counting None m h ++ [] else [])) (standing_of f m)) e
+pub kept_module-other : (h : List Message) (dii : Dii) (m : ℕ) → later (in_force h) (Indication dii) ≡ Some dii → kept_module (h ++ Indication dii ∷ []) m ≡ option_map (kept_for (kept_module h)) (find (is_of_module m) (standings dii))
+kept_module-other h dii m e =
+    kept_module-by h (Indication dii) m
+    ∙ ap (λ f. option_map (kept_with (if unchanged (standing_of (in_force h) m) (standing_of f m) then counting_blocks None m h ++ [] else [])) (standing_of f m)) e
     ∙ by (find (is_of_module m) (standings dii)) refl where
       goes_on : (t : Bool) (s : Option Standing) (n : Standing) (c : List DataBlock) → unchanged s (Some n) ≡ t
           → kept_with (if t then c ++ [] else []) n ≡ (let k : Kept = record { standing = n; blocks = if t then blocks_kept (option_map (kept_with c) s) else replicate (count_of n) None } in k)
@@ -243,21 +243,21 @@ kept-other h dii m e =
       standing_is (Some s) c = refl
 
       by : (x : Option Standing) → find (is_of_module m) (standings dii) ≡ x
-          → option_map (kept_with (if unchanged (standing_of (in_force h) m) x then counting None m h ++ [] else [])) x ≡ option_map (kept_for (kept h)) x
+          → option_map (kept_with (if unchanged (standing_of (in_force h) m) x then counting_blocks None m h ++ [] else [])) x ≡ option_map (kept_for (kept_module h)) x
       by None f = refl
       by (Some n) f =
           let s = standing_of (in_force h) m in
-          let c = counting None m h in
+          let c = counting_blocks None m h in
           ap (λ x. Some x) (goes_on (unchanged s (Some n)) s n c refl
-          ∙ ap (λ z. let k : Kept = record { standing = n; blocks = if unchanged z (Some n) then blocks_kept (kept h m) else replicate (count_of n) None } in k) (sym (standing_is s c))
-          ∙ ap (λ j. let k : Kept = record { standing = n; blocks = blocks_for (kept h j) n } in k) (sym (found_number m (standings dii) n f)))
+          ∙ ap (λ z. let k : Kept = record { standing = n; blocks = if unchanged z (Some n) then blocks_kept (kept_module h m) else replicate (count_of n) None } in k) (sym (standing_is s c))
+          ∙ ap (λ j. let k : Kept = record { standing = n; blocks = blocks_for (kept_module h j) n } in k) (sym (found_number m (standings dii) n f)))
 
 -- ---- what is answered
 
-pub answer-put : (h : List Message) (block : DataBlock) → answer_to (kept h block.«module») block ≡ put_after h block
-unfolding put_after held
+pub answer-put : (h : List Message) (block : DataBlock) → answer_to (kept_module h block.«module») block ≡ put_after h block
+unfolding put_after bytes_held
 answer-put h block =
-    by (standing_of (in_force h) block.«module») (counting None block.«module» h) (kept (h ++ Data block ∷ []) block.«module») (kept-data h block block.«module») where
+    by (standing_of (in_force h) block.«module») (counting_blocks None block.«module» h) (kept_module (h ++ Data block ∷ []) block.«module») (kept_module-data h block block.«module») where
       unskipped : (s : Standing) (skip : Option SkipCause) → block.number < asked_count s skip → skip ≡ None
       unskipped s None p = refl
       unskipped s (Some cause) p = absurd (omega arith)

@@ -14,3 +14,8 @@ pub mod SectionLaws
 pub mod StageLaws
 pub mod EntryLaws
 pub mod SizeLaws
+pub mod FirstLaws
+pub mod HeldLaws
+pub mod CountLaws
+pub mod EntryPlaceLaws
+pub mod CarriedLaws

@@ -87,7 +87,7 @@ module _ {S : Type 0} where
   -- a buffer that no module has is removed
   pub keep_used : (modules : HashMap ℕ Module S) (old new : Buffers) (key : ℕ) (buffer : BufferState) → AreModules modules old → get old key ≡ Some buffer
       → is_key key (key_of (value_at nat_eq modules buffer.shape.number)) ≡ false → Updates old new key None → KeepModules modules old new
-  keep_used modules old new key buffer are held unused updates = keep_modules modules old new are (λ number m k h e. updates.others k (apart number m k h e)) where
+  keep_used modules old new key buffer are bytes_held unused updates = keep_modules modules old new are (λ number m k h e. updates.others k (apart number m k h e)) where
     not_key : (x : Option Module) (m : Module) → x ≡ Some m → m.key ≡ Some key → is_key key (key_of x) ≡ true
     not_key x m h e = ap (λ y. is_key key (key_of y)) h ∙ ap (is_key key) e ∙ same_key key where
       same_key : (n : ℕ) → (n == n) ≡ true
@@ -97,7 +97,7 @@ module _ {S : Type 0} where
     apart number m k h e f =
         let i = are number m h in
         let b = has_buffer old m.standing m.key key i.backed (e ∙ ap (λ x. Some x) f) in
-        let g : buffer ≡ b.buffer = let p = sym held ∙ b.is in cc in
+        let g : buffer ≡ b.buffer = let p = sym bytes_held ∙ b.is in cc in
         let n : buffer.shape.number ≡ number = ap (λ x. x.shape.number) g ∙ (shape_is m.standing b.buffer.shape b.shape_is).number ∙ i.number_is in
         let t = not_key (value_at nat_eq modules buffer.shape.number) m (ap (value_at nat_eq modules) n ∙ h) (e ∙ ap (λ x. Some x) f) in
         cc

@@ -8,10 +8,10 @@ use Rattle.dsmcc_messages.specs.Ddb.{DataBlock}
 use Rattle.carousel_blocks.specs.declared.standing.Standing.{Standing}
 use Rattle.carousel_blocks.specs.Message.{Message, Indication, Data}
 use Rattle.carousel_blocks.specs.InForce.{later, in_force, standing_of}
-use Rattle.carousel_blocks.specs.Held.{is_asked_by, counting, first_of, blocks_from, count_of, Kept, kept_with, kept, bytes_kept, held}
+use Rattle.carousel_blocks.specs.Held.{is_asked_by, counting_blocks, first_of, blocks_from, count_of, Kept, kept_with, kept_module, bytes_kept, bytes_held}
 use Rattle.carousel_blocks.specs.Order.{data_of, OnlyRepeats, SameBlocks, AreConsistent}
 use Rattle.carousel_blocks.specs.Steps.{with_block}
-use Rattle.carousel_blocks.proofs.HistoryLaws.{in_force-append, later_data, kept-same, kept-data, kept_with-asked, option_map-option_or}
+use Rattle.carousel_blocks.proofs.HistoryLaws.{in_force-append, later_data, kept_module-same, kept_module-data, kept_with-asked, option_map-option_or}
 use Rattle.carousel_blocks.proofs.PutLaws.{with_block_not}
 use Rattle.std.proofs.lemmas.List.Elements.{Contains-append_right, Contains-append_cases}
 
@@ -31,17 +31,17 @@ repeat_same f dii other e h = ap (λ x. later x (Indication other)) e ∙ ap (λ
   same : (a b : ℕ) → a ≡ b → (a == b) ≡ true
   same a b h = grind arith
 
-pub kept_along : (dii : Dii) (m : ℕ) (s : Option Standing) (l h : List Message) (c : List DataBlock) → in_force h ≡ Some dii → kept h m ≡ option_map (kept_with c) s → OnlyRepeats dii.transaction l
-    → kept (h ++ l) m ≡ option_map (kept_with (c ++ asked_of s (data_of l))) s
-kept_along dii m s [] h c f k o = ap (λ x. kept x m) (append-nil h) ∙ k ∙ ap (λ x. option_map (kept_with x) s) (sym (append-nil c))
+pub kept_along : (dii : Dii) (m : ℕ) (s : Option Standing) (l h : List Message) (c : List DataBlock) → in_force h ≡ Some dii → kept_module h m ≡ option_map (kept_with c) s → OnlyRepeats dii.transaction l
+    → kept_module (h ++ l) m ≡ option_map (kept_with (c ++ asked_of s (data_of l))) s
+kept_along dii m s [] h c f k o = ap (λ x. kept_module x m) (append-nil h) ∙ k ∙ ap (λ x. option_map (kept_with x) s) (sym (append-nil c))
 kept_along dii m s (Indication other ∷ l) h c f k o =
     let e = repeat_same (in_force h) dii other f o.0 in
-    ap (λ x. kept x m) (sym (append_assoc h (Indication other ∷ []) l))
-    ∙ kept_along dii m s l (h ++ Indication other ∷ []) c (in_force-append h (Indication other) ∙ e ∙ f) (kept-same h other m e ∙ k) o.1
+    ap (λ x. kept_module x m) (sym (append_assoc h (Indication other ∷ []) l))
+    ∙ kept_along dii m s l (h ++ Indication other ∷ []) c (in_force-append h (Indication other) ∙ e ∙ f) (kept_module-same h other m e ∙ k) o.1
 kept_along dii m s (Data b ∷ l) h c f k o =
-    ap (λ x. kept x m) (sym (append_assoc h (Data b ∷ []) l))
+    ap (λ x. kept_module x m) (sym (append_assoc h (Data b ∷ []) l))
     ∙ kept_along dii m s l (h ++ Data b ∷ []) (c ++ (if is_asked_by s b then b ∷ [] else [])) (in_force-append h (Data b) ∙ later_data (in_force h) b ∙ f)
-    (kept-data h b m ∙ ap (option_map (with_block b)) k ∙ more s) o
+    (kept_module-data h b m ∙ ap (option_map (with_block b)) k ∙ more s) o
     ∙ ap (λ x. option_map (kept_with x) s) (append_assoc c (if is_asked_by s b then b ∷ [] else []) (asked_of s (data_of l)) ∙ ap (λ x. c ++ x) (joined_asked (is_asked_by s b)))
   where
     more : (s : Option Standing) → option_map (with_block b) (option_map (kept_with c) s) ≡ option_map (kept_with (c ++ (if is_asked_by s b then b ∷ [] else []))) s
@@ -114,12 +114,12 @@ same_first s d e n to from consistent = by (first_of (asked_of s d) n) (first_of
       let t = found_by s e n y q in
       ap (λ z. Some z) (sym r.bytes ∙ consistent r.block t.block r.there (from t.block t.there) r.asked t.asked (r.number ∙ sym t.number) ∙ t.bytes)
 
-pub same_held : (h l o : List Message) (dii : Dii) (m : ℕ) → in_force h ≡ Some dii → OnlyRepeats dii.transaction l → OnlyRepeats dii.transaction o → SameBlocks l o → AreConsistent (standing_of (Some dii) m) l → held (h ++ l) m ≡ held (h ++ o) m
-unfolding held
+pub same_held : (h l o : List Message) (dii : Dii) (m : ℕ) → in_force h ≡ Some dii → OnlyRepeats dii.transaction l → OnlyRepeats dii.transaction o → SameBlocks l o → AreConsistent (standing_of (Some dii) m) l → bytes_held (h ++ l) m ≡ bytes_held (h ++ o) m
+unfolding bytes_held
 same_held h l o dii m f a b same consistent =
     let s = standing_of (Some dii) m in
-    let c = counting None m h in
-    let k : kept h m ≡ option_map (kept_with c) s = ap (λ x. option_map (kept_with c) (standing_of x m)) f in
+    let c = counting_blocks None m h in
+    let k : kept_module h m ≡ option_map (kept_with c) s = ap (λ x. option_map (kept_with c) (standing_of x m)) f in
     ap (option_and_then bytes_kept) (kept_along dii m s l h c f k a
     ∙ ap (λ (g : ℕ → Option (List ℕ)). option_map (λ (x : Standing). let y : Kept = record { standing = x; blocks = blocks_from g 0 (count_of x) } in y) s) (λ i n. each s c n i)
     ∙ sym (kept_along dii m s o h c f k b))

@@ -7,7 +7,7 @@ use Rattle.dsmcc_messages.specs.Ddb.{DataBlock}
 use Rattle.carousel_blocks.specs.declared.standing.Standing.{Standing}
 use Rattle.carousel_blocks.specs.Message.{Message, Indication, Data}
 use Rattle.carousel_blocks.specs.InForce.{later, standing_of}
-use Rattle.carousel_blocks.specs.Held.{is_asked_by, asked_block, unchanged, stays, counting}
+use Rattle.carousel_blocks.specs.Held.{is_asked_by, asked_block, unchanged, stays, counting_blocks}
 
 -- the same from a DII in force on
 pub record CountsFrom (f : Option Dii) (h : List Message) (m : ℕ) (b : DataBlock) (place : ℕ) : Type 0 where
@@ -62,30 +62,42 @@ in_first : (t : Bool) (x : Option DataBlock) (b : DataBlock) → Contains (if t 
 in_first true x b c = (refl, only_one x b c)
 in_first false x b c = absurd (let l = c.1 in omega arith)
 
-pub counts_from : (f : Option Dii) (h : List Message) (m : ℕ) (b : DataBlock) → Contains (counting f m h) b → (place : ℕ) × CountsFrom f h m b place
+-- what counts at the first place, and behind it
+pub to_here : (f : Option Dii) (y : Message) (h : List Message) (m : ℕ) (b : DataBlock) → stays (standing_of f m) (later f y) m h ≡ true → asked_block (standing_of f m) y ≡ Some b → CountsFrom f (y ∷ h) m b 0
+to_here f y h m b s a =
+    let asked = asked_is (standing_of f m) y b a in
+    record { stands = ap (λ x. Some x) asked.is; asked = asked.asked; stays_on = λ other l n. on other l n } where
+      on : (other : ℕ) → 0 < other → other < length (y ∷ h) + 1 → unchanged (standing_of f m) (standing_of (fold later f (take other (y ∷ h))) m) ≡ true
+      on zero l n = absurd (omega arith)
+      on (suc k) l n = stays_at (standing_of f m) (later f y) m h k s (omega arith)
+
+pub from_here : (f : Option Dii) (y : Message) (h : List Message) (m : ℕ) (b : DataBlock) → CountsFrom f (y ∷ h) m b 0 → (stays (standing_of f m) (later f y) m h ≡ true) × (asked_block (standing_of f m) y ≡ Some b)
+from_here f y h m b r =
+    let p = r.stands in
+    let q : y ≡ Data b = cc in (
+      all_stays (standing_of f m) (later f y) m h (λ k l. r.stays_on (suc k) (omega arith) (omega arith)),
+      ap (asked_block (standing_of f m)) q ∙ ap (λ (x : Bool). if x then Some b else None) r.asked,
+    )
+
+pub to_behind : (f : Option Dii) (y : Message) (h : List Message) (m : ℕ) (b : DataBlock) (place : ℕ) → CountsFrom (later f y) h m b place → CountsFrom f (y ∷ h) m b (suc place)
+to_behind f y h m b place r = record { stands = r.stands; asked = r.asked; stays_on = λ other l n. on other l n } where
+  on : (other : ℕ) → suc place < other → other < length (y ∷ h) + 1 → unchanged (standing_of (fold later f (take (suc place) (y ∷ h))) m) (standing_of (fold later f (take other (y ∷ h))) m) ≡ true
+  on zero l n = absurd (omega arith)
+  on (suc k) l n = r.stays_on k (omega arith) (omega arith)
+
+pub from_behind : (f : Option Dii) (y : Message) (h : List Message) (m : ℕ) (b : DataBlock) (place : ℕ) → CountsFrom f (y ∷ h) m b (suc place) → CountsFrom (later f y) h m b place
+from_behind f y h m b place r = record { stands = r.stands; asked = r.asked; stays_on = λ k l n. r.stays_on (suc k) (omega arith) (omega arith) }
+
+pub counts_from : (f : Option Dii) (h : List Message) (m : ℕ) (b : DataBlock) → Contains (counting_blocks f m h) b → (place : ℕ) × CountsFrom f h m b place
 counts_from f [] m b c = absurd (let l = c.1 in omega arith)
 counts_from f (y ∷ h) m b c =
-    by (Contains-append_cases (if stays (standing_of f m) (later f y) m h then option_to_list (asked_block (standing_of f m) y) else []) (counting (later f y) m h) b c) (counts_from (later f y) h m b) where
-      here : (stays (standing_of f m) (later f y) m h ≡ true) × (asked_block (standing_of f m) y ≡ Some b) → CountsFrom f (y ∷ h) m b 0
-      here p =
-          let a = asked_is (standing_of f m) y b p.1 in
-          record { stands = ap (λ x. Some x) a.is; asked = a.asked; stays_on = λ other l n. on other l n } where
-            on : (other : ℕ) → 0 < other → other < length (y ∷ h) + 1 → unchanged (standing_of f m) (standing_of (fold later f (take other (y ∷ h))) m) ≡ true
-            on zero l n = absurd (omega arith)
-            on (suc k) l n = stays_at (standing_of f m) (later f y) m h k p.0 (omega arith)
+    by (Contains-append_cases (if stays (standing_of f m) (later f y) m h then option_to_list (asked_block (standing_of f m) y) else []) (counting_blocks (later f y) m h) b c) (counts_from (later f y) h m b) where
+      by : Contains (if stays (standing_of f m) (later f y) m h then option_to_list (asked_block (standing_of f m) y) else []) b ⊎ Contains (counting_blocks (later f y) m h) b
+          → (Contains (counting_blocks (later f y) m h) b → (place : ℕ) × CountsFrom (later f y) h m b place) → (place : ℕ) × CountsFrom f (y ∷ h) m b place
+      by (inl x) again = let p = in_first (stays (standing_of f m) (later f y) m h) (asked_block (standing_of f m) y) b x in (0, to_here f y h m b p.0 p.1)
+      by (inr x) again = let r = again x in (suc r.0, to_behind f y h m b r.0 r.1)
 
-      further : (place : ℕ) → CountsFrom (later f y) h m b place → CountsFrom f (y ∷ h) m b (suc place)
-      further place r = record { stands = r.stands; asked = r.asked; stays_on = λ other l n. on other l n } where
-        on : (other : ℕ) → suc place < other → other < length (y ∷ h) + 1 → unchanged (standing_of (fold later f (take (suc place) (y ∷ h))) m) (standing_of (fold later f (take other (y ∷ h))) m) ≡ true
-        on zero l n = absurd (omega arith)
-        on (suc k) l n = r.stays_on k (omega arith) (omega arith)
-
-      by : Contains (if stays (standing_of f m) (later f y) m h then option_to_list (asked_block (standing_of f m) y) else []) b ⊎ Contains (counting (later f y) m h) b
-          → (Contains (counting (later f y) m h) b → (place : ℕ) × CountsFrom (later f y) h m b place) → (place : ℕ) × CountsFrom f (y ∷ h) m b place
-      by (inl x) again = (0, here (in_first (stays (standing_of f m) (later f y) m h) (asked_block (standing_of f m) y) b x))
-      by (inr x) again = let r = again x in (suc r.0, further r.0 r.1)
-
-pub to_counting : (f : Option Dii) (h : List Message) (m : ℕ) (b : DataBlock) (place : ℕ) → CountsFrom f h m b place → Contains (counting f m h) b
+pub to_counting : (f : Option Dii) (h : List Message) (m : ℕ) (b : DataBlock) (place : ℕ) → CountsFrom f h m b place → Contains (counting_blocks f m h) b
 to_counting f [] m b place r = absurd (let p = r.stands in cc)
 to_counting f (y ∷ h) m b zero r =
     let s = standing_of f m in
@@ -94,7 +106,7 @@ to_counting f (y ∷ h) m b zero r =
     let t : stays s (later f y) m h ≡ true = all_stays s (later f y) m h (λ k l. r.stays_on (suc k) (omega arith) (omega arith)) in
     let e : (if stays s (later f y) m h then option_to_list (asked_block s y) else []) ≡ b ∷ [] =
     ap₂ (λ (x : Bool) (z : Message). if x then option_to_list (asked_block s z) else []) t q ∙ ap (λ (x : Bool). option_to_list (if x then Some b else None)) r.asked in
-    Contains-append_left (if stays s (later f y) m h then option_to_list (asked_block s y) else []) (counting (later f y) m h) b (subst (λ (l : List DataBlock). Contains l b) (sym e) (the_one b))
+    Contains-append_left (if stays s (later f y) m h then option_to_list (asked_block s y) else []) (counting_blocks (later f y) m h) b (subst (λ (l : List DataBlock). Contains l b) (sym e) (the_one b))
 to_counting f (y ∷ h) m b (suc place) r =
-    Contains-append_right (if stays (standing_of f m) (later f y) m h then option_to_list (asked_block (standing_of f m) y) else []) (counting (later f y) m h) b
+    Contains-append_right (if stays (standing_of f m) (later f y) m h then option_to_list (asked_block (standing_of f m) y) else []) (counting_blocks (later f y) m h) b
     (to_counting (later f y) h m b place (record { stands = r.stands; asked = r.asked; stays_on = λ k l n. r.stays_on (suc k) (omega arith) (omega arith) }))

@@ -8,7 +8,7 @@ use Rattle.carousel_blocks.specs.declared.put.Put.TheVariants as puts
 use Rattle.carousel_blocks.specs.declared.standing.SkipCause.{SkipCause}
 use Rattle.carousel_blocks.specs.declared.standing.Standing.{Standing}
 use Rattle.carousel_blocks.specs.declared.modules.Module.{Module}
-use Rattle.carousel_blocks.specs.Held.{Kept, count_of, block_length, is_asked, joined, bytes_by, bytes_kept}
+use Rattle.carousel_blocks.specs.Held.{Kept, count_of, block_length, is_asked, joined_bytes, bytes_by, bytes_kept}
 use Rattle.carousel_blocks.specs.Buffers.{BufferState, is_missing, all_came, shape_length, with_block_at}
 use Rattle.carousel_blocks.specs.Modules.{Buffers, blocks_of, blocks_at, module_kept, shape_by, IsBacked, AreModules, kept_at}
 use Rattle.carousel_blocks.specs.Drafts.{asked_key_of, is_key}
@@ -244,8 +244,8 @@ module _ {S : Type 0} where
       let b = has_buffer buffers m.standing m.key key (are number m there).backed e in
       absurd (let p = h ∙ b.is in cc)
 
-  pub whole_there : (modules : HashMap ℕ Module S) (buffers : Buffers) (number : ℕ) (m : Module) (key : ℕ) (buffer : BufferState) → AreModules modules buffers → value_at nat_eq modules number ≡ Some m → m.key ≡ Some key → Some buffer ≡ get buffers key → joined buffer.blocks ≡ option_and_then bytes_kept (kept_at modules buffers number)
+  pub whole_there : (modules : HashMap ℕ Module S) (buffers : Buffers) (number : ℕ) (m : Module) (key : ℕ) (buffer : BufferState) → AreModules modules buffers → value_at nat_eq modules number ≡ Some m → m.key ≡ Some key → Some buffer ≡ get buffers key → joined_bytes buffer.blocks ≡ option_and_then bytes_kept (kept_at modules buffers number)
   whole_there modules buffers number m key buffer are there e h =
       let b = has_buffer buffers m.standing m.key key (are number m there).backed e in
-      ap (λ x. joined (blocks_of x)) h ∙ ap (λ x. joined (blocks_at buffers x)) (sym e) ∙ ap (λ x. bytes_by x (blocks_at buffers m.key)) (sym (shape_is m.standing b.buffer.shape b.shape_is).unskipped)
+      ap (λ x. joined_bytes (blocks_of x)) h ∙ ap (λ x. joined_bytes (blocks_at buffers x)) (sym e) ∙ ap (λ x. bytes_by x (blocks_at buffers m.key)) (sym (shape_is m.standing b.buffer.shape b.shape_is).unskipped)
       ∙ ap (λ x. option_and_then bytes_kept (option_map (module_kept buffers) x)) (sym there)

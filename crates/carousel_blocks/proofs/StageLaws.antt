@@ -13,7 +13,7 @@ use Rattle.dsmcc_messages.specs.Reading.{◌>>=◌, agree, message_at, indicatio
 use Rattle.carousel_blocks.specs.declared.put.Put.TheVariants as puts
 use Rattle.carousel_blocks.specs.declared.modules.Module.{Module}
 use Rattle.carousel_blocks.specs.Message.{Message, Data, message_with, message_of}
-use Rattle.carousel_blocks.specs.Held.{Kept, kept, is_asked, joined, bytes_by, bytes_kept, held}
+use Rattle.carousel_blocks.specs.Held.{Kept, kept_module, is_asked, joined_bytes, bytes_by, bytes_kept, bytes_held}
 use Rattle.carousel_blocks.specs.Buffers.{BufferState, is_missing, all_came}
 use Rattle.carousel_blocks.specs.Modules.{Buffers, blocks_of, blocks_at, module_kept, kept_at}
 use Rattle.carousel_blocks.specs.Steps.{is_wanted, with_block, answer_to, whole_in, whole_kept, whole_to}
@@ -21,7 +21,7 @@ use Rattle.carousel_blocks.specs.Carousel.{CarouselState, kept_in, StandsFor, pu
 use Rattle.carousel_blocks.specs.Staging.{whole_by, whole_with, made_whole}
 use Rattle.carousel_blocks.proofs.BufferLaws.{joined_none}
 use Rattle.carousel_blocks.proofs.PutLaws.{Meets, asks}
-use Rattle.carousel_blocks.proofs.HistoryLaws.{kept-data, answer-put}
+use Rattle.carousel_blocks.proofs.HistoryLaws.{kept_module-data, answer-put}
 use Rattle.carousel_blocks.proofs.ToldLaws.{viewed, kept_at-known, unskipped}
 
 -- ---- the buffer that the block goes into
@@ -40,7 +40,7 @@ same_slab buffers key was now h same =
 
 not_whole : (k : Kept) (block : DataBlock) → is_asked k.standing block ≡ false → None ≡ whole_kept k block
 not_whole k block h =
-    sym (ap (λ (t : Bool). if t && is_missing (slice_get k.blocks block.number) then option_map {U = ℕ × List ℕ} (λ bytes. (block.«module», bytes)) (joined (slice_set k.blocks block.number (Some block.block))) else None) h)
+    sym (ap (λ (t : Bool). if t && is_missing (slice_get k.blocks block.number) then option_map {U = ℕ × List ℕ} (λ bytes. (block.«module», bytes)) (joined_bytes (slice_set k.blocks block.number (Some block.block))) else None) h)
 
 module _ {S : Type 0} where
   -- no module asks for the block
@@ -56,8 +56,8 @@ module _ {S : Type 0} where
       → option_map {U = ℕ × List ℕ} (λ bytes. (block.«module», bytes)) (whole_in block.number block.block was) ≡ whole_to (kept_at modules buffers block.«module») block
   whole_staged_with modules buffers block key was k h =
       let blocks_then : blocks_at buffers k.m.key ≡ was.blocks = ap (blocks_at buffers) k.key_is ∙ ap blocks_of (sym h) in
-      mapped (is_missing (slice_get was.blocks block.number)) (joined (slice_set was.blocks block.number (Some block.block)))
-      ∙ ap (λ (t : Bool). if t && is_missing (slice_get was.blocks block.number) then option_map {U = ℕ × List ℕ} (λ bytes. (block.«module», bytes)) (joined (slice_set was.blocks block.number (Some block.block))) else None) (sym k.asked)
+      mapped (is_missing (slice_get was.blocks block.number)) (joined_bytes (slice_set was.blocks block.number (Some block.block)))
+      ∙ ap (λ (t : Bool). if t && is_missing (slice_get was.blocks block.number) then option_map {U = ℕ × List ℕ} (λ bytes. (block.«module», bytes)) (joined_bytes (slice_set was.blocks block.number (Some block.block))) else None) (sym k.asked)
       ∙ ap (λ (l : List (Option (List ℕ))). whole_kept (record { standing = k.m.standing; blocks = l }) block) (sym blocks_then)
       ∙ ap (λ x. whole_to (option_map (module_kept buffers) x) block) (sym k.there)
     where
@@ -76,18 +76,18 @@ first : (a b : Bool) → (a && b) ≡ true → a ≡ true
 first true b h = refl
 first false b h = h
 
-pub held_is : (h : List Message) (number : ℕ) → held h number ≡ option_and_then bytes_kept (kept h number)
-unfolding held
+pub held_is : (h : List Message) (number : ℕ) → bytes_held h number ≡ option_and_then bytes_kept (kept_module h number)
+unfolding bytes_held
 held_is h number = refl
 
 -- the module that a block makes whole, by what is kept and becomes of the block
-pub whole-known : (h : List Message) (block : DataBlock) → whole_to (kept h block.«module») block ≡ whole_by h block (put_after h block)
+pub whole-known : (h : List Message) (block : DataBlock) → whole_to (kept_module h block.«module») block ≡ whole_by h block (put_after h block)
 whole-known h block =
-    by (kept h block.«module») (kept (h ++ Data block ∷ []) block.«module») refl (kept-data h block block.«module») ∙ ap (whole_by h block) (answer-put h block)
+    by (kept_module h block.«module») (kept_module (h ++ Data block ∷ []) block.«module») refl (kept_module-data h block block.«module») ∙ ap (whole_by h block) (answer-put h block)
   where
-    told : (k : Kept) (t : Bool) → is_wanted k block ≡ true → kept (h ++ Data block ∷ []) block.«module» ≡ Some (record { standing = k.standing; blocks = slice_set k.blocks block.number (Some block.block) })
+    told : (k : Kept) (t : Bool) → is_wanted k block ≡ true → kept_module (h ++ Data block ∷ []) block.«module» ≡ Some (record { standing = k.standing; blocks = slice_set k.blocks block.number (Some block.block) })
         → all_came (slice_set k.blocks block.number (Some block.block)) ≡ t
-        → option_map {U = ℕ × List ℕ} (λ bytes. (block.«module», bytes)) (joined (slice_set k.blocks block.number (Some block.block))) ≡ whole_by h block (if t then puts.Completed block.«module» else puts.Kept)
+        → option_map {U = ℕ × List ℕ} (λ bytes. (block.«module», bytes)) (joined_bytes (slice_set k.blocks block.number (Some block.block))) ≡ whole_by h block (if t then puts.Completed block.«module» else puts.Kept)
     told k true w e came =
         let skip = unskipped k.standing k.standing.skip block.number (asks k.standing block (first (is_asked k.standing block) (is_missing (slice_get k.blocks block.number)) w)).place in
         sym (ap (option_map {U = ℕ × List ℕ} (λ bytes. (block.«module», bytes))) (held_is (h ++ Data block ∷ []) block.«module» ∙ ap (option_and_then bytes_kept) e
@@ -95,20 +95,20 @@ whole-known h block =
     told k false w e came = sym (ap (option_map {U = ℕ × List ℕ} (λ bytes. (block.«module», bytes))) (joined_none (slice_set k.blocks block.number (Some block.block)) came))
 
     each : (k : Kept) (t : Bool) → is_wanted k block ≡ t
-        → kept (h ++ Data block ∷ []) block.«module» ≡ Some (if t then (let with : Kept = record { standing = k.standing; blocks = slice_set k.blocks block.number (Some block.block) } in with) else k)
-        → (if t then option_map {U = ℕ × List ℕ} (λ bytes. (block.«module», bytes)) (joined (slice_set k.blocks block.number (Some block.block))) else None)
+        → kept_module (h ++ Data block ∷ []) block.«module» ≡ Some (if t then (let with : Kept = record { standing = k.standing; blocks = slice_set k.blocks block.number (Some block.block) } in with) else k)
+        → (if t then option_map {U = ℕ × List ℕ} (λ bytes. (block.«module», bytes)) (joined_bytes (slice_set k.blocks block.number (Some block.block))) else None)
         ≡ whole_by h block (if t then (if all_came (slice_set k.blocks block.number (Some block.block)) then puts.Completed block.«module» else puts.Kept) else puts.Ignored)
     each k true w e = told k (all_came (slice_set k.blocks block.number (Some block.block))) w e refl
     each k false w e = refl
 
-    by : (k after : Option Kept) → kept (h ++ Data block ∷ []) block.«module» ≡ after → after ≡ option_map (with_block block) k → whole_to k block ≡ whole_by h block (answer_to k block)
+    by : (k after : Option Kept) → kept_module (h ++ Data block ∷ []) block.«module» ≡ after → after ≡ option_map (with_block block) k → whole_to k block ≡ whole_by h block (answer_to k block)
     by None after there e = refl
     by (Some k) after there e = each k (is_wanted k block) refl (there ∙ e)
 
 -- ---- the section
 
 -- a section that carries a DDB carries no DII
-carries_no_dii : (section : List ℕ) (block : DataBlock) → Ok block ≡ ddb_in section → (fault : TableFault) × (dii_in section ≡ Err fault)
+pub carries_no_dii : (section : List ℕ) (block : DataBlock) → Ok block ≡ ddb_in section → (fault : TableFault) × (dii_in section ≡ Err fault)
 unfolding fields_in
 carries_no_dii section block h =
     (Kind, by (slice_index section 0 == 0x3C) (slice_index section 0 == 0x3B) (agree (kind_bytes data_block) (body section)) (agree (kind_bytes indication) (body section)) (ok_or (message_at (body section) >>= data_block_at) Short) (ok_or (message_at (body section) >>= indication_at) Short) (λ a b. apart (slice_index section 0) a b) h) where

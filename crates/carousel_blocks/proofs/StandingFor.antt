@@ -10,12 +10,12 @@ use Rattle.carousel_blocks.specs.declared.standing.Standing.{Standing}
 use Rattle.carousel_blocks.specs.declared.modules.Module.{Module}
 use Rattle.carousel_blocks.specs.Message.{Message, Indication, Data}
 use Rattle.carousel_blocks.specs.InForce.{later, in_force, standing_of, standings, is_of_module}
-use Rattle.carousel_blocks.specs.Held.{Kept, kept, held, bytes_kept, counting, kept_with}
+use Rattle.carousel_blocks.specs.Held.{Kept, kept_module, bytes_held, bytes_kept, counting_blocks, kept_with}
 use Rattle.carousel_blocks.specs.Modules.{Buffers, module_kept, kept_at, kept_for, entries_kept, standing_kept, KeepModules}
 use Rattle.carousel_blocks.specs.Drafts.{HaveStandings}
 use Rattle.carousel_blocks.specs.Steps.{TakesDii, TakesBlock, is_transaction, is_in_force, with_block, answer_to}
 use Rattle.carousel_blocks.specs.Carousel.{CarouselState, kept_in, StandsFor, KeepsSame, put_after}
-use Rattle.carousel_blocks.proofs.HistoryLaws.{later_data, in_force-append, kept-data, kept-same, kept-other, answer-put}
+use Rattle.carousel_blocks.proofs.HistoryLaws.{later_data, in_force-append, kept_module-data, kept_module-same, kept_module-other, answer-put}
 
 -- ---- looking a module up
 
@@ -54,7 +54,7 @@ stands_again c dii same h s =
     let e = later_same (in_force h) c.transaction dii s.transaction same in
     record {
       transaction = s.transaction ∙ sym (ap (option_map (λ d. d.transaction)) (in_force-append h (Indication dii) ∙ e));
-      modules = λ number. s.modules number ∙ sym (kept-same h dii number e);
+      modules = λ number. s.modules number ∙ sym (kept_module-same h dii number e);
     }
 
 pub stands_dii : (old new : CarouselState) (dii : Dii) → is_in_force old dii.transaction ≡ false → TakesDii old new dii → (h : List Message) → StandsFor old h → StandsFor new (h ++ Indication dii ∷ [])
@@ -64,13 +64,13 @@ stands_dii old new dii other takes h s =
       transaction = takes.transaction ∙ sym (ap (option_map (λ d. d.transaction)) (in_force-append h (Indication dii) ∙ e));
       modules = λ number. takes.modules number
           ∙ ap (λ (f : ℕ → Option Kept). option_map (kept_for f) (find (is_of_module number) (standings dii))) (λ i m. s.modules m i)
-          ∙ sym (kept-other h dii number e);
+          ∙ sym (kept_module-other h dii number e);
     }
 
 pub stands_block : (old new : CarouselState) (block : DataBlock) (answer : Put) → TakesBlock old new block answer → (h : List Message) → StandsFor old h → StandsFor new (h ++ Data block ∷ [])
 stands_block old new block answer takes h s = record {
   transaction = takes.transaction ∙ s.transaction ∙ sym (ap (option_map (λ d. d.transaction)) (in_force-append h (Data block) ∙ later_data (in_force h) block));
-  modules = λ number. takes.modules number ∙ ap (option_map (with_block block)) (s.modules number) ∙ sym (kept-data h block number);
+  modules = λ number. takes.modules number ∙ ap (option_map (with_block block)) (s.modules number) ∙ sym (kept_module-data h block number);
 }
 
 pub answers_block : (old new : CarouselState) (block : DataBlock) (answer : Put) → TakesBlock old new block answer → (h : List Message) → StandsFor old h → answer ≡ put_after h block
@@ -80,13 +80,13 @@ answers_block old new block answer takes h s = takes.answer_is ∙ ap (λ k. ans
 
 pub standing-known : (c : CarouselState) (h : List Message) (m : ℕ) → StandsFor c h → standing_of (in_force h) m ≡ standing_kept (kept_in c m)
 standing-known c h m s = sym (ap standing_kept (s.modules m) ∙ by (standing_of (in_force h) m)) where
-  by : (x : Option Standing) → standing_kept (option_map (kept_with (counting None m h)) x) ≡ x
+  by : (x : Option Standing) → standing_kept (option_map (kept_with (counting_blocks None m h)) x) ≡ x
   by None = refl
   by (Some y) = refl
 
-pub held-known : (c : CarouselState) (h : List Message) (m : ℕ) → StandsFor c h → option_and_then bytes_kept (kept_in c m) ≡ held h m
-unfolding held
-held-known c h m s = ap (option_and_then bytes_kept) (s.modules m)
+pub bytes_held-known : (c : CarouselState) (h : List Message) (m : ℕ) → StandsFor c h → option_and_then bytes_kept (kept_in c m) ≡ bytes_held h m
+unfolding bytes_held
+bytes_held-known c h m s = ap (option_and_then bytes_kept) (s.modules m)
 
 -- ---- what the fields say
 
@@ -97,9 +97,9 @@ module _ {S : Type 0} where
   pub takes_block_by : (transaction : Option ℕ) (modules : HashMap ℕ Module S) (old new : Buffers) (block : DataBlock) (answer : Put) (v : CarouselState) → viewed transaction modules old ≡ v
       → ((number : ℕ) → kept_at modules new number ≡ option_map (with_block block) (kept_at modules old number)) → answer ≡ answer_to (kept_at modules old block.«module») block
       → TakesBlock v (viewed transaction modules new) block answer
-  takes_block_by transaction modules old new block answer v e kept a = subst (λ (x : CarouselState). TakesBlock x (viewed transaction modules new) block answer) e (record {
+  takes_block_by transaction modules old new block answer v e kept_module a = subst (λ (x : CarouselState). TakesBlock x (viewed transaction modules new) block answer) e (record {
     transaction = refl;
-    modules = λ number. kept_in-view transaction modules new number ∙ kept number ∙ ap (option_map (with_block block)) (sym (kept_in-view transaction modules old number));
+    modules = λ number. kept_in-view transaction modules new number ∙ kept_module number ∙ ap (option_map (with_block block)) (sym (kept_in-view transaction modules old number));
     answer_is = a ∙ ap (λ k. answer_to k block) (sym (kept_in-view transaction modules old block.«module»));
   })
 
@@ -126,6 +126,6 @@ module _ {S : Type 0} where
         by None = refl
         by (Some y) = refl
 
-  pub held-by : (transaction : Option ℕ) (modules : HashMap ℕ Module S) (buffers : Buffers) (v : CarouselState) → viewed transaction modules buffers ≡ v → (h : List Message) (m : ℕ) → StandsFor v h
-      → option_and_then bytes_kept (kept_at modules buffers m) ≡ held h m
-  held-by transaction modules buffers v e h m s = ap (option_and_then bytes_kept) (sym (kept_in-view transaction modules buffers m)) ∙ ap (λ x. option_and_then bytes_kept (kept_in x m)) e ∙ held-known v h m s
+  pub bytes_held-by : (transaction : Option ℕ) (modules : HashMap ℕ Module S) (buffers : Buffers) (v : CarouselState) → viewed transaction modules buffers ≡ v → (h : List Message) (m : ℕ) → StandsFor v h
+      → option_and_then bytes_kept (kept_at modules buffers m) ≡ bytes_held h m
+  bytes_held-by transaction modules buffers v e h m s = ap (option_and_then bytes_kept) (sym (kept_in-view transaction modules buffers m)) ∙ ap (λ x. option_and_then bytes_kept (kept_in x m)) e ∙ bytes_held-known v h m s

@@ -15,7 +15,7 @@ use Rattle.carousel_blocks.specs.declared.modules.Module.{Module}
 use Rattle.carousel_blocks.specs.declared.changes.Change.{Change}
 use Rattle.carousel_blocks.specs.Message.{Message, Indication, Data}
 use Rattle.carousel_blocks.specs.InForce.{later, in_force, standings, standing_of, is_of_module}
-use Rattle.carousel_blocks.specs.Held.{Kept, kept, kept_with, counting, asked_count, count_of, is_asked, same_standing, unchanged, bytes_by, bytes_kept, held}
+use Rattle.carousel_blocks.specs.Held.{Kept, kept_module, kept_with, counting_blocks, asked_count, count_of, is_asked, same_standing, unchanged, bytes_by, bytes_kept, bytes_held}
 use Rattle.carousel_blocks.specs.Buffers.{is_missing, all_came}
 use Rattle.carousel_blocks.specs.Modules.{Buffers, KeepModules, module_kept, kept_at, entries_kept, kept_for, blocks_kept, standing_kept}
 use Rattle.carousel_blocks.specs.Changes.{change_of, gone, appeared, change_at, changes, departures, number_bound, completed, line_of, changed}
@@ -24,7 +24,7 @@ use Rattle.carousel_blocks.specs.Carousel.{CarouselState, kept_in, StandsFor, pu
 use Rattle.carousel_blocks.proofs.BufferLaws.{is_some-joined}
 use Rattle.carousel_blocks.proofs.StandingLaws.{same_is_equal, same_standing_yes}
 use Rattle.carousel_blocks.proofs.PutLaws.{asks, with_block_not}
-use Rattle.carousel_blocks.proofs.HistoryLaws.{in_force-append, later_data, found_number, kept-data, kept-same, kept-other, answer-put}
+use Rattle.carousel_blocks.proofs.HistoryLaws.{in_force-append, later_data, found_number, kept_module-data, kept_module-same, kept_module-other, answer-put}
 use Rattle.carousel_blocks.proofs.StandingFor.{stands_block, answers_block, kept_in-view, standing-by, later_same, later_other}
 use Rattle.carousel_blocks.proofs.NumberLaws.{increasing-filter_map, filter_map-same, filter_map-none, filter_map-one}
 
@@ -34,16 +34,16 @@ use Rattle.carousel_blocks.proofs.NumberLaws.{increasing-filter_map, filter_map-
 abbrev pub change_between : ℕ → Option Kept → Option Kept → Option Change
 change_between n old new = change_of n (standing_kept old) (standing_kept new) (option_and_then bytes_kept old) (option_and_then bytes_kept new)
 
-pub standing_of-kept : (h : List Message) (n : ℕ) → standing_of (in_force h) n ≡ standing_kept (kept h n)
+pub standing_of-kept : (h : List Message) (n : ℕ) → standing_of (in_force h) n ≡ standing_kept (kept_module h n)
 standing_of-kept h n = by (standing_of (in_force h) n) where
-  by : (x : Option Standing) → x ≡ standing_kept (option_map (kept_with (counting None n h)) x)
+  by : (x : Option Standing) → x ≡ standing_kept (option_map (kept_with (counting_blocks None n h)) x)
   by None = refl
   by (Some s) = refl
 
-pub change_at-kept : (before now : List Message) (n : ℕ) → change_at before now n ≡ change_between n (kept before n) (kept now n)
-unfolding held
+pub change_at-kept : (before now : List Message) (n : ℕ) → change_at before now n ≡ change_between n (kept_module before n) (kept_module now n)
+unfolding bytes_held
 change_at-kept before now n =
-    ap₂ (λ (x y : Option Standing). change_of n x y (option_and_then bytes_kept (kept before n)) (option_and_then bytes_kept (kept now n))) (standing_of-kept before n) (standing_of-kept now n)
+    ap₂ (λ (x y : Option Standing). change_of n x y (option_and_then bytes_kept (kept_module before n)) (option_and_then bytes_kept (kept_module now n))) (standing_of-kept before n) (standing_of-kept now n)
 
 -- what stays isn't told
 change_between-same : (n : ℕ) (k : Option Kept) → change_between n k k ≡ None
@@ -55,14 +55,14 @@ change_between-same n (Some k) = by (same_standing k.standing k.standing) (is_so
   by true false e = refl
   by false u e = cc
 
-same_kept : (before now : List Message) (n : ℕ) → kept now n ≡ kept before n → change_at before now n ≡ None
-same_kept before now n e = change_at-kept before now n ∙ ap (change_between n (kept before n)) e ∙ change_between-same n (kept before n)
+same_kept : (before now : List Message) (n : ℕ) → kept_module now n ≡ kept_module before n → change_at before now n ≡ None
+same_kept before now n e = change_at-kept before now n ∙ ap (change_between n (kept_module before n)) e ∙ change_between-same n (kept_module before n)
 
 nothing_changes : (before now : List Message) → ((n : ℕ) → change_at before now n ≡ None) → changes before now ≡ []
 unfolding changes
 nothing_changes before now e = filter_map-none (change_at before now) 0 number_bound (λ n l. e n)
 
-pub changes-none : (before now : List Message) → ((n : ℕ) → kept now n ≡ kept before n) → changes before now ≡ []
+pub changes-none : (before now : List Message) → ((n : ℕ) → kept_module now n ≡ kept_module before n) → changes before now ≡ []
 changes-none before now e = nothing_changes before now (λ n. same_kept before now n (e n))
 
 pub changes-still : (h : List Message) → [] ≡ changes h h
@@ -83,11 +83,11 @@ pub changes-increasing : (before now : List Message) → IsStrictlyIncreasing (m
 unfolding changes
 changes-increasing before now =
     increasing-filter_map (change_at before now) (λ change. change.«module»)
-    (λ n change e. change_number n (standing_of (in_force before) n) (standing_of (in_force now) n) (held before n) (held now n) change e) number_bound
+    (λ n change e. change_number n (standing_of (in_force before) n) (standing_of (in_force now) n) (bytes_held before n) (bytes_held now n) change e) number_bound
 
 -- the DII in force once more
 pub changes-repeated : (h : List Message) (dii : Dii) → later (in_force h) (Indication dii) ≡ in_force h → changes h (h ++ Indication dii ∷ []) ≡ []
-changes-repeated h dii e = changes-none h (h ++ Indication dii ∷ []) (λ n. kept-same h dii n e)
+changes-repeated h dii e = changes-none h (h ++ Indication dii ∷ []) (λ n. kept_module-same h dii n e)
 
 -- ---- a block
 
@@ -100,8 +100,8 @@ standing_number None n s h = cc
 standing_number (Some dii) n s h = found_number n (standings dii) s h
 
 -- a block changes nothing of other modules
-pub kept-others : (h : List Message) (block : DataBlock) (n : ℕ) → n ≢ block.«module» → kept (h ++ Data block ∷ []) n ≡ kept h n
-kept-others h block n other = kept-data h block n ∙ by (standing_of (in_force h) n) (counting None n h) refl where
+pub kept_module-others : (h : List Message) (block : DataBlock) (n : ℕ) → n ≢ block.«module» → kept_module (h ++ Data block ∷ []) n ≡ kept_module h n
+kept_module-others h block n other = kept_module-data h block n ∙ by (standing_of (in_force h) n) (counting_blocks None n h) refl where
   by : (x : Option Standing) (c : List DataBlock) → standing_of (in_force h) n ≡ x → option_map (with_block block) (option_map (kept_with c) x) ≡ option_map (kept_with c) x
   by None c e = refl
   by (Some s) c e =
@@ -111,7 +111,7 @@ kept-others h block n other = kept-data h block n ∙ by (standing_of (in_force 
 pub changes-block : (h : List Message) (block : DataBlock) → block.«module» < number_bound → changes h (h ++ Data block ∷ []) ≡ option_to_list (change_at h (h ++ Data block ∷ []) block.«module»)
 unfolding changes
 changes-block h block fits =
-    filter_map-one (change_at h (h ++ Data block ∷ [])) block.«module» 0 number_bound (omega arith) (omega arith) (λ n other. same_kept h (h ++ Data block ∷ []) n (kept-others h block n other))
+    filter_map-one (change_at h (h ++ Data block ∷ [])) block.«module» 0 number_bound (omega arith) (omega arith) (λ n other. same_kept h (h ++ Data block ∷ []) n (kept_module-others h block n other))
 
 pub missing_one : (blocks : List (Option (List ℕ))) (n : ℕ) → is_missing (slice_get blocks n) ≡ true → all_came blocks ≡ false
 missing_one [] n h = cc
@@ -163,8 +163,8 @@ block_told n (Some k) block standing_at there e = by (is_wanted k block) refl wh
 pub change_at-block : (h : List Message) (block : DataBlock) → change_at h (h ++ Data block ∷ []) block.«module» ≡ block_change (standing_of (in_force h)) (put_after h block)
 change_at-block h block =
     change_at-kept h (h ++ Data block ∷ []) block.«module»
-    ∙ ap (change_between block.«module» (kept h block.«module»)) (kept-data h block block.«module»)
-    ∙ block_told block.«module» (kept h block.«module») block (standing_of (in_force h)) (standing_of-kept h block.«module») refl
+    ∙ ap (change_between block.«module» (kept_module h block.«module»)) (kept_module-data h block block.«module»)
+    ∙ block_told block.«module» (kept_module h block.«module») block (standing_of (in_force h)) (standing_of-kept h block.«module») refl
     ∙ ap (block_change (standing_of (in_force h))) (answer-put h block)
 
 -- a block that is held or isn't asked for
@@ -175,7 +175,7 @@ changes-ignored h block ignored = nothing_changes h (h ++ Data block ∷ []) (λ
 
   by : (n : ℕ) (t : Bool) → nat_eq n block.«module» ≡ t → change_at h (h ++ Data block ∷ []) n ≡ None
   by n true e = ap (change_at h (h ++ Data block ∷ [])) (eqb-true n block.«module» e) ∙ change_at-block h block ∙ ap (block_change (standing_of (in_force h))) ignored
-  by n false e = same_kept h (h ++ Data block ∷ []) n (kept-others h block n (apart n block.«module» e))
+  by n false e = same_kept h (h ++ Data block ∷ []) n (kept_module-others h block n (apart n block.«module» e))
 
 -- ---- another DII
 
@@ -216,10 +216,10 @@ entry_told n (Some k) (Some l) stay = by (same_standing k.standing l.standing) (
   by true e = no_more (is_some (bytes_kept k)) (is_some (bytes_kept l)) (ap is_some (e refl))
   by false e = refl
 
-change_at-other : (h : List Message) (dii : Dii) (n : ℕ) → later (in_force h) (Indication dii) ≡ Some dii → entry_change_at (kept h) (kept (h ++ Indication dii ∷ [])) n ≡ change_at h (h ++ Indication dii ∷ []) n
+change_at-other : (h : List Message) (dii : Dii) (n : ℕ) → later (in_force h) (Indication dii) ≡ Some dii → entry_change_at (kept_module h) (kept_module (h ++ Indication dii ∷ [])) n ≡ change_at h (h ++ Indication dii ∷ []) n
 change_at-other h dii n e =
-    entry_told n (kept h n) (kept (h ++ Indication dii ∷ []) n)
-    (λ k l there is same. bytes_stay (kept h) n k l (find (is_of_module n) (standings dii)) there (λ s f. found_number n (standings dii) s f) (sym is ∙ kept-other h dii n e) same)
+    entry_told n (kept_module h n) (kept_module (h ++ Indication dii ∷ []) n)
+    (λ k l there is same. bytes_stay (kept_module h) n k l (find (is_of_module n) (standings dii)) there (λ s f. found_number n (standings dii) s f) (sym is ∙ kept_module-other h dii n e) same)
     ∙ sym (change_at-kept h (h ++ Indication dii ∷ []) n)
 
 -- what a carousel tells where another DII comes
@@ -252,11 +252,11 @@ told_block old new block answer takes fits change is h s =
 -- ---- the component leaves
 
 pub changes-left : (c : CarouselState) (none : ℕ → Option Kept) → ((n : ℕ) → none n ≡ None) → (h : List Message) → StandsFor c h → entry_changes (kept_in c) none ≡ departures h
-unfolding entry_changes changes held
+unfolding entry_changes changes bytes_held
 changes-left c none absent h s =
     filter_map-same (entry_change_at (kept_in c) none) (change_at h [])
     (λ n. ap₂ (λ (x y : Option Kept). entry_change n (standing_kept x) (standing_kept y) (is_some (option_and_then bytes_kept y))) (s.modules n) (absent n)
-    ∙ by n (kept h n) ∙ sym (change_at-kept h [] n))
+    ∙ by n (kept_module h n) ∙ sym (change_at-kept h [] n))
     (range_with_len 0 number_bound)
   where
     by : (n : ℕ) (x : Option Kept) → entry_change n (standing_kept x) None false ≡ change_between n x None

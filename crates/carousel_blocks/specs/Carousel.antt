@@ -8,7 +8,7 @@ use Rattle.carousel_blocks.specs.declared.put.Put.{Put}
 use Rattle.carousel_blocks.specs.declared.put.Put.TheVariants as puts
 use Rattle.carousel_blocks.specs.Message.{Message, Data}
 use Rattle.carousel_blocks.specs.InForce.{in_force, standing_of}
-use Rattle.carousel_blocks.specs.Held.{Kept, kept, held, counting, first_of, is_asked_by}
+use Rattle.carousel_blocks.specs.Held.{Kept, kept_module, bytes_held, counting_blocks, first_of, is_asked_by}
 
 -- the transactionId of the DII in force, and what is kept of each of its modules, with the module's number
 pub record CarouselState : Type 0 where
@@ -21,7 +21,7 @@ kept_in c number = lookup (nat_eq number) c.modules
 -- a carousel stands for the messages where it keeps what is to be kept of them
 pub record StandsFor (c : CarouselState) (messages : List Message) : Type 0 where
   pub transaction : c.transaction ≡ option_map (λ dii. dii.transaction) (in_force messages)
-  pub modules : (number : ℕ) → kept_in c number ≡ kept messages number
+  pub modules : (number : ℕ) → kept_in c number ≡ kept_module messages number
 
 -- a carousel keeps the same as before
 pub record KeepsSame (old new : CarouselState) : Type 0 where
@@ -37,11 +37,11 @@ skip_in_force messages number = option_and_then (λ s. s.skip) (standing_of (in_
 
 -- a block with this number counts already
 abbrev pub has_block : List Message → DataBlock → Bool
-has_block messages block = is_some (first_of (counting None block.module messages) block.number)
+has_block messages block = is_some (first_of (counting_blocks None block.module messages) block.number)
 
 -- What the next block is: ignored where no unskipped entry asks for it or it is held; else kept, and it completes its
 -- module where this is held with it.
 unfoldable pub put_after : List Message → DataBlock → Put
 put_after messages block =
     if not (is_asked_by (standing_of (in_force messages) block.module) block) || has_block messages block then puts.Ignored
-    else (if is_some (held (messages ++ Data block ∷ []) block.module) then puts.Completed block.module else puts.Kept)
+    else (if is_some (bytes_held (messages ++ Data block ∷ []) block.module) then puts.Completed block.module else puts.Kept)

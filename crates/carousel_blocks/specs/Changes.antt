@@ -13,7 +13,7 @@ use Rattle.carousel_blocks.specs.declared.changes.ChangeLine.{ChangeLine}
 use Rattle.carousel_blocks.specs.declared.changes.ChangeLine.TheVariants.{Delivered, Gone, Skipped}
 use Rattle.carousel_blocks.specs.Message.{Message}
 use Rattle.carousel_blocks.specs.InForce.{in_force, standing_of}
-use Rattle.carousel_blocks.specs.Held.{same_standing, held}
+use Rattle.carousel_blocks.specs.Held.{same_standing, bytes_held}
 
 -- the line of a module that is held
 abbrev pub delivered : Entry → ChangeLine
@@ -54,7 +54,7 @@ change_of number (Some old) (Some new) was now =
 -- the change of the module with that number, from the messages before to those now
 abbrev pub change_at : List Message → List Message → ℕ → Option Change
 change_at before now number =
-    change_of number (standing_of (in_force before) number) (standing_of (in_force now) number) (held before number) (held now number)
+    change_of number (standing_of (in_force before) number) (standing_of (in_force now) number) (bytes_held before number) (bytes_held now number)
 
 -- all changes of modules with numbers below a bound, in ascending number
 abbrev pub changes_within : ℕ → List Message → List Message → List Change

@@ -66,11 +66,11 @@ stays standing dii number (message ∷ messages) = unchanged standing (standing_
 
 -- The blocks of a module that count, behind a DII in force: those that the module's entry asks for where they come,
 -- and whose entry then stays unchanged to the end.
-abbrev pub counting : Option Dii → ℕ → List Message → List DataBlock
-counting dii number [] = []
-counting dii number (message ∷ messages) =
+abbrev pub counting_blocks : Option Dii → ℕ → List Message → List DataBlock
+counting_blocks dii number [] = []
+counting_blocks dii number (message ∷ messages) =
     (if stays (standing_of dii number) (later dii message) number messages then option_to_list (asked_block (standing_of dii number) message) else [])
-    ++ counting (later dii message) number messages
+    ++ counting_blocks (later dii message) number messages
 
 -- The same in places of the list: the block stands at this place, the entry of the DII in force there asks for it,
 -- and the entry is unchanged in the DII in force behind each place from there on.
@@ -92,10 +92,10 @@ blocks_from block_at number zero = []
 blocks_from block_at number (suc more) = block_at number ∷ blocks_from block_at (number + 1) more
 
 -- all of them joined, where none is missing
-abbrev pub joined : List (Option (List ℕ)) → Option (List ℕ)
-joined [] = Some []
-joined (None ∷ blocks) = None
-joined (Some block ∷ blocks) = option_map (λ behind. block ++ behind) (joined blocks)
+abbrev pub joined_bytes : List (Option (List ℕ)) → Option (List ℕ)
+joined_bytes [] = Some []
+joined_bytes (None ∷ blocks) = None
+joined_bytes (Some block ∷ blocks) = option_map (λ behind. block ++ behind) (joined_bytes blocks)
 
 -- what a carousel keeps of a module: its entry's standing, and for each block number the block, where it came
 pub record Kept : Type 0 where
@@ -106,17 +106,17 @@ abbrev pub kept_with : List DataBlock → Standing → Kept
 kept_with blocks standing = record { standing = standing; blocks = blocks_from (first_of blocks) 0 (count_of standing) }
 
 -- what is to be kept of a module behind these messages
-abbrev pub kept : List Message → ℕ → Option Kept
-kept messages number = option_map (kept_with (counting None number messages)) (standing_of (in_force messages) number)
+abbrev pub kept_module : List Message → ℕ → Option Kept
+kept_module messages number = option_map (kept_with (counting_blocks None number messages)) (standing_of (in_force messages) number)
 
 -- the module's bytes, where its entry isn't skipped and each of its blocks came
 abbrev pub bytes_by : Option SkipCause → List (Option (List ℕ)) → Option (List ℕ)
-bytes_by None blocks = joined blocks
+bytes_by None blocks = joined_bytes blocks
 bytes_by (Some cause) blocks = None
 
 abbrev pub bytes_kept : Kept → Option (List ℕ)
 bytes_kept k = bytes_by k.standing.skip k.blocks
 
 -- the bytes of a module that is held behind these messages
-unfoldable pub held : List Message → ℕ → Option (List ℕ)
-held messages number = option_and_then bytes_kept (kept messages number)
+unfoldable pub bytes_held : List Message → ℕ → Option (List ℕ)
+bytes_held messages number = option_and_then bytes_kept (kept_module messages number)

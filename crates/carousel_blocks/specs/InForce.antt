@@ -27,21 +27,32 @@ abbrev pub block_count : ℕ → ℕ → ℕ
 block_count zero size = 0
 block_count (suc n) size = (size + n) / suc n
 
--- a module is large by itself where it has more than 1,048,576 bytes or more than 65,536 blocks; no number of blocks
--- of no bytes makes up a module with bytes
+-- the most bytes and the most blocks of a module that isn't skipped, and the most bytes of all of a DII together
+abbrev pub size_limit : ℕ
+size_limit = 1_048_576
+
+abbrev pub block_limit : ℕ
+block_limit = 65_536
+
+abbrev pub sum_limit : ℕ
+sum_limit = 33_554_432
+
+-- a module is large by itself where it has more bytes or more blocks; no number of blocks of no bytes makes up a module
+-- with bytes
 abbrev pub is_large : ℕ → ℕ → Bool
 is_large zero size = nat_lt 0 size
-is_large (suc n) size = nat_lt 1048576 size || nat_lt 65536 (block_count (suc n) size)
+is_large (suc n) size = nat_lt size_limit size || nat_lt block_limit (block_count (suc n) size)
 
 -- a compressed module has a CompressionType descriptor
 abbrev pub is_compressed : Entry → Bool
 is_compressed entry = is_some (descriptor_in entry.info 0xC2)
 
 -- Why an entry is skipped, where it is: one that isn't compressed is large by itself, or since its size and the sizes
--- of the unskipped entries before it, which have so many bytes together, pass 33,554,432.
+-- of the unskipped entries before it, which have so many bytes together, pass the limit.
 abbrev pub skip_standing : ℕ → ℕ → Entry → Option SkipCause
 skip_standing block_size before entry =
-    if is_compressed entry then Some Compressed else (if is_large block_size entry.size || nat_lt 33554432 (before + entry.size) then Some Large else None)
+    if is_compressed entry then Some Compressed
+    else (if is_large block_size entry.size || nat_lt sum_limit (before + entry.size) then Some Large else None)
 
 -- the bytes of the modules that aren't skipped
 abbrev pub counted_size : Option SkipCause → ℕ → ℕ
@@ -59,7 +70,12 @@ is_of_module number standing = standing.entry.id == number
 abbrev pub with_entry : Dii → List Standing → Entry → List Standing
 with_entry dii before entry =
     if list_any (is_of_module entry.id) before then before
-    else before ++ record { download = dii.download; block_size = dii.block_size; entry = entry; skip = skip_standing dii.block_size (unskipped_size before) entry } ∷ []
+    else before ++ record {
+      download = dii.download;
+      block_size = dii.block_size;
+      entry = entry;
+      skip = skip_standing dii.block_size (unskipped_size before) entry;
+    } ∷ []
 
 -- The entries of a DII with their standings, in order. Of two with one number the first counts, and the second counts
 -- for nothing.

@@ -1,6 +1,8 @@
 pub mod Message
 pub mod InForce
 pub mod Held
+pub mod Places
+pub mod Entries
 pub mod Buffers
 pub mod Carousel
 pub mod Modules

@@ -2,7 +2,8 @@
 use Rattle.std.specs.Prelude.{ℕ, List, [], ◌∷◌, Option, Some, None, Result, Ok, Err}
 use Rattle.std.specs.List.{filter_map}
 use Rattle.dsmcc_messages.specs.declared.dii.Dii.{Dii}
-use Rattle.dsmcc_messages.specs.Ddb.{DataBlock}
+use Rattle.dsmcc_messages.specs.Dii.{IsDii}
+use Rattle.dsmcc_messages.specs.Ddb.{DataBlock, IsDdb}
 use Rattle.dsmcc_messages.specs.Reading.{dii_in, ddb_in}
 
 -- a DII or a DDB
@@ -18,6 +19,12 @@ message_with (Err e) (Err f) = None
 
 unfoldable pub message_of : List ℕ → Option Message
 message_of section = message_with (dii_in section) (ddb_in section)
+
+-- The section carries the message, by the relation between its bytes and the message's fields. `law_of_messages` says
+-- that this is the message that reading gives.
+abbrev pub CarriesMessage : List ℕ → Message → Type 0
+CarriesMessage section (Indication dii) = IsDii section dii
+CarriesMessage section (Data ddb) = IsDdb section ddb
 
 -- the messages of a list of sections
 abbrev pub messages_of : List (List ℕ) → List Message

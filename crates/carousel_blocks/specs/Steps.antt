@@ -8,7 +8,7 @@ use Rattle.carousel_blocks.specs.declared.put.Put.TheVariants as puts
 use Rattle.carousel_blocks.specs.declared.standing.Standing.{Standing}
 use Rattle.carousel_blocks.specs.declared.changes.Change.{Change}
 use Rattle.carousel_blocks.specs.InForce.{is_of_module, standings}
-use Rattle.carousel_blocks.specs.Held.{Kept, is_asked, same_standing, bytes_kept, joined}
+use Rattle.carousel_blocks.specs.Held.{Kept, is_asked, same_standing, bytes_kept, joined_bytes}
 use Rattle.carousel_blocks.specs.Buffers.{BufferState, is_missing, all_came, with_block_at}
 use Rattle.carousel_blocks.specs.Modules.{kept_for, standing_kept}
 use Rattle.carousel_blocks.specs.Changes.{line_by, gone, changed, appeared, completed, number_bound}
@@ -61,7 +61,7 @@ answer_in number block buffer =
 -- the module that the block completes, and the bytes that it has then
 abbrev pub whole_kept : Kept → DataBlock → Option (ℕ × List ℕ)
 whole_kept k block =
-    if is_wanted k block then option_map (λ bytes. (block.module, bytes)) (joined (slice_set k.blocks block.number (Some block.block))) else None
+    if is_wanted k block then option_map (λ bytes. (block.module, bytes)) (joined_bytes (slice_set k.blocks block.number (Some block.block))) else None
 
 abbrev pub whole_to : Option Kept → DataBlock → Option (ℕ × List ℕ)
 whole_to None block = None
@@ -69,7 +69,7 @@ whole_to (Some k) block = whole_kept k block
 
 -- the bytes of the module that a buffer is for, with a block that it lacks
 abbrev pub whole_in : ℕ → List ℕ → BufferState → Option (List ℕ)
-whole_in number block buffer = if is_missing (slice_get buffer.blocks number) then joined (slice_set buffer.blocks number (Some block)) else None
+whole_in number block buffer = if is_missing (slice_get buffer.blocks number) then joined_bytes (slice_set buffer.blocks number (Some block)) else None
 
 -- ---- what is told
 

@@ -53,7 +53,7 @@ impl Model for Buffer {
 
 impl Buffer {
     ghost use Rattle.carousel_blocks.specs.contracts.buffer.Buffer.{the_row};
-    ghost use Rattle.carousel_blocks.specs.Held.{joined};
+    ghost use Rattle.carousel_blocks.specs.Held.{joined_bytes};
     ghost use Rattle.carousel_blocks.specs.Buffers.{shape_count, shape_length, without_blocks, with_block_at, is_missing, all_came};
 
     /// A buffer for a module, to which no block came. All of its memory is taken here.
@@ -110,7 +110,7 @@ impl Buffer {
         requires missing { is_missing (slice_get self.old.blocks number) ≡ true }
         requires length { length block.now ≡ shape_length self.old.shape number }
         ensures* same { sem 𝓛 (Rests the_row self.entry (λ new. new ≡ self.old)) }
-        ensures whole { option_copied result ≡ joined (slice_set self.old.blocks number (Some block.now)) }
+        ensures whole { option_copied result ≡ joined_bytes (slice_set self.old.blocks number (Some block.now)) }
     {
         let start = self.shape.start_of(number);
         write_block(&mut self.bytes, start, block);
@@ -122,7 +122,7 @@ impl Buffer {
 
     /// The module's bytes, once each block came.
     pub fn whole(&self) -> Option<&[u8]>
-        ensures { option_copied result ≡ joined self.now.blocks }
+        ensures { option_copied result ≡ joined_bytes self.now.blocks }
     {
         if self.missing > 0 {
             return None;

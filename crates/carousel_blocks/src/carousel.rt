@@ -48,7 +48,7 @@ impl Model for Carousel {
 impl Carousel {
     ghost use Rattle.carousel_blocks.specs.Message.{Message, Indication, Data, data_in, messages_of};
     ghost use Rattle.carousel_blocks.specs.InForce.{in_force, standing_of};
-    ghost use Rattle.carousel_blocks.specs.Held.{held};
+    ghost use Rattle.carousel_blocks.specs.Held.{bytes_held};
     ghost use Rattle.carousel_blocks.specs.Carousel.{StandsFor, KeepsSame, kept_in};
     ghost use Rattle.carousel_blocks.specs.Carousel.{entry_in_force, skip_in_force, put_after};
     ghost use Rattle.carousel_blocks.specs.Changes.{changes, departures};
@@ -163,7 +163,7 @@ impl Carousel {
 
     /// The bytes of a module; None where it isn't held.
     pub fn bytes_of(&self, module: u16) -> Option<&[u8]>
-        ensures { (messages : List Message) → StandsFor self.now messages → option_copied result ≡ held messages «module» }
+        ensures { (messages : List Message) → StandsFor self.now messages → option_copied result ≡ bytes_held messages «module» }
     {
         whole_of(&self.modules, &self.buffers, module)
     }

@@ -20,8 +20,8 @@ mod standing;
 pub use crate::carousel::Carousel;
 pub use crate::changes::{Change, ChangeLine};
 pub use crate::laws::{
-    law_of_block_change, law_of_block_order, law_of_change_order, law_of_completed_modules,
-    law_of_counting, law_of_held_sizes, law_of_new_entries, law_of_no_change, law_of_same_modules,
+    law_of_block_change, law_of_block_counts, law_of_block_order, law_of_entries, law_of_change_order, law_of_completed_modules,
+    law_of_counting, law_of_first_blocks, law_of_held_modules, law_of_held_sizes, law_of_messages, law_of_new_entries, law_of_no_change, law_of_same_modules,
     law_of_transactions,
 };
 pub use crate::put::Put;

@@ -2,7 +2,8 @@ mod sections;
 
 use super::*;
 use bml_bytes::NoMemory;
-use dsmcc_messages::{Bytes, Ddb, Dii, Entries, Entry};
+use bml_bytes::Sequence;
+use dsmcc_messages::{Ddb, Dii, Entry};
 use std::alloc::Global;
 use std::test::Fail;
 
@@ -13,14 +14,14 @@ fn dii(alloc: Global, transaction: u32, modules: &[(u16, u8, u32)]) -> Result<Di
             id: *id,
             size: *size,
             version: *version,
-            info: Bytes::from(Vec::new(alloc)),
+            info: Sequence::from(Vec::new(alloc)),
         })?;
     }
     Ok(Dii {
         transaction,
         download: 1,
         block_size: 4,
-        entries: Entries::from(entries),
+        entries: Sequence::from(entries),
     })
 }
 

@@ -1,16 +1,13 @@
 -- The texts in an element, child by child.
-use Rattle.std.proofs.Common.{◌≡◌, ◌≢◌, ℕ, ◌+◌, ◌-◌, ◌<◌, ◌≤◌, List, [], ◌∷◌, ◌++◌, length, Option, Some, None, inl, inr, refl, sym, ◌∙◌, ap, subst, append_assoc, append-nil, arith}
-use Rattle.std.specs.Prelude.{IfSome}
+use Rattle.std.proofs.Common.{◌≡◌, ℕ, suc, ◌-◌, ◌<◌, List, [], ◌∷◌, ◌++◌, length, Option, Some, None, refl, sym, ◌∙◌, ap, subst, append_assoc, append-nil, arith}
+use Rattle.std.specs.Prelude.{◌↔◌, Contains, IfSome}
 use Rattle.std.specs.Option.{option_map_or}
 use Rattle.std.specs.List.{flat_map}
 use Rattle.std.proofs.lemmas.Grind.{flat_map-append}
 use Rattle.dom_tree.specs.Items.{Item, parent_of, text_of}
 use Rattle.dom_tree.specs.NodeNumbers.{number_of}
 use Rattle.dom_tree.specs.declared.node_ids.NodeId.{NodeId}
-use Rattle.dom_tree.specs.Walks.{after, children_of, first, hangs_in, places, siblings_of}
-use Rattle.dom_tree.proofs.GrowLemmas.{parent_of-child}
-use Rattle.dom_tree.proofs.PathLemmas.{parent_of-within}
-use Rattle.dom_tree.proofs.PlaceLemmas.{Ascends, Ascends-In, Ascends-places_from, In, eqb_false, eqb-same}
+use Rattle.dom_tree.specs.Walks.{after, children_of, first, siblings_of}
 use Rattle.display_list.specs.Places.{place_of}
 use Rattle.display_list.specs.Show.{box_line, child_line, element_lines, text_line}
 use Rattle.display_list.specs.declared.places.Place.{Place}
@@ -27,16 +24,9 @@ child_line-none items place child e = ap (λ (o : Option (List ℕ)). option_map
 
 -- Children one after another
 
-In-middle : (xs ys : List ℕ) (n : ℕ) → In (xs ++ n ∷ ys) n
-In-middle [] ys n = inl refl
-In-middle (x ∷ xs) ys n = inr (In-middle xs ys n)
-
-after-middle : (k : ℕ) (xs ys : List ℕ) (n : ℕ) → Ascends k (xs ++ n ∷ ys) → after (xs ++ n ∷ ys) n ≡ first ys
-after-middle k [] ys n a = rw (eqb-same n) refl
-after-middle k (x ∷ xs) ys n a =
-    let low : x + 1 ≤ n = Ascends-In (x + 1) (xs ++ n ∷ ys) n a.1 (In-middle xs ys n) in
-    let other : x ≢ n = omega arith in
-    rw (eqb_false x n other) (after-middle (x + 1) xs ys n a.1)
+Contains-middle : (xs ys : List ℕ) (n : ℕ) → Contains (xs ++ n ∷ ys) n
+Contains-middle [] ys n = (0, omega arith, refl)
+Contains-middle (x ∷ xs) ys n = let c = Contains-middle xs ys n in (suc c.0, omega (arith, c.1), c.2)
 
 first-cons : (xs : List ℕ) (n : ℕ) → Some n ≡ first xs → (ys : List ℕ) × (xs ≡ n ∷ ys)
 first-cons [] n e = absurd (cc e)
@@ -57,29 +47,36 @@ pub record ShowsChildren (items : List Item) (node : ℕ) (place : Place) (befor
 pub ShowsChildren-start : (items : List Item) (node : ℕ) (place : Place) (before : List ℕ) (next : Option ℕ) (out : List ℕ) → out ≡ before ++ box_line place → next ≡ first (children_of items node) → ShowsChildren items node place before next out
 ShowsChildren-start items node place before next out e n = record { done = []; left = children_of items node; all = refl; follows = n; lines = e ∙ ap (λ (l : List ℕ). before ++ l) (sym (append-nil (box_line place))) }
 
-child-of : (items : List Item) (node child : ℕ) (done left : List ℕ) → children_of items node ≡ done ++ left → Some child ≡ first left → parent_of items child ≡ Some node
-child-of items node child done left all follows =
-    let rest = first-cons left child follows in
-    let split = all ∙ ap (λ (l : List ℕ). done ++ l) rest.1 in
-    parent_of-child items node child (subst (λ (l : List ℕ). In l child) (sym split) (In-middle done rest.0 child))
+-- what the laws of children and parents say of this element
+pub record AreChildren (items : List Item) (node : ℕ) : Type 0 where
+  pub hang : (child : ℕ) → Contains (children_of items node) child → parent_of items child ≡ Some node
+  pub within : (child : ℕ) → parent_of items child ≡ Some node → child < length items
+  pub next : (child : ℕ) (done left : List ℕ) → children_of items node ≡ done ++ child ∷ left → after (siblings_of items child) child ≡ first left
+
+pub AreChildren-law : (items : List Item) (node : ℕ) → ((i : List Item) (n child : ℕ) → Contains (children_of i n) child ↔ (parent_of i child ≡ Some n)) → ((i : List Item) (n up : ℕ) → parent_of i n ≡ Some up → n < length i) → ((i : List Item) (n child : ℕ) (done left : List ℕ) → children_of i n ≡ done ++ child ∷ left → after (siblings_of i child) child ≡ first left) → AreChildren items node
+AreChildren-law items node hang within next = record {
+  hang = λ child. (hang items node child).0;
+  within = λ child. within items child node;
+  next = λ child done left. next items node child done left;
+}
 
 -- the next child is a node
-pub ShowsChildren-within : (items : List Item) (node : ℕ) (place : Place) (before : List ℕ) (next : Option ℕ) (child : ℕ) (out : List ℕ) → ShowsChildren items node place before next out → next ≡ Some child → child < length items
-ShowsChildren-within items node place before next child out s e = parent_of-within items child node (child-of items node child s.done s.left s.all (sym e ∙ s.follows))
+pub ShowsChildren-within : (items : List Item) (node : ℕ) (place : Place) (before : List ℕ) (next : Option ℕ) (child : ℕ) (out : List ℕ) → AreChildren items node → ShowsChildren items node place before next out → next ≡ Some child → child < length items
+ShowsChildren-within items node place before next child out law s e =
+    let rest = first-cons s.left child (sym e ∙ s.follows) in
+    let split = s.all ∙ ap (λ (l : List ℕ). s.done ++ l) rest.1 in
+    law.within child (law.hang child (subst (λ (l : List ℕ). Contains l child) (sym split) (Contains-middle s.done rest.0 child)))
 
 -- one child more
-pub ShowsChildren-more : (items : List Item) (node : ℕ) (place : Place) (before : List ℕ) (next : Option ℕ) (child : ℕ) (out : List ℕ) (following : Option ℕ) (more : List ℕ) → ShowsChildren items node place before next out → next ≡ Some child → more ≡ out ++ child_line items place child → following ≡ after (siblings_of items child) child → ShowsChildren items node place before following more
-ShowsChildren-more items node place before next child out following more s e line f =
-    let follows = sym e ∙ s.follows in
-    let rest = first-cons s.left child follows in
+pub ShowsChildren-more : (items : List Item) (node : ℕ) (place : Place) (before : List ℕ) (next : Option ℕ) (child : ℕ) (out : List ℕ) (following : Option ℕ) (more : List ℕ) → AreChildren items node → ShowsChildren items node place before next out → next ≡ Some child → more ≡ out ++ child_line items place child → following ≡ after (siblings_of items child) child → ShowsChildren items node place before following more
+ShowsChildren-more items node place before next child out following more law s e line f =
+    let rest = first-cons s.left child (sym e ∙ s.follows) in
     let split = s.all ∙ ap (λ (l : List ℕ). s.done ++ l) rest.1 in
-    let siblings : siblings_of items child ≡ s.done ++ child ∷ rest.0 = ap (λ (o : Option ℕ). places (hangs_in o) items) (child-of items node child s.done s.left s.all follows) ∙ split in
-    let ascending = subst (Ascends 0) split (Ascends-places_from (hangs_in (Some node)) 0 items) in
     record {
       done = s.done ++ child ∷ [];
       left = rest.0;
       all = split ∙ sym (append_assoc s.done (child ∷ []) rest.0);
-      follows = f ∙ ap (λ (l : List ℕ). after l child) siblings ∙ after-middle 0 s.done rest.0 child ascending;
+      follows = f ∙ law.next child s.done rest.0 split;
       lines = line ∙ ap (λ (l : List ℕ). l ++ child_line items place child) s.lines ∙ longer before (box_line place) (flat_map (child_line items place) s.done) (child_line items place child) (flat_map (child_line items place) (s.done ++ child ∷ [])) (flat_map-append (child_line items place) s.done (child ∷ []) ∙ ap (λ (l : List ℕ). flat_map (child_line items place) s.done ++ l) (append-nil (child_line items place child)));
     }
   where

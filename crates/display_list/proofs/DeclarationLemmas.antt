@@ -11,7 +11,7 @@ use denote.Param.Members.{Mut}
 use Rattle.std.proofs.lemmas.Iterator.Consumers.{YieldsList-end}
 use Rattle.std.proofs.lemmas.Iterator.Splits.{YieldsList-from_slice_split}
 use Rattle.std.proofs.lemmas.List.{map-append}
-use Rattle.display_list.specs.Inline.{Declaration, declaration_of, declarations, declared_pixels, is_semicolon, measured}
+use Rattle.display_list.specs.Inline.{Declaration, declaration_of, declarations, declared_pixels, is_semicolon, measure_of}
 use Rattle.display_list.specs.Views.{measures_in, measures_of, with_declaration}
 use Rattle.display_list.specs.declared.pixels.Measure.TheVariants.{Left, Top, Width, Height}
 use Rattle.display_list.specs.declared.inline_styles.Measures.{Measures}
@@ -50,7 +50,7 @@ measures_in-more pieces piece old new before more =
 
 -- the measures of a text are those of its declarations
 pub measures_of-is : (text : List ℕ) → measures_in (declarations text) ≡ measures_of text
-unfolding measured
+unfolding measure_of
 measures_of-is text = refl
 
 -- the pieces that a loop over them went through

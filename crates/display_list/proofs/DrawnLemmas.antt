@@ -4,10 +4,10 @@ use Rattle.std.specs.List.{filter, flat_map, range_with_len}
 use Rattle.std.proofs.lemmas.Grind.{flat_map-append}
 use Rattle.std.proofs.lemmas.List.FromFn.{get_or-map-range_with_len}
 use Rattle.dom_tree.specs.Items.{Item}
-use Rattle.display_list.specs.Places.{drawn, is_drawn}
-use Rattle.display_list.specs.Show.{clock_line, element_lines, shown}
-use Rattle.display_list.specs.Views.{standing_of}
-use Rattle.display_list.specs.declared.places.Standing.{Standing}
+use Rattle.display_list.specs.Places.{drawn_nodes, is_drawn}
+use Rattle.display_list.specs.Show.{clock_line, element_lines, display_lines}
+use Rattle.display_list.specs.Views.{node_place_of}
+use Rattle.display_list.specs.declared.places.NodePlace.{NodePlace}
 
 filter-cons : (b : Bool) (k : ℕ) (xs ys zs : List ℕ) → xs ≡ ys ++ zs → cond b (k ∷ xs) xs ≡ cond b (k ∷ ys) ys ++ zs
 filter-cons true k xs ys zs e = ap (λ (l : List ℕ). k ∷ l) e
@@ -40,8 +40,8 @@ pub lines_before-none : (items : List Item) (out : List ℕ) → out ≡ out ++ 
 unfolding lines_before
 lines_before-none items out = sym (append-nil out)
 
-pub lines_before-drawn : (items : List Item) (node : ℕ) (first out more : List ℕ) → is_drawn items node ≡ true → out ≡ first ++ lines_before items node → more ≡ out ++ element_lines items node → more ≡ first ++ lines_before items (node + 1)
-lines_before-drawn items node first out more d e line =
+pub lines_before-drawn_nodes : (items : List Item) (node : ℕ) (first out more : List ℕ) → is_drawn items node ≡ true → out ≡ first ++ lines_before items node → more ≡ out ++ element_lines items node → more ≡ first ++ lines_before items (node + 1)
+lines_before-drawn_nodes items node first out more d e line =
     line ∙ ap (λ (l : List ℕ). l ++ element_lines items node) e ∙ append_assoc first (lines_before items node) (element_lines items node)
     ∙ ap (λ (l : List ℕ). first ++ l) (sym (lines_before-more items node ∙ ap (λ (b : Bool). lines_before items node ++ cond b (element_lines items node) []) d))
 
@@ -49,16 +49,16 @@ pub lines_before-other : (items : List Item) (node : ℕ) (first out : List ℕ)
 lines_before-other items node first out d e =
     e ∙ ap (λ (l : List ℕ). first ++ l) (sym (lines_before-more items node ∙ ap (λ (b : Bool). lines_before items node ++ cond b (element_lines items node) []) d ∙ append-nil (lines_before items node)))
 
-pub lines_before-all : (items : List Item) → lines_before items (length items) ≡ flat_map (element_lines items) (drawn items)
-unfolding lines_before drawn
+pub lines_before-all : (items : List Item) → lines_before items (length items) ≡ flat_map (element_lines items) (drawn_nodes items)
+unfolding lines_before drawn_nodes
 lines_before-all items = refl
 
 -- the standing of a node, in the list of them
-pub standing-at : (items : List Item) (standings : List Standing) (node : ℕ) (found : Standing) → standings ≡ map (standing_of items) (range_with_len 0 (length items)) → node < length items → found ≡ get_or standings node found → found ≡ standing_of items node
-standing-at items standings node found e low got =
-    got ∙ ap (λ (xs : List Standing). get_or xs node found) e ∙ get_or-map-range_with_len (standing_of items) 0 (length items) node node found low (omega arith)
+pub node_place-at : (items : List Item) (node_places : List NodePlace) (node : ℕ) (found : NodePlace) → node_places ≡ map (node_place_of items) (range_with_len 0 (length items)) → node < length items → found ≡ get_or node_places node found → found ≡ node_place_of items node
+node_place-at items node_places node found e low got =
+    got ∙ ap (λ (xs : List NodePlace). get_or xs node found) e ∙ get_or-map-range_with_len (node_place_of items) 0 (length items) node node found low (omega arith)
 
 -- the whole list
-pub shown-is : (items : List Item) (clock : ℕ) → clock_line clock ++ flat_map (element_lines items) (drawn items) ≡ shown items clock
-unfolding shown
-shown-is items clock = refl
+pub display_lines-is : (items : List Item) (clock : ℕ) → clock_line clock ++ flat_map (element_lines items) (drawn_nodes items) ≡ display_lines items clock
+unfolding display_lines
+display_lines-is items clock = refl

@@ -7,16 +7,17 @@ use Rattle.std.specs.List.{filter, filter_map, cons_option, last_or, list_any, r
 use Rattle.std.proofs.lemmas.List.FromFn.{get_or-map-range_with_len}
 use Rattle.std.proofs.lemmas.Bool.Decides.{nat_tests}
 use Rattle.std.proofs.lemmas.Int.{ints}
-use Rattle.dom_tree.specs.Items.{Item, is_same, parent_of, value_of}
+use Rattle.bml_bytes.specs.Words.{is_same}
+use Rattle.dom_tree.specs.Items.{Item, parent_of, value_of}
 use Rattle.dom_tree.specs.Walks.{path_of, path_within}
-use Rattle.display_list.specs.Inline.{Declaration, declarations, declared_pixels, in_range, may_be_negative, measured, name_of, pixels, signed_pixels}
+use Rattle.display_list.specs.Inline.{Declaration, declarations, declared_pixels, in_range, may_be_negative, measure_of, name_of, pixels, signed_pixels}
 use Rattle.display_list.specs.Places.{body_of, has_tag, is_drawn, is_drawn_tag, is_placed_tag, is_under_body, offset_of, own_measure, place_of, total}
-use Rattle.display_list.specs.Views.{measures_at, measures_of, place_inside, standing_around, standing_of, standing_outside, IsFar}
+use Rattle.display_list.specs.Views.{measures_at, measures_of, place_inside, node_place_around, node_place_of, node_place_outside, IsFar}
 use Rattle.display_list.specs.declared.pixels.Measure.{Measure}
 use Rattle.display_list.specs.declared.pixels.Measure.TheVariants.{Left, Top, Width, Height}
 use Rattle.display_list.specs.declared.inline_styles.Measures.{Measures}
 use Rattle.display_list.specs.declared.places.Place.{Place}
-use Rattle.display_list.specs.declared.places.Standing.{Standing}
+use Rattle.display_list.specs.declared.places.NodePlace.{NodePlace}
 
 -- What a step up the path adds
 
@@ -58,21 +59,21 @@ is_under_body-step items node up path =
     ∙ ap (λ (under : Bool). option_map_or (λ (b : ℕ). nat_eq node b) (body_of items) false || under) (under-around items up))
 
 -- where the element around stands, part by part
-around-x : (items : List Item) (up : Option ℕ) → (option_map_or (standing_of items) up standing_outside).place.x ≡ option_map_or (offset_of Left items) up (pos 0)
+around-x : (items : List Item) (up : Option ℕ) → (option_map_or (node_place_of items) up node_place_outside).place.x ≡ option_map_or (offset_of Left items) up (pos 0)
 unfolding place_of
 around-x items None = refl
 around-x items (Some up) = refl
 
-around-y : (items : List Item) (up : Option ℕ) → (option_map_or (standing_of items) up standing_outside).place.y ≡ option_map_or (offset_of Top items) up (pos 0)
+around-y : (items : List Item) (up : Option ℕ) → (option_map_or (node_place_of items) up node_place_outside).place.y ≡ option_map_or (offset_of Top items) up (pos 0)
 unfolding place_of
 around-y items None = refl
 around-y items (Some up) = refl
 
-around-under : (items : List Item) (up : Option ℕ) → (option_map_or (standing_of items) up standing_outside).is_under_body ≡ option_map_or (is_under_body items) up false
+around-under : (items : List Item) (up : Option ℕ) → (option_map_or (node_place_of items) up node_place_outside).is_under_body ≡ option_map_or (is_under_body items) up false
 around-under items None = refl
 around-under items (Some up) = refl
 
-pub place_of-inside : (items : List Item) (node : ℕ) → path_of items node ≡ node ∷ option_map_or (path_of items) (parent_of items node) [] → place_inside (standing_around items node).place (measures_at items node) (has_tag is_placed_tag items node) ≡ place_of items node
+pub place_of-inside : (items : List Item) (node : ℕ) → path_of items node ≡ node ∷ option_map_or (path_of items) (parent_of items node) [] → place_inside (node_place_around items node).place (measures_at items node) (has_tag is_placed_tag items node) ≡ place_of items node
 unfolding place_of
 place_of-inside items node path =
     let placed = has_tag is_placed_tag items node in
@@ -81,14 +82,14 @@ place_of-inside items node path =
     let y = ap (λ (z : ℤ). cond placed (own_measure Top items node +ℤ z) z) (around-y items up) ∙ sym (offset_of-step Top items node up path) in
     λ i. record { x = x i; y = y i; width = own_measure Width items node; height = own_measure Height items node }
 
-pub is_under_body-inside : (items : List Item) (node : ℕ) → path_of items node ≡ node ∷ option_map_or (path_of items) (parent_of items node) [] → option_map_or (λ (b : ℕ). nat_eq node b) (body_of items) false || (standing_around items node).is_under_body ≡ is_under_body items node
+pub is_under_body-inside : (items : List Item) (node : ℕ) → path_of items node ≡ node ∷ option_map_or (path_of items) (parent_of items node) [] → option_map_or (λ (b : ℕ). nat_eq node b) (body_of items) false || (node_place_around items node).is_under_body ≡ is_under_body items node
 is_under_body-inside items node path =
     ap (λ (under : Bool). option_map_or (λ (b : ℕ). nat_eq node b) (body_of items) false || under) (around-under items (parent_of items node)) ∙ sym (is_under_body-step items node (parent_of items node) path)
 
 -- the standing of a node, from its parts
-pub standing_of-parts : (items : List Item) (node : ℕ) (place : Place) (under drawn : Bool) → place ≡ place_of items node → under ≡ is_under_body items node → drawn ≡ has_tag is_drawn_tag items node && under → (let standing : Standing = record { place = place; is_under_body = under; is_drawn = drawn } in standing) ≡ standing_of items node
+pub node_place_of-parts : (items : List Item) (node : ℕ) (place : Place) (under drawn_nodes : Bool) → place ≡ place_of items node → under ≡ is_under_body items node → drawn_nodes ≡ has_tag is_drawn_tag items node && under → (let node_place : NodePlace = record { place = place; is_under_body = under; is_drawn = drawn_nodes } in node_place) ≡ node_place_of items node
 unfolding is_drawn
-standing_of-parts items node place under drawn p u d =
+node_place_of-parts items node place under drawn_nodes p u d =
     let all = d ∙ ap (λ (b : Bool). has_tag is_drawn_tag items node && b) u in
     λ i. record { place = p i; is_under_body = u i; is_drawn = all i }
 
@@ -99,14 +100,14 @@ unfolding own_measure
 measures_at-some items node text e = ap (λ (value : Option (List ℕ)). measures_in_value value) e
   where
     measures_in_value : Option (List ℕ) → Measures
-    measures_in_value value = record { left = option_map_or (measured Left) value (pos 0); top = option_map_or (measured Top) value (pos 0); width = option_map_or (measured Width) value (pos 0); height = option_map_or (measured Height) value (pos 0) }
+    measures_in_value value = record { left = option_map_or (measure_of Left) value (pos 0); top = option_map_or (measure_of Top) value (pos 0); width = option_map_or (measure_of Width) value (pos 0); height = option_map_or (measure_of Height) value (pos 0) }
 
 pub measures_at-none : (items : List Item) (node : ℕ) → None ≡ value_of items node (codes "style") → (let zero_measures : Measures = record { left = pos 0; top = pos 0; width = pos 0; height = pos 0 } in zero_measures) ≡ measures_at items node
 unfolding own_measure
 measures_at-none items node e = ap (λ (value : Option (List ℕ)). measures_in_value value) e
   where
     measures_in_value : Option (List ℕ) → Measures
-    measures_in_value value = record { left = option_map_or (measured Left) value (pos 0); top = option_map_or (measured Top) value (pos 0); width = option_map_or (measured Width) value (pos 0); height = option_map_or (measured Height) value (pos 0) }
+    measures_in_value value = record { left = option_map_or (measure_of Left) value (pos 0); top = option_map_or (measure_of Top) value (pos 0); width = option_map_or (measure_of Width) value (pos 0); height = option_map_or (measure_of Height) value (pos 0) }
 
 -- How large the sums are
 
@@ -149,17 +150,17 @@ or-zero-fits : (o : Option ℤ) → IfSome o (FitsSigned w16) → FitsSigned w16
 or-zero-fits None h = record { sfits = omega arith }
 or-zero-fits (Some z) h = h
 
-measured-fits : (measure : Measure) (text : List ℕ) → FitsSigned w16 (measured measure text)
-unfolding measured
-measured-fits measure text = or-zero-fits (last_or None (filter_map (declared_pixels measure) (declarations text))) (last-fits measure None (declarations text) tt)
+measure_of-fits : (measure : Measure) (text : List ℕ) → FitsSigned w16 (measure_of measure text)
+unfolding measure_of
+measure_of-fits measure text = or-zero-fits (last_or None (filter_map (declared_pixels measure) (declarations text))) (last-fits measure None (declarations text) tt)
 
 own_measure-fits : (measure : Measure) (items : List Item) (node : ℕ) → FitsSigned w16 (own_measure measure items node)
 unfolding own_measure
 own_measure-fits measure items node = by (value_of items node (codes "style"))
   where
-    by : (o : Option (List ℕ)) → FitsSigned w16 (option_map_or (measured measure) o (pos 0))
+    by : (o : Option (List ℕ)) → FitsSigned w16 (option_map_or (measure_of measure) o (pos 0))
     by None = record { sfits = omega arith }
-    by (Some text) = measured-fits measure text
+    by (Some text) = measure_of-fits measure text
 
 -- a sum of so many numbers of sixteen bits
 record IsSumOf (count : ℕ) (z : ℤ) : Type 0 where
@@ -195,29 +196,29 @@ around-far : (measure : Measure) (items : List Item) (node : ℕ) (up : Option �
 around-far measure items node None h low = (omega (arith, ints), omega (arith, ints))
 around-far measure items node (Some up) h low = offset_of-far measure items up (omega (arith, h, low))
 
-standing-far : (items : List Item) (node : ℕ) (up : Option ℕ) → node < 16384 → IfSome up (λ n. n < node) → IsFar (option_map_or (standing_of items) up standing_outside).place.x × IsFar (option_map_or (standing_of items) up standing_outside).place.y
-standing-far items node up h low = (rw (around-x items up) (around-far Left items node up h low), rw (around-y items up) (around-far Top items node up h low))
+node_place-far : (items : List Item) (node : ℕ) (up : Option ℕ) → node < 16384 → IfSome up (λ n. n < node) → IsFar (option_map_or (node_place_of items) up node_place_outside).place.x × IsFar (option_map_or (node_place_of items) up node_place_outside).place.y
+node_place-far items node up h low = (rw (around-x items up) (around-far Left items node up h low), rw (around-y items up) (around-far Top items node up h low))
 
 -- where the element around stands is found among those before
-pub around-found : (items : List Item) (before : List Standing) (node up : ℕ) (d : Standing) → before ≡ map (standing_of items) (range_with_len 0 node) → up < node → Some up ≡ parent_of items node → get_or before up d ≡ standing_around items node
+pub around-found : (items : List Item) (before : List NodePlace) (node up : ℕ) (d : NodePlace) → before ≡ map (node_place_of items) (range_with_len 0 node) → up < node → Some up ≡ parent_of items node → get_or before up d ≡ node_place_around items node
 around-found items before node up d e low parent =
-    ap (λ (xs : List Standing). get_or xs up d) e
-    ∙ (get_or-map-range_with_len (standing_of items) 0 node up up d low (omega arith)
-    ∙ ap (λ (o : Option ℕ). option_map_or (standing_of items) o standing_outside) parent)
+    ap (λ (xs : List NodePlace). get_or xs up d) e
+    ∙ (get_or-map-range_with_len (node_place_of items) 0 node up up d low (omega arith)
+    ∙ ap (λ (o : Option ℕ). option_map_or (node_place_of items) o node_place_outside) parent)
 
-pub around-none : (items : List Item) (node : ℕ) → None ≡ parent_of items node → standing_outside ≡ standing_around items node
-around-none items node parent = ap (λ (o : Option ℕ). option_map_or (standing_of items) o standing_outside) parent
+pub around-none : (items : List Item) (node : ℕ) → None ≡ parent_of items node → node_place_outside ≡ node_place_around items node
+around-none items node parent = ap (λ (o : Option ℕ). option_map_or (node_place_of items) o node_place_outside) parent
 
-pub found-far : (items : List Item) (node up : ℕ) (found : Standing) → found ≡ standing_around items node → node < 16384 → up < node → Some up ≡ parent_of items node → IsFar found.place.x × IsFar found.place.y
+pub found-far : (items : List Item) (node up : ℕ) (found : NodePlace) → found ≡ node_place_around items node → node < 16384 → up < node → Some up ≡ parent_of items node → IsFar found.place.x × IsFar found.place.y
 found-far items node up found e h low parent =
-    let same = e ∙ ap (λ (o : Option ℕ). option_map_or (standing_of items) o standing_outside) (sym parent) in
-    subst (λ (s : Standing). IsFar s.place.x × IsFar s.place.y) (sym same) (standing-far items node (Some up) h low)
+    let same = e ∙ ap (λ (o : Option ℕ). option_map_or (node_place_of items) o node_place_outside) (sym parent) in
+    subst (λ (s : NodePlace). IsFar s.place.x × IsFar s.place.y) (sym same) (node_place-far items node (Some up) h low)
 
-pub place_of-is : (items : List Item) (node : ℕ) (outer : Standing) (own : Measures) (placed : Bool) (place : Place) → path_of items node ≡ node ∷ option_map_or (path_of items) (parent_of items node) [] → outer ≡ standing_around items node → own ≡ measures_at items node → placed ≡ has_tag is_placed_tag items node → place ≡ place_inside outer.place own placed → place ≡ place_of items node
+pub place_of-is : (items : List Item) (node : ℕ) (outer : NodePlace) (own : Measures) (placed : Bool) (place : Place) → path_of items node ≡ node ∷ option_map_or (path_of items) (parent_of items node) [] → outer ≡ node_place_around items node → own ≡ measures_at items node → placed ≡ has_tag is_placed_tag items node → place ≡ place_inside outer.place own placed → place ≡ place_of items node
 place_of-is items node outer own placed place path around measures tag e =
     e ∙ (λ i. place_inside (around i).place (measures i) (tag i)) ∙ place_of-inside items node path
 
-pub is_under_body-is : (items : List Item) (node : ℕ) (outer : Standing) (is_body under : Bool) → path_of items node ≡ node ∷ option_map_or (path_of items) (parent_of items node) [] → outer ≡ standing_around items node → is_body ≡ option_map_or (λ (b : ℕ). nat_eq node b) (body_of items) false → under ≡ is_body || outer.is_under_body → under ≡ is_under_body items node
+pub is_under_body-is : (items : List Item) (node : ℕ) (outer : NodePlace) (is_body under : Bool) → path_of items node ≡ node ∷ option_map_or (path_of items) (parent_of items node) [] → outer ≡ node_place_around items node → is_body ≡ option_map_or (λ (b : ℕ). nat_eq node b) (body_of items) false → under ≡ is_body || outer.is_under_body → under ≡ is_under_body items node
 is_under_body-is items node outer is_body under path around body e =
     e ∙ (λ i. body i || (around i).is_under_body) ∙ is_under_body-inside items node path
 

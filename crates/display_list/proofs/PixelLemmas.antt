@@ -1,5 +1,5 @@
 -- The pixels of a value, digit by digit.
-use Rattle.std.proofs.Common.{◌≡◌, ℕ, ◌+◌, ◌-◌, ◌*◌, ◌<◌, ◌≤◌, Bool, true, false, cond, List, [], ◌∷◌, length, take, get_or, Some, None, min, refl, sym, ◌∙◌, ap, arith}
+use Rattle.std.proofs.Common.{◌≡◌, ℕ, ◌+◌, ◌-◌, ◌*◌, ◌<◌, ◌≤◌, Bool, true, false, cond, List, [], ◌∷◌, ◌++◌, length, take, get_or, Some, None, min, refl, sym, ◌∙◌, ap, arith}
 use Rattle.std.proofs.lemmas.Bool.Decides.{nat_tests}
 use Rattle.std.specs.Prelude.{◌&&◌, nat_le, option_and_then, codes}
 use Rattle.std.proofs.lemmas.List.{take_more, take_all, length-take}
@@ -7,8 +7,7 @@ use Rattle.std.proofs.lemmas.List.Folds.{list_all-append}
 use Rattle.std.specs.List.{list_all}
 use Rattle.bml_bytes.specs.Numbers.{number_in}
 use Rattle.bml_bytes.specs.Numerals.{is_decimal_digit, decimal_number}
-use Rattle.bml_bytes.proofs.NumeralLaws.{decimal_number-more}
-use Rattle.dom_tree.specs.Items.{is_same}
+use Rattle.bml_bytes.specs.Words.{is_same}
 use Rattle.display_list.specs.Inline.{unit_of, without_unit, unsigned_pixels}
 use Rattle.display_list.specs.Views.{number_up_to, up_to, small_pixels}
 
@@ -21,13 +20,13 @@ pub none-read : ReadSoFar [] 0
 unfolding number_in
 none-read = record { digits_only = refl; value = refl }
 
-pub one_more-read : (codes : List ℕ) (count number digit : ℕ) → ReadSoFar (take count codes) number → count < length codes → is_decimal_digit (get_or codes count 0) ≡ true → digit ≡ get_or codes count 0 - 48 → ReadSoFar (take (count + 1) codes) (min (number * 10 + digit) 32769)
-one_more-read codes count number digit so_far within is value =
+pub one_more-read : ((digits : List ℕ) (digit : ℕ) → decimal_number (digits ++ digit ∷ []) ≡ decimal_number digits * 10 + (digit - 48)) → (codes : List ℕ) (count number digit : ℕ) → ReadSoFar (take count codes) number → count < length codes → is_decimal_digit (get_or codes count 0) ≡ true → digit ≡ get_or codes count 0 - 48 → ReadSoFar (take (count + 1) codes) (min (number * 10 + digit) 32769)
+one_more-read more codes count number digit so_far within is value =
     let longer = take_more codes count 0 within in
     let before = so_far.value in
     record {
       digits_only = rw (longer, list_all-append is_decimal_digit (take count codes) (get_or codes count 0 ∷ []), so_far.digits_only, is) refl;
-      value = rw (longer, decimal_number-more (take count codes) (get_or codes count 0)) (omega arith);
+      value = rw (longer, more (take count codes) (get_or codes count 0)) (omega arith);
     }
 
 small-by : (D number : ℕ) → number ≡ min D 32769 → number ≤ 32768 → Some number ≡ up_to 32768 D

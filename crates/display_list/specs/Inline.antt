@@ -4,7 +4,7 @@ use Rattle.std.specs.Prelude.{ℕ, ◌-◌, ◌==◌, nat_le, Bool, true, false,
 use Rattle.std.specs.List.{list_all, filter_map, last_or, prefix_len, suffix_len, before_first, after_first, slice_split}
 use Rattle.std.specs.Str.{str_to_ascii_lowercase}
 use Rattle.bml_bytes.specs.Numerals.{is_decimal_digit, decimal_number}
-use Rattle.dom_tree.specs.Items.{is_same}
+use Rattle.bml_bytes.specs.Words.{is_same}
 use Rattle.display_list.specs.declared.pixels.Measure.{Measure}
 use Rattle.display_list.specs.declared.pixels.Measure.TheVariants.{Left, Top, Width, Height}
 
@@ -37,8 +37,8 @@ is_white code = (code == 0x20) || ((code == 0x09) || ((code == 0x0A) || (code ==
 abbrev pub without_white_end : List ℕ → List ℕ
 without_white_end text = take (length text - suffix_len is_white text) text
 
-abbrev pub trimmed : List ℕ → List ℕ
-trimmed text = without_white_end (drop (prefix_len is_white text) text)
+abbrev pub without_white : List ℕ → List ℕ
+without_white text = without_white_end (drop (prefix_len is_white text) text)
 
 abbrev pub is_semicolon : ℕ → Bool
 is_semicolon code = code == 59
@@ -53,7 +53,7 @@ pub record Declaration : Type 0 where
 
 -- The name ends at the first colon. A piece without a colon is a name with an empty value, which no property has.
 abbrev pub declaration_of : List ℕ → Declaration
-declaration_of piece = record { name = trimmed (before_first is_colon piece); value = trimmed (after_first is_colon piece) }
+declaration_of piece = record { name = without_white (before_first is_colon piece); value = without_white (after_first is_colon piece) }
 
 -- The declarations of a text are its pieces between semicolons, once its comments are spaces. Letters of ASCII
 -- stand for each other in both cases, so that names and values are taken in lower case.
@@ -113,5 +113,5 @@ abbrev pub declared_pixels : Measure → Declaration → Option ℤ
 declared_pixels measure declaration = if is_same declaration.name (name_of measure) then pixels measure declaration.value else None
 
 -- the measure that a text gives: that of the last good declaration, and 0 without one
-unfoldable pub measured : Measure → List ℕ → ℤ
-measured measure text = unwrap_or (last_or None (filter_map (declared_pixels measure) (declarations text))) (pos 0)
+unfoldable pub measure_of : Measure → List ℕ → ℤ
+measure_of measure text = unwrap_or (last_or None (filter_map (declared_pixels measure) (declarations text))) (pos 0)

@@ -2,9 +2,10 @@
 use Rattle.std.specs.Prelude.{ℕ, ◌==◌, Bool, false, ◌&&◌, ◌||◌, ℤ, pos, ◌+ℤ◌, List, [], ◌∷◌, length, map, Option, codes}
 use Rattle.std.specs.Option.{option_map_or}
 use Rattle.std.specs.List.{list_any, filter, range_with_len}
-use Rattle.dom_tree.specs.Items.{Item, tag_in, tag_of, value_of, is_same}
+use Rattle.bml_bytes.specs.Words.{is_same}
+use Rattle.dom_tree.specs.Items.{Item, tag_in, tag_of, value_of}
 use Rattle.dom_tree.specs.Walks.{first, places, path_of}
-use Rattle.display_list.specs.Inline.{measured}
+use Rattle.display_list.specs.Inline.{measure_of}
 use Rattle.display_list.specs.declared.places.Place.{Place}
 use Rattle.display_list.specs.declared.pixels.Measure.{Measure}
 use Rattle.display_list.specs.declared.pixels.Measure.TheVariants.{Left, Top, Width, Height}
@@ -40,14 +41,14 @@ unfoldable pub is_drawn : List Item → ℕ → Bool
 is_drawn items node = has_tag is_drawn_tag items node && is_under_body items node
 
 -- the elements that are drawn, in document order
-unfoldable pub drawn : List Item → List ℕ
-drawn items = filter (is_drawn items) (range_with_len 0 (length items))
+unfoldable pub drawn_nodes : List Item → List ℕ
+drawn_nodes items = filter (is_drawn items) (range_with_len 0 (length items))
 
 -- Where they stand, in pixels
 
 -- what the node's own attribute `style` says, and 0 without one
 unfoldable pub own_measure : Measure → List Item → ℕ → ℤ
-own_measure measure items node = option_map_or (measured measure) (value_of items node (codes "style")) (pos 0)
+own_measure measure items node = option_map_or (measure_of measure) (value_of items node (codes "style")) (pos 0)
 
 abbrev pub total : List ℤ → ℤ
 total [] = pos 0

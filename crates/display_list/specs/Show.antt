@@ -1,36 +1,21 @@
--- The lines of a display list, each ended by a line feed, with one space between fields.
-use Rattle.std.specs.Prelude.{ℕ, ◌/◌, ◌%◌, ◌+◌, ◌==◌, nat_lt, Bool, ◌||◌, if◌then◌else◌, List, [], ◌∷◌, ◌++◌, codes}
+-- The lines of a display list, each ended by a line feed, with one space between fields. (This project's own.)
+use Rattle.std.specs.Prelude.{ℕ, List, [], ◌∷◌, ◌++◌, codes}
 use Rattle.std.specs.Option.{option_map_or}
 use Rattle.std.specs.List.{flat_map, join_with_byte}
 use Rattle.bml_bytes.specs.Codes.{bytes_of}
+use Rattle.bml_bytes.specs.Escapes.{escaped}
+use Rattle.bml_bytes.specs.declared.line_fields.Escapes.TheVariants.{Controls}
 use Rattle.bml_bytes.specs.Numerals.{decimal_digits, signed_decimal_digits}
 use Rattle.dom_tree.specs.Items.{Item, text_of}
 use Rattle.dom_tree.specs.Walks.{children_of}
-use Rattle.display_list.specs.Places.{drawn, place_of}
+use Rattle.display_list.specs.Places.{drawn_nodes, place_of}
 use Rattle.display_list.specs.declared.places.Place.{Place}
-
--- The bytes of a text
-
--- a control of ASCII, or `%`
-abbrev pub is_escaped : ℕ → Bool
-is_escaped byte = nat_lt byte 0x20 || ((byte == 0x7F) || (byte == 37))
-
--- `0` to `9`, and then `A` to `F`
-abbrev pub upper_hex_digit : ℕ → ℕ
-upper_hex_digit digit = if nat_lt digit 10 then 48 + digit else 55 + digit
-
--- `%` and two hexadecimal digits, or the byte itself
-abbrev pub escaped_byte : ℕ → List ℕ
-escaped_byte byte = if is_escaped byte then 37 ∷ upper_hex_digit (byte / 16) ∷ upper_hex_digit (byte % 16) ∷ [] else byte ∷ []
-
-abbrev pub escaped : List ℕ → List ℕ
-escaped bytes = flat_map escaped_byte bytes
 
 -- Lines
 
 -- `show CLOCK`
 unfoldable pub clock_line : ℕ → List ℕ
-clock_line clock = codes "show " ++ decimal_digits clock ++ 10 ∷ []
+clock_line clock = codes "show " ++ decimal_digits clock ++ codes "\n"
 
 -- `X Y W H`
 unfoldable pub place_fields : Place → List ℕ
@@ -38,11 +23,11 @@ place_fields place = join_with_byte 32 (signed_decimal_digits place.x ∷ signed
 
 -- `box X Y W H 8 0 7` of an element, whose background, border width and border colour are the initial ones
 unfoldable pub box_line : Place → List ℕ
-box_line place = codes "box " ++ place_fields place ++ codes " 8 0 7" ++ 10 ∷ []
+box_line place = codes "box " ++ place_fields place ++ codes " 8 0 7" ++ codes "\n"
 
 -- `text X Y W H 7 24 BYTES` of a text in an element, with the element's place
 unfoldable pub text_line : Place → List ℕ → List ℕ
-text_line place text = codes "text " ++ place_fields place ++ codes " 7 24 " ++ escaped (bytes_of text) ++ 10 ∷ []
+text_line place text = codes "text " ++ place_fields place ++ codes " 7 24 " ++ escaped Controls (bytes_of text) ++ codes "\n"
 
 -- the line of a child, where it is a text
 unfoldable pub child_line : List Item → Place → ℕ → List ℕ
@@ -53,5 +38,5 @@ unfoldable pub element_lines : List Item → ℕ → List ℕ
 element_lines items node = box_line (place_of items node) ++ flat_map (child_line items (place_of items node)) (children_of items node)
 
 -- The display list of a document at a clock's time: the elements that are drawn, in document order.
-unfoldable pub shown : List Item → ℕ → List ℕ
-shown items clock = clock_line clock ++ flat_map (element_lines items) (drawn items)
+unfoldable pub display_lines : List Item → ℕ → List ℕ
+display_lines items clock = clock_line clock ++ flat_map (element_lines items) (drawn_nodes items)

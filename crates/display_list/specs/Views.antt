@@ -4,14 +4,14 @@ use Rattle.std.specs.Option.{option_map_or}
 use Rattle.std.specs.List.{list_all, filter_map, last_or, prefix_len}
 use Rattle.bml_bytes.specs.Numerals.{is_decimal_digit, decimal_number}
 use Rattle.dom_tree.specs.Items.{Item, parent_of}
-use Rattle.display_list.specs.Inline.{Declaration, declared_pixels, is_white, measured, unsigned_pixels}
+use Rattle.display_list.specs.Inline.{Declaration, declared_pixels, is_white, measure_of, unsigned_pixels}
 use Rattle.display_list.specs.Places.{is_drawn, is_under_body, own_measure, place_of}
 use Rattle.display_list.specs.declared.pixels.Measure.{Measure}
 use Rattle.display_list.specs.declared.pixels.Measure.TheVariants.{Left, Top, Width, Height}
 use Rattle.display_list.specs.declared.inline_styles.Measures.{Measures}
 use Rattle.display_list.specs.declared.inline_styles.Declaration.{Declaration as DeclarationCode}
 use Rattle.display_list.specs.declared.places.Place.{Place}
-use Rattle.display_list.specs.declared.places.Standing.{Standing}
+use Rattle.display_list.specs.declared.places.NodePlace.{NodePlace}
 
 -- what stands behind two codes, where they stand first
 abbrev pub behind_pair : ℕ → ℕ → List ℕ → Option (List ℕ)
@@ -56,23 +56,23 @@ with_declaration measures d = record { left = unwrap_or (declared_pixels Left d)
 
 -- what the text of a style gives
 abbrev pub measures_of : List ℕ → Measures
-measures_of text = record { left = measured Left text; top = measured Top text; width = measured Width text; height = measured Height text }
+measures_of text = record { left = measure_of Left text; top = measure_of Top text; width = measure_of Width text; height = measure_of Height text }
 
 -- what a node's own style gives it
 abbrev pub measures_at : List Item → ℕ → Measures
 measures_at items node = record { left = own_measure Left items node; top = own_measure Top items node; width = own_measure Width items node; height = own_measure Height items node }
 
 -- where a node stands
-abbrev pub standing_of : List Item → ℕ → Standing
-standing_of items node = record { place = place_of items node; is_under_body = is_under_body items node; is_drawn = is_drawn items node }
+abbrev pub node_place_of : List Item → ℕ → NodePlace
+node_place_of items node = record { place = place_of items node; is_under_body = is_under_body items node; is_drawn = is_drawn items node }
 
 -- what the root stands in
-abbrev pub standing_outside : Standing
-standing_outside = record { place = record { x = pos 0; y = pos 0; width = pos 0; height = pos 0 }; is_under_body = false; is_drawn = false }
+abbrev pub node_place_outside : NodePlace
+node_place_outside = record { place = record { x = pos 0; y = pos 0; width = pos 0; height = pos 0 }; is_under_body = false; is_drawn = false }
 
 -- where the element stands that a node hangs in
-abbrev pub standing_around : List Item → ℕ → Standing
-standing_around items node = option_map_or (standing_of items) (parent_of items node) standing_outside
+abbrev pub node_place_around : List Item → ℕ → NodePlace
+node_place_around items node = option_map_or (node_place_of items) (parent_of items node) node_place_outside
 
 -- the box of a node with these measures, from that of what it stands in; a node that isn't placed adds no offsets
 abbrev pub place_inside : Place → Measures → Bool → Place

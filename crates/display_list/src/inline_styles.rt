@@ -2,12 +2,12 @@
 
 ghost use Rattle.std.specs.Prelude.{◌≡◌, [], map, pos, IfOk};
 ghost use Rattle.std.specs.List.{after_first, before_first, position, slice_split};
-ghost use Rattle.display_list.specs.Inline.{declared_pixels, declaration_of, is_colon, is_semicolon, is_white as spec_is_white, trimmed as spec_trimmed};
+ghost use Rattle.display_list.specs.Inline.{declared_pixels, declaration_of, is_colon, is_semicolon, is_white as spec_is_white, without_white as spec_without_white};
 ghost use Rattle.display_list.specs.Views.{declaration_seen, measures_of, measures_in, without_white_front as spec_without_white_front, with_declaration};
 
 use crate::comments::plain_text;
 use crate::pixels::Measure;
-use bml_bytes::NoMemory;
+use bml_bytes::{NoMemory, is_word};
 use std::alloc::Global;
 
 const COLON: u16 = 0x3A;
@@ -81,8 +81,8 @@ impl<'a> Declaration<'a> {
     {
         let (name, value) = split_at_colon(piece);
         Declaration {
-            name: trimmed(name),
-            value: trimmed(value),
+            name: without_white(name),
+            value: without_white(value),
         }
     }
 
@@ -90,7 +90,7 @@ impl<'a> Declaration<'a> {
     fn pixels(&self, measure: Measure) -> Option<i16>
         ensures { result ≡ declared_pixels measure (declaration_seen self.now) }
     {
-        if self.name == measure.name() {
+        if is_word(self.name, measure.name()) {
             measure.pixels(self.value)
         } else {
             None
@@ -115,8 +115,8 @@ fn place_of_colon(text: &[u16]) -> Option<usize>
     text.iter().position(|code| *code == COLON)
 }
 
-fn trimmed(text: &[u16]) -> &[u16]
-    ensures { result.now ≡ spec_trimmed text.now }
+fn without_white(text: &[u16]) -> &[u16]
+    ensures { result.now ≡ spec_without_white text.now }
 {
     let mut rest = without_white_front(text);
     'end: while let Some((last, fewer)) = rest.split_last() {

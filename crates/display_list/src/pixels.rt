@@ -1,10 +1,13 @@
 //! The pixels that a value stands for.
 
-ghost use Rattle.std.specs.Prelude.{◌≡◌, ◌≤◌, ◌-◌, length, is_some, IfSome};
+ghost use Rattle.std.specs.Prelude.{◌≡◌, ◌≤◌, ◌-◌, length, is_some, codes, IfSome, IsFalse, IsTrue, MatchOption};
 ghost use Rattle.std.specs.List.{list_all};
+ghost use Rattle.bml_bytes.specs.Words.{is_same};
 ghost use Rattle.bml_bytes.specs.Numerals.{is_decimal_digit};
-ghost use Rattle.display_list.specs.Inline.{may_be_negative as spec_may_be_negative, name_of, pixels};
+ghost use Rattle.display_list.specs.Inline.{may_be_negative as spec_may_be_negative, name_of, pixels, unit_of, without_unit};
 ghost use Rattle.display_list.specs.Views.{number_up_to, small_pixels, small_signed_pixels};
+
+use bml_bytes::{is_word, law_of_decimals};
 
 /// What a style gives an element, in pixels.
 #[derive(Clone, Copy, Debug, PartialEq, Eq)]
@@ -17,18 +20,6 @@ pub enum Measure {
     Height,
 }
 
-const LEFT: [u16; 4] = [0x6C, 0x65, 0x66, 0x74];
-
-const TOP: [u16; 3] = [0x74, 0x6F, 0x70];
-
-const WIDTH: [u16; 5] = [0x77, 0x69, 0x64, 0x74, 0x68];
-
-const HEIGHT: [u16; 6] = [0x68, 0x65, 0x69, 0x67, 0x68, 0x74];
-
-const ZERO: [u16; 1] = [0x30];
-
-const UNIT: [u16; 2] = [0x70, 0x78];
-
 const MINUS: u16 = 0x2D;
 
 /// The most pixels in any direction, and a number past it.
@@ -38,14 +29,14 @@ const TOO_MANY: u32 = 32_769;
 
 impl Measure {
     /// The name of its property, in lower case.
-    pub fn name(self) -> &'static [u16]
+    pub fn name(self) -> &'static str
         ensures { result.now ≡ name_of self }
     {
         match self {
-            Measure::Left => &LEFT,
-            Measure::Top => &TOP,
-            Measure::Width => &WIDTH,
-            Measure::Height => &HEIGHT,
+            Measure::Left => "left",
+            Measure::Top => "top",
+            Measure::Width => "width",
+            Measure::Height => "height",
         }
     }
 
@@ -87,14 +78,26 @@ fn unsigned_pixels(value: &[u16]) -> Option<u32>
     ensures pixels { result ≡ small_pixels value.now }
     ensures small { IfSome result (λ number. number ≤ 32768) }
 {
-    if value == ZERO.as_slice() {
+    if is_word(value, "0") {
         return Some(0);
     }
-    let digits = value.strip_suffix(&UNIT)?;
+    let digits = before_unit(value)?;
     if digits.is_empty() {
         return None;
     }
     number_of(digits)
+}
+
+// What stands before the unit, and None where the text has another end.
+fn before_unit(value: &[u16]) -> Option<&[u16]>
+    ensures { MatchOption result (IsFalse (is_same (unit_of value.now) (codes "px"))) (λ front. (front.now ≡ without_unit value.now) × IsTrue (is_same (unit_of value.now) (codes "px"))) }
+{
+    let unit = value.len().saturating_sub(2);
+    if is_word(&value[unit..], "px") {
+        Some(&value[..unit])
+    } else {
+        None
+    }
 }
 
 // The number of some digits, up to the most, and None where there is another code.
@@ -102,6 +105,7 @@ fn number_of(digits: &[u16]) -> Option<u32>
     ensures number { result ≡ number_up_to 32768 digits.now }
     ensures small { IfSome result (λ number. number ≤ 32768) }
 {
+    law_of_decimals();
     let mut number: u32 = 0;
     'digits: for digit in digits {
         number = (number * 10 + decimal_digit(*digit)?).min(TOO_MANY);

@@ -7,22 +7,12 @@ ghost use Rattle.dom_tree.specs.Items.{parent_of};
 ghost use Rattle.dom_tree.specs.NodeNumbers.{number_of};
 ghost use Rattle.dom_tree.specs.Walks.{most_nodes, path_of};
 ghost use Rattle.display_list.specs.Places.{body_of, has_tag, is_body_tag, is_drawn_tag as spec_is_drawn_tag, is_placed_tag as spec_is_placed_tag};
-ghost use Rattle.display_list.specs.Views.{measures_at, place_inside, standing_around, standing_of, standing_outside, IsFar};
+ghost use Rattle.display_list.specs.Views.{measures_at, place_inside, node_place_around, node_place_of, node_place_outside, IsFar};
 
 use crate::inline_styles::Measures;
 use bml_bytes::{NoMemory, Text};
 use dom_tree::{NodeId, Tree};
 use std::alloc::Global;
-
-const BODY: [u16; 4] = [0x62, 0x6F, 0x64, 0x79];
-
-const DIV: [u16; 3] = [0x64, 0x69, 0x76];
-
-const P: [u16; 1] = [0x70];
-
-const INPUT: [u16; 5] = [0x69, 0x6E, 0x70, 0x75, 0x74];
-
-const OBJECT: [u16; 6] = [0x6F, 0x62, 0x6A, 0x65, 0x63, 0x74];
 
 /// The box of an element, in pixels from the top left of the screen.
 #[derive(Clone, Copy, Debug, PartialEq, Eq)]
@@ -36,27 +26,27 @@ pub struct Place {
 /// Where a node stands: the sums of the offsets from the root down to it, its own size, and whether it is the
 /// body or stands under it.
 #[derive(Clone, Copy, Debug, PartialEq, Eq)]
-pub struct Standing {
+pub struct NodePlace {
     pub place: Place,
     pub is_under_body: bool,
     pub is_drawn: bool,
 }
 
 /// Where each node stands, in document order.
-pub fn standings_of(alloc: Global, tree: &Tree) -> Result<Vec<Standing>, NoMemory>
-    ensures { IfOk result (λ standings. standings.items ≡ map (standing_of tree.now) (range_with_len 0 (length tree.now))) }
+pub fn node_places_of(alloc: Global, tree: &Tree) -> Result<Vec<NodePlace>, NoMemory>
+    ensures { IfOk result (λ node_places. node_places.items ≡ map (node_place_of tree.now) (range_with_len 0 (length tree.now))) }
 {
     let style = Text::of_bytes(alloc, b"style")?;
     let body = first_body(tree);
     let count = tree.node_count();
-    let mut standings = Vec::with_capacity(alloc, count as usize)?;
+    let mut node_places = Vec::with_capacity(alloc, count as usize)?;
     'nodes: for number in 0..count {
         let node = NodeId(number);
         let own = own_measures(alloc, tree, node, &style)?;
-        let standing = Standing::of(tree, node, body, own, standings.as_slice());
-        standings.push(standing)?;
+        let node_place = NodePlace::of(tree, node, body, own, node_places.as_slice());
+        node_places.push(node_place)?;
     }
-    Ok(standings)
+    Ok(node_places)
 }
 
 impl Place {
@@ -83,27 +73,27 @@ impl Place {
     }
 }
 
-impl Standing {
+impl NodePlace {
     // Where a node stands, from where those before it stand.
     fn of(
         tree: &Tree,
         node: NodeId,
         body: Option<NodeId>,
         own: Measures,
-        before: &[Standing],
-    ) -> Standing
+        before: &[NodePlace],
+    ) -> NodePlace
         requires node { node.0 < length tree.now }
         requires few { node.0 < most_nodes }
         requires body { number_of body ≡ body_of tree.now }
         requires own { own ≡ measures_at tree.now node.0 }
-        requires before { before.now ≡ map (standing_of tree.now) (range_with_len 0 node.0) }
-        ensures { result ≡ standing_of tree.now node.0 }
+        requires before { before.now ≡ map (node_place_of tree.now) (range_with_len 0 node.0) }
+        ensures { result ≡ node_place_of tree.now node.0 }
     {
-        let outer = Standing::around(tree, node, before);
+        let outer = NodePlace::around(tree, node, before);
         let place = Place::inside(outer.place, own, is_placed(tree, node));
         let is_box = is_box(tree, node);
         let is_under_body = is_node(body, node) || outer.is_under_body;
-        Standing {
+        NodePlace {
             place,
             is_under_body,
             is_drawn: is_box && is_under_body,
@@ -111,26 +101,26 @@ impl Standing {
     }
 
     // Where the element stands that a node hangs in.
-    fn around(tree: &Tree, node: NodeId, before: &[Standing]) -> Standing
+    fn around(tree: &Tree, node: NodeId, before: &[NodePlace]) -> NodePlace
         requires node { node.0 < length tree.now }
         requires few { node.0 < most_nodes }
-        requires before { before.now ≡ map (standing_of tree.now) (range_with_len 0 node.0) }
-        ensures outer { result ≡ standing_around tree.now node.0 }
+        requires before { before.now ≡ map (node_place_of tree.now) (range_with_len 0 node.0) }
+        ensures outer { result ≡ node_place_around tree.now node.0 }
         ensures path { path_of tree.now node.0 ≡ node.0 ∷ option_map_or (path_of tree.now) (parent_of tree.now node.0) [] }
         ensures x { IsFar result.place.x }
         ensures y { IsFar result.place.y }
     {
         match tree.parent(node) {
             Some(NodeId(up)) => before[up as usize],
-            None => Standing::outside(),
+            None => NodePlace::outside(),
         }
     }
 
     // What the root stands in.
-    fn outside() -> Standing
-        ensures { result ≡ standing_outside }
+    fn outside() -> NodePlace
+        ensures { result ≡ node_place_outside }
     {
-        Standing {
+        NodePlace {
             place: Place {
                 x: 0,
                 y: 0,
@@ -189,7 +179,7 @@ fn is_body(tree: &Tree, node: NodeId) -> bool
     ensures { result ≡ has_tag is_body_tag tree.now node.0 }
 {
     match tree.tag(node) {
-        Some(tag) => tag.codes() == BODY.as_slice(),
+        Some(tag) => tag.is_word("body"),
         None => false,
     }
 }
@@ -200,7 +190,7 @@ fn is_box(tree: &Tree, node: NodeId) -> bool
     ensures { result ≡ has_tag spec_is_drawn_tag tree.now node.0 }
 {
     match tree.tag(node) {
-        Some(tag) => is_drawn_tag(tag.codes()),
+        Some(tag) => is_drawn_tag(tag),
         None => false,
     }
 }
@@ -211,19 +201,19 @@ fn is_placed(tree: &Tree, node: NodeId) -> bool
     ensures { result ≡ has_tag spec_is_placed_tag tree.now node.0 }
 {
     match tree.tag(node) {
-        Some(tag) => is_placed_tag(tag.codes()),
+        Some(tag) => is_placed_tag(tag),
         None => false,
     }
 }
 
-fn is_drawn_tag(tag: &[u16]) -> bool
+fn is_drawn_tag(tag: &Text) -> bool
     ensures { result ≡ spec_is_drawn_tag tag.now }
 {
-    tag == BODY.as_slice() || tag == DIV.as_slice() || tag == P.as_slice()
+    tag.is_word("body") || tag.is_word("div") || tag.is_word("p")
 }
 
-fn is_placed_tag(tag: &[u16]) -> bool
+fn is_placed_tag(tag: &Text) -> bool
     ensures { result ≡ spec_is_placed_tag tag.now }
 {
-    is_drawn_tag(tag) || tag == INPUT.as_slice() || tag == OBJECT.as_slice()
+    is_drawn_tag(tag) || tag.is_word("input") || tag.is_word("object")
 }

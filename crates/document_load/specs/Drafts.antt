@@ -11,9 +11,19 @@ pub record DraftState : Type 0 where
   pub given : List (Option (List ℕ))
 
 -- nothing is given yet
-abbrev pub opened : Path → List Item → DraftState
-opened path items = record { items = items; needs = needs_of path items; given = replicate (length (needs_of path items)) None }
+abbrev pub draft_of : Path → List Item → DraftState
+draft_of path items =
+    record {
+      items = items;
+      needs = needs_of path items;
+      given = replicate (length (needs_of path items)) None;
+    }
 
 -- the text of this need is this one, whatever it was before
-abbrev pub given_with : ℕ → List ℕ → DraftState → DraftState
-given_with number text draft = record { items = draft.items; needs = draft.needs; given = slice_set draft.given number (Some text) }
+abbrev pub with_gift : ℕ → List ℕ → DraftState → DraftState
+with_gift number text draft =
+    record {
+      items = draft.items;
+      needs = draft.needs;
+      given = slice_set draft.given number (Some text);
+    }

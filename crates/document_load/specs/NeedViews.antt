@@ -1,4 +1,4 @@
--- What the reader of needs keeps.
+-- A device of the proofs: what the reader of needs keeps.
 use Rattle.std.specs.Prelude.{◌≡◌, codes}
 use Rattle.document_load.specs.declared.needs.AttributeNames.{AttributeNames}
 

@@ -1,13 +1,15 @@
--- The resources that a document needs (BML, ARIB STD-B24, volume 2; which attributes count is this project's own profile).
+-- The resources that a document needs (BML, ARIB STD-B24, volume 2; which attributes count is this
+-- project's own profile).
 use Rattle.std.specs.Prelude.{ℕ, if◌then◌else◌, List, Option, None, option_and_then, codes}
 use Rattle.std.specs.List.{filter_map}
-use Rattle.dom_tree.specs.Items.{Attribute, Content, Item, is_same, value_in}
+use Rattle.bml_bytes.specs.Words.{is_same}
+use Rattle.dom_tree.specs.Items.{Attribute, Content, Item, value_in}
 use Rattle.dom_tree.specs.Items.Content.{Element, Text}
-use Rattle.multipart_entities.specs.Paths.{resolved}
+use Rattle.multipart_entities.specs.Paths.{path_of_text}
 use Rattle.multipart_entities.specs.declared.paths.Path.{Path}
 
--- the text by which an element names a resource that it needs: a `link` by `href`, a `script` by `src`; tags and names compare
--- by case
+-- the text by which an element names a resource that it needs: a `link` by `href`, a `script` by
+-- `src`; tags and names compare by case
 abbrev pub reference_by : List ℕ → List Attribute → Option (List ℕ)
 reference_by tag attributes =
     if is_same tag (codes "link") then value_in attributes (codes "href")
@@ -20,7 +22,7 @@ reference_in (Text text) = None
 
 -- the path that a node names, seen from the document's; one that isn't resolved is no need
 abbrev pub need_in : Path → Item → Option Path
-need_in base item = option_and_then (λ text. resolved text base) (reference_in item.content)
+need_in base item = option_and_then (λ text. path_of_text text base) (reference_in item.content)
 
 -- the needs of a document at a path, in document order
 unfoldable pub needs_of : Path → List Item → List Path

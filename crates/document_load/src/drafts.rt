@@ -4,7 +4,7 @@ ghost use Rattle.std.specs.Prelude.{◌≡◌, ◌≢◌, ◌<◌, ◌↔◌, Li
 ghost use Rattle.bml_bytes.specs.Codes.{codes};
 ghost use Rattle.bml_reader.specs.Readings.{reading_of};
 ghost use Rattle.dom_tree.specs.Items.{Item};
-ghost use Rattle.document_load.specs.Drafts.{given_with, opened};
+ghost use Rattle.document_load.specs.Drafts.{with_gift, draft_of};
 
 use crate::needs::needs_of;
 use bml_bytes::{NoMemory, Text};
@@ -41,9 +41,13 @@ impl Model for Draft {
     ghost invariant = { λ draft. length draft.given.items ≡ length draft.needs.items };
 }
 
-/// Reads a document that lies at a path, and finds its needs. The faults are those of `read_document`, in its order.
+/// Reads a document that lies at a path, and finds its needs. The faults are those of
+/// `read_document`, in its order.
 pub fn read_draft(alloc: Global, bytes: &[u8], path: &Path) -> Result<Draft, DocFault>
-    ensures reading { MatchResult result (λ draft. (items : List Item) × (reading_of bytes.now ≡ Ok items) × (draft ≡ opened path.now items)) (λ fault. fault ≢ DocFault.NoMemory → reading_of bytes.now ≡ Err fault) }
+    ensures reading { MatchResult result (λ draft. (items : List Item)
+        × (reading_of bytes.now ≡ Ok items)
+        × (draft ≡ draft_of path.now items)) (λ fault. fault ≢ DocFault.NoMemory
+        → reading_of bytes.now ≡ Err fault) }
 {
     let tree = read_document(alloc, bytes)?;
     let draft = Draft::open(alloc, tree, path)?;
@@ -53,14 +57,15 @@ pub fn read_draft(alloc: Global, bytes: &[u8], path: &Path) -> Result<Draft, Doc
 impl Draft {
     // The draft of a document at a path.
     fn open(alloc: Global, tree: Tree, path: &Path) -> Result<Draft, NoMemory>
-        ensures { IfOk result (λ draft. draft ≡ opened path.now tree) }
+        ensures { IfOk result (λ draft. draft ≡ draft_of path.now tree) }
     {
         let needs = needs_of(alloc, &tree, path)?;
         let given = nothing_given(alloc, needs.len())?;
         Ok(Draft { tree, needs, given })
     }
 
-    /// The path of a need, counted from 0 in document order, and None exactly past the last. This takes no memory.
+    /// The path of a need, counted from 0 in document order, and None exactly past the last. This
+    /// takes no memory.
     pub fn need(&self, number: usize) -> Option<&Path>
         ensures path { option_copied result ≡ slice_get self.now.needs number }
         ensures known { IsSome result ↔ (number < length self.now.needs) }
@@ -75,11 +80,11 @@ impl Draft {
         self.needs.as_slice()
     }
 
-    /// Gives the bytes of a need, which are kept as text. A second gift of one number replaces the first. After `NoMemory` the
-    /// draft is as before.
+    /// Gives the bytes of a need, which are kept as text. A second gift of one number replaces the
+    /// first. After `NoMemory` the draft is as before.
     pub fn give(&mut self, number: usize, bytes: &[u8]) -> Result<(), NoMemory>
         requires need { number < length self.old.needs }
-        ensures ok { OnOk result (self.new ≡ given_with number (codes bytes.now) self.old) }
+        ensures ok { OnOk result (self.new ≡ with_gift number (codes bytes.now) self.old) }
         ensures err { OnErr result (self.new ≡ self.old) }
     {
         let text = Text::of_bytes(*self.given.allocator(), bytes)?;

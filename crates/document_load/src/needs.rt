@@ -1,7 +1,6 @@
 //! The resources that the nodes of a document need.
 
 ghost use Rattle.std.specs.Prelude.{◌≡◌, ◌<◌, IfOk, length, option_and_then, option_copied, slice_get, codes as ascii};
-ghost use Rattle.dom_tree.specs.Items.{is_same};
 ghost use Rattle.document_load.specs.Needs.{need_in, needs_of, reference_in};
 ghost use Rattle.document_load.specs.NeedViews.{AreNames};
 
@@ -9,14 +8,6 @@ use bml_bytes::{NoMemory, Text};
 use dom_tree::{NodeId, Tree};
 use multipart_entities::Path;
 use std::alloc::Global;
-
-const LINK: [u16; 4] = [0x6C, 0x69, 0x6E, 0x6B];
-
-const SCRIPT: [u16; 6] = [0x73, 0x63, 0x72, 0x69, 0x70, 0x74];
-
-const HREF: [u16; 4] = [0x68, 0x72, 0x65, 0x66];
-
-const SRC: [u16; 3] = [0x73, 0x72, 0x63];
 
 // The names of the attributes that name resources.
 #[derive(Drop)]
@@ -42,8 +33,8 @@ pub fn needs_of(alloc: Global, tree: &Tree, base: &Path) -> Result<Vec<Path>, No
 fn attribute_names(alloc: Global) -> Result<AttributeNames, NoMemory>
     ensures { IfOk result AreNames }
 {
-    let href = Text::of_codes(alloc, &HREF)?;
-    let src = Text::of_codes(alloc, &SRC)?;
+    let href = Text::of_bytes(alloc, b"href")?;
+    let src = Text::of_bytes(alloc, b"src")?;
     Ok(AttributeNames { href, src })
 }
 
@@ -57,7 +48,8 @@ fn need_of(
 ) -> Result<Option<Path>, NoMemory>
     requires node { node.0 < length tree.now }
     requires names { AreNames names.now }
-    ensures { IfOk result (λ need. need ≡ option_and_then (need_in base.now) (slice_get tree.now node.0)) }
+    ensures { IfOk result (λ need. need
+        ≡ option_and_then (need_in base.now) (slice_get tree.now node.0)) }
 {
     match reference_of(tree, node, names) {
         None => Ok(None),
@@ -69,20 +61,15 @@ fn need_of(
 fn reference_of<'a>(tree: &'a Tree, node: NodeId, names: &AttributeNames) -> Option<&'a Text>
     requires node { node.0 < length tree.now }
     requires names { AreNames names.now }
-    ensures { option_copied result ≡ option_and_then (λ item. reference_in item.content) (slice_get tree.now node.0) }
+    ensures { option_copied result
+        ≡ option_and_then (λ item. reference_in item.content) (slice_get tree.now node.0) }
 {
     let tag = tree.tag(node)?;
-    if is_tag(tag, &LINK) {
+    if tag.is_word("link") {
         tree.attribute(node, &names.href)
-    } else if is_tag(tag, &SCRIPT) {
+    } else if tag.is_word("script") {
         tree.attribute(node, &names.src)
     } else {
         None
     }
-}
-
-fn is_tag(tag: &Text, codes: &[u16]) -> bool
-    ensures { result ≡ is_same tag.now codes.now }
-{
-    tag.codes() == codes
 }

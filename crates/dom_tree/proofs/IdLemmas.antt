@@ -4,7 +4,8 @@ use Rattle.std.specs.Prelude.{slice_get, map, option_map, codes}
 use Rattle.std.specs.Option.{option_map_or}
 use Rattle.std.proofs.lemmas.List.{append-nil}
 use Rattle.std.specs.HashMap.{HashMap}
-use Rattle.dom_tree.specs.Items.{Item, Content, Attribute, is_same, attributes_in, value_in, has_id, changed_at, with_text, with_attribute, with_value}
+use Rattle.bml_bytes.specs.Words.{is_same}
+use Rattle.dom_tree.specs.Items.{Item, Content, Attribute, attributes_in, value_in, has_id, changed_at, with_text, with_attribute, with_value}
 use Rattle.dom_tree.specs.Items.Content.{Element, Text}
 use Rattle.dom_tree.specs.Walks.{places, places_from, first, node_of_id}
 use Rattle.dom_tree.specs.Links.{content_of, item_of, items_in, IsIndexOf}

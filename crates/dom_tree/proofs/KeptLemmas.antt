@@ -7,7 +7,8 @@ use Rattle.indexmap.specs.IndexMap.{get}
 use Rattle.std.proofs.lemmas.List.{length-map, map-append}
 use Rattle.std.proofs.lemmas.Option.{slice_get-map, slice_get_within, slice_get_read}
 use Rattle.std.specs.HashMap.{HashMap}
-use Rattle.dom_tree.specs.Items.{Item, Content, attributes_in, tag_in, text_in, tag_of, text_of, IsElement, IsText, is_same, value_in, value_of, has_id, changed_at, with_text, put_text, with_attribute, with_last_attribute}
+use Rattle.bml_bytes.specs.Words.{is_same}
+use Rattle.dom_tree.specs.Items.{Item, Content, attributes_in, tag_in, text_in, tag_of, text_of, IsElement, IsText, value_in, value_of, has_id, changed_at, with_text, put_text, with_attribute, with_last_attribute}
 use Rattle.dom_tree.specs.Items.Content.{Element, Text}
 use Rattle.dom_tree.specs.Walks.{last, children_of, node_of_id, most_nodes, IsOpen, IsTree}
 use Rattle.dom_tree.specs.NodeNumbers.{number_of}

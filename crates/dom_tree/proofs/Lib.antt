@@ -8,3 +8,6 @@ pub mod NeighbourLemmas
 pub mod IdLemmas
 pub mod KeptLemmas
 pub mod NestedLemmas
+pub mod ChildLemmas
+pub mod SubtreeLemmas
+pub mod ChangeLemmas

@@ -15,7 +15,7 @@ parent_of-within [] n q h = absurd (cc h)
 parent_of-within (item ∷ items) zero q h = omega arith
 parent_of-within (item ∷ items) (suc n) q h = omega (arith, parent_of-within items n q h)
 
-IsSomeAnd-at : (o : Option ℕ) (q : ℕ) (P : ℕ → Type 0) → o ≡ Some q → IsSomeAnd o P → P q
+pub IsSomeAnd-at : (o : Option ℕ) (q : ℕ) (P : ℕ → Type 0) → o ≡ Some q → IsSomeAnd o P → P q
 IsSomeAnd-at None q P e h = absurd h
 IsSomeAnd-at (Some n) q P e h = let same : n ≡ q = cc e in subst P same h
 

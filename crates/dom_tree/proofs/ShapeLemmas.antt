@@ -102,7 +102,7 @@ IsTree-same old new h tree = record {
 }
 
 pub KeepsPlaces-same : (old new : List Item) → SameShape old new → KeepsPlaces old new
-KeepsPlaces-same old new h = record { count = length-same old new h; tags = tag_of-same old new h; paths = path_of-same old new h; open_still = IsOpen-same old new h }
+KeepsPlaces-same old new h = record { count = length-same old new h; tags = tag_of-same old new h; parents = parent_of-same old new h; children = λ n. places-same old new h (Some n); paths = path_of-same old new h; open_still = IsOpen-same old new h }
 
 -- The changes keep the shape
 

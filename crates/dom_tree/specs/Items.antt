@@ -1,9 +1,9 @@
--- A document's tree as the list of its nodes in document order (DOM level 1: elements with attributes, and
--- texts; the list is this project's own form). A node's number is its place in the list, from 0. Texts, tags
--- and names are lists of codes.
+-- A document's tree as the list of its nodes in document order (DOM level 1: elements with
+-- attributes, and texts; the list is this project's own form). A node's number is its place in the
+-- list, from 0. Texts, tags and names are lists of codes.
 use Rattle.std.specs.Prelude.{ℕ, zero, suc, List, [], ◌∷◌, ◌++◌, Option, Some, None, Bool, false, if◌then◌else◌, slice_get, find, nat_eq, option_map, option_and_then, IsSome, codes}
 use Rattle.std.specs.Option.{option_map_or}
-use Rattle.std.specs.Cmp.Lexicographic.{pointwise}
+use Rattle.bml_bytes.specs.Words.{is_same}
 
 -- an attribute of an element
 pub record Attribute : Type 0 where
@@ -20,18 +20,17 @@ pub record Item : Type 0 where
   pub parent : Option ℕ
   pub content : Content
 
--- the two texts have the same codes
-abbrev pub is_same : List ℕ → List ℕ → Bool
-is_same a b = pointwise nat_eq a b
-
 -- the value of the attribute of this name
 abbrev pub value_in : List Attribute → List ℕ → Option (List ℕ)
 value_in attributes name = option_map (λ a. a.value) (find (λ a. is_same name a.name) attributes)
 
--- the attributes with this value for the name: an attribute of the name keeps its place, and a new one goes last
+-- the attributes with this value for the name: an attribute of the name keeps its place, and a new
+-- one goes last
 abbrev pub with_value : List Attribute → List ℕ → List ℕ → List Attribute
 with_value [] name value = record { name = name; value = value } ∷ []
-with_value (a ∷ attributes) name value = if is_same name a.name then record { name = a.name; value = value } ∷ attributes else a ∷ with_value attributes name value
+with_value (a ∷ attributes) name value =
+    if is_same name a.name then record { name = a.name; value = value } ∷ attributes
+    else a ∷ with_value attributes name value
 
 abbrev pub tag_in : Content → Option (List ℕ)
 tag_in (Element tag _) = Some tag
@@ -61,7 +60,8 @@ text_of items node = option_and_then (λ item. text_in item.content) (slice_get 
 
 -- the attributes of an element, in the order written, and none of a text
 abbrev pub attributes_of : List Item → ℕ → List Attribute
-attributes_of items node = option_map_or (λ item. attributes_in item.content) (slice_get items node) []
+attributes_of items node =
+    option_map_or (λ item. attributes_in item.content) (slice_get items node) []
 
 -- the value of the element's attribute of this name
 abbrev pub value_of : List Item → ℕ → List ℕ → Option (List ℕ)
@@ -76,7 +76,8 @@ IsText items node = IsSome (text_of items node)
 
 -- the element has the attribute `id` (HTML 4, 7.5.2), with this value
 abbrev pub has_id : List ℕ → Item → Bool
-has_id id item = option_map_or (is_same id) (value_in (attributes_in item.content) (codes "id")) false
+has_id id item =
+    option_map_or (is_same id) (value_in (attributes_in item.content) (codes "id")) false
 
 -- New nodes
 
@@ -104,12 +105,14 @@ abbrev pub with_text : List ℕ → Item → Item
 with_text text item = record { parent = item.parent; content = put_text text item.content }
 
 abbrev pub put_last : List ℕ → List ℕ → Content → Content
-put_last name value (Element tag attributes) = Element tag (attributes ++ record { name = name; value = value } ∷ [])
+put_last name value (Element tag attributes) =
+    Element tag (attributes ++ record { name = name; value = value } ∷ [])
 put_last name value (Text text) = Text text
 
 -- the same element with one attribute more, the last; a text stays as it is
 abbrev pub with_last_attribute : List ℕ → List ℕ → Item → Item
-with_last_attribute name value item = record { parent = item.parent; content = put_last name value item.content }
+with_last_attribute name value item =
+    record { parent = item.parent; content = put_last name value item.content }
 
 abbrev pub put_value : List ℕ → List ℕ → Content → Content
 put_value name value (Element tag attributes) = Element tag (with_value attributes name value)
@@ -117,4 +120,5 @@ put_value name value (Text text) = Text text
 
 -- the same element with this value for the attribute of this name; a text stays as it is
 abbrev pub with_attribute : List ℕ → List ℕ → Item → Item
-with_attribute name value item = record { parent = item.parent; content = put_value name value item.content }
+with_attribute name value item =
+    record { parent = item.parent; content = put_value name value item.content }

@@ -1,4 +1,4 @@
--- The numbers of nodes.
+-- The numbers of nodes (this project's own form of references to nodes).
 use Rattle.std.specs.Prelude.{ℕ, Option, option_map}
 use Rattle.dom_tree.specs.declared.node_ids.NodeId.{NodeId}
 

@@ -21,12 +21,20 @@ pub struct Node {
 impl Node {
     ghost use Rattle.std.specs.Prelude.{IsSome, OnOk, OnErr, IfOk, false};
     ghost use Rattle.std.specs.Option.{option_map_or};
-    ghost use Rattle.dom_tree.specs.Items.{is_same, tag_in, value_in, attributes_in, with_attribute};
+    ghost use Rattle.bml_bytes.specs.Words.{is_same};
+    ghost use Rattle.dom_tree.specs.Items.{tag_in, value_in, attributes_in, with_attribute};
     ghost use Rattle.dom_tree.specs.Links.{content_of, item_of, links_of};
 
     /// A node without children and with nothing behind it.
     pub fn last(kind: NodeKind, parent: Option<NodeId>, previous_sibling: Option<NodeId>) -> Node
-        ensures { result ≡ record { kind = kind; parent = parent; first_child = None; last_child = None; next_sibling = None; previous_sibling = previous_sibling } }
+        ensures { result ≡ record {
+          kind = kind;
+          parent = parent;
+          first_child = None;
+          last_child = None;
+          next_sibling = None;
+          previous_sibling = previous_sibling;
+        } }
     {
         Node {
             kind,
@@ -42,7 +50,8 @@ impl Node {
     pub fn put_attribute(&mut self, name: Text, value: Text) -> Result<Option<Text>, NoMemory>
         requires { IsSome (tag_in (content_of self.old.kind)) }
         ensures ok { OnOk result (item_of self.new ≡ with_attribute name value (item_of self.old)) }
-        ensures had { IfOk result (λ had. had ≡ value_in (attributes_in (content_of self.old.kind)) name) }
+        ensures had { IfOk result (λ had. had
+            ≡ value_in (attributes_in (content_of self.old.kind)) name) }
         ensures err { OnErr result (item_of self.new ≡ item_of self.old) }
         ensures links { links_of self.new ≡ links_of self.old }
     {
@@ -54,7 +63,8 @@ impl Node {
 
     /// Whether it is an element whose attribute of this name has this value.
     pub fn has_value(&self, name: &Text, value: &Text) -> bool
-        ensures { result ≡ option_map_or (is_same value.now) (value_in (attributes_in (content_of self.now.kind)) name.now) false }
+        ensures { result ≡ option_map_or (is_same value.now)
+            (value_in (attributes_in (content_of self.now.kind)) name.now) false }
     {
         match &self.kind {
             NodeKind::Element(element) => match element.attribute(name) {
@@ -110,9 +120,12 @@ impl ElementNode {
     /// Gives an attribute a value, and answers the value that it had.
     pub fn put_attribute(&mut self, name: Text, value: Text) -> Result<Option<Text>, NoMemory>
         ensures tag { self.new.tag ≡ self.old.tag }
-        ensures ok { OnOk result (attributes_in_map self.new.attributes ≡ with_value (attributes_in_map self.old.attributes) name value) }
-        ensures had { IfOk result (λ had. had ≡ value_in (attributes_in_map self.old.attributes) name) }
-        ensures err { OnErr result (attributes_in_map self.new.attributes ≡ attributes_in_map self.old.attributes) }
+        ensures ok { OnOk result (attributes_in_map self.new.attributes
+            ≡ with_value (attributes_in_map self.old.attributes) name value) }
+        ensures had { IfOk result (λ had. had
+            ≡ value_in (attributes_in_map self.old.attributes) name) }
+        ensures err { OnErr result (attributes_in_map self.new.attributes
+            ≡ attributes_in_map self.old.attributes) }
     {
         Ok(self.attributes.insert(name, value)?)
     }

@@ -6,7 +6,8 @@ use std::alloc::Global;
 use std::process::Abort;
 use std::test::Fail;
 
-// `<bml><body id="a"><p id="a">x</p>y<p/></body></bml>`, node by node: 0 bml, 1 body, 2 p, 3 x, 4 y, 5 p.
+// `<bml><body id="a"><p id="a">x</p>y<p/></body></bml>`, node by node: 0 bml, 1 body, 2 p, 3 x, 4
+// y, 5 p.
 fn small_document(rt: &impl Abort, alloc: Global) -> Tree {
     let tree = Tree::with_root(alloc, word(rt, alloc, b"bml"));
     let mut tree = tree.expect(rt, "memory");
@@ -64,14 +65,14 @@ fn number(node: Option<NodeId>) -> i64 {
 fn a_small_document_is_walked(rt: HostRuntime) {
     let alloc = rt.alloc();
     let tree = small_document(&rt, alloc);
-    // node, parent, first child, last child, next, previous
+    // node, parent, first child, last child, next, previous, the end of its subtree
     let rows = [
-        [0, -1, 1, 1, -1, -1],
-        [1, 0, 2, 5, -1, -1],
-        [2, 1, 3, 3, 4, -1],
-        [3, 2, -1, -1, -1, -1],
-        [4, 1, -1, -1, 5, 2],
-        [5, 1, -1, -1, -1, 4],
+        [0, -1, 1, 1, -1, -1, 6],
+        [1, 0, 2, 5, -1, -1, 6],
+        [2, 1, 3, 3, 4, -1, 4],
+        [3, 2, -1, -1, -1, -1, 4],
+        [4, 1, -1, -1, 5, 2, 5],
+        [5, 1, -1, -1, -1, 4, 6],
     ];
     assert!(rt; tree.node_count() == 6);
     for (place, row) in rows.iter().enumerate() {
@@ -82,6 +83,7 @@ fn a_small_document_is_walked(rt: HostRuntime) {
         assert_eq!(rt; number(tree.last_child(node)), row[3]);
         assert_eq!(rt; number(tree.next_sibling(node)), row[4]);
         assert_eq!(rt; number(tree.previous_sibling(node)), row[5]);
+        assert_eq!(rt; i64::from(tree.subtree_end(node)), row[6]);
     }
     assert!(rt; !tree.contains(NodeId(6)));
     assert!(rt; tree.is_open(NodeId(5)) && tree.is_open(NodeId(0)) && !tree.is_open(NodeId(2)));

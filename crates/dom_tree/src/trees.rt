@@ -1,9 +1,10 @@
 //! The tree of a document, and the walks over it.
 
-ghost use Rattle.std.specs.Prelude.{◌≡◌, ◌<◌, ◌↔◌, ◌∷◌, ℕ, Some, [], length, slice_get, option_map, option_copied, IsTrue, IfSome};
+ghost use Rattle.std.specs.Prelude.{◌≡◌, ◌<◌, ◌≤◌, ◌+◌, ◌↔◌, ◌∷◌, ℕ, Some, [], length, slice_get, option_map, option_copied, IsTrue, IfNone, IfSome, IsSomeAnd};
+ghost use Rattle.std.specs.Bool.{OnTrue, OnFalse};
 ghost use Rattle.std.specs.Option.{option_map_or};
 ghost use Rattle.dom_tree.specs.Items.{IsElement, parent_of, tag_of, text_of, attributes_of, value_of};
-ghost use Rattle.dom_tree.specs.Walks.{first, last, after, before, children_of, siblings_of, path_of, node_of_id, IsOpen, IsTree};
+ghost use Rattle.dom_tree.specs.Walks.{first, last, after, before, children_of, siblings_of, path_of, node_of_id, IsEndOf, IsOpen, IsTree};
 
 mod building;
 mod changes;
@@ -17,8 +18,8 @@ use std::marker::Model;
 /// The most nodes of a document. This limit is this project's own.
 pub const MOST_NODES: u32 = 16_384;
 
-/// The tree of a document: elements with attributes, and texts. Contracts see the list of its nodes in
-/// document order; a node's number is its place there. Each walk reads one node.
+/// The tree of a document: elements with attributes, and texts. Contracts see the list of its nodes
+/// in document order; a node's number is its place there. Each walk reads one node.
 #[derive(Drop)]
 pub struct Tree {
     nodes: Vec<Node>,
@@ -64,7 +65,9 @@ impl Tree {
         requires { node.0 < length self.now }
         ensures parent { number_of result ≡ parent_of self.now node.0 }
         ensures before { IfSome result (λ up. (up.0 < node.0) × IsElement self.now up.0) }
-        ensures path { path_of self.now node.0 ≡ node.0 ∷ option_map_or (path_of self.now) (parent_of self.now node.0) [] }
+        ensures root { IfNone result (node.0 ≡ 0) }
+        ensures path { path_of self.now node.0
+            ≡ node.0 ∷ option_map_or (path_of self.now) (parent_of self.now node.0) [] }
         ensures open { IsOpen self.now node.0 → IfSome result (λ up. IsOpen self.now up.0) }
     {
         self.at(node).parent
@@ -106,11 +109,29 @@ impl Tree {
         self.at(node).previous_sibling
     }
 
-    /// The first element in document order whose attribute `id` is this text, case and white included
-    /// (HTML 4, 7.5.2). The cost is that of one look-up by the text's hash.
+    /// The number behind the last node that stands in this one: the nodes from this one up to that
+    /// number are those that stand in it at any depth, itself among them. The cost is their number.
+    pub fn subtree_end(&self, node: NodeId) -> u32
+        requires { node.0 < length self.now }
+        ensures end { IsEndOf self.now node.0 result }
+        ensures behind { node.0 < result }
+        ensures within { result ≤ length self.now }
+    {
+        let count = self.node_count();
+        'behind: for number in node.0 + 1..count {
+            if self.hangs_before(NodeId(number), node) {
+                return number;
+            }
+        }
+        count
+    }
+
+    /// The first element in document order whose attribute `id` is this text, case and white
+    /// included (HTML 4, 7.5.2). The cost is that of one look-up by the text's hash.
     pub fn by_id(&self, id: &Text) -> Option<NodeId>
         ensures first { number_of result ≡ node_of_id self.now id.now }
-        ensures element { IfSome result (λ node. (node.0 < length self.now) × IsElement self.now node.0) }
+        ensures element { IfSome result (λ node. (node.0 < length self.now)
+            × IsElement self.now node.0) }
     {
         self.ids.get(id).copied()
     }
@@ -137,7 +158,8 @@ impl Tree {
         }
     }
 
-    /// The value of an element's attribute, and None of a text or where the element lacks the attribute.
+    /// The value of an element's attribute, and None of a text or where the element lacks the
+    /// attribute.
     pub fn attribute(&self, node: NodeId, name: &Text) -> Option<&Text>
         requires { node.0 < length self.now }
         ensures { option_copied result ≡ value_of self.now node.0 name.now }
@@ -148,11 +170,12 @@ impl Tree {
         }
     }
 
-    /// The name of an element's attribute at a place in the order written, from 0. None of a text and past
-    /// the last attribute.
+    /// The name of an element's attribute at a place in the order written, from 0. None of a text
+    /// and past the last attribute.
     pub fn attribute_name(&self, node: NodeId, place: usize) -> Option<&Text>
         requires { node.0 < length self.now }
-        ensures { option_copied result ≡ option_map (λ a. a.name) (slice_get (attributes_of self.now node.0) place) }
+        ensures { option_copied result
+            ≡ option_map (λ a. a.name) (slice_get (attributes_of self.now node.0) place) }
     {
         match &self.at(node).kind {
             NodeKind::Element(element) => match element.attributes.get_index(place) {
@@ -160,6 +183,21 @@ impl Tree {
                 None => None,
             },
             NodeKind::Text(_) => None,
+        }
+    }
+
+    // Whether a node, which isn't the root, hangs in one that stands before a node.
+    fn hangs_before(&self, node: NodeId, place: NodeId) -> bool
+        requires within { node.0 < length self.now }
+        requires not_root { 0 < node.0 }
+        ensures before { OnTrue result
+            (IsSomeAnd (parent_of self.now node.0) (λ up. up < place.0)) }
+        ensures behind { OnFalse result
+            (IsSomeAnd (parent_of self.now node.0) (λ up. place.0 ≤ up)) }
+    {
+        match self.parent(node) {
+            Some(up) => up.0 < place.0,
+            None => false,
         }
     }
 

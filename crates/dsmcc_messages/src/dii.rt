@@ -5,11 +5,10 @@ ghost use Rattle.dsmcc_messages.specs.Message.{indication, IsOfKind};
 ghost use Rattle.dsmcc_messages.specs.Dii.{IsDii, entry_of};
 ghost use Rattle.dsmcc_messages.specs.Reading.{dii_in, entries_at, entry_at, indication_at, is_of_kind, long_bytes_at, modules_at, short_bytes_at, sizes_at, IsRead, IsReadAt, with_left};
 
-use crate::bytes::Bytes;
-use crate::entry::{Entries, Entry};
+use crate::entry::Entry;
 use crate::laws::law_of_dii;
 use crate::message::{Message, MessageKind, message_in};
-use bml_bytes::{Cursor, TableFault, TableRefusal};
+use bml_bytes::{Cursor, Sequence, TableFault, TableRefusal};
 use std::alloc::Global;
 
 /// A DII (ISO/IEC 13818-6, 7.3).
@@ -22,7 +21,7 @@ pub struct Dii {
     /// The length in bytes of each block of a module but its last.
     pub block_size: u16,
     /// All entries in the order in which they were sent, also several with one number.
-    pub entries: Entries,
+    pub entries: Sequence<Entry>,
 }
 
 impl Dii {
@@ -114,7 +113,7 @@ fn long_bytes<'a>(cursor: &mut Cursor<'a>) -> Option<&'a [u8]>
 
 // The entries behind their number.
 #[tactic(auto, unfolding(crate::specs::Reading::modules_at))]
-fn modules(alloc: Global, cursor: &mut Cursor<'_>) -> Result<Entries, TableRefusal>
+fn modules(alloc: Global, cursor: &mut Cursor<'_>) -> Result<Sequence<Entry>, TableRefusal>
     ensures { IsReadAt (λ entries. entries) result cursor.new (modules_at cursor.old) }
 {
     let count = cursor.u16().ok_or(TableFault::Short)?;
@@ -123,7 +122,7 @@ fn modules(alloc: Global, cursor: &mut Cursor<'_>) -> Result<Entries, TableRefus
         let entry = entry(alloc, cursor)?;
         entries.push(entry)?;
     }
-    Ok(Entries::from(entries))
+    Ok(Sequence::from(entries))
 }
 
 // The next entry.
@@ -136,7 +135,7 @@ fn entry(alloc: Global, cursor: &mut Cursor<'_>) -> Result<Entry, TableRefusal>
         id: fields.id,
         size: fields.size,
         version: fields.version,
-        info: Bytes::from(info),
+        info: Sequence::from(info),
     })
 }
 

@@ -7,7 +7,6 @@
 //! most one list of fields.
 #![tactic(auto)]
 
-mod bytes;
 mod ddb;
 mod descriptor;
 mod dii;
@@ -15,11 +14,10 @@ mod entry;
 mod laws;
 mod message;
 
-pub use crate::bytes::Bytes;
 pub use crate::ddb::{Ddb, read_ddb};
 pub use crate::descriptor::{COMPRESSION_TYPE, MEDIA_TYPE, find_descriptor};
 pub use crate::dii::{Dii, read_dii};
-pub use crate::entry::{Entries, Entry};
+pub use crate::entry::Entry;
 pub use crate::laws::{law_of_ddb, law_of_descriptors, law_of_dii};
 
 #[cfg(test)]

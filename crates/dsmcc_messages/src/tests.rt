@@ -101,7 +101,7 @@ fn dii_of_two_entries_with_one_number(rt: HostRuntime) -> Result<(), Fail> {
     let other = dii.entry(2).ok_or("module 2 has an entry")?;
     assert_eq!(rt; (other.version, other.size), (3, 0x0102_0304));
     let mut versions = 0u32;
-    for entry in Entries::from(dii.entries.into_vec()).as_slice() {
+    for entry in dii.entries.as_slice() {
         versions = versions
             .wrapping_mul(10)
             .wrapping_add(u32::from(entry.version));
@@ -207,7 +207,7 @@ fn descriptors(rt: HostRuntime) -> Result<(), Fail> {
             Err(TableFault::Short)
         )
     );
-    let kept = Bytes::from(info.to_vec(rt.alloc())?);
+    let kept = Sequence::from(info.to_vec(rt.alloc())?);
     assert_eq!(rt; kept.as_slice(), info.as_slice());
     assert_eq!(rt; kept.into_vec().len(), 10);
     law_of_descriptors();

@@ -13,7 +13,7 @@ use Rattle.carousel_blocks.specs.declared.standing.Standing.{Standing}
 use Rattle.carousel_blocks.specs.declared.changes.Change.{Change}
 use Rattle.carousel_blocks.specs.Message.{Message}
 use Rattle.carousel_blocks.specs.InForce.{in_force, standing_of}
-use Rattle.carousel_blocks.specs.Held.{kept_with, held, counting, bytes_by, bytes_kept}
+use Rattle.carousel_blocks.specs.Held.{kept_with, bytes_held, counting_blocks, bytes_by, bytes_kept}
 use Rattle.carousel_blocks.specs.Changes.{change_of, change_at, changes, changes_within, number_bound, completed, changed, delivered}
 use Rattle.module_store.specs.Store.{delivered_by, deliveries_of, last_place_from, number_at}
 use Rattle.module_store.specs.Noted.{noted, noted_count, with_number}
@@ -107,9 +107,9 @@ held_stands : (o : Option Standing) (blocks : List DataBlock) (bytes : List ℕ)
 held_stands None blocks bytes e = absurd cc
 held_stands (Some s) blocks bytes e = (s, refl, unskipped s.skip (kept_with blocks s).blocks bytes e)
 
-held_in_force : (messages : List Message) (number : ℕ) (bytes : List ℕ) → held messages number ≡ Some bytes → (s : Standing) × (standing_of (in_force messages) number ≡ Some s) × (s.skip ≡ None)
-unfolding held
-held_in_force messages number bytes e = held_stands (standing_of (in_force messages) number) (counting None number messages) bytes e
+held_in_force : (messages : List Message) (number : ℕ) (bytes : List ℕ) → bytes_held messages number ≡ Some bytes → (s : Standing) × (standing_of (in_force messages) number ≡ Some s) × (s.skip ≡ None)
+unfolding bytes_held
+held_in_force messages number bytes e = held_stands (standing_of (in_force messages) number) (counting_blocks None number messages) bytes e
 
 either : (same : Bool) (number : ℕ) (entry : Entry) → delivered_in (cond same (Some (completed number entry)) (Some (changed number (Some (delivered entry))))) ≡ Some number
 either true number entry = refl
@@ -120,7 +120,7 @@ delivers : (number : ℕ) (old : Option Standing) (new : Standing) (bytes : List
 delivers number None new bytes e = rw e refl
 delivers number (Some old) new bytes e = rw e (either _ number new.entry)
 
-pub newly_held : (before now : List Message) (number : ℕ) (bytes : List ℕ) → held before number ≡ None → held now number ≡ Some bytes → delivered_in (change_at before now number) ≡ Some number
+pub newly_held : (before now : List Message) (number : ℕ) (bytes : List ℕ) → bytes_held before number ≡ None → bytes_held now number ≡ Some bytes → delivered_in (change_at before now number) ≡ Some number
 newly_held before now number bytes was is =
     let stands = held_in_force now number bytes is in
     rw (stands.1, was, is) (delivers number (standing_of (in_force before) number) stands.0 bytes stands.2)
@@ -166,10 +166,10 @@ all_deliver change number from (suc count) low high is =
     by_place (inr differ) behind = later_delivers number (change from) (filter_map change (range_with_len (from + 1) count)) (behind (omega arith))
 
 -- what the changes of a section deliver: each module that is held behind it and wasn't before
-pub section_delivers : (before now : List Message) (number : ℕ) → number < number_bound → held before number ≡ None → is_some (held now number) ≡ true → Delivers number (deliveries_of (changes before now))
+pub section_delivers : (before now : List Message) (number : ℕ) → number < number_bound → bytes_held before number ≡ None → is_some (bytes_held now number) ≡ true → Delivers number (deliveries_of (changes before now))
 unfolding changes
-section_delivers before now number low was is = by_held (held now number) refl is
+section_delivers before now number low was is = by_held (bytes_held now number) refl is
   where
-    by_held : (o : Option (List ℕ)) → held now number ≡ o → is_some o ≡ true → Delivers number (deliveries_of (changes_within number_bound before now))
+    by_held : (o : Option (List ℕ)) → bytes_held now number ≡ o → is_some o ≡ true → Delivers number (deliveries_of (changes_within number_bound before now))
     by_held None e h = absurd cc
     by_held (Some bytes) e h = all_deliver (change_at before now) number 0 number_bound (omega arith) (omega arith) (newly_held before now number bytes was e)

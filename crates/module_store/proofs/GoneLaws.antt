@@ -9,9 +9,8 @@ use Rattle.psi_tables.specs.declared.components.Component.{Component}
 use Rattle.carousel_blocks.specs.declared.changes.Change.{Change}
 use Rattle.carousel_blocks.specs.Changes.{departures}
 use Rattle.carousel_blocks.specs.Carousel as of_carousel
-use Rattle.module_store.specs.declared.slot.Slot.{Slot}
 use Rattle.module_store.specs.Store.{Followed, Stored, component_in, is_kept, gone_with, tag_bound, gone_below, gone_by}
-use Rattle.module_store.specs.Standing.{StoreState, StandsFor, has_tag, slot_in}
+use Rattle.module_store.specs.Standing.{ComponentState, StoreState, StandsFor, has_tag, component_with}
 use Rattle.module_store.proofs.FindLaws.{found_passes}
 use Rattle.module_store.proofs.FeedLaws.{has_followed}
 
@@ -53,20 +52,20 @@ gone_below_all bound components stored e = ap (λ n. gone_below n components sto
 -- ---- one component
 
 module _ (state : StoreState) (tag : ℕ) (components : List Component) (stored : Stored) (stands : StandsFor state stored) where
-  pub no_component : (gone : List (ℕ × Change)) → None ≡ slot_in state.slots tag → gone ≡ gone ++ gone_with components (component_in stored.components tag)
+  pub no_component : (gone : List (ℕ × Change)) → None ≡ component_with state.components tag → gone ≡ gone ++ gone_with components (component_in stored.components tag)
   no_component gone none = by_component (component_in stored.components tag) refl
     where
       by_component : (o : Option Followed) → component_in stored.components tag ≡ o → gone ≡ gone ++ gone_with components o
       by_component None e = sym (append-nil gone)
       by_component (Some component) e =
           let there = stands.tags tag ∙ ap (λ (o : Option Followed). is_some o) e in
-          let not_there = ap (λ (o : Option Slot). is_some o) (sym none) in
+          let not_there = ap (λ (o : Option ComponentState). is_some o) (sym none) in
           absurd cc
 
-  pub its_modules : (slot : Slot) (gone now : List (ℕ × Change)) → Some slot ≡ slot_in state.slots tag
+  pub its_modules : (slot : ComponentState) (gone now : List (ℕ × Change)) → Some slot ≡ component_with state.components tag
       → ((component : Followed) → component.tag ≡ slot.tag → component.pid ≡ slot.pid → of_carousel.StandsFor slot.carousel component.messages → now ≡ gone ++ gone_with components (Some component))
       → now ≡ gone ++ gone_with components (component_in stored.components tag)
   its_modules slot gone now looked go =
-      let f = has_followed state.slots state.count state.changed stored stands tag slot (sym looked) in
-      let tagged : slot.tag ≡ tag = eqb-true slot.tag tag (found_passes (has_tag tag) state.slots slot (sym looked)) in
+      let f = has_followed state.components state.count state.changed stored stands tag slot (sym looked) in
+      let tagged : slot.tag ≡ tag = eqb-true slot.tag tag (found_passes (has_tag tag) state.components slot (sym looked)) in
       go f.0 (f.2 ∙ sym tagged) (sym f.3.pid) f.3.carousel ∙ ap (λ o. gone ++ gone_with components o) (sym f.1)

@@ -1,4 +1,5 @@
 pub mod FindLaws
+pub mod NumberLaws
 pub mod StandsLaws
 pub mod ResourceLaws
 pub mod WholeLaws

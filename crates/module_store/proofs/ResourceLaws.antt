@@ -9,7 +9,7 @@ use Rattle.carousel_blocks.specs.declared.standing.SkipCause.{SkipCause}
 use Rattle.carousel_blocks.specs.declared.standing.Standing.{Standing}
 use Rattle.carousel_blocks.specs.Message.{Message}
 use Rattle.carousel_blocks.specs.InForce.{in_force, standing_of}
-use Rattle.carousel_blocks.specs.Held.{held}
+use Rattle.carousel_blocks.specs.Held.{bytes_held}
 use Rattle.carousel_blocks.specs.Carousel.{entry_in_force, skip_in_force}
 use Rattle.carousel_blocks.specs.Changes.{number_bound}
 use Rattle.multipart_entities.specs.declared.faults.EntityFault.{EntityFault}
@@ -69,12 +69,12 @@ one_resource info bytes name holds = rw holds refl
 -- ---- a module that is held
 
 module _ (messages : List Message) (number : ℕ) (name : List ℕ) (entry : Entry) (bytes : List ℕ) (found : Option (List ℕ))
-    (is_held : Some bytes ≡ held messages number) (has : found ≡ named_in entry.info bytes name) where
-  by_skip : (skip : Option SkipCause) (info : List ℕ) → entry.info ≡ info → false ≡ is_some skip → found_or_missing found ≡ look_unless skip info (held messages number) name
+    (is_held : Some bytes ≡ bytes_held messages number) (has : found ≡ named_in entry.info bytes name) where
+  by_skip : (skip : Option SkipCause) (info : List ℕ) → entry.info ≡ info → false ≡ is_some skip → found_or_missing found ≡ look_unless skip info (bytes_held messages number) name
   by_skip None info same e = ap (λ o. found_or_missing o) (has ∙ ap (λ i. named_in i bytes name) same) ∙ ap (λ o. look_at info o name) is_held
   by_skip (Some cause) info same e = absurd cc
 
-  by_standing : (o : Option Standing) → Some entry ≡ option_map (λ s. s.entry) o → false ≡ is_some (option_and_then (λ s. s.skip) o) → found_or_missing found ≡ look_by o (held messages number) name
+  by_standing : (o : Option Standing) → Some entry ≡ option_map (λ s. s.entry) o → false ≡ is_some (option_and_then (λ s. s.skip) o) → found_or_missing found ≡ look_by o (bytes_held messages number) name
   by_standing None e s = absurd cc
   by_standing (Some standing) e s = let same : entry ≡ standing.entry = cc in by_skip standing.skip standing.entry.info (ap (λ (x : Entry). x.info) same) s
 
@@ -88,7 +88,7 @@ module _ (messages : List Message) (number : ℕ) (name : List ℕ) (entry : Ent
 
 -- the parts that are kept for it
 pub parts_held : (entities : List (ℕ × List Part)) (messages : List Message) (number : ℕ) (entry : Entry) (bytes : List ℕ) (kept : Option (List Part)) → KeepsParts entities messages → number < number_bound
-    → Some entry ≡ entry_in_force messages number → Some bytes ≡ held messages number → kept ≡ parts_at entities number → holds_entity entry.info ≡ true → ArePartsOf bytes kept
+    → Some entry ≡ entry_in_force messages number → Some bytes ≡ bytes_held messages number → kept ≡ parts_at entities number → holds_entity entry.info ≡ true → ArePartsOf bytes kept
 parts_held entities messages number entry bytes kept keeps low e h k holds =
     let told : info_in_force messages number ≡ Some entry.info = ap (λ o. option_map (λ (x : Entry). x.info) o) (sym e) in
     subst (λ o. ArePartsOf bytes o) (sym k) (keeps number entry.info bytes low told holds (sym h))

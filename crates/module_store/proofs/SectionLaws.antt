@@ -14,7 +14,7 @@ use Rattle.carousel_blocks.specs.declared.standing.Standing.{Standing}
 use Rattle.carousel_blocks.specs.declared.changes.Change.{Change}
 use Rattle.carousel_blocks.specs.Message.{Message, message_of, messages_of}
 use Rattle.carousel_blocks.specs.InForce.{in_force, standing_of}
-use Rattle.carousel_blocks.specs.Held.{held, same_skip, same_standing}
+use Rattle.carousel_blocks.specs.Held.{bytes_held, same_skip, same_standing}
 use Rattle.carousel_blocks.specs.Changes.{change_of, change_at, changes, number_bound, gone, changed, appeared, completed, line_of}
 use Rattle.carousel_blocks.specs.Staging.{made_whole, whole_with}
 use Rattle.multipart_entities.specs.declared.parts.Part.{Part}
@@ -92,7 +92,7 @@ module _ (change : ℕ → Option Change) (own : (number : ℕ) (c : Change) →
 
 module _ (before now : List Message) (number : ℕ) where
   pub owns : (other : ℕ) (change : Change) → change_at before now other ≡ Some change → change.module ≡ other
-  owns other change e = own_number other (standing_of (in_force before) other) (standing_of (in_force now) other) (held before other) (held now other) change e
+  owns other change e = own_number other (standing_of (in_force before) other) (standing_of (in_force now) other) (bytes_held before other) (bytes_held now other) change e
 
   pub reset_by : number < number_bound → is_reset number (changes before now) ≡ resets (change_at before now number)
   unfolding changes
@@ -157,12 +157,12 @@ module _ (laws : MessageLaws) (old staged : List (ℕ × List Part)) (messages :
     without_message e are keeps number info bytes low told holds is_held =
         let same = append-nil messages in
         let none : found ≡ [] = are ∙ ap (λ m. changes messages m) same ∙ laws.none messages in
-        let kept = keeps number info bytes low (ap (λ m. info_in_force m number) (sym same) ∙ told) holds (ap (λ m. held m number) (sym same) ∙ is_held) in
+        let kept = keeps number info bytes low (ap (λ m. info_in_force m number) (sym same) ∙ told) holds (ap (λ m. bytes_held m number) (sym same) ∙ is_held) in
         unless_reset number bytes (ap (λ l. is_reset number l) none) (subst (λ o. ArePartsOf bytes o) (sym (stages.others number (none_whole number e))) kept)
 
     module _ (message : Message) (e : message_of section ≡ Some message) (are : found ≡ changes messages (messages ++ message ∷ [])) (keeps : KeepsParts old messages) where
       by_change : (number : ℕ) (info bytes : List ℕ) → number < number_bound → info_in_force (messages ++ message ∷ []) number ≡ Some info → holds_entity info ≡ true
-          → held (messages ++ message ∷ []) number ≡ Some bytes → (o : Option Change) → change_at messages (messages ++ message ∷ []) number ≡ o → is_reset number found ≡ resets o
+          → bytes_held (messages ++ message ∷ []) number ≡ Some bytes → (o : Option Change) → change_at messages (messages ++ message ∷ []) number ≡ o → is_reset number found ≡ resets o
           → ArePartsOf bytes (parts_at new number)
       by_change number info bytes low told holds is_held None change is_reset =
           let same = laws.same messages message number change in
@@ -225,19 +225,19 @@ completes number (Some s) was now change e = by_test (same_standing s s) (standi
 
 module _ (laws : MessageLaws) (old staged : List (ℕ × List Part)) (messages : List Message) (section : List ℕ) (stages : StagesParts old staged messages section) (found : List Change) (none : found ≡ []) where
   alike_without : (now : List Message) → now ≡ messages → AreAlike messages now
-  alike_without now same = record { in_force_is = ap (λ m. in_force m) same; held_are = λ number. ap (λ m. held m number) same }
+  alike_without now same = record { in_force_is = ap (λ m. in_force m) same; held_are = λ number. ap (λ m. bytes_held m number) same }
 
   module _ (message : Message) (e : message_of section ≡ Some message) (are : found ≡ changes messages (messages ++ message ∷ []))
       (transaction : transaction_of (messages ++ message ∷ []) ≡ transaction_of messages) where
     same_dii : in_force (messages ++ message ∷ []) ≡ in_force messages
     same_dii = laws.transactions messages message transaction
 
-    same_held : (number : ℕ) (o : Option Change) → change_at messages (messages ++ message ∷ []) number ≡ o → held (messages ++ message ∷ []) number ≡ held messages number
+    same_held : (number : ℕ) (o : Option Change) → change_at messages (messages ++ message ∷ []) number ≡ o → bytes_held (messages ++ message ∷ []) number ≡ bytes_held messages number
     same_held number None change = (laws.same messages message number change).bytes
     same_held number (Some c) change =
         let same = ap (λ dii. standing_of dii number) same_dii in
-        let status = completes number (standing_of (in_force messages) number) (held messages number) (held (messages ++ message ∷ []) number) c
-        (ap (λ o. change_of number (standing_of (in_force messages) number) o (held messages number) (held (messages ++ message ∷ []) number)) (sym same) ∙ change) in
+        let status = completes number (standing_of (in_force messages) number) (bytes_held messages number) (bytes_held (messages ++ message ∷ []) number) c
+        (ap (λ o. change_of number (standing_of (in_force messages) number) o (bytes_held messages number) (bytes_held (messages ++ message ∷ []) number)) (sym same) ∙ change) in
         let whole = laws.whole messages message number c change status in
         let low = stages.low number whole.0 (made_by messages section (Some message) e ∙ whole.2) in
         let contrary = sym (none_told messages (messages ++ message ∷ []) number low (sym are ∙ none)) ∙ change in

@@ -17,14 +17,14 @@ use Rattle.carousel_blocks.specs.declared.changes.Change.{Change}
 use Rattle.carousel_blocks.specs.declared.changes.ChangeLine.{ChangeLine}
 use Rattle.carousel_blocks.specs.Message.{Message, message_of, messages_of}
 use Rattle.carousel_blocks.specs.InForce.{in_force, standing_of}
-use Rattle.carousel_blocks.specs.Held.{held, same_standing}
+use Rattle.carousel_blocks.specs.Held.{bytes_held, same_standing}
 use Rattle.carousel_blocks.specs.Changes.{change_of, change_at, changes, number_bound, departures, completed, changed, line_of}
 use Rattle.carousel_blocks.specs.Staging.{IsSameModule}
 use Rattle.multipart_entities.specs.declared.paths.Path.{Path}
 use Rattle.module_store.specs.Carousels.{MessageLaws}
-use Rattle.module_store.specs.Store.{Followed, Stored, component_in, messages_of_component, changes_behind, changes_by, with_section, fed, messages_on, followed_from, with_map, is_kept, gone_with, tag_bound, gone_by}
+use Rattle.module_store.specs.Store.{Followed, Stored, component_in, messages_of_component, changes_behind, changes_by, followed_with, with_section, messages_on, followed_from, with_map, is_kept, gone_with, tag_bound, gone_by}
 use Rattle.module_store.specs.Resources.{Found, named_in, found_or_missing, look_at, look_unless, look_by, look_behind, look_in, look, info_in_force, start_component, start_name, start_path}
-use Rattle.module_store.specs.Staying.{tells_of, went}
+use Rattle.module_store.specs.Staying.{tells_of, is_gone}
 use Rattle.module_store.proofs.FindLaws.{found_passes, if_passes, find-map}
 use Rattle.module_store.proofs.FeedLaws.{component_behind, extended}
 use Rattle.module_store.proofs.MapLaws.{is_tagged, one_of_each, kept_by_pid}
@@ -87,7 +87,7 @@ untold : (before now : List Message) (number : ℕ) → number < number_bound �
 unfolding changes
 untold before now number low none =
     is_none (change_at before now number) (
-    sym (names_it number (standing_of (in_force before) number) (standing_of (in_force now) number) (held before number) (held now number))
+    sym (names_it number (standing_of (in_force before) number) (standing_of (in_force now) number) (bytes_held before number) (bytes_held now number))
     ∙ none_in_range (λ n. option_map_or (λ change. eqb change.module number) (change_at before now n) false) 0 number_bound number (omega arith) (omega arith)
     (sym (any-filter_map (λ change. eqb change.module number) (change_at before now) (range_with_len 0 number_bound)) ∙ none)
     )
@@ -139,21 +139,21 @@ by_found (Some s) held_now name bytes f =
 
 -- the same in a component
 abbrev IsFoundIn : List Message → ℕ → List ℕ → List ℕ → Type 0
-IsFoundIn messages number name bytes = IsFound (standing_of (in_force messages) number) (held messages number) name bytes
+IsFoundIn messages number name bytes = IsFound (standing_of (in_force messages) number) (bytes_held messages number) name bytes
 
 found_in : (messages : List Message) (number : ℕ) (name bytes : List ℕ) → look_in (Some messages) number name ≡ Found bytes → IsFoundIn messages number name bytes
 found_in messages number name bytes e = by_dii (in_force messages) e
   where
-    by_dii : (dii : Option Dii) → look_behind dii messages number name ≡ Found bytes → IsFound (standing_of dii number) (held messages number) name bytes
+    by_dii : (dii : Option Dii) → look_behind dii messages number name ≡ Found bytes → IsFound (standing_of dii number) (bytes_held messages number) name bytes
     by_dii None e = absurd cc
-    by_dii (Some dii) e = found_by (standing_of (Some dii) number) (held messages number) name bytes e
+    by_dii (Some dii) e = found_by (standing_of (Some dii) number) (bytes_held messages number) name bytes e
 
 in_found : (messages : List Message) (number : ℕ) (name bytes : List ℕ) → IsFoundIn messages number name bytes → look_in (Some messages) number name ≡ Found bytes
 in_found messages number name bytes f = by_dii (in_force messages) f
   where
-    by_dii : (dii : Option Dii) → IsFound (standing_of dii number) (held messages number) name bytes → look_behind dii messages number name ≡ Found bytes
+    by_dii : (dii : Option Dii) → IsFound (standing_of dii number) (bytes_held messages number) name bytes → look_behind dii messages number name ≡ Found bytes
     by_dii None f = let none = f.informed in absurd cc
-    by_dii (Some dii) f = by_found (standing_of (Some dii) number) (held messages number) name bytes f
+    by_dii (Some dii) f = by_found (standing_of (Some dii) number) (bytes_held messages number) name bytes f
 
 -- it stays found where the module is the same
 still_found : (before now : List Message) (number : ℕ) (name bytes : List ℕ) → IsSameModule before now number → IsFoundIn before number name bytes → IsFoundIn now number name bytes
@@ -216,7 +216,7 @@ same_behind laws messages section number none = by_message (message_of section) 
 
 -- A section keeps each module of another component, and of its own component each of which it tells no change.
 pub section_keeps : MessageLaws → (stored : Stored) (tag : ℕ) (section : List ℕ) (its_tag number : ℕ) → number < 65536
-    → (tag ≡ its_tag → tells_of number (changes_by tag section stored) ≡ false) → KeepsModule stored (fed tag section stored) its_tag number
+    → (tag ≡ its_tag → tells_of number (changes_by tag section stored) ≡ false) → KeepsModule stored (with_section tag section stored) its_tag number
 section_keeps laws stored tag section its_tag number low quiet component info is informed = by_tag (eqb_tells component.tag tag)
   where
     now : List Message
@@ -226,8 +226,8 @@ section_keeps laws stored tag section its_tag number low quiet component info is
     tagged = eqb-true component.tag its_tag (found_passes (λ c. eqb c.tag its_tag) stored.components component is)
 
     -- its component behind the section
-    behind : messages_of_component (fed tag section stored) its_tag ≡ Some (with_section tag section component).messages
-    behind = ap (λ (o : Option Followed). option_map (λ c. c.messages) o) (component_behind tag its_tag section stored.components ∙ ap (λ (o : Option Followed). option_map (with_section tag section) o) is)
+    behind : messages_of_component (with_section tag section stored) its_tag ≡ Some (followed_with tag section component).messages
+    behind = ap (λ (o : Option Followed). option_map (λ c. c.messages) o) (component_behind tag its_tag section stored.components ∙ ap (λ (o : Option Followed). option_map (followed_with tag section) o) is)
 
     -- where the section is of the component
     no_change : component.tag ≡ tag → tells_of number (changes component.messages now) ≡ false
@@ -236,7 +236,7 @@ section_keeps laws stored tag section its_tag number low quiet component info is
         ap (λ (o : Option Followed). tells_of number (changes_behind (option_map (λ c. c.messages) o) section)) (sym here) ∙ quiet (sym same ∙ tagged)
 
     by_tag : ((eqb component.tag tag ≡ true) × (component.tag ≡ tag)) ⊎ ((eqb component.tag tag ≡ false) × (component.tag ≢ tag))
-        → (messages : List Message) × (messages_of_component (fed tag section stored) its_tag ≡ Some messages) × IsSameModule component.messages messages number
+        → (messages : List Message) × (messages_of_component (with_section tag section stored) its_tag ≡ Some messages) × IsSameModule component.messages messages number
     by_tag (inl same) = (
       now,
       behind ∙ ap (λ b. Some (cond b (extended section component) component).messages) same.0,
@@ -262,8 +262,8 @@ goes number None was now info informed none = absurd cc
 goes number (Some s) was now info informed none = absurd cc
 
 -- a module that isn't among all that goes isn't among what goes with its component
-none_goes : (components : List Component) (stored : Stored) (tag number : ℕ) → tag < 256 → went tag number (gone_by components stored) ≡ false
-    → went tag number (gone_with components (component_in stored.components tag)) ≡ false
+none_goes : (components : List Component) (stored : Stored) (tag number : ℕ) → tag < 256 → is_gone tag number (gone_by components stored) ≡ false
+    → is_gone tag number (gone_with components (component_in stored.components tag)) ≡ false
 none_goes components stored tag number low none =
     let passes = λ (change : ℕ × Change). eqb change.0 tag && eqb change.1.module number in
     let goes_with = λ (t : ℕ). gone_with components (component_in stored.components t) in
@@ -271,7 +271,7 @@ none_goes components stored tag number low none =
     (sym (any-flat_map passes goes_with (range_with_len 0 tag_bound)) ∙ none)
 
 -- A component map keeps each module of which it isn't told that it is gone.
-pub map_keeps : (stored : Stored) (components : List Component) (tag number : ℕ) → tag < 256 → number < 65536 → AllPairs AreApart components → went tag number (gone_by components stored) ≡ false
+pub map_keeps : (stored : Stored) (components : List Component) (tag number : ℕ) → tag < 256 → number < 65536 → AllPairs AreApart components → is_gone tag number (gone_by components stored) ≡ false
     → KeepsModule stored (with_map components stored) tag number
 map_keeps stored components tag number tag_low low apart none component info is informed = by_kept (is_kept components component.tag component.pid) refl
   where
@@ -292,11 +292,11 @@ map_keeps stored components tag number tag_low low apart none component info is 
         let of_module = λ (change : Change). eqb change.module number in
         let all_gone : list_any (λ (change : Change). eqb component.tag tag && of_module change) (departures component.messages) ≡ false
         = sym (any-map (λ (change : ℕ × Change). eqb change.0 tag && of_module change.1) (λ (change : Change). (component.tag, change)) (departures component.messages))
-        ∙ ap (λ b. went tag number (cond b [] (map (λ change. (component.tag, change)) (departures component.messages)))) (sym leaves)
-        ∙ ap (λ o. went tag number (gone_with components o)) (sym is) ∙ none_goes components stored tag number tag_low none in
+        ∙ ap (λ b. is_gone tag number (cond b [] (map (λ change. (component.tag, change)) (departures component.messages)))) (sym leaves)
+        ∙ ap (λ o. is_gone tag number (gone_with components o)) (sym is) ∙ none_goes components stored tag number tag_low none in
         let untold_now = untold component.messages [] number (number_is_low number low)
         (ap (λ b. list_any (λ (change : Change). b && of_module change) (departures component.messages)) (sym (eq-eqb component.tag tag tagged)) ∙ all_gone) in
-        goes number (standing_of (in_force component.messages) number) (held component.messages number) (held [] number) info informed untold_now
+        goes number (standing_of (in_force component.messages) number) (bytes_held component.messages number) (bytes_held [] number) info informed untold_now
 
     by_kept : (b : Bool) → is_kept components component.tag component.pid ≡ b
         → (messages : List Message) × (messages_of_component (with_map components stored) tag ≡ Some messages) × IsSameModule component.messages messages number

@@ -3,7 +3,7 @@ use Rattle.std.specs.Prelude.{◌≡◌, ℕ, true, List, [], ◌∷◌, ◌++�
 use Rattle.carousel_blocks.specs.declared.changes.Change.{Change}
 use Rattle.carousel_blocks.specs.Message.{Message}
 use Rattle.carousel_blocks.specs.InForce.{in_force}
-use Rattle.carousel_blocks.specs.Held.{held}
+use Rattle.carousel_blocks.specs.Held.{bytes_held}
 use Rattle.carousel_blocks.specs.Carousel.{CarouselState, StandsFor}
 use Rattle.carousel_blocks.specs.Changes.{change_at, changes}
 use Rattle.carousel_blocks.specs.Staging.{IsSameModule, whole_with}
@@ -18,12 +18,12 @@ pub record MessageLaws : Type 0 where
   pub none : (messages : List Message) → changes messages messages ≡ []
   pub same : (messages : List Message) (message : Message) (number : ℕ) → change_at messages (messages ++ message ∷ []) number ≡ None → IsSameModule messages (messages ++ message ∷ []) number
   pub new : (messages : List Message) (message : Message) (number : ℕ) (change : Change) (bytes : List ℕ) → change_at messages (messages ++ message ∷ []) number ≡ Some change → is_some change.status ≡ true
-      → held (messages ++ message ∷ []) number ≡ Some bytes → bytes ≡ []
+      → bytes_held (messages ++ message ∷ []) number ≡ Some bytes → bytes ≡ []
   pub whole : (messages : List Message) (message : Message) (number : ℕ) (change : Change) → change_at messages (messages ++ message ∷ []) number ≡ Some change → change.status ≡ None
-      → (bytes : List ℕ) × (held (messages ++ message ∷ []) number ≡ Some bytes) × (whole_with messages (Some message) ≡ Some (number, bytes))
+      → (bytes : List ℕ) × (bytes_held (messages ++ message ∷ []) number ≡ Some bytes) × (whole_with messages (Some message) ≡ Some (number, bytes))
   pub info : (messages : List Message) (message : Message) (number : ℕ) (change : Change) → change_at messages (messages ++ message ∷ []) number ≡ Some change → change.status ≡ None
       → info_in_force (messages ++ message ∷ []) number ≡ info_in_force messages number
-  pub before : (messages : List Message) (message : Message) (number : ℕ) (change : Change) → change_at messages (messages ++ message ∷ []) number ≡ Some change → change.status ≡ None → held messages number ≡ None
+  pub before : (messages : List Message) (message : Message) (number : ℕ) (change : Change) → change_at messages (messages ++ message ∷ []) number ≡ Some change → change.status ≡ None → bytes_held messages number ≡ None
   pub change : (messages : List Message) (message : Message) (number : ℕ) (bytes : List ℕ) → whole_with messages (Some message) ≡ Some (number, bytes)
       → (change : Change) × (change_at messages (messages ++ message ∷ []) number ≡ Some change) × (change.status ≡ None)
   pub transactions : (messages : List Message) (message : Message) → transaction_of (messages ++ message ∷ []) ≡ transaction_of messages → in_force (messages ++ message ∷ []) ≡ in_force messages

@@ -5,7 +5,7 @@ use Rattle.std.specs.Map.{lookup}
 use Rattle.std.specs.Result.{result_ok}
 use Rattle.carousel_blocks.specs.declared.changes.Change.{Change}
 use Rattle.carousel_blocks.specs.Message.{Message}
-use Rattle.carousel_blocks.specs.Held.{held}
+use Rattle.carousel_blocks.specs.Held.{bytes_held}
 use Rattle.carousel_blocks.specs.Changes.{number_bound}
 use Rattle.carousel_blocks.specs.Staging.{made_whole}
 use Rattle.multipart_entities.specs.declared.parts.Part.{Part}
@@ -28,13 +28,13 @@ pub record ArePartsOf (bytes : List ℕ) (parts : Option (List Part)) : Type 0 w
 -- the parts of each module that is held and holds an entity; of others nothing is said
 abbrev pub KeepsParts : List (ℕ × List Part) → List Message → Type 0
 KeepsParts entities messages = (number : ℕ) (info bytes : List ℕ) → number < number_bound → info_in_force messages number ≡ Some info → holds_entity info ≡ true
-    → held messages number ≡ Some bytes → ArePartsOf bytes (parts_at entities number)
+    → bytes_held messages number ≡ Some bytes → ArePartsOf bytes (parts_at entities number)
 
 -- ---- what changes
 
 -- with these parts for a module, or none
 abbrev pub with_parts : ℕ → Option (List Part) → (ℕ → Option (List Part)) → ℕ → Option (List Part)
-with_parts number parts kept other = if number == other then parts else kept other
+with_parts number parts kept_module other = if number == other then parts else kept_module other
 
 -- the entry of the module went, changed or came
 abbrev pub is_reset : ℕ → List Change → Bool
@@ -42,7 +42,7 @@ is_reset number changes = list_any (λ change. (change.module == number) && is_s
 
 -- without the parts of the modules whose entries went, changed or came
 abbrev pub without_reset : List Change → (ℕ → Option (List Part)) → ℕ → Option (List Part)
-without_reset changes kept number = if is_reset number changes then None else kept number
+without_reset changes kept_module number = if is_reset number changes then None else kept_module number
 
 -- The parts of the module that the section makes whole are there, where it holds an entity, and those of others stay.
 pub record StagesParts (old new : List (ℕ × List Part)) (messages : List Message) (section : List ℕ) : Type 0 where

@@ -1,6 +1,15 @@
--- What noting deliveries makes of the numbers of a component's modules.
-use Rattle.std.specs.Prelude.{ℕ, ◌+◌, ◌==◌, if◌then◌else◌, List, [], ◌∷◌}
+-- A device of the proofs: what noting deliveries makes of the numbers of a component's modules. (This project's own.)
+use Rattle.std.specs.Prelude.{◌≡◌, ◌⊎◌, ℕ, ◌+◌, ◌==◌, if◌then◌else◌, List, [], ◌∷◌, length}
+use Rattle.carousel_blocks.specs.Changes.{number_bound}
 use Rattle.module_store.specs.Store.{number_at}
+
+-- a number for each module, or none yet
+abbrev pub IsTable : List ℕ → Type 0
+IsTable table = (length table ≡ 0) ⊎ (length table ≡ number_bound)
+
+-- there is room for the number of each module
+abbrev pub HasRoom : List (ℕ × ℕ) → Type 0
+HasRoom numbers = length numbers ≡ number_bound
 
 -- with that number for a module
 abbrev pub with_number : ℕ → ℕ → (ℕ → ℕ) → ℕ → ℕ

@@ -8,7 +8,7 @@ use Rattle.carousel_blocks.specs.declared.standing.SkipCause.{SkipCause}
 use Rattle.carousel_blocks.specs.declared.standing.Standing.{Standing}
 use Rattle.carousel_blocks.specs.Message.{Message}
 use Rattle.carousel_blocks.specs.InForce.{in_force, standing_of}
-use Rattle.carousel_blocks.specs.Held.{held}
+use Rattle.carousel_blocks.specs.Held.{bytes_held}
 use Rattle.carousel_blocks.specs.Carousel.{entry_in_force}
 use Rattle.multipart_entities.specs.declared.faults.EntityFault.{EntityFault}
 use Rattle.multipart_entities.specs.declared.parts.Part.{Part}
@@ -49,10 +49,10 @@ pub data Resource : Type 0 where
   Missing : Resource
 
 -- the same of what the code answers
-abbrev pub seen : Look → Resource
-seen (looks.Found bytes) = Found bytes.now
-seen looks.Waiting = Waiting
-seen looks.Missing = Missing
+abbrev pub resource_of : Look → Resource
+resource_of (looks.Found bytes) = Found bytes.now
+resource_of looks.Waiting = Waiting
+resource_of looks.Missing = Missing
 
 -- what is found has at most so many bytes
 abbrev pub HasAtMost : ℕ → Resource → Type 0
@@ -83,7 +83,7 @@ look_by (Some standing) bytes name = look_unless standing.skip standing.entry.in
 -- what a component has behind its messages, with the DII in force; as long as there is none, anything may come
 abbrev pub look_behind : Option Dii → List Message → ℕ → List ℕ → Resource
 look_behind None messages number name = Waiting
-look_behind (Some dii) messages number name = look_by (standing_of (Some dii) number) (held messages number) name
+look_behind (Some dii) messages number name = look_by (standing_of (Some dii) number) (bytes_held messages number) name
 
 -- what a component has, where it is in the map
 abbrev pub look_in : Option (List Message) → ℕ → List ℕ → Resource

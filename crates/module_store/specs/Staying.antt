@@ -8,5 +8,5 @@ abbrev pub tells_of : ℕ → List Change → Bool
 tells_of number changes = list_any (λ change. change.«module» == number) changes
 
 -- the module is one of those that went with their components
-abbrev pub went : ℕ → ℕ → List (ℕ × Change) → Bool
-went tag number gone = list_any (λ change. (change.0 == tag) && (change.1.«module» == number)) gone
+abbrev pub is_gone : ℕ → ℕ → List (ℕ × Change) → Bool
+is_gone tag number gone = list_any (λ change. (change.0 == tag) && (change.1.«module» == number)) gone

@@ -8,7 +8,7 @@ use Rattle.carousel_blocks.specs.declared.changes.Change.{Change}
 use Rattle.carousel_blocks.specs.declared.changes.ChangeLine.{ChangeLine}
 use Rattle.carousel_blocks.specs.declared.changes.ChangeLine.TheVariants.{Delivered}
 use Rattle.carousel_blocks.specs.Message.{Message, messages_of}
-use Rattle.carousel_blocks.specs.Held.{held}
+use Rattle.carousel_blocks.specs.Held.{bytes_held}
 use Rattle.carousel_blocks.specs.Changes.{changes, departures}
 
 -- a component of the map, with the messages that came since it got its PID
@@ -39,7 +39,7 @@ pid_of stored tag = option_map (λ component. component.pid) (component_in store
 
 -- the bytes of a module of a component, where it is held
 abbrev pub held_in : Stored → ℕ → ℕ → Option (List ℕ)
-held_in stored tag number = option_and_then (λ messages. held messages number) (messages_of_component stored tag)
+held_in stored tag number = option_and_then (λ messages. bytes_held messages number) (messages_of_component stored tag)
 
 -- ---- one more section of a component
 
@@ -59,14 +59,14 @@ delivered_by number _ = None
 abbrev pub deliveries_of : List Change → List ℕ
 deliveries_of changes = filter_map (λ change. delivered_by change.module change.line) changes
 
-abbrev pub with_section : ℕ → List ℕ → Followed → Followed
-with_section tag section component =
+abbrev pub followed_with : ℕ → List ℕ → Followed → Followed
+followed_with tag section component =
     if component.tag == tag then record { tag = component.tag; pid = component.pid; messages = component.messages ++ messages_of (section ∷ []) } else component
 
 -- with its message behind those of the component, and the modules that it delivers behind the deliveries
-abbrev pub fed : ℕ → List ℕ → Stored → Stored
-fed tag section stored = record {
-  components = map (with_section tag section) stored.components;
+abbrev pub with_section : ℕ → List ℕ → Stored → Stored
+with_section tag section stored = record {
+  components = map (followed_with tag section) stored.components;
   deliveries = stored.deliveries ++ map (λ number. (tag, number)) (deliveries_of (changes_by tag section stored));
 }
 

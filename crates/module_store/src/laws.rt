@@ -8,8 +8,8 @@ ghost use Rattle.psi_tables.specs.Components.{AreApart};
 ghost use Rattle.module_store.specs.Carousels.{MessageLaws};
 ghost use Rattle.module_store.specs.Resources.{look, start_component, start_path};
 ghost use Rattle.module_store.specs.Resources.Resource.{Found};
-ghost use Rattle.module_store.specs.Staying.{tells_of, went};
-ghost use Rattle.module_store.specs.Store.{Stored, changes_by, fed, gone_by, with_map};
+ghost use Rattle.module_store.specs.Staying.{tells_of, is_gone};
+ghost use Rattle.module_store.specs.Store.{Stored, changes_by, with_section, gone_by, with_map};
 
 use carousel_blocks::{
     law_of_completed_modules, law_of_new_entries, law_of_no_change, law_of_same_modules,
@@ -32,10 +32,10 @@ pub fn law_of_found_resources()
     ensures sections { (stored : Stored) (component : ℕ) (section : List ℕ) (path : Path) (bytes : List ℕ) → path.«module» < 2 ^ 16
         → look stored path ≡ Found bytes
         → (component ≡ path.component → tells_of path.«module» (changes_by component section stored) ≡ false)
-        → look (fed component section stored) path ≡ Found bytes }
+        → look (with_section component section stored) path ≡ Found bytes }
     ensures maps { (stored : Stored) (components : List Component) (path : Path) (bytes : List ℕ) → path.component < 2 ^ 8 → path.«module» < 2 ^ 16
         → AllPairs AreApart components → look stored path ≡ Found bytes
-        → went path.component path.«module» (gone_by components stored) ≡ false
+        → is_gone path.component path.«module» (gone_by components stored) ≡ false
         → look (with_map components stored) path ≡ Found bytes }
 {
     law_of_messages();
@@ -45,9 +45,9 @@ pub fn law_of_found_resources()
 pub fn law_of_start_paths()
     ensures sections { (stored : Stored) (component : ℕ) (section : List ℕ) (bytes : List ℕ) → look stored (start_path stored) ≡ Found bytes
         → (component ≡ start_component → tells_of 0 (changes_by component section stored) ≡ false)
-        → start_path (fed component section stored) ≡ start_path stored }
+        → start_path (with_section component section stored) ≡ start_path stored }
     ensures maps { (stored : Stored) (components : List Component) (bytes : List ℕ) → AllPairs AreApart components → look stored (start_path stored) ≡ Found bytes
-        → went start_component 0 (gone_by components stored) ≡ false
+        → is_gone start_component 0 (gone_by components stored) ≡ false
         → start_path (with_map components stored) ≡ start_path stored }
 {
     law_of_messages();

@@ -19,11 +19,11 @@ pub enum Look<'a> {
 
 impl<'a> Look<'a> {
     ghost use Rattle.std.specs.Prelude.{option_copied};
-    ghost use Rattle.module_store.specs.Resources.{found_or_missing, seen};
+    ghost use Rattle.module_store.specs.Resources.{found_or_missing, resource_of};
 
     // Missing where there are no bytes.
     pub(crate) fn found_or_missing(found: Option<&'a [u8]>) -> Look<'a>
-        ensures { seen result ≡ found_or_missing (option_copied found.entry) }
+        ensures { resource_of result ≡ found_or_missing (option_copied found.entry) }
     {
         match found {
             None => Look::Missing,

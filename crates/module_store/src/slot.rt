@@ -1,6 +1,13 @@
 //! What is kept of one component.
 
-ghost use Rattle.module_store.specs.Carousels.{StandsForSome};
+ghost use Rattle.std.specs.Prelude.{◌≡◌, ◌≤◌, List, Some, length, IfOk, OnErr, option_copied};
+ghost use Rattle.carousel_blocks.specs.Changes.{departures};
+ghost use Rattle.carousel_blocks.specs.Held.{bytes_held};
+ghost use Rattle.carousel_blocks.specs.Message.{Message};
+ghost use Rattle.carousel_blocks.specs.Carousel as of_carousel;
+ghost use Rattle.module_store.specs.Resources.{HasAtMost, info_in_force, look_in, resource_of, transaction_of};
+ghost use Rattle.module_store.specs.Standing.{delivery_in, has_tag};
+ghost use Rattle.module_store.specs.Slots.{IsFresh, TakesSection, KeepsSame};
 
 use crate::entities::{Entities, named};
 use crate::laws::law_of_messages;
@@ -11,41 +18,97 @@ use bml_bytes::{NoMemory, Text};
 use carousel_blocks::{Carousel, Change, law_of_held_sizes};
 use psi_tables::Component;
 use std::alloc::Global;
+use std::marker::Model;
 
 /// A component of the map, with its carousel.
 #[derive(Drop)]
 pub struct Slot {
-    pub tag: u8,
-    pub pid: u16,
-    pub carousel: Carousel,
+    tag: u8,
+    pid: u16,
+    carousel: Carousel,
     /// The number of the last delivery of each module that is held.
-    pub numbers: Numbers,
+    numbers: Numbers,
     /// The parts of each module that is held and holds an entity.
-    pub entities: Entities,
-    // The carousel stands for messages that came.
-    ghost stands: { StandsForSome carousel },
+    entities: Entities,
+}
+
+impl Model for Slot {
+    ghost use Rattle.module_store.specs.Standing.{ComponentState};
+    ghost use Rattle.module_store.specs.Slots.{IsSound};
+
+    ghost Value = { ComponentState };
+
+    ghost view = { λ s. record { tag = s.tag; pid = s.pid; carousel = s.carousel; deliveries = s.numbers } };
+
+    ghost invariant = { λ s. IsSound s.carousel s.entities };
 }
 
 impl Slot {
-    ghost use Rattle.std.specs.Prelude.{◌≡◌, ◌≤◌, List, Some, length, IfOk, OnErr};
-    ghost use Rattle.carousel_blocks.specs.Message.{Message};
-    ghost use Rattle.carousel_blocks.specs.Carousel as of_carousel;
-    ghost use Rattle.module_store.specs.Resources.{HasAtMost, look_in, seen};
-    ghost use Rattle.module_store.specs.Entities.{KeepsParts};
-    ghost use Rattle.module_store.specs.Slots.{IsFresh, TakesSection, KeepsSame};
-
-    /// A component of which no section came. Memory is taken for its modules' numbers.
-    pub fn new(alloc: Global, component: Component) -> Result<Slot, NoMemory>
-        ensures { IfOk result (λ slot. IsFresh component slot) }
+    /// A component of which no section came. This takes no memory.
+    pub fn new(alloc: Global, component: Component) -> Slot
+        ensures { IsFresh component result }
     {
-        let numbers = Numbers::new(alloc)?;
-        Ok(Slot {
+        Slot {
             tag: component.tag,
             pid: component.pid,
             carousel: Carousel::new(alloc),
-            numbers,
+            numbers: Numbers::new(alloc),
             entities: Entities::new(alloc),
-        })
+        }
+    }
+
+    /// The component's tag.
+    pub fn tag(&self) -> u8
+        ensures { result ≡ self.now.tag }
+    {
+        self.tag
+    }
+
+    /// The PID on which it is followed.
+    pub fn pid(&self) -> u16
+        ensures { result ≡ self.now.pid }
+    {
+        self.pid
+    }
+
+    /// The transactionId of the DII in force.
+    pub fn transaction(&self) -> Option<u32>
+        ensures { (messages : List Message) → of_carousel.StandsFor self.now.carousel messages
+            → result ≡ transaction_of messages }
+    {
+        self.carousel.transaction()
+    }
+
+    /// The info of a module's entry in force.
+    pub fn info_of(&self, module: u16) -> Option<&[u8]>
+        ensures { (messages : List Message) → of_carousel.StandsFor self.now.carousel messages
+            → option_copied result ≡ info_in_force messages «module» }
+    {
+        let entry = self.carousel.entry(module)?;
+        Some(entry.info.as_slice())
+    }
+
+    /// The bytes of a module, where it is held.
+    pub fn bytes_of(&self, module: u16) -> Option<&[u8]>
+        ensures { (messages : List Message) → of_carousel.StandsFor self.now.carousel messages
+            → option_copied result ≡ bytes_held messages «module» }
+    {
+        self.carousel.bytes_of(module)
+    }
+
+    /// The number of the last delivery of a module.
+    pub fn number_of(&self, module: u16) -> u64
+        ensures { result ≡ delivery_in self.now.deliveries «module» }
+    {
+        self.numbers.of(module)
+    }
+
+    /// What goes where the component leaves.
+    pub fn departures(&self) -> Result<Vec<Change>, NoMemory>
+        ensures { IfOk result (λ found. (messages : List Message)
+            → of_carousel.StandsFor self.now.carousel messages → found.items ≡ departures messages) }
+    {
+        self.carousel.departures()
     }
 
     /// Takes the next intact section of the component, and tells what it changed. The modules that it delivers get
@@ -58,10 +121,12 @@ impl Slot {
         section: &[u8],
     ) -> Result<Vec<Change>, NoMemory>
         requires { 12 ≤ length section.now }
-        ensures taken { IfOk result (λ found. TakesSection self.old self.new count.old count.new section.now found.items) }
+        ensures taken { IfOk result (λ found.
+            TakesSection self.old self.new count.old count.new section.now found.items) }
         ensures same { OnErr result (KeepsSame self.old self.new count.old count.new) }
     {
         law_of_messages();
+        self.numbers.make_room(alloc)?;
         stage(alloc, &mut self.carousel, &mut self.entities, section)?;
         let changes = self.carousel.take(section)?;
         *count = self.numbers.note(*count, changes.as_slice());
@@ -71,8 +136,9 @@ impl Slot {
 
     /// What is there under a name of a module. This takes no memory.
     pub fn resource(&self, module: u16, name: &Text) -> Look<'_>
-        ensures look { (messages : List Message) → of_carousel.StandsFor self.now.carousel messages → KeepsParts self.now.entities messages → seen result ≡ look_in (Some messages) «module» name.now }
-        ensures bound { HasAtMost 1048576 (seen result) }
+        ensures look { (messages : List Message) → of_carousel.StandsFor self.now.carousel messages
+            → resource_of result ≡ look_in (Some messages) «module» name.now }
+        ensures bound { HasAtMost 1048576 (resource_of result) }
     {
         law_of_held_sizes();
         if self.carousel.transaction().is_none() {

@@ -4,10 +4,10 @@ ghost use Rattle.std.specs.Prelude.{◌≡◌, ◌≤◌, ◌++◌, [], ℕ, Lis
 ghost use Rattle.psi_tables.specs.Components.{AreApart, pid_in};
 ghost use Rattle.carousel_blocks.specs.Changes.{departures};
 ghost use Rattle.carousel_blocks.specs.Carousel as of_carousel;
-ghost use Rattle.module_store.specs.Store.{Followed, Stored, component_in, gone_with, at_start, changes_by, fed, with_map, gone_by, number_of, messages_of_component, pid_of, is_kept as kept_by};
-ghost use Rattle.module_store.specs.Resources.{HasAtMost, LooksAlike, look, seen, start_info, start_path, transaction_in};
+ghost use Rattle.module_store.specs.Store.{Followed, Stored, component_in, gone_with, at_start, changes_by, with_section, with_map, gone_by, number_of, messages_of_component, pid_of, is_kept as kept_by};
+ghost use Rattle.module_store.specs.Resources.{HasAtMost, LooksAlike, look, resource_of, start_info, start_path, transaction_in};
 ghost use Rattle.module_store.specs.Resources as resources;
-ghost use Rattle.module_store.specs.Standing.{StandsFor, has_component, has_tag, slot_in};
+ghost use Rattle.module_store.specs.Standing.{ForStored, StandsFor, has_component, has_tag, component_with};
 ghost use Rattle.module_store.specs.Slots.{AreAdded, kept_of, is_followed as followed_by};
 
 use crate::resources::{Look, holds_entity};
@@ -42,11 +42,12 @@ pub struct Store {
 }
 
 impl Model for Store {
-    ghost use Rattle.module_store.specs.Standing.{StoreState, AreDistinct};
+    ghost use Rattle.module_store.specs.Standing.{StoreState};
+    ghost use Rattle.module_store.specs.Slots.{AreDistinct};
 
     ghost Value = { StoreState };
 
-    ghost view = { λ s. record { slots = s.slots.items; count = s.count; changed = s.changed } };
+    ghost view = { λ s. record { components = s.slots.items; count = s.count; changed = s.changed } };
 
     ghost invariant = { λ s. AreDistinct s.slots.items };
 }
@@ -73,26 +74,26 @@ impl Store {
     }
 
     /// Takes the next intact section of a component, and tells what it changed in the component's modules, in ascending
-    /// module number. Each module that it delivers gets the next number. After `NoMemory` the store is as before, and
-    /// may be told the section once more.
+    /// module number. Each module that it delivers gets the next number. A component that isn't in the map has no
+    /// modules, and nothing changes. After `NoMemory` the store is as before, and may be told the section once more.
     pub fn feed(&mut self, component: u8, section: &[u8]) -> Result<Vec<Change>, NoMemory>
-        requires section { 12 ≤ length section.now }
-        requires component { has_component self.old component ≡ true }
-        ensures stands { OnOk result ((stored : Stored) → StandsFor self.old stored → StandsFor self.new (fed component section.now stored)) }
+        requires { 12 ≤ length section.now }
+        ensures stands { OnOk result ((stored : Stored) → StandsFor self.old stored → StandsFor self.new (with_section component section.now stored)) }
         ensures changes { IfOk result (λ found. (stored : Stored) → StandsFor self.old stored → found.items ≡ changes_by component section.now stored) }
         ensures before { OnErr result ((stored : Stored) → StandsFor self.old stored → StandsFor self.new stored) }
         ensures components { (tag : ℕ) → has_component self.new tag ≡ has_component self.old tag }
         ensures untold { OnErr result (self.new.changed ≡ self.old.changed) }
-        ensures alike { OnOk result (self.new.changed ≡ false → (stored : Stored) → StandsFor self.old stored → LooksAlike stored (fed component section.now stored)) }
-        ensures quiet { OnOk result ((stored : Stored) → StandsFor self.old stored → changes_by component section.now stored ≡ [] → transaction_in (fed component section.now stored) component ≡ transaction_in stored component → self.new.changed ≡ false) }
+        ensures alike { OnOk result (self.new.changed ≡ false → (stored : Stored) → StandsFor self.old stored → LooksAlike stored (with_section component section.now stored)) }
+        ensures quiet { OnOk result ((stored : Stored) → StandsFor self.old stored → changes_by component section.now stored ≡ [] → transaction_in (with_section component section.now stored) component ≡ transaction_in stored component → self.new.changed ≡ false) }
     {
         let Some(place) = place_of(&self.slots, component) else {
-            unreachable!()
+            self.changed = false;
+            return Ok(Vec::new(self.alloc));
         };
         let slot = &mut self.slots[place];
-        let before = slot.carousel.transaction();
+        let before = slot.transaction();
         let changes = slot.take(self.alloc, &mut self.count, section)?;
-        self.changed = may_differ(changes.as_slice(), before, slot.carousel.transaction());
+        self.changed = may_differ(changes.as_slice(), before, slot.transaction());
         Ok(changes)
     }
 
@@ -123,8 +124,8 @@ impl Store {
         ensures { (stored : Stored) → StandsFor self.now stored → result ≡ number_of stored component «module» }
     {
         let slot = slot_of(&self.slots, component)?;
-        slot.carousel.bytes_of(module)?;
-        Some(slot.numbers.of(module))
+        slot.bytes_of(module)?;
+        Some(slot.number_of(module))
     }
 
     /// What is there under a path: `Found` with the resource's very bytes, at most 1,048,576; `Waiting` exactly where the
@@ -132,8 +133,8 @@ impl Store {
     /// `Missing` exactly where the path is neither found nor waited for. The cost is that of a few look-ups by hash, and
     /// this takes no memory.
     pub fn resource(&self, path: &Path) -> Look<'_>
-        ensures look { (stored : Stored) → StandsFor self.now stored → seen result ≡ look stored path.now }
-        ensures bound { HasAtMost 1048576 (seen result) }
+        ensures look { (stored : Stored) → StandsFor self.now stored → resource_of result ≡ look stored path.now }
+        ensures bound { HasAtMost 1048576 (resource_of result) }
     {
         match slot_of(&self.slots, path.component) {
             None => Look::Missing,
@@ -167,8 +168,7 @@ impl Store {
         ensures { (stored : Stored) → StandsFor self.now stored → option_copied result ≡ start_info stored }
     {
         let slot = slot_of(&self.slots, START_COMPONENT)?;
-        let entry = slot.carousel.entry(START_MODULE)?;
-        Some(entry.info.as_slice())
+        slot.info_of(START_MODULE)
     }
 
     // What goes with the components that leave, in ascending component.
@@ -220,20 +220,20 @@ fn may_differ(changes: &[Change], before: Option<u32>, now: Option<u32>) -> bool
 fn place_of(slots: &[Slot], tag: u8) -> Option<usize>
     ensures { result ≡ position (has_tag tag) slots.now }
 {
-    slots.iter().position(|slot| slot.tag == tag)
+    slots.iter().position(|slot| slot.tag() == tag)
 }
 
 fn slot_of(slots: &[Slot], tag: u8) -> Option<&Slot>
-    ensures { option_copied result ≡ slot_in slots.now tag }
+    ensures { option_copied result ≡ component_with slots.now tag }
 {
-    slots.iter().find(|slot| slot.tag == tag)
+    slots.iter().find(|slot| slot.tag() == tag)
 }
 
 // Whether the map has the component on the same PID.
 fn is_kept(components: &[Component], slot: &Slot) -> bool
     ensures { result ≡ kept_by components.now slot.now.tag slot.now.pid }
 {
-    components.iter().any(|component| component.tag == slot.tag && component.pid == slot.pid)
+    components.iter().any(|component| component.tag == slot.tag() && component.pid == slot.pid())
 }
 
 // Gives back what is kept of components that the map doesn't have on the same PID, and answers whether there were any.
@@ -251,7 +251,7 @@ fn keep(slots: &mut Vec<Slot>, components: &[Component]) -> bool
 fn is_followed(slots: &[Slot], component: &Component) -> bool
     ensures { result ≡ followed_by slots.now component.now }
 {
-    slots.iter().any(|slot| slot.tag == component.tag && slot.pid == component.pid)
+    slots.iter().any(|slot| slot.tag() == component.tag && slot.pid() == component.pid)
 }
 
 // The components that aren't followed on the same PID, without sections.
@@ -261,7 +261,7 @@ fn added_to(alloc: Global, slots: &[Slot], components: &[Component]) -> Result<V
     let mut added = Vec::new(alloc);
     'components: for component in components {
         if !is_followed(slots, component) {
-            added.push(Slot::new(alloc, *component)?)?;
+            added.push(Slot::new(alloc, *component))?;
         }
     }
     Ok(added)
@@ -278,8 +278,8 @@ fn add_departures(
     if is_kept(components, slot) {
         return Ok(());
     }
-    let departures = slot.carousel.departures()?;
-    add_changes(gone, slot.tag, departures.as_slice())
+    let departures = slot.departures()?;
+    add_changes(gone, slot.tag(), departures.as_slice())
 }
 
 // Adds changes of a component.

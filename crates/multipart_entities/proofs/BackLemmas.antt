@@ -8,12 +8,13 @@ use Rattle.std.proofs.lemmas.List.Elements.{All-nil, All-cons}
 use Rattle.std.proofs.lemmas.List.Sums.{AllPass-from_list_all}
 use Rattle.std.proofs.lemmas.Slice.Eq.{bytes_eq-Decides}
 use Rattle.multipart_entities.specs.declared.paths.Path.{Path}
-use Rattle.multipart_entities.specs.Paths.{component_in, fields_of, hex_field, is_hex_digit, is_text, name_field, path_in, module_path}
+use Rattle.bml_bytes.specs.Words.{is_same}
+use Rattle.multipart_entities.specs.Paths.{component_in, fields_of, hex_field, is_hex_digit, name_field, path_in, module_path}
 use Rattle.multipart_entities.specs.PathForms.{behind_host, behind_root, component_path_in, module_in, name_in, relative_in, resource_in}
 use Rattle.multipart_entities.specs.PathTexts.{AreDigits, IsField, IsName, IsPathText, IsRoot, PathText, named_by, number_of, root_text, text_of}
 use Rattle.multipart_entities.specs.PathTexts.PathText.{ByName, InComponent, OfModule, OfResource}
 use Rattle.multipart_entities.proofs.FormLemmas.{behind_host-more, behind_host-one, behind_host-two, behind_root-more, behind_root-one, component_path_in-more, component_path_in-one, module_in-more, module_in-one, name_in-more, name_in-one, relative_in-more, relative_in-one, relative_in-two}
-use Rattle.multipart_entities.proofs.RootLemmas.{component_of-more, component_of-none, component_of-one, resolved-none, resolved-root}
+use Rattle.multipart_entities.proofs.RootLemmas.{component_of-more, component_of-none, component_of-one, path_of_text-none, path_of_text-root}
 use Rattle.multipart_entities.proofs.TextLemmas.{fields_of-at, fields_of-last}
 
 -- ---- what options are made of
@@ -122,16 +123,16 @@ rooted_host text front more fields scheme e h =
       behind = h.behind;
     }
 
-rooted_scheme : (scheme : Bool) (text front more : List ℕ) (fields : List (List ℕ)) → is_text (ascii "arib-dc:") front ≡ scheme → front ++ 47 ∷ more ≡ text → cond scheme (behind_host (fields_of more)) None ≡ Some fields → Rooted text fields
-rooted_scheme true text front more fields is e taken = rooted_host text front more fields ((bytes_eq-Decides (ascii "arib-dc:") front).0 is) e (hosted more fields (cut more) taken)
+rooted_scheme : (scheme : Bool) (text front more : List ℕ) (fields : List (List ℕ)) → is_same front (ascii "arib-dc:") ≡ scheme → front ++ 47 ∷ more ≡ text → cond scheme (behind_host (fields_of more)) None ≡ Some fields → Rooted text fields
+rooted_scheme true text front more fields is e taken = rooted_host text front more fields (sym ((bytes_eq-Decides front (ascii "arib-dc:")).0 is)) e (hosted more fields (cut more) taken)
 rooted_scheme false text front more fields is e taken = none_some fields taken
 
-rooted_at : (front text more : List ℕ) (fields : List (List ℕ)) → front ++ 47 ∷ more ≡ text → cond (eqb (length front) 0) (Some (fields_of more)) (cond (is_text (ascii "arib-dc:") front) (behind_host (fields_of more)) None) ≡ Some fields → Rooted text fields
+rooted_at : (front text more : List ℕ) (fields : List (List ℕ)) → front ++ 47 ∷ more ≡ text → cond (eqb (length front) 0) (Some (fields_of more)) (cond (is_same front (ascii "arib-dc:")) (behind_host (fields_of more)) None) ≡ Some fields → Rooted text fields
 rooted_at [] text more fields e taken = record { host = None; rest = more; root = tt; same = e; behind = cc taken }
 rooted_at (code ∷ front) text more fields e taken =
     let other : eqb (length (code ∷ front)) 0 ≡ false = grind (arith, nat_tests) in
-    rooted_scheme (is_text (ascii "arib-dc:") (code ∷ front)) text (code ∷ front) more fields refl e
-    (ap (λ (b : Bool). cond b (Some (fields_of more)) (cond (is_text (ascii "arib-dc:") (code ∷ front)) (behind_host (fields_of more)) None)) (sym other) ∙ taken)
+    rooted_scheme (is_same (code ∷ front) (ascii "arib-dc:")) text (code ∷ front) more fields refl e
+    (ap (λ (b : Bool). cond b (Some (fields_of more)) (cond (is_same (code ∷ front) (ascii "arib-dc:")) (behind_host (fields_of more)) None)) (sym other) ∙ taken)
 
 rooted : (text : List ℕ) (fields : List (List ℕ)) → Cut text → behind_root (fields_of text) ≡ Some fields → Rooted text fields
 rooted text fields (Whole h) taken = none_some fields (sym (behind_root-one text (fields_of-last text h)) ∙ taken)
@@ -227,16 +228,16 @@ spelled_parent : (base path : Path) (codes front rest digits name : List ℕ) �
 spelled_parent base path codes front rest digits name parent same parts h =
     (InComponent digits name, (h.second, h.named), ap (λ (text : List ℕ). ascii ".." ++ 47 ∷ text) parts ∙ (ap (λ (text : List ℕ). text ++ 47 ∷ rest) parent ∙ same), h.is)
 
-spelled_resource : (parent : Bool) (base path : Path) (codes front rest digits name : List ℕ) → is_text (ascii "..") front ≡ parent → front ++ 47 ∷ rest ≡ codes → digits ++ 47 ∷ name ≡ rest → cond parent (resource_in base.component digits (fields_of name)) None ≡ Some path → Spelled base path codes
+spelled_resource : (parent : Bool) (base path : Path) (codes front rest digits name : List ℕ) → is_same front (ascii "..") ≡ parent → front ++ 47 ∷ rest ≡ codes → digits ++ 47 ∷ name ≡ rest → cond parent (resource_in base.component digits (fields_of name)) None ≡ Some path → Spelled base path codes
 spelled_resource true base path codes front rest digits name is same parts e =
-    spelled_parent base path codes front rest digits name ((bytes_eq-Decides (ascii "..") front).0 is) same parts (resource_back base.component digits name path e)
+    spelled_parent base path codes front rest digits name (sym ((bytes_eq-Decides front (ascii "..")).0 is)) same parts (resource_back base.component digits name path e)
 spelled_resource false base path codes front rest digits name is same parts e = none_some path e
 
 spelled_fields : (base path : Path) (codes front rest : List ℕ) → IsField front → front ++ 47 ∷ rest ≡ codes → Cut rest → relative_in base (fields_of codes) ≡ Some path → Spelled base path codes
 spelled_fields base path codes front rest h same (Whole last) e =
     none_some path (sym (relative_in-two base codes front rest (fields_at codes front rest h same) (fields_of-last rest last)) ∙ e)
 spelled_fields base path codes front rest h same (At digits name field parts) e =
-    spelled_resource (is_text (ascii "..") front) base path codes front rest digits name refl same parts
+    spelled_resource (is_same front (ascii "..")) base path codes front rest digits name refl same parts
     (sym (relative_in-more base codes front rest digits name (fields_at codes front rest h same) (fields_at rest digits name field parts)) ∙ e)
 
 spelled_relative : (base path : Path) (codes : List ℕ) → Cut codes → relative_in base (fields_of codes) ≡ Some path → Spelled base path codes
@@ -245,10 +246,10 @@ spelled_relative base path codes (At front rest h same) e = spelled_fields base 
 
 -- the fields behind a root, told by what is found
 path_of_root : (base : Path) (codes : List ℕ) (fields : List (List ℕ)) → Rooted codes fields → behind_root (fields_of codes) ≡ Some fields → path_in base (fields_of codes) ≡ component_path_in fields
-path_of_root base codes fields h e = resolved-root base codes h.rest (sym (e ∙ ap Some h.behind)) ∙ ap component_path_in (sym h.behind)
+path_of_root base codes fields h e = path_of_text-root base codes h.rest (sym (e ∙ ap Some h.behind)) ∙ ap component_path_in (sym h.behind)
 
 spelled_by : (root : Option (List (List ℕ))) (base path : Path) (codes : List ℕ) → behind_root (fields_of codes) ≡ root → path_in base (fields_of codes) ≡ Some path → Spelled base path codes
-spelled_by None base path codes is e = spelled_relative base path codes (cut codes) (sym (resolved-none base codes (sym is)) ∙ e)
+spelled_by None base path codes is e = spelled_relative base path codes (cut codes) (sym (path_of_text-none base codes (sym is)) ∙ e)
 spelled_by (Some fields) base path codes is e =
     let found = rooted codes fields (cut codes) is in
     spelled_root base path codes fields found (sym (path_of_root base codes fields found is) ∙ e)

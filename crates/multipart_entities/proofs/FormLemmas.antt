@@ -4,7 +4,8 @@ use Rattle.std.specs.Prelude.{option_map, option_and_then, codes as ascii}
 use Rattle.std.proofs.lemmas.Bool.Decides.{nat_tests}
 use Rattle.std.proofs.lemmas.List.Splits.{length-slice_split}
 use Rattle.multipart_entities.specs.declared.paths.Path.{Path}
-use Rattle.multipart_entities.specs.Paths.{is_slash, fields_of, name_field, hex_field, module_path, is_text}
+use Rattle.bml_bytes.specs.Words.{is_same}
+use Rattle.multipart_entities.specs.Paths.{is_slash, fields_of, name_field, hex_field, module_path}
 use Rattle.multipart_entities.specs.PathForms.{behind_host, behind_root, component_path_in, module_in, name_in, relative_in, resource_in}
 
 -- each text has a field
@@ -12,9 +13,9 @@ pub some_field : (codes : List ℕ) → 1 ≤ length (fields_of codes)
 some_field codes = let e = length-slice_split is_slash codes in omega arith
 
 -- a field is empty where it has no code
-pub is_text-empty : (front : List ℕ) → is_text [] front ≡ eqb (length front) 0
-is_text-empty [] = refl
-is_text-empty (code ∷ front) = grind (arith, nat_tests)
+pub is_same-empty : (front : List ℕ) → is_same front [] ≡ eqb (length front) 0
+is_same-empty [] = refl
+is_same-empty (code ∷ front) = grind (arith, nat_tests)
 
 -- ---- a name
 
@@ -36,16 +37,16 @@ pub behind_root-one : (codes : List ℕ) → fields_of codes ≡ codes ∷ [] �
 unfolding behind_root
 behind_root-one codes e = ap behind_root e
 
-behind_root-fields : (front : List ℕ) (fields : List (List ℕ)) → 1 ≤ length fields → behind_root (front ∷ fields) ≡ cond (is_text [] front) (Some fields) (cond (is_text (ascii "arib-dc:") front) (behind_host fields) None)
+behind_root-fields : (front : List ℕ) (fields : List (List ℕ)) → 1 ≤ length fields → behind_root (front ∷ fields) ≡ cond (is_same front []) (Some fields) (cond (is_same front (ascii "arib-dc:")) (behind_host fields) None)
 unfolding behind_root
 behind_root-fields front [] h = absurd (omega arith)
 behind_root-fields front (field ∷ fields) h = refl
 
-pub behind_root-more : (codes front rest : List ℕ) → fields_of codes ≡ front ∷ fields_of rest → behind_root (fields_of codes) ≡ cond (eqb (length front) 0) (Some (fields_of rest)) (cond (is_text (ascii "arib-dc:") front) (behind_host (fields_of rest)) None)
+pub behind_root-more : (codes front rest : List ℕ) → fields_of codes ≡ front ∷ fields_of rest → behind_root (fields_of codes) ≡ cond (eqb (length front) 0) (Some (fields_of rest)) (cond (is_same front (ascii "arib-dc:")) (behind_host (fields_of rest)) None)
 behind_root-more codes front rest e =
     ap behind_root e
     ∙ (behind_root-fields front (fields_of rest) (some_field rest)
-    ∙ ap (λ (empty : Bool). cond empty (Some (fields_of rest)) (cond (is_text (ascii "arib-dc:") front) (behind_host (fields_of rest)) None)) (is_text-empty front))
+    ∙ ap (λ (empty : Bool). cond empty (Some (fields_of rest)) (cond (is_same front (ascii "arib-dc:")) (behind_host (fields_of rest)) None)) (is_same-empty front))
 
 pub behind_host-one : (codes : List ℕ) → fields_of codes ≡ codes ∷ [] → behind_host (fields_of codes) ≡ None
 unfolding behind_host
@@ -55,7 +56,7 @@ pub behind_host-two : (codes empty host : List ℕ) → fields_of codes ≡ empt
 unfolding behind_host
 behind_host-two codes empty host e behind = ap behind_host (e ∙ ap (λ (fields : List (List ℕ)). empty ∷ fields) behind)
 
-behind_host-fields : (empty host : List ℕ) (fields : List (List ℕ)) → 1 ≤ length fields → behind_host (empty ∷ host ∷ fields) ≡ cond (is_text [] empty) (Some fields) None
+behind_host-fields : (empty host : List ℕ) (fields : List (List ℕ)) → 1 ≤ length fields → behind_host (empty ∷ host ∷ fields) ≡ cond (is_same empty []) (Some fields) None
 unfolding behind_host
 behind_host-fields empty host [] h = absurd (omega arith)
 behind_host-fields empty host (field ∷ fields) h = refl
@@ -64,7 +65,7 @@ pub behind_host-more : (codes empty middle host rest : List ℕ) → fields_of c
 behind_host-more codes empty middle host rest e behind =
     ap behind_host (e ∙ ap (λ (fields : List (List ℕ)). empty ∷ fields) behind)
     ∙ (behind_host-fields empty host (fields_of rest) (some_field rest)
-    ∙ ap (λ (none : Bool). cond none (Some (fields_of rest)) None) (is_text-empty empty))
+    ∙ ap (λ (none : Bool). cond none (Some (fields_of rest)) None) (is_same-empty empty))
 
 -- ---- a module
 
@@ -113,16 +114,16 @@ resource_in-none component (Some number) = refl
 pub relative_in-two : (base : Path) (codes front digits : List ℕ) → fields_of codes ≡ front ∷ fields_of digits → fields_of digits ≡ digits ∷ [] → relative_in base (fields_of codes) ≡ None
 unfolding relative_in
 relative_in-two base codes front digits e behind =
-    ap (relative_in base) (e ∙ ap (λ (fields : List (List ℕ)). front ∷ fields) behind) ∙ nothing_of (is_text (ascii "..") front) (resource_in base.component digits []) (resource_in-none base.component (hex_field 4 digits))
+    ap (relative_in base) (e ∙ ap (λ (fields : List (List ℕ)). front ∷ fields) behind) ∙ nothing_of (is_same front (ascii "..")) (resource_in base.component digits []) (resource_in-none base.component (hex_field 4 digits))
 
-pub relative_in-more : (base : Path) (codes front middle digits rest : List ℕ) → fields_of codes ≡ front ∷ fields_of middle → fields_of middle ≡ digits ∷ fields_of rest → relative_in base (fields_of codes) ≡ cond (is_text (ascii "..") front) (resource_in base.component digits (fields_of rest)) None
+pub relative_in-more : (base : Path) (codes front middle digits rest : List ℕ) → fields_of codes ≡ front ∷ fields_of middle → fields_of middle ≡ digits ∷ fields_of rest → relative_in base (fields_of codes) ≡ cond (is_same front (ascii "..")) (resource_in base.component digits (fields_of rest)) None
 unfolding relative_in
 relative_in-more base codes front middle digits rest e behind = ap (relative_in base) (e ∙ ap (λ (fields : List (List ℕ)). front ∷ fields) behind)
 
-relative_in-fields : (base : Path) (front : List ℕ) (fields : List (List ℕ)) → 1 ≤ length fields → is_text (ascii "..") front ≡ false → relative_in base (front ∷ fields) ≡ None
+relative_in-fields : (base : Path) (front : List ℕ) (fields : List (List ℕ)) → 1 ≤ length fields → is_same front (ascii "..") ≡ false → relative_in base (front ∷ fields) ≡ None
 unfolding relative_in
 relative_in-fields base front [] h e = absurd (omega arith)
 relative_in-fields base front (digits ∷ fields) h e = rw e refl
 
-pub relative_in-other : (base : Path) (codes front rest : List ℕ) → fields_of codes ≡ front ∷ fields_of rest → is_text (ascii "..") front ≡ false → relative_in base (fields_of codes) ≡ None
+pub relative_in-other : (base : Path) (codes front rest : List ℕ) → fields_of codes ≡ front ∷ fields_of rest → is_same front (ascii "..") ≡ false → relative_in base (fields_of codes) ≡ None
 relative_in-other base codes front rest e other = ap (relative_in base) e ∙ relative_in-fields base front (fields_of rest) (some_field rest) other

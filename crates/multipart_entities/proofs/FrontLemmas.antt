@@ -32,7 +32,7 @@ behind-is (m ∷ front) [] rest e = absurd (cc e)
 behind-is (m ∷ front) (b ∷ bytes) rest e =
     is-by m b front bytes rest (nat_eq m b) refl (sym (behind-cons m b front bytes) ∙ e) (behind-is front bytes rest)
 
--- ---- a front in two pieces
+-- ---- a front in two body parts
 
 twice-by : (t : Bool) (a b : Option (List ℕ)) (f : List ℕ → Option (List ℕ)) → a ≡ option_and_then f b → cond t a None ≡ option_and_then f (cond t b None)
 twice-by true a b f e = e

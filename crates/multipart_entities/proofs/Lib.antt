@@ -5,7 +5,7 @@ pub mod HeadLemmas
 pub mod LineLaws
 pub mod LineLemmas
 pub mod NameLemmas
-pub mod PieceLemmas
+pub mod BodyPartLemmas
 pub mod PlaceLemmas
 pub mod BackLemmas
 pub mod FormLemmas

@@ -2,7 +2,8 @@
 use Rattle.std.proofs.Common.{◌≡◌, ℕ, Bool, true, false, ◌&&◌, cond, List, [], ◌∷◌, length, ◌≤◌, Option, Some, None, refl, sym, ap, ◌∙◌, arith}
 use Rattle.std.specs.Prelude.{option_map, option_and_then, codes as ascii}
 use Rattle.multipart_entities.specs.declared.paths.Path.{Path}
-use Rattle.multipart_entities.specs.Paths.{component_in, fields_of, hex_field, is_text, path_in}
+use Rattle.bml_bytes.specs.Words.{is_same}
+use Rattle.multipart_entities.specs.Paths.{component_in, fields_of, hex_field, path_in}
 use Rattle.multipart_entities.specs.PathForms.{behind_host, behind_root, component_path_in, module_in, name_in, relative_in, resource_in}
 use Rattle.multipart_entities.proofs.FormLemmas.{some_field, module_in-nothing, resource_in-none}
 
@@ -32,14 +33,14 @@ unfolding component_in behind_root behind_host
 component_in-by [] = refl
 component_in-by (front ∷ []) = refl
 component_in-by ([] ∷ a ∷ []) = refl
-component_in-by ((code ∷ front) ∷ a ∷ []) = sym (of_neither (is_text (ascii "arib-dc:") (code ∷ front)))
+component_in-by ((code ∷ front) ∷ a ∷ []) = sym (of_neither (is_same (code ∷ front) (ascii "arib-dc:")))
 component_in-by ([] ∷ a ∷ b ∷ []) = refl
-component_in-by ((code ∷ front) ∷ a ∷ b ∷ []) = sym (of_neither (is_text (ascii "arib-dc:") (code ∷ front)))
+component_in-by ((code ∷ front) ∷ a ∷ b ∷ []) = sym (of_neither (is_same (code ∷ front) (ascii "arib-dc:")))
 component_in-by ([] ∷ a ∷ b ∷ c ∷ []) = refl
-component_in-by ((code ∷ front) ∷ a ∷ b ∷ c ∷ []) = sym (of_scheme (is_text (ascii "arib-dc:") (code ∷ front)) (is_text [] a) (c ∷ []))
+component_in-by ((code ∷ front) ∷ a ∷ b ∷ c ∷ []) = sym (of_scheme (is_same (code ∷ front) (ascii "arib-dc:")) (is_same a []) (c ∷ []))
 component_in-by ([] ∷ a ∷ b ∷ c ∷ d ∷ fields) = refl
 component_in-by ((code ∷ front) ∷ a ∷ b ∷ c ∷ d ∷ fields) =
-    sym (of_scheme (is_text (ascii "arib-dc:") (code ∷ front)) (is_text [] a) (c ∷ d ∷ fields) ∙ none_either (is_text (ascii "arib-dc:") (code ∷ front) && is_text [] a) None refl)
+    sym (of_scheme (is_same (code ∷ front) (ascii "arib-dc:")) (is_same a []) (c ∷ d ∷ fields) ∙ none_either (is_same (code ∷ front) (ascii "arib-dc:") && is_same a []) None refl)
 
 pub component_of-none : (text codes : List ℕ) → codes ≡ text → None ≡ behind_root (fields_of codes) → component_in (fields_of text) ≡ None
 component_of-none text codes same e = rw (← same) (component_in-by (fields_of codes) ∙ ap component_by (sym e))
@@ -83,11 +84,11 @@ component_path_in-short a = module_in-nothing (hex_field 2 a)
 
 relative_in-long : (base : Path) (front a b c : List ℕ) (fields : List (List ℕ)) → relative_in base (front ∷ a ∷ b ∷ c ∷ fields) ≡ None
 unfolding relative_in
-relative_in-long base front a b c fields = none_either (is_text (ascii "..") front) (resource_in base.component a (b ∷ c ∷ fields)) (none_of base.component b c fields (hex_field 4 a))
+relative_in-long base front a b c fields = none_either (is_same front (ascii "..")) (resource_in base.component a (b ∷ c ∷ fields)) (none_of base.component b c fields (hex_field 4 a))
 
 relative_in-short : (base : Path) (front a : List ℕ) → relative_in base (front ∷ a ∷ []) ≡ None
 unfolding relative_in
-relative_in-short base front a = none_either (is_text (ascii "..") front) (resource_in base.component a []) (resource_in-none base.component (hex_field 4 a))
+relative_in-short base front a = none_either (is_same front (ascii "..")) (resource_in base.component a []) (resource_in-none base.component (hex_field 4 a))
 
 by_neither : (base : Path) (fields : List (List ℕ)) (scheme : Bool) → path_by base fields (cond scheme None None) ≡ relative_in base fields
 by_neither base fields true = refl
@@ -103,19 +104,19 @@ path_in-named : (base : Path) (code : ℕ) (front : List ℕ) (fields : List (Li
 unfolding path_in behind_root behind_host component_path_in module_in name_in relative_in
 path_in-named base code front [] = refl
 path_in-named base code front (a ∷ []) =
-    sym (by_neither base ((code ∷ front) ∷ a ∷ []) (is_text (ascii "arib-dc:") (code ∷ front)) ∙ relative_in-short base (code ∷ front) a)
+    sym (by_neither base ((code ∷ front) ∷ a ∷ []) (is_same (code ∷ front) (ascii "arib-dc:")) ∙ relative_in-short base (code ∷ front) a)
 path_in-named base code front (a ∷ b ∷ []) =
-    sym (by_neither base ((code ∷ front) ∷ a ∷ b ∷ []) (is_text (ascii "arib-dc:") (code ∷ front)))
+    sym (by_neither base ((code ∷ front) ∷ a ∷ b ∷ []) (is_same (code ∷ front) (ascii "arib-dc:")))
 path_in-named base code front (a ∷ b ∷ c ∷ []) =
-    sym (by_scheme base ((code ∷ front) ∷ a ∷ b ∷ c ∷ []) (c ∷ []) (is_text (ascii "arib-dc:") (code ∷ front)) (is_text [] a) (relative_in-long base (code ∷ front) a b c [])
-    ∙ none_either (is_text (ascii "arib-dc:") (code ∷ front) && is_text [] a) (component_path_in (c ∷ [])) (component_path_in-short c))
+    sym (by_scheme base ((code ∷ front) ∷ a ∷ b ∷ c ∷ []) (c ∷ []) (is_same (code ∷ front) (ascii "arib-dc:")) (is_same a []) (relative_in-long base (code ∷ front) a b c [])
+    ∙ none_either (is_same (code ∷ front) (ascii "arib-dc:") && is_same a []) (component_path_in (c ∷ [])) (component_path_in-short c))
 path_in-named base code front (a ∷ b ∷ c ∷ d ∷ []) =
-    sym (by_scheme base ((code ∷ front) ∷ a ∷ b ∷ c ∷ d ∷ []) (c ∷ d ∷ []) (is_text (ascii "arib-dc:") (code ∷ front)) (is_text [] a) (relative_in-long base (code ∷ front) a b c (d ∷ [])))
+    sym (by_scheme base ((code ∷ front) ∷ a ∷ b ∷ c ∷ d ∷ []) (c ∷ d ∷ []) (is_same (code ∷ front) (ascii "arib-dc:")) (is_same a []) (relative_in-long base (code ∷ front) a b c (d ∷ [])))
 path_in-named base code front (a ∷ b ∷ c ∷ d ∷ e ∷ []) =
-    sym (by_scheme base ((code ∷ front) ∷ a ∷ b ∷ c ∷ d ∷ e ∷ []) (c ∷ d ∷ e ∷ []) (is_text (ascii "arib-dc:") (code ∷ front)) (is_text [] a) (relative_in-long base (code ∷ front) a b c (d ∷ e ∷ [])))
+    sym (by_scheme base ((code ∷ front) ∷ a ∷ b ∷ c ∷ d ∷ e ∷ []) (c ∷ d ∷ e ∷ []) (is_same (code ∷ front) (ascii "arib-dc:")) (is_same a []) (relative_in-long base (code ∷ front) a b c (d ∷ e ∷ [])))
 path_in-named base code front (a ∷ b ∷ c ∷ d ∷ e ∷ f ∷ fields) =
-    sym (by_scheme base ((code ∷ front) ∷ a ∷ b ∷ c ∷ d ∷ e ∷ f ∷ fields) (c ∷ d ∷ e ∷ f ∷ fields) (is_text (ascii "arib-dc:") (code ∷ front)) (is_text [] a) (relative_in-long base (code ∷ front) a b c (d ∷ e ∷ f ∷ fields))
-    ∙ none_either (is_text (ascii "arib-dc:") (code ∷ front) && is_text [] a) (component_path_in (c ∷ d ∷ e ∷ f ∷ fields)) (component_path_in-long c d e f fields))
+    sym (by_scheme base ((code ∷ front) ∷ a ∷ b ∷ c ∷ d ∷ e ∷ f ∷ fields) (c ∷ d ∷ e ∷ f ∷ fields) (is_same (code ∷ front) (ascii "arib-dc:")) (is_same a []) (relative_in-long base (code ∷ front) a b c (d ∷ e ∷ f ∷ fields))
+    ∙ none_either (is_same (code ∷ front) (ascii "arib-dc:") && is_same a []) (component_path_in (c ∷ d ∷ e ∷ f ∷ fields)) (component_path_in-long c d e f fields))
 
 -- a path that does
 path_in-rooted : (base : Path) (fields : List (List ℕ)) → path_in base ([] ∷ fields) ≡ path_by base ([] ∷ fields) (behind_root ([] ∷ fields))
@@ -134,8 +135,8 @@ path_in-by base [] = refl
 path_in-by base ([] ∷ fields) = path_in-rooted base fields
 path_in-by base ((code ∷ front) ∷ fields) = path_in-named base code front fields
 
-pub resolved-none : (base : Path) (codes : List ℕ) → None ≡ behind_root (fields_of codes) → path_in base (fields_of codes) ≡ relative_in base (fields_of codes)
-resolved-none base codes e = path_in-by base (fields_of codes) ∙ ap (path_by base (fields_of codes)) (sym e)
+pub path_of_text-none : (base : Path) (codes : List ℕ) → None ≡ behind_root (fields_of codes) → path_in base (fields_of codes) ≡ relative_in base (fields_of codes)
+path_of_text-none base codes e = path_in-by base (fields_of codes) ∙ ap (path_by base (fields_of codes)) (sym e)
 
-pub resolved-root : (base : Path) (codes rest : List ℕ) → Some (fields_of rest) ≡ behind_root (fields_of codes) → path_in base (fields_of codes) ≡ component_path_in (fields_of rest)
-resolved-root base codes rest e = path_in-by base (fields_of codes) ∙ ap (path_by base (fields_of codes)) (sym e)
+pub path_of_text-root : (base : Path) (codes rest : List ℕ) → Some (fields_of rest) ≡ behind_root (fields_of codes) → path_in base (fields_of codes) ≡ component_path_in (fields_of rest)
+path_of_text-root base codes rest e = path_in-by base (fields_of codes) ∙ ap (path_by base (fields_of codes)) (sym e)

@@ -11,7 +11,7 @@ use Rattle.multipart_entities.specs.PathForms.{behind_root, component_path_in, m
 use Rattle.multipart_entities.specs.PathTexts.{AreDigits, IsField, IsName, IsPathText, IsRoot, PathText, named_by, number_of, root_text, text_of}
 use Rattle.multipart_entities.specs.PathTexts.PathText.{ByName, InComponent, OfModule, OfResource}
 use Rattle.multipart_entities.proofs.FormLemmas.{behind_host-more, behind_root-more, component_path_in-more, module_in-more, module_in-one, name_in-one}
-use Rattle.multipart_entities.proofs.RootLemmas.{component_of-one, resolved-root}
+use Rattle.multipart_entities.proofs.RootLemmas.{component_of-one, path_of_text-root}
 
 -- ---- fields
 
@@ -71,13 +71,13 @@ in_component component rest h = rw (component_path_in-more (component ++ 47 ∷ 
 
 module_text : (base : Path) (host : Option (List ℕ)) (component digits : List ℕ) → IsRoot host → AreDigits 2 component → AreDigits 4 digits → path_in base (fields_of (root_text host ++ (component ++ 47 ∷ digits))) ≡ Some (record { component = number_of component; «module» = number_of digits; name = [] })
 module_text base host component digits root first second =
-    resolved-root base (root_text host ++ (component ++ 47 ∷ digits)) (component ++ 47 ∷ digits) (sym (root_fields host (component ++ 47 ∷ digits) root))
+    path_of_text-root base (root_text host ++ (component ++ 47 ∷ digits)) (component ++ 47 ∷ digits) (sym (root_fields host (component ++ 47 ∷ digits) root))
     ∙ (in_component component digits first ∙ module_is (number_of component) digits second)
 
 resource_text : (base : Path) (host : Option (List ℕ)) (component digits name : List ℕ) → IsRoot host → AreDigits 2 component → AreDigits 4 digits → IsName name → path_in base (fields_of (root_text host ++ (component ++ 47 ∷ (digits ++ 47 ∷ name)))) ≡ Some (record { component = number_of component; «module» = number_of digits; name = name })
 resource_text base host component digits name root first second named =
     let rest = digits ++ 47 ∷ name in
-    resolved-root base (root_text host ++ (component ++ 47 ∷ rest)) (component ++ 47 ∷ rest) (sym (root_fields host (component ++ 47 ∷ rest) root))
+    path_of_text-root base (root_text host ++ (component ++ 47 ∷ rest)) (component ++ 47 ∷ rest) (sym (root_fields host (component ++ 47 ∷ rest) root))
     ∙ (in_component component rest first
     ∙ (module_in-more (number_of component) rest digits name (fields_of-at digits name (digits_field 4 digits second)) ∙ resource_is (number_of component) digits name second named))
 

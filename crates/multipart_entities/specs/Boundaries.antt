@@ -1,5 +1,5 @@
--- The media type of an entity of several parts, its boundary, and the delimiter lines that this makes (MIME, RFC 2046, 5.1.1;
--- in this project's own profile).
+-- The media type of an entity of several parts, its boundary, and the delimiter lines that this
+-- makes (MIME, RFC 2046, 5.1.1; in this project's own profile).
 use Rattle.std.specs.Prelude.{ℕ, ◌+◌, ◌==◌, Bool, true, false, ◌||◌, if◌then◌else◌, List, [], ◌∷◌, ◌++◌, length, take, Option, Some, None, option_and_then, codes as ascii}
 use Rattle.std.specs.Option.{option_map_or}
 use Rattle.std.specs.List.{list_any, list_all, before_first, filter_map}
@@ -23,7 +23,8 @@ ends_boundary byte = (byte == 59) || (is_blank byte || ((byte == 0x0A) || (byte 
 abbrev pub boundary_at : List ℕ → List ℕ
 boundary_at [] = []
 boundary_at (byte ∷ bytes) =
-    if is_quote byte then (if list_any is_quote bytes then before_first is_quote bytes else []) else before_first ends_boundary (byte ∷ bytes)
+    if is_quote byte then (if list_any is_quote bytes then before_first is_quote bytes else [])
+    else before_first ends_boundary (byte ∷ bytes)
 
 -- an empty one is none
 abbrev pub unless_empty : List ℕ → Option (List ℕ)
@@ -32,7 +33,9 @@ unless_empty (byte ∷ bytes) = Some (byte ∷ bytes)
 
 -- the boundary stands behind the first `boundary=` of the media type
 unfoldable pub boundary_in : List ℕ → Option (List ℕ)
-boundary_in media = option_and_then (λ bytes. unless_empty (boundary_at bytes)) (behind_first (ascii "boundary=") media)
+boundary_in media =
+    option_and_then (λ bytes. unless_empty (boundary_at bytes))
+    (behind_first (ascii "boundary=") media)
 
 -- ---- delimiter lines
 
@@ -54,7 +57,8 @@ pub record Delimiter : Type 0 where
   pub last : Bool
 
 abbrev pub delimiter_at : Placed → Bool → Delimiter
-delimiter_at placed last = record { start = placed.place; next = placed.place + length placed.line + 2; last = last }
+delimiter_at placed last =
+    record { start = placed.place; next = placed.place + length placed.line + 2; last = last }
 
 -- the delimiter that a line is
 unfoldable pub delimiter_of : List ℕ → Placed → Option Delimiter

@@ -6,11 +6,15 @@ use Rattle.multipart_entities.specs.Boundaries.{Delimiter, delimiters, is_delimi
 
 -- whether the delimiter that a line is is the last one
 abbrev pub kind_of : List ℕ → List ℕ → Option Bool
-kind_of boundary line = if is_delimiter boundary line then Some false else if is_last_delimiter boundary line then Some true else None
+kind_of boundary line =
+    if is_delimiter boundary line then Some false else if is_last_delimiter boundary line
+    then Some true else None
 
 -- the delimiters among the lines that begin at a place
 abbrev pub delimiters_from : List ℕ → List ℕ → ℕ → List Delimiter
-delimiters_from boundary bytes place = delimiters boundary (placed_from place (lines_of (drop place bytes)))
+delimiters_from boundary bytes place =
+    delimiters boundary (placed_from place (lines_of (drop place bytes)))
 
 abbrev pub seen_delimiter : DelimiterInCode → Delimiter
-seen_delimiter delimiter = record { start = delimiter.start; next = delimiter.next; last = delimiter.last }
+seen_delimiter delimiter =
+    record { start = delimiter.start; next = delimiter.next; last = delimiter.last }

@@ -10,32 +10,38 @@ use Rattle.multipart_entities.specs.Lines.{lines_of}
 use Rattle.multipart_entities.specs.Heads.{Head, header, head_in, is_colon, is_good, is_header, is_slash, value_in}
 
 -- the size, and the value of the first header of each name that is asked for
-pub record Kept : Type 0 where
+pub record HeadValues : Type 0 where
   pub size : ℕ
   pub media : Option (List ℕ)
   pub encoding : Option (List ℕ)
   pub location : Option (List ℕ)
 
-abbrev pub kept : Head → Kept
-kept head =
-    record { size = head.size; media = header (ascii "Content-Type") head.lines; encoding = header (ascii "Content-Transfer-Encoding") head.lines; location = header (ascii "Content-Location") head.lines }
+abbrev pub head_values : Head → HeadValues
+head_values head =
+    record {
+      size =
+          head.size;
+      media = header (ascii "Content-Type") head.lines;
+      encoding = header (ascii "Content-Transfer-Encoding") head.lines;
+      location = header (ascii "Content-Location") head.lines;
+    }
 
-abbrev pub kept_if_good : Head → Option Kept
-kept_if_good head = if is_good head then Some (kept head) else None
+abbrev pub values_if_good : Head → Option HeadValues
+values_if_good head = if is_good head then Some (head_values head) else None
 
 -- of the head of some bytes, whose lines are headers
-abbrev pub good_head : List ℕ → Option Kept
-good_head bytes = option_and_then kept_if_good (head_in (lines_of bytes))
+abbrev pub good_head : List ℕ → Option HeadValues
+good_head bytes = option_and_then values_if_good (head_in (lines_of bytes))
 
-abbrev pub is_kept_binary : Kept → Bool
-is_kept_binary head = option_map_or (str_eq_ignore_ascii_case (ascii "binary")) head.encoding true
+abbrev pub is_binary_by : HeadValues → Bool
+is_binary_by head = option_map_or (str_eq_ignore_ascii_case (ascii "binary")) head.encoding true
 
-abbrev pub kept_name : Kept → List ℕ
-kept_name head = codes (option_map_or (after_last is_slash) head.location [])
+abbrev pub name_by : HeadValues → List ℕ
+name_by head = codes (option_map_or (after_last is_slash) head.location [])
 
 -- the name of the part that begins with the head; one whose bytes are encoded is none
-abbrev pub kept_part_name : Kept → Option (List ℕ)
-kept_part_name head = if is_kept_binary head then Some (kept_name head) else None
+abbrev pub part_name_by : HeadValues → Option (List ℕ)
+part_name_by head = if is_binary_by head then Some (name_by head) else None
 
 -- ---- one header
 
@@ -44,13 +50,16 @@ pub record HeaderSeen : Type 0 where
   pub value : List ℕ
 
 abbrev pub header_in : List ℕ → Option HeaderSeen
-header_in line = if is_header line then Some (record { name = before_first is_colon line; value = value_in line }) else None
+header_in line =
+    if is_header line
+    then Some (record { name = before_first is_colon line; value = value_in line }) else None
 
 -- its value, where that is its name
 abbrev pub value_for : List ℕ → HeaderSeen → Option (List ℕ)
-value_for name header = if str_eq_ignore_ascii_case header.name name then Some header.value else None
+value_for name header =
+    if str_eq_ignore_ascii_case header.name name then Some header.value else None
 
-abbrev pub with_header : Kept → HeaderSeen → Kept
+abbrev pub with_header : HeadValues → HeaderSeen → HeadValues
 with_header head header =
     record {
       size = head.size;
@@ -61,8 +70,14 @@ with_header head header =
 
 -- ---- the code
 
-abbrev pub seen_head : HeadInCode → Kept
-seen_head head = record { size = head.size; media = option_copied head.media; encoding = option_copied head.encoding; location = option_copied head.location }
+abbrev pub seen_head : HeadInCode → HeadValues
+seen_head head =
+    record {
+      size = head.size;
+      media = option_copied head.media;
+      encoding = option_copied head.encoding;
+      location = option_copied head.location;
+    }
 
 abbrev pub seen_header : HeaderInCode → HeaderSeen
 seen_header header = record { name = header.name.now; value = header.value.now }

@@ -1,5 +1,6 @@
--- The head of an entity or of a part: header lines, and the empty line behind which its bytes begin (RFC 822, 3.1; MIME,
--- RFC 2045; the entities of ARIB STD-B24, volume 2; in this project's own profile, without folded lines).
+-- The head of an entity or of a part: header lines, and the empty line behind which its bytes begin
+-- (RFC 822, 3.1; MIME, RFC 2045; the entities of ARIB STD-B24, volume 2; in this project's own
+-- profile, without folded lines).
 use Rattle.std.specs.Prelude.{ℕ, ◌+◌, ◌==◌, Bool, true, not, ◌&&◌, List, [], ◌∷◌, length, find, Option, Some, None, option_map, codes as ascii}
 use Rattle.std.specs.Option.{option_map_or}
 use Rattle.std.specs.List.{list_any, list_all, before_first, after_first, after_last}
@@ -16,12 +17,14 @@ pub record Head : Type 0 where
 abbrev pub with_line : List ℕ → Head → Head
 with_line line head = record { lines = line ∷ head.lines; size = length line + 2 + head.size }
 
--- The head of bytes of these lines. The empty line is the first one, and is ended: the last line isn't.
+-- The head of bytes of these lines. The empty line is the first one, and is ended: the last line
+-- isn't.
 abbrev pub head_in : List (List ℕ) → Option Head
 head_in [] = None
 head_in (line ∷ []) = None
 head_in ([] ∷ next ∷ lines) = Some (record { lines = []; size = 2 })
-head_in ((byte ∷ bytes) ∷ next ∷ lines) = option_map (with_line (byte ∷ bytes)) (head_in (next ∷ lines))
+head_in ((byte ∷ bytes) ∷ next ∷ lines) =
+    option_map (with_line (byte ∷ bytes)) (head_in (next ∷ lines))
 
 -- ---- header lines: `Name: value`
 
@@ -56,11 +59,14 @@ media_of head = header (ascii "Content-Type") head.lines
 
 -- the bytes stand as they are: no encoding is told, or `binary`, without ASCII case
 abbrev pub is_binary : Head → Bool
-is_binary head = option_map_or (str_eq_ignore_ascii_case (ascii "binary")) (header (ascii "Content-Transfer-Encoding") head.lines) true
+is_binary head =
+    option_map_or (str_eq_ignore_ascii_case (ascii "binary"))
+    (header (ascii "Content-Transfer-Encoding") head.lines) true
 
 abbrev pub is_slash : ℕ → Bool
 is_slash byte = byte == 47
 
 -- the name is what follows the last `/` of Content-Location, or else empty
 abbrev pub name_of : Head → List ℕ
-name_of head = codes (option_map_or (after_last is_slash) (header (ascii "Content-Location") head.lines) [])
+name_of head =
+    codes (option_map_or (after_last is_slash) (header (ascii "Content-Location") head.lines) [])

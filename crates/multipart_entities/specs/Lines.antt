@@ -1,4 +1,5 @@
--- Lines of bytes. A line ends with CR LF and with nothing else (RFC 822, 3.1), so that a CR or an LF alone stands in it.
+-- Lines of bytes. A line ends with CR LF and with nothing else (RFC 822, 3.1), so that a CR or an
+-- LF alone stands in it.
 use Rattle.std.specs.Prelude.{ℕ, ◌+◌, ◌-◌, ◌==◌, nat_eq, Bool, ◌&&◌, ◌||◌, if◌then◌else◌, List, [], ◌∷◌, length, take, drop, Option, Some, None}
 use Rattle.std.specs.List.{starts_with, onto_first, prefix_len, suffix_len}
 
@@ -6,7 +7,9 @@ use Rattle.std.specs.List.{starts_with, onto_first, prefix_len, suffix_len}
 unfoldable pub lines_of : List ℕ → List (List ℕ)
 lines_of [] = [] ∷ []
 lines_of (first ∷ []) = (first ∷ []) ∷ []
-lines_of (first ∷ second ∷ rest) = if (first == 13) && (second == 10) then [] ∷ lines_of rest else onto_first first (lines_of (second ∷ rest))
+lines_of (first ∷ second ∷ rest) =
+    if (first == 13) && (second == 10) then [] ∷ lines_of rest
+    else onto_first first (lines_of (second ∷ rest))
 
 -- a line, and the place at which it begins
 pub record Placed : Type 0 where
@@ -16,7 +19,8 @@ pub record Placed : Type 0 where
 -- the lines with their places, where the first begins at this place; an end has two bytes
 abbrev pub placed_from : ℕ → List (List ℕ) → List Placed
 placed_from place [] = []
-placed_from place (line ∷ lines) = record { place = place; line = line } ∷ placed_from (place + length line + 2) lines
+placed_from place (line ∷ lines) =
+    record { place = place; line = line } ∷ placed_from (place + length line + 2) lines
 
 -- space, tab
 abbrev pub is_blank : ℕ → Bool
@@ -43,4 +47,5 @@ behind front bytes = if begins_with front bytes then Some (drop (length front) b
 -- what stands behind the first place at which they stand
 unfoldable pub behind_first : List ℕ → List ℕ → Option (List ℕ)
 behind_first word [] = behind word []
-behind_first word (byte ∷ bytes) = if begins_with word (byte ∷ bytes) then behind word (byte ∷ bytes) else behind_first word bytes
+behind_first word (byte ∷ bytes) =
+    if begins_with word (byte ∷ bytes) then behind word (byte ∷ bytes) else behind_first word bytes

@@ -1,13 +1,13 @@
--- Parts one by one, and what the pieces in the code stand for.
+-- Parts one by one, and what the body parts in the code stand for.
 use Rattle.std.specs.Prelude.{ℕ, ◌+◌, ◌-◌, ◌^◌, ◌≤◌, ◌≡◌, min, if◌then◌else◌, List, [], ◌∷◌, ◌++◌, length, Option, Some, None, option_map, option_and_then, is_some, Result}
 use Rattle.std.specs.List.{filter_map}
 use Rattle.std.specs.Result.{result_map_both}
 use Rattle.multipart_entities.specs.declared.faults.EntityFault.{EntityFault}
 use Rattle.multipart_entities.specs.declared.parts.Part.{Part}
-use Rattle.multipart_entities.specs.declared.pieces.Pieces.{Pieces}
+use Rattle.multipart_entities.specs.declared.body_parts.BodyParts.{BodyParts}
 use Rattle.multipart_entities.specs.Boundaries.{is_multipart}
-use Rattle.multipart_entities.specs.Entities.{Piece, part_between, parts_by}
-use Rattle.multipart_entities.specs.HeadViews.{Kept, kept_part_name}
+use Rattle.multipart_entities.specs.Entities.{BodyPart, part_between, parts_by}
+use Rattle.multipart_entities.specs.HeadViews.{HeadValues, part_name_by}
 use Rattle.multipart_entities.specs.Parts.{first_of_each, place_of}
 
 -- ---- parts
@@ -16,26 +16,35 @@ use Rattle.multipart_entities.specs.Parts.{first_of_each, place_of}
 abbrev pub with_part : List Part → Part → List Part
 with_part parts part = if is_some (place_of part.name parts) then parts else parts ++ part ∷ []
 
--- the part that begins with a head, where the head begins at one place and its bytes end at the other
-abbrev pub kept_part : ℕ → ℕ → Kept → Option Part
-kept_part start end head = option_map (λ name. record { name = name; start = start + head.size; end = end }) (kept_part_name head)
+-- the part that begins with a head, where the head begins at one place and its bytes end at the
+-- other
+abbrev pub part_by : ℕ → ℕ → HeadValues → Option Part
+part_by start end head =
+    option_map (λ name. record {
+      name = name;
+      start = start + head.size;
+      end = end;
+    }) (part_name_by head)
 
 -- the media type, where it is one of several parts
 abbrev pub multipart_in : Option (List ℕ) → Option (List ℕ)
-multipart_in media = option_and_then (λ media. if is_multipart media then Some media else None) media
+multipart_in media =
+    option_and_then (λ media. if is_multipart media then Some media else None) media
 
 -- its bytes stand among these
 abbrev pub IsWithin : List ℕ → Part → Type 0
 IsWithin bytes part = (part.start ≤ part.end) × (part.end ≤ length bytes)
 
--- ---- pieces
+-- ---- body parts
 
--- the parts that pieces are
-abbrev pub parts_of : List ℕ → List Piece → List Part
-parts_of bytes done = filter_map (λ piece. part_between bytes piece.start piece.end) done
+-- the parts that body parts are
+abbrev pub parts_of : List ℕ → List BodyPart → List Part
+parts_of bytes done =
+    filter_map (λ body_part. part_between bytes body_part.start body_part.end) done
 
--- their number, as far as it can be counted, and their parts by name, where they are no more than 512
-pub record StandFor (bytes : List ℕ) (read : Pieces) (done : List Piece) : Type 0 where
+-- their number, as far as it can be counted, and their parts by name, where they are no more than
+-- 512
+pub record StandFor (bytes : List ℕ) (read : BodyParts) (done : List BodyPart) : Type 0 where
   pub count : read.count ≡ min (length done) (2 ^ 64 - 1)
   pub parts : length done ≤ 512 → read.parts ≡ first_of_each (parts_of bytes done)
 

@@ -13,7 +13,8 @@ is_named name part = pointwise nat_eq part.name name
 -- of parts with one name the first counts
 unfoldable pub first_of_each : List Part → List Part
 first_of_each [] = []
-first_of_each (part ∷ parts) = part ∷ filter (λ other. not (is_named part.name other)) (first_of_each parts)
+first_of_each (part ∷ parts) =
+    part ∷ filter (λ other. not (is_named part.name other)) (first_of_each parts)
 
 -- where the bytes of the part with that name stand: from which place up to which
 abbrev pub place_of : List ℕ → List Part → Option (ℕ × ℕ)

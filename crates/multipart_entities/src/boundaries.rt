@@ -13,8 +13,8 @@ use crate::lines::next_line;
 // The media type of an entity of several parts.
 const MULTIPART: &[u8] = b"multipart/mixed";
 
-/// A delimiter line: where it begins, where the next line does (behind the end where nothing ends the line), and
-/// whether it is the last one.
+/// A delimiter line: where it begins, where the next line does (behind the end where nothing ends
+/// the line), and whether it is the last one.
 #[derive(Clone, Copy)]
 pub struct Delimiter {
     pub start: usize,
@@ -22,7 +22,8 @@ pub struct Delimiter {
     pub last: bool,
 }
 
-/// Whether a media type is one of several parts: it begins with `multipart/mixed`, without ASCII case.
+/// Whether a media type is one of several parts: it begins with `multipart/mixed`, without ASCII
+/// case.
 #[tactic(auto, unfolding(crate::specs::Boundaries::is_multipart))]
 pub fn is_multipart(media: &[u8]) -> bool
     ensures { result ≡ spec_is_multipart media.now }
@@ -56,7 +57,8 @@ fn boundary_at(bytes: &[u8]) -> &[u8]
 
 // What stands before the first quote, and nothing where there is none.
 fn before_quote(bytes: &[u8]) -> &[u8]
-    ensures { result.now ≡ (if list_any is_quote bytes.now then before_first is_quote bytes.now else []) }
+    ensures { result.now
+        ≡ (if list_any is_quote bytes.now then before_first is_quote bytes.now else []) }
 {
     let size = size_before_quote(bytes);
     if size == bytes.len() {
@@ -99,7 +101,9 @@ fn ends_boundary(byte: u8) -> bool
 
 /// The first delimiter line among the lines that begin at a place.
 pub fn next_delimiter(boundary: &[u8], bytes: &[u8], place: usize) -> Option<Delimiter>
-    ensures found { delimiters_from boundary.now bytes.now place ≡ option_map_or (λ found. seen_delimiter found ∷ delimiters_from boundary.now bytes.now found.next) result [] }
+    ensures found { delimiters_from boundary.now bytes.now place
+        ≡ option_map_or (λ found.
+        seen_delimiter found ∷ delimiters_from boundary.now bytes.now found.next) result [] }
     ensures behind { IfSome result (λ found. place ≤ found.start) }
     ensures next { IfSome result (λ found. found.start + 2 ≤ found.next) }
     ensures start { IfSome result (λ found. found.start ≤ length bytes.now) }
@@ -141,7 +145,8 @@ fn is_followed_by_blanks(front: &[u8], bytes: &[u8]) -> bool
     }
 }
 
-// What stands behind `--` and the boundary at the front of a line, which is compared only as far as it goes.
+// What stands behind `--` and the boundary at the front of a line, which is compared only as far as
+// it goes.
 fn behind_boundary<'a>(boundary: &[u8], line: &'a [u8]) -> Option<&'a [u8]>
     ensures { option_copied result ≡ spec_behind (ascii "--" ++ boundary.now) line.now }
 {

@@ -54,8 +54,8 @@ pub fn is_same_text(a: &[u8], b: &[u8]) -> bool
     a.eq_ignore_ascii_case(b)
 }
 
-/// What stands behind a front of the bytes, and None where they begin otherwise. Both are compared only as far as
-/// the shorter one goes.
+/// What stands behind a front of the bytes, and None where they begin otherwise. Both are compared
+/// only as far as the shorter one goes.
 pub fn behind<'a>(front: &[u8], bytes: &'a [u8]) -> Option<&'a [u8]>
     ensures { option_copied result ≡ spec_behind front.now bytes.now }
 {

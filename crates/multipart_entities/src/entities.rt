@@ -4,22 +4,25 @@ ghost use Rattle.std.specs.Prelude.{◌≡◌, ◌≢◌, ◌≤◌, All, length
 ghost use Rattle.std.specs.Option.{option_to_list};
 ghost use Rattle.multipart_entities.specs.HeadViews.{seen_head};
 ghost use Rattle.multipart_entities.specs.Parts.{named_parts};
-ghost use Rattle.multipart_entities.specs.PartViews.{IsWithin, kept_part, multipart_in};
+ghost use Rattle.multipart_entities.specs.PartViews.{IsWithin, part_by, multipart_in};
 
+use crate::body_parts::parts_between_delimiters;
 use crate::boundaries::{boundary_in, is_multipart};
 use crate::faults::EntityFault;
 use crate::heads::{Head, read_head};
 use crate::parts::{Part, Parts};
-use crate::pieces::parts_between_delimiters;
 use bml_bytes::NoMemory;
 use std::alloc::Global;
 
-/// Tells the parts of the entity that some bytes are. `Malformed` comes exactly where the bytes are no entity, and
-/// `TooManyParts` exactly where they are one with more than 512 pieces between its delimiter lines, up to the first last
-/// one. Each byte is read a bounded number of times, and no part is copied.
+/// Tells the parts of the entity that some bytes are. `Malformed` comes exactly where the bytes are
+/// no entity, and `TooManyParts` exactly where they are one with more than 512 body parts between
+/// its delimiter lines, up to the first last one. Each byte is read a bounded number of times, and
+/// no part is copied.
 pub fn entity_parts(alloc: Global, bytes: &[u8]) -> Result<Parts, EntityFault>
-    ensures parts { MatchResult result (λ parts. named_parts bytes.now ≡ Ok parts) (λ fault. fault ≢ EntityFault.NoMemory → named_parts bytes.now ≡ Err fault) }
-    ensures inside { IfOk result (λ parts. All (λ part. (part.start ≤ part.end) × (part.end ≤ length bytes.now)) parts) }
+    ensures parts { MatchResult result (λ parts. named_parts bytes.now
+        ≡ Ok parts) (λ fault. fault ≢ EntityFault.NoMemory → named_parts bytes.now ≡ Err fault) }
+    ensures inside { IfOk result (λ parts. All (λ part. (part.start ≤ part.end)
+        × (part.end ≤ length bytes.now)) parts) }
 {
     let Some(head) = read_head(bytes) else {
         return Err(EntityFault::Malformed);
@@ -42,8 +45,10 @@ fn multipart_media(head: Head) -> Option<&[u8]>
 
 // The part that the entity is as a whole, where it isn't one of several parts.
 fn only_part(alloc: Global, bytes: &[u8], head: Head) -> Result<Parts, NoMemory>
-    ensures parts { IfOk result (λ parts. parts ≡ option_to_list (kept_part 0 (length bytes.now) (seen_head head.entry))) }
-    ensures inside { head.entry.size ≤ length bytes.now → IfOk result (λ parts. All (IsWithin bytes.now) parts) }
+    ensures parts { IfOk result (λ parts. parts
+        ≡ option_to_list (part_by 0 (length bytes.now) (seen_head head.entry))) }
+    ensures inside { head.entry.size ≤ length bytes.now
+        → IfOk result (λ parts. All (IsWithin bytes.now) parts) }
 {
     let mut parts = Parts::new(alloc);
     if let Some(name) = head.part_name(alloc)? {

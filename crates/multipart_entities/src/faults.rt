@@ -4,14 +4,15 @@ use bml_bytes::NoMemory as MemoryGone;
 use std::alloc::{AllocError, AllocFailed};
 use thiserror::Error;
 
-/// Why bytes weren't read as an entity. The first fault that they have is told, in the order written here.
+/// Why bytes weren't read as an entity. The first fault that they have is told, in the order
+/// written here.
 #[derive(Clone, Copy, Debug, PartialEq, Eq, Error)]
 pub enum EntityFault {
-    /// They have no head of header lines and an empty line, or are of several parts and have no boundary or no last
-    /// delimiter line.
+    /// They have no head of header lines and an empty line, or are of several parts and have no
+    /// boundary or no last delimiter line.
     #[error("Malformed")]
     Malformed,
-    /// More than 512 pieces stand between delimiter lines, up to the first last one.
+    /// More than 512 body parts stand between delimiter lines, up to the first last one.
     #[error("TooManyParts")]
     TooManyParts,
     /// Want of memory, and nothing else.

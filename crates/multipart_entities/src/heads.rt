@@ -3,15 +3,15 @@
 ghost use Rattle.std.specs.Prelude.{◌≡◌, ◌≤◌, length, option_copied, option_map, IfOk, IfSome, not};
 ghost use Rattle.std.specs.List.{after_last, position_or_len, suffix_len};
 ghost use Rattle.multipart_entities.specs.Heads.{is_colon, is_slash};
-ghost use Rattle.multipart_entities.specs.HeadViews.{good_head, header_in, is_kept_binary, kept_name, kept_part_name, seen_head, seen_header, value_for, with_header};
+ghost use Rattle.multipart_entities.specs.HeadViews.{good_head, header_in, is_binary_by, name_by, part_name_by, seen_head, seen_header, value_for, with_header};
 
 use crate::bytes::{is_same_text, without_blanks};
 use crate::lines::next_line;
 use bml_bytes::{NoMemory, Text};
 use std::alloc::Global;
 
-/// What is kept of a head: its size in bytes, with the empty line, and for each name that is asked for the value of the
-/// first header of that name.
+/// What is kept of a head: its size in bytes, with the empty line, and for each name that is asked
+/// for the value of the first header of that name.
 #[derive(Clone, Copy)]
 pub struct Head<'a> {
     pub size: usize,
@@ -33,7 +33,8 @@ struct Header<'a> {
     value: &'a [u8],
 }
 
-/// The head at the front of some bytes. None where they have no empty line, or a line before it is no header.
+/// The head at the front of some bytes. None where they have no empty line, or a line before it is
+/// no header.
 pub fn read_head(bytes: &[u8]) -> Option<Head>
     ensures head { option_map seen_head result ≡ good_head bytes.now }
     ensures bound { IfSome result (λ head. head.size ≤ length bytes.now) }
@@ -57,10 +58,11 @@ pub fn read_head(bytes: &[u8]) -> Option<Head>
 }
 
 impl<'a> Head<'a> {
-    /// The name of the part that begins with the head: what follows the last `/` of Content-Location, or else empty.
-    /// None where the bytes behind the head don't stand as they are.
+    /// The name of the part that begins with the head: what follows the last `/` of
+    /// Content-Location, or else empty. None where the bytes behind the head don't stand as they
+    /// are.
     pub fn part_name(self, alloc: Global) -> Result<Option<Text>, NoMemory>
-        ensures { IfOk result (λ name. name ≡ kept_part_name (seen_head self.entry)) }
+        ensures { IfOk result (λ name. name ≡ part_name_by (seen_head self.entry)) }
     {
         if !self.is_binary() {
             return Ok(None);
@@ -71,7 +73,7 @@ impl<'a> Head<'a> {
 
     // Whether the bytes behind the head stand as they are.
     fn is_binary(self) -> bool
-        ensures { result ≡ is_kept_binary (seen_head self.entry) }
+        ensures { result ≡ is_binary_by (seen_head self.entry) }
     {
         match self.encoding {
             Some(encoding) => is_same_text(b"binary", encoding),
@@ -81,7 +83,7 @@ impl<'a> Head<'a> {
 
     // The name that Content-Location tells.
     fn name(self, alloc: Global) -> Result<Text, NoMemory>
-        ensures { IfOk result (λ name. name ≡ kept_name (seen_head self.entry)) }
+        ensures { IfOk result (λ name. name ≡ name_by (seen_head self.entry)) }
     {
         match self.location {
             Some(location) => Text::of_bytes(alloc, behind_last_slash(location)),

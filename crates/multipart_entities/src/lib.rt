@@ -1,12 +1,14 @@
-//! Entities of several parts, and the paths of resources (ARIB STD-B24, volume 2, after MIME, RFC 2045 and 2046; in this
-//! project's own profile).
+//! Entities of several parts, and the paths of resources (ARIB STD-B24, volume 2, after MIME, RFC
+//! 2045 and 2046; in this project's own profile).
 //!
-//! [`entity_parts`] tells the parts of an entity by name: a part is a place in the entity's bytes and is never copied. What
-//! the parts are is said of the whole lists of lines and of delimiter lines (`specs/Entities`). A [`Path`] names a resource:
-//! a component, a module, and the name of a part. What a text names, and how a path is printed, is `specs/Paths`. What the
-//! definitions say together stands in the `law_of_..` functions.
+//! [`entity_parts`] tells the parts of an entity by name: a part is a place in the entity's bytes
+//! and is never copied. What the parts are is said of the whole lists of lines and of delimiter
+//! lines (`specs/Entities`). A [`Path`] names a resource: a component, a module, and the name of a
+//! part. What a text names, and how a path is printed, is `specs/Paths`. What the definitions say
+//! together stands in the `law_of_..` functions.
 #![tactic(auto)]
 
+mod body_parts;
 mod boundaries;
 mod bytes;
 mod entities;
@@ -19,7 +21,6 @@ mod path_laws;
 #[cfg(test)]
 mod path_tests;
 mod paths;
-mod pieces;
 #[cfg(test)]
 mod tests;
 

@@ -9,7 +9,8 @@ use indexmap::IndexMap;
 use std::alloc::Global;
 use std::marker::Model;
 
-/// A part of an entity: its name, and where its bytes stand among those of the entity, from `start` up to `end`.
+/// A part of an entity: its name, and where its bytes stand among those of the entity, from `start`
+/// up to `end`.
 #[derive(Drop)]
 pub struct Part {
     pub name: Text,
@@ -17,8 +18,8 @@ pub struct Part {
     pub end: usize,
 }
 
-/// The parts of an entity, in the order in which they stand; of parts with one name the first alone. Contracts see the
-/// list of them.
+/// The parts of an entity, in the order in which they stand; of parts with one name the first
+/// alone. Contracts see the list of them.
 #[derive(Drop)]
 pub struct Parts {
     places: IndexMap<Text, (usize, usize)>,
@@ -54,8 +55,8 @@ impl Parts {
         Ok(())
     }
 
-    /// Where the bytes of the part with that name stand: from which place up to which. The cost is that of one look-up by
-    /// the name's hash. This takes no memory.
+    /// Where the bytes of the part with that name stand: from which place up to which. The cost is
+    /// that of one look-up by the name's hash. This takes no memory.
     pub fn find(&self, name: &Text) -> Option<(usize, usize)>
         ensures { result ≡ place_of name.now self.now }
     {

@@ -1,11 +1,13 @@
-//! Paths that texts name, and paths as they are printed. What is expected is from the forms of the texts.
+//! Paths that texts name, and paths as they are printed. What is expected is from the forms of the
+//! texts.
 
 use crate::*;
 use bml_bytes::{NoMemory, Text};
 use std::alloc::Global;
 use std::test::Fail;
 
-// The path that a text names seen from `/50/1234/doc.bml`, as it is printed, and nothing of one that names none.
+// The path that a text names seen from `/50/1234/doc.bml`, as it is printed, and nothing of one
+// that names none.
 fn resolved(alloc: Global, bytes: &[u8]) -> Result<Vec<u8>, NoMemory> {
     let base = Path {
         component: 0x50,

@@ -1,27 +1,20 @@
 //! Paths of resources.
 
-ghost use Rattle.std.specs.Prelude.{◌≡◌, ◌<◌, ◌≤◌, ◌^◌, ◌++◌, [], ◌∷◌, IfOk, IfSome, MatchOption, OnErr, OnOk, is_some, option_copied, option_map, position};
-ghost use Rattle.bml_bytes.specs.Codes.{bytes_of};
-ghost use Rattle.std.specs.List.{flat_map};
-ghost use Rattle.multipart_entities.specs.Paths.{component_of, escaped_byte, fields_of, hex_field, hex_value, is_escaped as spec_is_escaped, is_hex_digit, is_slash, is_text as spec_is_text, name_field, printed, printed_name, resolved, upper_hex_digit};
+ghost use Rattle.std.specs.Prelude.{◌≡◌, ◌<◌, ◌≤◌, ◌^◌, ◌++◌, [], ◌∷◌, IfOk, IfSome, MatchOption, OnOk, is_some, option_copied, option_map, position};
+ghost use Rattle.std.specs.Io.{StartsWith};
+ghost use Rattle.multipart_entities.specs.Paths.{component_of, fields_of, hex_field, hex_value, is_hex_digit, is_slash, name_field, path_text, name_text, path_of_text};
 ghost use Rattle.multipart_entities.specs.PathForms.{behind_host as spec_behind_host, behind_root as spec_behind_root, component_path_in, module_in, name_in, path_of, relative_in, resource_in};
 
-use bml_bytes::{NoMemory, Text, push_hex};
+use bml_bytes::{Escapes, NoMemory, Text, is_word, law_of_digits, push_hex, push_word};
 use std::alloc::Global;
 
 const SLASH: u16 = 0x2F;
 
-/// `..`, the component of the base.
-const PARENT: [u16; 2] = [0x2E, 0x2E];
-
-/// `arib-dc:`.
-const SCHEME: [u16; 8] = [0x61, 0x72, 0x69, 0x62, 0x2D, 0x64, 0x63, 0x3A];
-
 /// How many codes a name has at most.
 const MOST_NAME_CODES: usize = 64;
 
-/// The path of a resource: the component_tag of its component, the number of its module, and the name of a part of the
-/// module, which is empty where the module is the resource.
+/// The path of a resource: the component_tag of its component, the number of its module, and the
+/// name of a part of the module, which is empty where the module is the resource.
 #[derive(Drop)]
 pub struct Path {
     pub component: u8,
@@ -38,11 +31,12 @@ struct FoundPath<'a> {
 }
 
 impl Path {
-    /// The path that a text names, seen from a base: `/cc/mmmm` and `/cc/mmmm/name`, these behind `arib-dc://` and codes
-    /// without `/`, `../mmmm/name` in the base's component, and `name` in the base's module. None exactly where the text is
-    /// of no such form. Memory is taken for the name alone.
+    /// The path that a text names, seen from a base: `/cc/mmmm` and `/cc/mmmm/name`, these behind
+    /// `arib-dc://` and codes without `/`, `../mmmm/name` in the base's component, and `name` in
+    /// the base's module. None exactly where the text is of no such form. Memory is taken for the
+    /// name alone.
     pub fn resolve(alloc: Global, text: &Text, base: &Path) -> Result<Option<Path>, NoMemory>
-        ensures { IfOk result (λ found. found ≡ resolved text.now base.now) }
+        ensures { IfOk result (λ found. found ≡ path_of_text text.now base.now) }
     {
         match found_path(text.codes(), base) {
             None => Ok(None),
@@ -57,33 +51,24 @@ impl Path {
         }
     }
 
-    /// Appends the path as it is printed: absolute, with digits in lower case, and the name with `%HH` for the bytes 0x00 to
-    /// 0x20, 0x7F and `%`.
+    /// Appends the path as it is printed: absolute, with digits in lower case, and the name with
+    /// `%HH` for the bytes 0x00 to 0x20, 0x7F and `%`. After `NoMemory` a front of it may stand
+    /// behind what `out` held.
     pub fn push(&self, out: &mut Vec<u8>) -> Result<(), NoMemory>
-        ensures ok { OnOk result (out.new.items ≡ out.old.items ++ printed self.now) }
-        ensures err { OnErr result (out.new.items ≡ out.old.items) }
+        ensures ok { OnOk result (out.new.items ≡ out.old.items ++ path_text self.now) }
+        ensures grows { StartsWith out.new.items out.old.items }
     {
-        // beside `out`, so that want of memory leaves it as it was
-        let mut line = Vec::new(*out.allocator());
-        self.push_fields(&mut line)?;
-        out.extend_from_slice(line.as_slice())?;
-        Ok(())
-    }
-
-    fn push_fields(&self, out: &mut Vec<u8>) -> Result<(), NoMemory>
-        ensures { OnOk result (out.new.items ≡ out.old.items ++ printed self.now) }
-    {
-        out.push(b'/')?;
+        push_word("/", out)?;
         push_hex(u32::from(self.component), 2, out)?;
-        out.push(b'/')?;
+        push_word("/", out)?;
         push_hex(u32::from(self.module), 4, out)?;
         push_name(&self.name, out)?;
         Ok(())
     }
 }
 
-/// The component that a text names: `/cc`, or the same behind `arib-dc://` and codes without `/`. None exactly where the
-/// text is of no such form. This takes no memory.
+/// The component that a text names: `/cc`, or the same behind `arib-dc://` and codes without `/`.
+/// None exactly where the text is of no such form. This takes no memory.
 pub fn component_ref(text: &Text) -> Option<u8>
     ensures { result ≡ component_of text.now }
 {
@@ -95,7 +80,7 @@ pub fn component_ref(text: &Text) -> Option<u8>
 }
 
 fn found_path<'a>(codes: &'a [u16], base: &Path) -> Option<FoundPath<'a>>
-    ensures { option_map path_of result ≡ resolved codes.now base.now }
+    ensures { option_map path_of result ≡ path_of_text codes.now base.now }
 {
     match behind_root(codes) {
         None => relative_path(codes, base),
@@ -103,14 +88,16 @@ fn found_path<'a>(codes: &'a [u16], base: &Path) -> Option<FoundPath<'a>>
     }
 }
 
-// What stands behind the slash that a path with a component begins with: `/`, or `arib-dc://` with a host and a slash.
+// What stands behind the slash that a path with a component begins with: `/`, or `arib-dc://` with
+// a host and a slash.
 fn behind_root(codes: &[u16]) -> Option<&[u16]>
-    ensures { option_map (λ rest. fields_of rest.now) result ≡ spec_behind_root (fields_of codes.now) }
+    ensures { option_map (λ rest. fields_of rest.now) result
+        ≡ spec_behind_root (fields_of codes.now) }
 {
     let (front, rest) = split_at_slash(codes)?;
     if front.is_empty() {
         Some(rest)
-    } else if is_text(front, &SCHEME) {
+    } else if is_word(front, "arib-dc:") {
         behind_host(rest)
     } else {
         None
@@ -119,7 +106,8 @@ fn behind_root(codes: &[u16]) -> Option<&[u16]>
 
 // The same behind `arib-dc:/`.
 fn behind_host(codes: &[u16]) -> Option<&[u16]>
-    ensures { option_map (λ rest. fields_of rest.now) result ≡ spec_behind_host (fields_of codes.now) }
+    ensures { option_map (λ rest. fields_of rest.now) result
+        ≡ spec_behind_host (fields_of codes.now) }
 {
     let (empty, rest) = split_at_slash(codes)?;
     let (_host, rest) = split_at_slash(rest)?;
@@ -179,7 +167,7 @@ fn relative_path<'a>(codes: &'a [u16], base: &Path) -> Option<FoundPath<'a>>
             })
         }
         Some((front, rest)) => {
-            if is_text(front, &PARENT) {
+            if is_word(front, "..") {
                 let (field, name) = split_at_slash(rest)?;
                 resource_path(base.component, field, name)
             } else {
@@ -210,7 +198,8 @@ fn short_name(field: &[u16]) -> Option<&[u16]>
 
 // What stands before the first slash and what stands behind it, and None where there is no slash.
 fn split_at_slash(codes: &[u16]) -> Option<(&[u16], &[u16])>
-    ensures { MatchOption result (fields_of codes.now ≡ codes.now ∷ []) (λ parts. fields_of codes.now ≡ parts.0.now ∷ fields_of parts.1.now) }
+    ensures { MatchOption result (fields_of codes.now
+        ≡ codes.now ∷ []) (λ parts. fields_of codes.now ≡ parts.0.now ∷ fields_of parts.1.now) }
 {
     let place = place_of_slash(codes)?;
     Some((&codes[..place], &codes[place + 1..]))
@@ -220,12 +209,6 @@ fn place_of_slash(codes: &[u16]) -> Option<usize>
     ensures { result ≡ position is_slash codes.now }
 {
     codes.iter().position(|code| *code == SLASH)
-}
-
-fn is_text(field: &[u16], text: &[u16]) -> bool
-    ensures { result ≡ spec_is_text text.now field.now }
-{
-    text == field
 }
 
 fn component_number(field: &[u16]) -> Option<u8>
@@ -244,6 +227,7 @@ fn hex_number(field: &[u16], count: usize) -> Option<u16>
     if field.len() != count {
         return None;
     }
+    law_of_digits();
     let mut number: u16 = 0;
     'digits: for code in field {
         number = number * 16 + hex_digit(*code)?;
@@ -266,51 +250,13 @@ fn hex_digit(code: u16) -> Option<u16>
 
 // Appends a name behind a slash, and nothing where it is empty.
 fn push_name(name: &Text, out: &mut Vec<u8>) -> Result<(), NoMemory>
-    ensures { OnOk result (out.new.items ≡ out.old.items ++ printed_name name.now) }
+    ensures ok { OnOk result (out.new.items ≡ out.old.items ++ name_text name.now) }
+    ensures grows { StartsWith out.new.items out.old.items }
 {
     if name.len() == 0 {
         return Ok(());
     }
-    out.push(b'/')?;
-    push_escaped(name, out)
-}
-
-// Appends the bytes of a text, those that are escaped as `%` and two digits.
-fn push_escaped(text: &Text, out: &mut Vec<u8>) -> Result<(), NoMemory>
-    ensures { OnOk result (out.new.items ≡ out.old.items ++ flat_map escaped_byte (bytes_of text.now)) }
-{
-    let mut bytes = Vec::new(*out.allocator());
-    text.push_bytes(&mut bytes)?;
-    'bytes: for byte in &bytes {
-        push_byte(*byte, out)?;
-    }
+    push_word("/", out)?;
+    Escapes::ControlsAndSpace.push(name, out)?;
     Ok(())
-}
-
-fn push_byte(byte: u8, out: &mut Vec<u8>) -> Result<(), NoMemory>
-    ensures { OnOk result (out.new.items ≡ out.old.items ++ escaped_byte byte) }
-{
-    if is_escaped(byte) {
-        out.extend_from_slice(&[b'%', upper_digit(byte / 16), upper_digit(byte % 16)])?;
-    } else {
-        out.push(byte)?;
-    }
-    Ok(())
-}
-
-fn is_escaped(byte: u8) -> bool
-    ensures { result ≡ spec_is_escaped byte }
-{
-    byte <= 0x20 || byte == 0x7F || byte == b'%'
-}
-
-fn upper_digit(digit: u8) -> u8
-    requires { digit < 16 }
-    ensures { result ≡ upper_hex_digit digit }
-{
-    if digit < 10 {
-        b'0' + digit
-    } else {
-        b'A' + (digit - 10)
-    }
 }

@@ -12,9 +12,9 @@ struct Case(
     &'static [(&'static [u8], Option<&'static [u8]>)],
 );
 
-// In the second entity: text before the first delimiter line and behind the last one, blanks behind both, a delimiter
-// in the middle of a line and one that goes on with other bytes, a CR and an LF alone, a part without a head's empty
-// line, and two parts with one name.
+// In the second entity: text before the first delimiter line and behind the last one, blanks behind
+// both, a delimiter in the middle of a line and one that goes on with other bytes, a CR and an LF
+// alone, a part without a head's empty line, and two parts with one name.
 const READ: [Case; 9] = [
     Case(
         b"Content-Type: multipart/mixed; boundary=\"b c\"\r\n\r\n--b c\r\nContent-Location: a.bml\r\n\r\nfirst\r\n--b c\r\nContent-Location: a/b/x.css\r\n\r\nsec\r\nond\r\n\r\n--b c--\r\n",

@@ -147,3 +147,16 @@ read_on (Service program) service pid e not_pat = second (eqb pid 0) (is_on serv
 pub stands_if_ok : {A E : Type 0} {P Q : Type 0} (r : Result A E) → OnOk r P → (P → Q) → OnOk r Q
 stands_if_ok (Ok a) p f = f p
 stands_if_ok (Err e) p f = tt
+
+unread_state : (selection : Selection) (history : List Handled) → StandsFor (record { selection = selection; service = service_of selection history; map = map_of selection history }) history
+unread_state selection history = record { service = refl; map = refl }
+
+pub service_unread : (selection : Selection) (history : List Handled) (handled : Handled) → reads_table selection (service_of selection history) handled.pid ≡ false → service_of selection (history ++ handled ∷ []) ≡ service_of selection history
+service_unread selection history handled unread =
+    let stands = stands_unread (record { selection = selection; service = service_of selection history; map = map_of selection history }) history handled.pid handled.section unread (unread_state selection history) in
+    sym stands.service
+
+pub map_unread : (selection : Selection) (history : List Handled) (handled : Handled) → reads_table selection (service_of selection history) handled.pid ≡ false → map_of selection (history ++ handled ∷ []) ≡ map_of selection history
+map_unread selection history handled unread =
+    let stands = stands_unread (record { selection = selection; service = service_of selection history; map = map_of selection history }) history handled.pid handled.section unread (unread_state selection history) in
+    sym stands.map

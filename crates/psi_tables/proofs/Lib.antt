@@ -6,6 +6,7 @@ pub mod StreamFields
 pub mod TableLaws
 pub mod Readers
 pub mod TagLoop
+pub mod WantedLemmas
 pub mod ComponentLemmas
 pub mod HistoryLemmas
 pub mod PlaceLemmas

@@ -1,5 +1,5 @@
 -- What `Services` keeps, and for which history it stands.
-use Rattle.std.specs.Prelude.{◌≡◌, ◌==◌, ℕ, Bool, false, ◌||◌, List, Option, is_some}
+use Rattle.std.specs.Prelude.{◌≡◌, ◌==◌, ℕ, Bool, false, ◌||◌, List, [], ◌∷◌, ◌++◌, map as each, Option, None, Some, is_some}
 use Rattle.psi_tables.specs.declared.pat.PatEntry.{PatEntry}
 use Rattle.psi_tables.specs.declared.components.Component.{Component}
 use Rattle.psi_tables.specs.declared.services.Selection.{Selection}
@@ -28,3 +28,15 @@ reads_table (Service program) service pid = (pid == 0) || is_on service pid
 -- a PID is wanted where its sections are read as a table or are those of a component
 abbrev pub wants : ServicesState → ℕ → Bool
 wants state pid = reads_table state.selection state.service pid || is_some (tag_in state.map pid)
+
+-- the PIDs on which sections are read as a table: PID 0, and the service's
+abbrev pub table_pids : Selection → Option PatEntry → List ℕ
+table_pids (Pid pid_of_data) service = []
+table_pids First None = 0 ∷ []
+table_pids First (Some service) = 0 ∷ service.pid ∷ []
+table_pids (Service program) None = 0 ∷ []
+table_pids (Service program) (Some service) = 0 ∷ service.pid ∷ []
+
+-- the PIDs that are wanted: those of the tables, and those of the components
+abbrev pub wanted_pids : ServicesState → List ℕ
+wanted_pids state = table_pids state.selection state.service ++ each (λ component. component.pid) state.map

@@ -1,7 +1,8 @@
 //! What the definitions of this crate say together. Each function is a law: its contract is what it is for, and
 //! it does nothing when it runs.
 
-ghost use Rattle.std.specs.Prelude.{◌≡◌, ◌≢◌, ◌≤◌, ◌↔◌, ℕ, List, [], ◌∷◌, length, AllPairs, None, Some, Ok, Err};
+ghost use Rattle.std.specs.Prelude.{◌≡◌, ◌≢◌, ◌≤◌, ◌↔◌, ◌==◌, ℕ, false, List, [], ◌∷◌, ◌++◌, length, AllPairs, None, Some, Ok, Err};
+ghost use Rattle.std.specs.List.{list_any};
 ghost use Rattle.bml_bytes.specs.Codes.{AreBytes};
 ghost use Rattle.psi_tables.specs.declared.pat.PatEntry.{PatEntry};
 ghost use Rattle.psi_tables.specs.declared.pmt.Pmt.{Pmt};
@@ -14,6 +15,7 @@ ghost use Rattle.psi_tables.specs.Table.{association_table, map_table, IsOfTable
 ghost use Rattle.psi_tables.specs.Pat.{IsPat};
 ghost use Rattle.psi_tables.specs.Pmt.{IsPmt};
 ghost use Rattle.psi_tables.specs.Reading.{pat_in, pmt_in};
+ghost use Rattle.psi_tables.specs.Service.{ServicesState, StandsFor, reads_table, wanted_pids, wants};
 
 use crate::services::Selection;
 use bml_bytes::{TableFault, law_of_big_numbers, law_of_fields};
@@ -56,4 +58,29 @@ pub fn law_of_component_map()
 pub fn law_of_components()
     ensures distinct { (streams : List PmtStream) → AllPairs AreApart (components_of streams) }
     ensures few { (streams : List PmtStream) → length (components_of streams) ≤ 16 }
+{}
+
+/// A section on a PID on which no table is read changes neither the service nor the component map, so what
+/// stands for the history before it stands for the history with it.
+pub fn law_of_unread_sections()
+    ensures service { (selection : Selection) (history : List Handled) (handled : Handled) →
+        reads_table selection (service_of selection history) handled.pid ≡ false →
+        service_of selection (history ++ handled ∷ []) ≡ service_of selection history }
+    ensures map { (selection : Selection) (history : List Handled) (handled : Handled) →
+        reads_table selection (service_of selection history) handled.pid ≡ false →
+        map_of selection (history ++ handled ∷ []) ≡ map_of selection history }
+    ensures stands { (state : ServicesState) (history : List Handled) (handled : Handled) →
+        reads_table state.selection state.service handled.pid ≡ false →
+        StandsFor state history → StandsFor state (history ++ handled ∷ []) }
+{}
+
+/// The PIDs that are wanted are those of the tables and of the components, so there are at most 18 of them.
+pub fn law_of_wanted_pids()
+    ensures wanted { (state : ServicesState) (pid : ℕ) →
+        wants state pid ≡ list_any (λ wanted. wanted == pid) (wanted_pids state) }
+    ensures components { (selection : Selection) (history : List Handled) →
+        length (map_of selection history) ≤ 16 }
+    ensures few { (state : ServicesState) → length state.map ≤ 16 → length (wanted_pids state) ≤ 18 }
+    ensures always { (state : ServicesState) (history : List Handled) → StandsFor state history →
+        length (wanted_pids state) ≤ 18 }
 {}

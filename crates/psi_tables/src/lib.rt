@@ -17,9 +17,12 @@ mod services;
 mod table;
 
 pub use crate::components::{COMPONENT_LIMIT, Component};
-pub use crate::laws::{law_of_component_map, law_of_components, law_of_pat, law_of_pmt};
+pub use crate::laws::{
+    law_of_component_map, law_of_components, law_of_pat, law_of_pmt, law_of_unread_sections,
+    law_of_wanted_pids,
+};
 pub use crate::pat::{PAT_PID, PatEntry, read_pat};
-pub use crate::pmt::{Pmt, PmtStream, Streams, read_pmt};
+pub use crate::pmt::{Pmt, PmtStream, read_pmt};
 pub use crate::services::{Selection, Services};
 
 #[cfg(test)]

@@ -9,9 +9,8 @@ ghost use Rattle.psi_tables.specs.Reading.{stream_at, streams_in, program_map, i
 use crate::descriptor::component_tag;
 use crate::laws::law_of_pmt;
 use crate::table::{body, extension, info, is_of_table, pid};
-use bml_bytes::{Cursor, TableFault, TableRefusal};
+use bml_bytes::{Cursor, Sequence, TableFault, TableRefusal};
 use std::alloc::Global;
-use std::marker::Model;
 
 /// What a PMT says of one stream (ISO/IEC 13818-1, 2.4.4.8).
 #[derive(Clone, Copy, Debug, PartialEq, Eq)]
@@ -24,55 +23,13 @@ pub struct PmtStream {
     pub component: Option<u8>,
 }
 
-/// Streams in the order in which they were sent. Contracts see the list of them.
-#[derive(Debug, Drop)]
-pub struct Streams {
-    streams: Vec<PmtStream>,
-}
-
-impl Model for Streams {
-    ghost use Rattle.std.specs.Prelude.{List};
-    ghost use Rattle.psi_tables.specs.declared.pmt.PmtStream.{PmtStream};
-
-    ghost Value = { List PmtStream };
-
-    ghost view = { λ kept. kept.streams.items };
-}
-
-impl Streams {
-    /// All of them.
-    pub fn as_slice(&self) -> &[PmtStream]
-        ensures { result.now ≡ self.now }
-    {
-        self.streams.as_slice()
-    }
-
-    /// The vector with all of them. This takes no memory.
-    pub fn into_vec(self) -> Vec<PmtStream>
-        ensures { result.items ≡ self }
-    {
-        let Streams { streams } = self;
-        streams
-    }
-}
-
-impl From<Vec<PmtStream>> for Streams {
-    ghost use Rattle.std.specs.Prelude.{◌≡◌};
-
-    ghost from_gives = { λ streams kept. kept ≡ streams.items };
-
-    /// The streams of a vector. This takes no memory.
-    fn from(streams: Vec<PmtStream>) -> Streams {
-        Streams { streams }
-    }
-}
-
 /// A PMT (ISO/IEC 13818-1, 2.4.4.8).
 #[derive(Debug, Drop)]
 pub struct Pmt {
     /// The number of the program, as the PAT has it.
     pub program: u16,
-    pub streams: Streams,
+    /// Its streams in the order in which they were sent.
+    pub streams: Sequence<PmtStream>,
 }
 
 /// The PMT that a section carries.
@@ -116,7 +73,7 @@ fn program_map_of(alloc: Global, program: u16, body: &[u8]) -> Result<Pmt, Table
     Ok(Pmt { program, streams })
 }
 
-fn program_streams(alloc: Global, body: &[u8]) -> Result<Streams, TableRefusal>
+fn program_streams(alloc: Global, body: &[u8]) -> Result<Sequence<PmtStream>, TableRefusal>
     ensures { IsRead (λ found. found) result (ok_or (streams_in body.now) TableFault.Short) }
 {
     let loop_of_streams = behind_program_info(body).ok_or(TableFault::Short)?;
@@ -135,7 +92,7 @@ fn behind_program_info(body: &[u8]) -> Option<&[u8]>
     Some(cursor.left())
 }
 
-fn stream_loop(alloc: Global, bytes: &[u8]) -> Result<Streams, TableRefusal>
+fn stream_loop(alloc: Global, bytes: &[u8]) -> Result<Sequence<PmtStream>, TableRefusal>
     ensures { IsRead (λ found. found) result (ok_or (items_in stream_at bytes.now) TableFault.Short) }
 {
     let mut streams = Vec::new(alloc);
@@ -145,7 +102,7 @@ fn stream_loop(alloc: Global, bytes: &[u8]) -> Result<Streams, TableRefusal>
         streams.push(stream)?;
         rest = behind;
     }
-    Ok(Streams::from(streams))
+    Ok(Sequence::from(streams))
 }
 
 // The stream in front, and the bytes behind it.

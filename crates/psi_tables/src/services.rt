@@ -107,6 +107,7 @@ impl Services {
     pub fn components(&self) -> &[Component]
         ensures map { result.now ≡ self.now.map }
         ensures apart { AllPairs AreApart result.now }
+        ensures few { length result.now ≤ COMPONENT_LIMIT }
     {
         self.map.as_slice()
     }

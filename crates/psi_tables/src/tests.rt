@@ -50,7 +50,7 @@ fn one_program_from_its_tables(rt: HostRuntime) -> Result<(), Fail> {
         component: Some(0x40),
     };
     assert_eq!(rt;
-        Streams::from(pmt.streams.into_vec()).as_slice(),
+        pmt.streams.as_slice(),
         [stream].as_slice()
     );
     // What is asked for, the component's PID behind the PAT and the PMT, and behind a PMT without a stream.

@@ -13,11 +13,11 @@ use Rattle.module_store.specs.Resources.{LooksAlike, Resource, look, look_in, st
 use Rattle.module_store.specs.Resources.Resource.{Found, Waiting, Missing}
 use Rattle.module_store.specs.Store.{Followed, Stored, component_in, followed_from, messages_of_component}
 use Rattle.document_load.specs.Needs.{needs_of}
-use Rattle.receiver_core.specs.Dispatches.{are_settled, behind, dispatch, dispatch_of, dispatches, is_settled, load, loadable, loadable_as, most_dispatches, next_and, once_settled, wanted_path}
+use Rattle.receiver_core.specs.Dispatches.{are_settled, dispatch, dispatch_of, dispatches, is_settled, load, loadable_reading, reading_in, most_dispatches, next_and, once_settled, step_behind, wanted_path}
 use Rattle.receiver_core.specs.Outputs.{with_packet}
 use Rattle.receiver_core.specs.State.{Start, State, opening}
 use Rattle.receiver_core.specs.State.Start.{Wanted, Refused, Loaded}
-use Rattle.receiver_core.specs.Turns.{Turned}
+use Rattle.receiver_core.specs.Turns.{Step}
 
 -- ---- states that look alike
 
@@ -29,13 +29,13 @@ once_alike : (one other : Stored) (path : Path) (reading : Result (List Item) Do
 once_alike one other path (Ok items) same = ap (λ (b : Bool). cond b (Some (Ok items)) None) (settled_alike one other (needs_of path items) same)
 once_alike one other path (Err fault) same = refl
 
-as_alike : (one other : Stored) (path : Path) (resource : Resource) → ((path : Path) → look one path ≡ look other path) → loadable_as one path resource ≡ loadable_as other path resource
+as_alike : (one other : Stored) (path : Path) (resource : Resource) → ((path : Path) → look one path ≡ look other path) → reading_in one path resource ≡ reading_in other path resource
 as_alike one other path (Found bytes) same = once_alike one other path (reading_of bytes) same
 as_alike one other path Waiting same = refl
 as_alike one other path Missing same = refl
 
-loadable_alike : (one other : Stored) (path : Path) → LooksAlike one other → loadable one path ≡ loadable other path
-loadable_alike one other path alike = ap (loadable_as one path) (alike.looks path) ∙ as_alike one other path (look other path) alike.looks
+loadable_alike : (one other : Stored) (path : Path) → LooksAlike one other → loadable_reading one path ≡ loadable_reading other path
+loadable_alike one other path alike = ap (reading_in one path) (alike.looks path) ∙ as_alike one other path (look other path) alike.looks
 
 wanted_alike : (start : Start) (one other : Stored) → LooksAlike one other → wanted_path start one ≡ wanted_path start other
 wanted_alike Wanted one other alike = ap (λ (path : Path). Some path) alike.start
@@ -48,7 +48,7 @@ none_of f (Some x) e = absurd cc
 
 none_for : (s t : State) (path : Option Path) → LooksAlike s.store t.store → dispatch_of s path ≡ None → dispatch_of t path ≡ None
 none_for s t None alike e = refl
-none_for s t (Some path) alike e = ap (option_map (load t path)) (sym (loadable_alike s.store t.store path alike) ∙ none_of (load s path) (loadable s.store path) e)
+none_for s t (Some path) alike e = ap (option_map (load t path)) (sym (loadable_alike s.store t.store path alike) ∙ none_of (load s path) (loadable_reading s.store path) e)
 
 -- where nothing was left to dispatch, and look-ups are the same, nothing is
 pub still_done : (s t : State) → t.start ≡ s.start → LooksAlike s.store t.store → dispatch s ≡ None → dispatch t ≡ None
@@ -68,14 +68,14 @@ unfolding dispatches
 none_made zero s e = refl
 none_made (suc more) s e = next_made more s ∙ ap (next_and (dispatches more) s) e
 
-one_made : (more : ℕ) (s : State) (t : Turned) → dispatch s ≡ Some t → dispatch t.state ≡ None → dispatches (suc more) s ≡ record { state = t.state; text = t.text ++ [] }
-one_made more s t e done = next_made more s ∙ ap (next_and (dispatches more) s) e ∙ ap (behind t.text) (none_made more t.state done)
+one_made : (more : ℕ) (s : State) (t : Step) → dispatch s ≡ Some t → dispatch t.state ≡ None → dispatches (suc more) s ≡ record { state = t.state; text = t.text ++ [] }
+one_made more s t e done = next_made more s ∙ ap (next_and (dispatches more) s) e ∙ ap (step_behind t.text) (none_made more t.state done)
 
 -- a turn makes at least one, where there is one
 pub none_of_most : (s : State) → dispatch s ≡ None → dispatches most_dispatches s ≡ record { state = s; text = [] }
 none_of_most s e = none_made most_dispatches s e
 
-pub one_of_most : (s : State) (t : Turned) → dispatch s ≡ Some t → dispatch t.state ≡ None → dispatches most_dispatches s ≡ record { state = t.state; text = t.text ++ [] }
+pub one_of_most : (s : State) (t : Step) → dispatch s ≡ Some t → dispatch t.state ≡ None → dispatches most_dispatches s ≡ record { state = t.state; text = t.text ++ [] }
 unfolding most_dispatches
 one_of_most s t e done = one_made 255 s t e done
 
@@ -90,7 +90,7 @@ none_wanted s other = by s.start other
     by Refused not = refl
     by (Loaded items) not = refl
 
-pub dispatch_wanted : (s : State) → s.start ≡ Wanted → dispatch s ≡ option_map (load s (start_path s.store)) (loadable s.store (start_path s.store))
+pub dispatch_wanted : (s : State) → s.start ≡ Wanted → dispatch s ≡ option_map (load s (start_path s.store)) (loadable_reading s.store (start_path s.store))
 unfolding dispatch
 dispatch_wanted s e = rw e refl
 
@@ -114,12 +114,12 @@ no_messages (c ∷ components) tag messages e = by (eqb c.tag tag) e (no_message
     by true h later = let same : [] ≡ messages = cc in sym same
     by false h later = later h
 
-nothing_in : (stored : Stored) (path : Path) (found : Option (List Message)) → ((messages : List Message) → found ≡ Some messages → messages ≡ []) → loadable_as stored path (look_in found path.«module» path.name) ≡ None
+nothing_in : (stored : Stored) (path : Path) (found : Option (List Message)) → ((messages : List Message) → found ≡ Some messages → messages ≡ []) → reading_in stored path (look_in found path.«module» path.name) ≡ None
 nothing_in stored path None empty = refl
 nothing_in stored path (Some messages) empty = rw (empty messages refl) refl
 
-pub nothing_at_first : (selection : Selection) → dispatch (opening selection) ≡ None
-nothing_at_first selection =
-    let s = opening selection in
+pub nothing_at_first : (selection : Selection) (area : List ℕ) → dispatch (opening selection area) ≡ None
+nothing_at_first selection area =
+    let s = opening selection area in
     let path = start_path s.store in
     dispatch_wanted s refl ∙ ap (option_map (load s path)) (nothing_in s.store path (messages_of_component s.store path.component) (no_messages (map_of selection []) path.component))

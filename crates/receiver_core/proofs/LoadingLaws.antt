@@ -16,7 +16,7 @@ use Rattle.module_store.specs.Staying.{tells_of, went}
 use Rattle.module_store.specs.Store.{Stored, changes_by, fed, gone_by, with_map}
 use Rattle.receiver_core.specs.declared.startup.Startup.{Startup}
 use Rattle.receiver_core.specs.declared.startup.Startup.TheVariants as kept
-use Rattle.receiver_core.specs.Dispatches.{are_settled, loadable, loadable_as, loaded_as, once_settled}
+use Rattle.receiver_core.specs.Dispatches.{are_settled, loadable_reading, reading_in, start_after_load, once_settled}
 use Rattle.receiver_core.specs.Lines.{load_line}
 use Rattle.receiver_core.specs.Loading.{Loads, LoadsAs, WaitsAt}
 use Rattle.receiver_core.specs.Pendings.{IsStart, PendingState}
@@ -24,14 +24,14 @@ use Rattle.receiver_core.specs.Startups.{IsCurrent, following, is_told_by, went_
 use Rattle.receiver_core.specs.State.Start.{Wanted}
 
 -- what a document that was read and is the one that is there comes to
-loadable_pending : (stored : Stored) (pending : PendingState) → IsStart stored pending → loadable stored (start_path stored) ≡ cond (are_settled stored pending.draft.needs) (Some (Ok pending.draft.items)) None
+loadable_pending : (stored : Stored) (pending : PendingState) → IsStart stored pending → loadable_reading stored (start_path stored) ≡ cond (are_settled stored pending.draft.needs) (Some (Ok pending.draft.items)) None
 loadable_pending stored pending is =
-    ap (loadable stored) (sym is.path_is) ∙ ap (loadable_as stored pending.path) is.found ∙ ap (once_settled stored pending.path) is.reading_is
+    ap (loadable_reading stored) (sym is.path_is) ∙ ap (reading_in stored pending.path) is.found ∙ ap (once_settled stored pending.path) is.reading_is
     ∙ ap (λ (needs : List Path). cond (are_settled stored needs) (Some (Ok pending.draft.items)) None) (sym is.needs_are)
 
 waits_as : (stored : Stored) (pending : PendingState) (reading : Option (Result (List Item) DocFault)) → IsStart stored pending → reading ≡ None → LoadsAs stored reading (kept.Pending pending) []
 waits_as stored pending reading is none = record {
-  start_is = ap (λ (o : Option (Result (List Item) DocFault)). option_map_or loaded_as o Wanted) (sym none);
+  start_is = ap (λ (o : Option (Result (List Item) DocFault)). option_map_or start_after_load o Wanted) (sym none);
   current = is;
   text_is = ap (λ (o : Option (Result (List Item) DocFault)). option_map_or (load_line (start_path stored)) o []) (sym none);
 }
@@ -42,7 +42,7 @@ goes_on store pending place before waits = record {
   text = [];
   printed = sym (append-nil before);
   loads = λ stored stands is.
-      waits_as stored pending (loadable stored (start_path stored)) is
+      waits_as stored pending (loadable_reading stored (start_path stored)) is
       (loadable_pending stored pending is ∙ ap (λ (b : Bool). cond b (Some (Ok pending.draft.items)) None) (waits.waits stored stands));
 }
 

@@ -1,27 +1,34 @@
--- What inputs print behind others.
+-- What inputs print and leave behind others.
 use Rattle.std.proofs.Common.{◌≡◌, ℕ, List, [], ◌∷◌, ◌++◌, refl, sym, ap, ◌∙◌, append_assoc}
 use Rattle.psi_tables.specs.declared.services.Selection.{Selection}
 use Rattle.receiver_core.specs.Fronts.{IsFront}
-use Rattle.receiver_core.specs.Outputs.{after, behind, outputs, outputs_from, texts_of}
+use Rattle.receiver_core.specs.Outputs.{Piece, outputs, pieces_from, pieces_of, state_after, state_behind}
 use Rattle.receiver_core.specs.State.{Input, State, opening}
 
-outputs_from-append : (s : State) (xs ys : List Input) → outputs_from s (xs ++ ys) ≡ outputs_from s xs ++ outputs_from (behind s xs) ys
-outputs_from-append s [] ys = refl
-outputs_from-append s (x ∷ xs) ys =
-    ap (λ (l : List (List ℕ)). texts_of x s ++ l) (outputs_from-append (after x s) xs ys)
-    ∙ sym (append_assoc (texts_of x s) (outputs_from (after x s) xs) (outputs_from (behind (after x s) xs) ys))
+pieces_from-append : (s : State) (xs ys : List Input) → pieces_from s (xs ++ ys) ≡ pieces_from s xs ++ pieces_from (state_behind s xs) ys
+pieces_from-append s [] ys = refl
+pieces_from-append s (x ∷ xs) ys =
+    ap (λ (l : List Piece). pieces_of x s ++ l) (pieces_from-append (state_after x s) xs ys)
+    ∙ sym (append_assoc (pieces_of x s) (pieces_from (state_after x s) xs) (pieces_from (state_behind (state_after x s) xs) ys))
 
-pub no_outputs : (selection : Selection) → outputs selection [] ≡ []
-unfolding outputs
-no_outputs selection = refl
+-- what is left behind one input more
+pub behind_one_more : (s : State) (inputs : List Input) (input : Input) → state_behind s (inputs ++ input ∷ []) ≡ state_after input (state_behind s inputs)
+behind_one_more s [] input = refl
+behind_one_more s (x ∷ inputs) input = behind_one_more (state_after x s) inputs input
 
-pub outputs_are : (selection : Selection) (inputs : List Input) → outputs selection inputs ≡ outputs_from (opening selection) inputs
+pub no_outputs : (selection : Selection) (area : List ℕ) → outputs selection area [] ≡ []
 unfolding outputs
-outputs_are selection inputs = refl
+no_outputs selection area = refl
 
-pub front_of_outputs : (selection : Selection) (inputs further : List Input) → IsFront (outputs selection inputs) (outputs selection (inputs ++ further))
+-- what one input more prints
+pub outputs_one_more : (selection : Selection) (area : List ℕ) (inputs : List Input) (input : Input)
+    → outputs selection area (inputs ++ input ∷ []) ≡ outputs selection area inputs ++ (pieces_of input (state_behind (opening selection area) inputs) ++ [])
 unfolding outputs
-front_of_outputs selection inputs further = record {
-  rest = outputs_from (behind (opening selection) inputs) further;
-  joined = outputs_from-append (opening selection) inputs further;
+outputs_one_more selection area inputs input = pieces_from-append (opening selection area) inputs (input ∷ [])
+
+pub front_of_outputs : (selection : Selection) (area : List ℕ) (inputs further : List Input) → IsFront (outputs selection area inputs) (outputs selection area (inputs ++ further))
+unfolding outputs
+front_of_outputs selection area inputs further = record {
+  rest = pieces_from (state_behind (opening selection area) inputs) further;
+  joined = pieces_from-append (opening selection area) inputs further;
 }

@@ -13,7 +13,7 @@ use Rattle.document_load.specs.Needs.{needs_of}
 use Rattle.receiver_core.specs.Lines.{load_line}
 use Rattle.receiver_core.specs.State.{Start, State}
 use Rattle.receiver_core.specs.State.Start.{Wanted, Refused, Loaded}
-use Rattle.receiver_core.specs.Turns.{Turned, turned_by}
+use Rattle.receiver_core.specs.Turns.{Step, step_of_section}
 
 -- ---- which documents can be loaded
 
@@ -27,18 +27,20 @@ abbrev pub are_settled : Stored → List Path → Bool
 are_settled stored needs = list_all (λ need. is_settled (look stored need)) needs
 
 -- A document is loaded once none of its needs is waited for, and one that is refused has no needs.
-abbrev pub once_settled : Stored → Path → Result (List Item) DocFault → Option (Result (List Item) DocFault)
-once_settled stored path (Ok items) = if are_settled stored (needs_of path items) then Some (Ok items) else None
+abbrev pub once_settled : Stored → Path → Result (List Item) DocFault
+    → Option (Result (List Item) DocFault)
+once_settled stored path (Ok items) =
+    if are_settled stored (needs_of path items) then Some (Ok items) else None
 once_settled stored path (Err fault) = Some (Err fault)
 
-abbrev pub loadable_as : Stored → Path → Resource → Option (Result (List Item) DocFault)
-loadable_as stored path (Found bytes) = once_settled stored path (reading_of bytes)
-loadable_as stored path Waiting = None
-loadable_as stored path Missing = None
+abbrev pub reading_in : Stored → Path → Resource → Option (Result (List Item) DocFault)
+reading_in stored path (Found bytes) = once_settled stored path (reading_of bytes)
+reading_in stored path Waiting = None
+reading_in stored path Missing = None
 
 -- what is there under a path to be loaded: a document, or why it is refused
-abbrev pub loadable : Stored → Path → Option (Result (List Item) DocFault)
-loadable stored path = loadable_as stored path (look stored path)
+abbrev pub loadable_reading : Stored → Path → Option (Result (List Item) DocFault)
+loadable_reading stored path = reading_in stored path (look stored path)
 
 -- ---- one dispatch
 
@@ -48,35 +50,36 @@ wanted_path Wanted stored = Some (start_path stored)
 wanted_path Refused stored = None
 wanted_path (Loaded items) stored = None
 
--- the load of a document
-abbrev pub loaded_as : Result (List Item) DocFault → Start
-loaded_as (Ok items) = Loaded items
-loaded_as (Err fault) = Refused
+-- what becomes of the start document by its load
+abbrev pub start_after_load : Result (List Item) DocFault → Start
+start_after_load (Ok items) = Loaded items
+start_after_load (Err fault) = Refused
 
-abbrev pub load : State → Path → Result (List Item) DocFault → Turned
-load s path reading = record { state = record s { start = loaded_as reading }; text = load_line path reading }
+abbrev pub load : State → Path → Result (List Item) DocFault → Step
+load s path reading =
+    record { state = record s { start = start_after_load reading }; text = load_line path reading }
 
-abbrev pub dispatch_of : State → Option Path → Option Turned
+abbrev pub dispatch_of : State → Option Path → Option Step
 dispatch_of s None = None
-dispatch_of s (Some path) = option_map (load s path) (loadable s.store path)
+dispatch_of s (Some path) = option_map (load s path) (loadable_reading s.store path)
 
 -- The next dispatch loads the document that is wanted, where it can be loaded. Else there is none.
-unfoldable pub dispatch : State → Option Turned
+unfoldable pub dispatch : State → Option Step
 dispatch s = dispatch_of s (wanted_path s.start s.store)
 
 -- ---- turns
 
 -- what a turn prints before and behind
-abbrev pub behind : List ℕ → Turned → Turned
-behind text t = record { state = t.state; text = text ++ t.text }
+abbrev pub step_behind : List ℕ → Step → Step
+step_behind text t = record { state = t.state; text = text ++ t.text }
 
 -- the next dispatch, where there is one, and what comes behind it
-abbrev pub next_and : (State → Turned) → State → Option Turned → Turned
+abbrev pub next_and : (State → Step) → State → Option Step → Step
 next_and more s None = record { state = s; text = [] }
-next_and more s (Some t) = behind t.text (more t.state)
+next_and more s (Some t) = step_behind t.text (more t.state)
 
 -- at most so many dispatches, one behind the other, as long as there is one
-unfoldable pub dispatches : ℕ → State → Turned
+unfoldable pub dispatches : ℕ → State → Step
 dispatches zero s = record { state = s; text = [] }
 dispatches (suc more) s = next_and (dispatches more) s (dispatch s)
 
@@ -84,9 +87,9 @@ dispatches (suc more) s = next_and (dispatches more) s (dispatch s)
 unfoldable pub most_dispatches : ℕ
 most_dispatches = 256
 
-abbrev pub with_dispatches : Turned → Turned
-with_dispatches t = behind t.text (dispatches most_dispatches t.state)
+abbrev pub with_dispatches : Step → Step
+with_dispatches t = step_behind t.text (dispatches most_dispatches t.state)
 
 -- the turn of an intact section on a PID: what it changes, and the dispatches
-unfoldable pub turn : ℕ → List ℕ → State → Turned
-turn pid section s = with_dispatches (turned_by pid section s)
+unfoldable pub turn : ℕ → List ℕ → State → Step
+turn pid section s = with_dispatches (step_of_section pid section s)

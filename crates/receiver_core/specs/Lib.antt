@@ -1,10 +1,11 @@
+pub mod Broadcasts
 pub mod Dispatches
 pub mod Fronts
+pub mod Keeping
 pub mod Lines
 pub mod Loading
 pub mod Outputs
 pub mod Pendings
-pub mod Programs
 pub mod Receiving
 pub mod Startups
 pub mod State

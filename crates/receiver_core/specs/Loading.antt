@@ -8,7 +8,7 @@ use Rattle.module_store.specs.Resources.{start_path}
 use Rattle.module_store.specs.Standing.{StoreState, StandsFor}
 use Rattle.module_store.specs.Store.{Stored}
 use Rattle.receiver_core.specs.declared.startup.Startup.{Startup}
-use Rattle.receiver_core.specs.Dispatches.{are_settled, loadable, loaded_as}
+use Rattle.receiver_core.specs.Dispatches.{are_settled, loadable_reading, start_after_load}
 use Rattle.receiver_core.specs.Lines.{load_line}
 use Rattle.receiver_core.specs.Startups.{IsCurrent, start_of}
 use Rattle.receiver_core.specs.State.Start.{Wanted}
@@ -20,7 +20,7 @@ pub record WaitsAt (store : StoreState) (needs : List Path) (place : ℕ) : Type
 
 -- what comes of a reading under the start path, where there is one, and the line that tells it
 pub record LoadsAs (stored : Stored) (reading : Option (Result (List Item) DocFault)) (startup : Startup) (text : List ℕ) : Type 0 where
-  pub start_is : start_of startup ≡ option_map_or loaded_as reading Wanted
+  pub start_is : start_of startup ≡ option_map_or start_after_load reading Wanted
   pub current : IsCurrent stored startup
   pub text_is : text ≡ option_map_or (load_line (start_path stored)) reading []
 
@@ -28,4 +28,4 @@ pub record LoadsAs (stored : Stored) (reading : Option (Result (List Item) DocFa
 pub record Loads (store : StoreState) (old new : Startup) (before after : List ℕ) : Type 0 where
   pub text : List ℕ
   pub printed : after ≡ before ++ text
-  pub loads : (stored : Stored) → StandsFor store stored → IsCurrent stored old → LoadsAs stored (loadable stored (start_path stored)) new text
+  pub loads : (stored : Stored) → StandsFor store stored → IsCurrent stored old → LoadsAs stored (loadable_reading stored (start_path stored)) new text

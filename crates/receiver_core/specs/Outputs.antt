@@ -1,6 +1,6 @@
--- What a receiver prints for what comes to it: a list of texts, one for each turn and one for each display list that is
+-- What a receiver prints for what comes to it: a list of pieces, one for each turn and one for each display list that is
 -- asked for. (This project's own.)
-use Rattle.std.specs.Prelude.{ℕ, ◌==◌, ◌&&◌, if◌then◌else◌, List, [], ◌∷◌, ◌++◌, filter}
+use Rattle.std.specs.Prelude.{ℕ, ◌==◌, ◌&&◌, if◌then◌else◌, List, [], ◌∷◌, ◌++◌, filter, map}
 use Rattle.ts_packets.specs.Packet.{pid_of}
 use Rattle.ts_sections.specs.Sections.{completed_by}
 use Rattle.ts_sections.specs.Intact.{is_intact}
@@ -9,24 +9,52 @@ use Rattle.psi_tables.specs.declared.services.Selection.{Selection}
 use Rattle.receiver_core.specs.State.{Input, Packet, Show, Start, State, opening, wants}
 use Rattle.receiver_core.specs.State.Start.{Wanted, Refused, Loaded}
 use Rattle.receiver_core.specs.Dispatches.{turn}
+use Rattle.receiver_core.specs.Turns.{Step}
 
--- the turns of intact sections on a PID, one behind the other, as long as the PID is wanted: what they leave, and what
--- each prints
-abbrev pub behind_turns : ℕ → List (List ℕ) → State → State
-behind_turns pid [] s = s
-behind_turns pid (section ∷ sections) s = if wants s pid then behind_turns pid sections (turn pid section s).state else s
+-- a text, and the persistent area behind it
+pub record Piece : Type 0 where
+  pub text : List ℕ
+  pub area : List ℕ
 
-abbrev pub texts_of_turns : ℕ → List (List ℕ) → State → List (List ℕ)
-texts_of_turns pid [] s = []
-texts_of_turns pid (section ∷ sections) s = if wants s pid then (turn pid section s).text ∷ texts_of_turns pid sections (turn pid section s).state else []
+abbrev pub texts_of : List Piece → List (List ℕ)
+texts_of pieces = map (λ piece. piece.text) pieces
 
--- the next packet, which counts where its PID is wanted
+abbrev pub piece_of : Step → Piece
+piece_of step = record { text = step.text; area = step.state.area }
+
+-- ---- turns
+
+-- the turns of intact sections on a PID, one behind the other, as long as the PID is wanted: what they leave, and the
+-- piece of each
+abbrev pub state_behind_turns : ℕ → List (List ℕ) → State → State
+state_behind_turns pid [] s = s
+state_behind_turns pid (section ∷ sections) s =
+    if wants s pid then state_behind_turns pid sections (turn pid section s).state else s
+
+abbrev pub pieces_of_turns : ℕ → List (List ℕ) → State → List Piece
+pieces_of_turns pid [] s = []
+pieces_of_turns pid (section ∷ sections) s =
+    if wants s pid
+    then piece_of (turn pid section s) ∷ pieces_of_turns pid sections (turn pid section s).state
+    else []
+
+-- ---- one input
+
+-- with the next packet, which counts where its PID is wanted
 abbrev pub with_packet : List ℕ → State → State
-with_packet packet s = record s { packets = λ pid. if wants s pid && (pid == pid_of packet) then s.packets pid ++ packet ∷ [] else s.packets pid }
+with_packet packet s = record s {
+  packets = λ pid.
+      if wants s pid && (pid == pid_of packet) then s.packets pid ++ packet ∷ [] else s.packets pid;
+}
 
--- the intact sections that it completes on its PID
-abbrev pub completed : List ℕ → State → List (List ℕ)
-completed packet s = if wants s (pid_of packet) then filter is_intact (completed_by (s.packets (pid_of packet)) packet) else []
+-- the sections that it completes on its PID, damaged ones too
+abbrev pub sections_by : List ℕ → State → List (List ℕ)
+sections_by packet s =
+    if wants s (pid_of packet) then completed_by (s.packets (pid_of packet)) packet else []
+
+-- those of them that are intact
+abbrev pub intact_sections : List ℕ → State → List (List ℕ)
+intact_sections packet s = filter is_intact (sections_by packet s)
 
 -- the display list of the document, at a clock that stands still; without one it is its first line alone
 abbrev pub display_of : Start → List ℕ
@@ -35,24 +63,28 @@ display_of Refused = clock_line 0
 display_of (Loaded items) = shown items 0
 
 -- what one input prints, and what it leaves: a packet the turns of the intact sections that it completes
-abbrev pub texts_of : Input → State → List (List ℕ)
-texts_of (Packet packet) s = texts_of_turns (pid_of packet) (completed packet s) (with_packet packet s)
-texts_of Show s = display_of s.start ∷ []
+abbrev pub pieces_of : Input → State → List Piece
+pieces_of (Packet packet) s =
+    pieces_of_turns (pid_of packet) (intact_sections packet s) (with_packet packet s)
+pieces_of Show s = record { text = display_of s.start; area = s.area } ∷ []
 
-abbrev pub after : Input → State → State
-after (Packet packet) s = behind_turns (pid_of packet) (completed packet s) (with_packet packet s)
-after Show s = s
+abbrev pub state_after : Input → State → State
+state_after (Packet packet) s =
+    state_behind_turns (pid_of packet) (intact_sections packet s) (with_packet packet s)
+state_after Show s = s
+
+-- ---- all inputs
 
 -- what inputs print, one behind the other
-abbrev pub outputs_from : State → List Input → List (List ℕ)
-outputs_from s [] = []
-outputs_from s (input ∷ inputs) = texts_of input s ++ outputs_from (after input s) inputs
+abbrev pub pieces_from : State → List Input → List Piece
+pieces_from s [] = []
+pieces_from s (input ∷ inputs) = pieces_of input s ++ pieces_from (state_after input s) inputs
 
 -- what they leave
-abbrev pub behind : State → List Input → State
-behind s [] = s
-behind s (input ∷ inputs) = behind (after input s) inputs
+abbrev pub state_behind : State → List Input → State
+state_behind s [] = s
+state_behind s (input ∷ inputs) = state_behind (state_after input s) inputs
 
--- what inputs print from the start
-unfoldable pub outputs : Selection → List Input → List (List ℕ)
-outputs selection inputs = outputs_from (opening selection) inputs
+-- what inputs print from the start, with that area
+unfoldable pub outputs : Selection → List ℕ → List Input → List Piece
+outputs selection area inputs = pieces_from (opening selection area) inputs

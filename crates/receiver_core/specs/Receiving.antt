@@ -1,57 +1,105 @@
--- What a receiver stands for: what came to it so far, and the texts that it gave for that. (This project's own.)
-use Rattle.std.specs.Prelude.{◌≡◌, ℕ, true, List, ◌++◌, length, filter}
+-- What a receiver stands for: what came to it so far, and the pieces that it gave for that. (This project's own.)
+use Rattle.std.specs.Prelude.{◌≡◌, ℕ, Bool, true, false, if◌then◌else◌, List, [], ◌∷◌, ◌++◌, length, filter}
 use Rattle.ts_sections.specs.Intact.{is_intact}
-use Rattle.ts_sections.specs.Assembly.{waiting}
 use Rattle.psi_tables.specs.declared.services.Selection.{Selection}
-use Rattle.psi_tables.specs.Service.{wants}
-use Rattle.section_demultiplexer.specs.Demultiplexing.{DemultiplexerState, assembler_on, has_channel}
-use Rattle.section_demultiplexer.specs.Demultiplexing as demultiplexing
-use Rattle.receiver_core.specs.Outputs.{behind_turns, texts_of_turns, outputs, outputs_from}
-use Rattle.receiver_core.specs.Programs.{ProgramState}
-use Rattle.receiver_core.specs.Programs as programs
-use Rattle.receiver_core.specs.State.{Input, State}
+use Rattle.psi_tables.specs.Service.{ServicesState, wants}
+use Rattle.section_demultiplexer.specs.Demultiplexing.{IsDrained}
+use Rattle.receiver_core.specs.Keeping.{KeptState, Keeps}
+use Rattle.receiver_core.specs.Outputs.{Piece, outputs, pieces_of_turns, state_behind, state_behind_turns}
+use Rattle.receiver_core.specs.State.{Input, Show, State, opening, services}
 
 pub record ReceiverState : Type 0 where
-  pub demultiplexer : DemultiplexerState
-  pub program : ProgramState
+  -- the service that is asked for, the one that is played, and its component map
+  pub services : ServicesState
+  -- the PID of the packet handed in last, and the sections that it completed and whose turn is still to come, damaged
+  -- ones too, in their order
+  pub pid : ℕ
+  pub waiting : List (List ℕ)
   -- the persistent area
   pub area : List ℕ
+  -- whether a call found no memory
+  pub spent : Bool
+  -- a device of the proofs, of which no clause speaks
+  pub kept : KeptState
 
--- the sections that are whole and not handled yet: those of the PID of the packet pushed last
-abbrev pub waiting_in : DemultiplexerState → List (List ℕ)
-waiting_in d = waiting (assembler_on d.channels d.pid)
-
--- what the turns still to come print, and what they leave
-abbrev pub texts_left : DemultiplexerState → State → List (List ℕ)
-texts_left d now = texts_of_turns d.pid (filter is_intact (waiting_in d)) now
-
-abbrev pub behind_those_left : DemultiplexerState → State → State
-behind_those_left d now = behind_turns d.pid (filter is_intact (waiting_in d)) now
-
--- The inputs came, and these texts were given so far: whatever comes behind, all that is printed is what was given, then
--- what the turns still to come print, and then what comes behind these.
-pub record StandsFor (selection : Selection) (state : ReceiverState) (inputs : List Input) (given : List (List ℕ)) : Type 0 where
-  -- what the turns so far made of the inputs
+-- The inputs came, and these pieces were given so far. What the turns so far left is one state, and with the turns of the
+-- sections that are waiting it is the state that the inputs leave, and what was given is all that they print.
+pub record StandsFor (selection : Selection) (area : List ℕ) (state : ReceiverState) (inputs : List Input) (given : List Piece) : Type 0 where
   pub now : State
-  -- the sections of each PID that were handled
-  pub sections : ℕ → List (List ℕ)
-  pub program : programs.StandsFor state.program now
-  pub assembled : demultiplexing.StandsFor state.demultiplexer now.packets sections
-  pub ahead : (more : List Input) → outputs selection (inputs ++ more) ≡ given ++ (texts_left state.demultiplexer now ++ outputs_from (behind_those_left state.demultiplexer now) more)
+  pub left : state_behind (opening selection area) inputs
+      ≡ state_behind_turns state.pid (filter is_intact state.waiting) now
+  pub pieces : outputs selection area inputs
+      ≡ given ++ pieces_of_turns state.pid (filter is_intact state.waiting) now
+  pub services_are : state.services ≡ services now
+  pub area_is : state.area ≡ now.area
+  pub unspent : state.spent ≡ false
+  -- a device
+  pub kept : Keeps state.kept now
 
--- sections are put together only on PIDs that are wanted
-abbrev pub AreWanted : DemultiplexerState → ProgramState → Type 0
-AreWanted d program = (pid : ℕ) → has_channel d.channels pid ≡ true → wants program.services pid ≡ true
+-- a call found no memory
+abbrev pub IsSpent : ReceiverState → Type 0
+IsSpent state = state.spent ≡ true
 
--- the next packet may come
-abbrev pub IsDrained : ReceiverState → Type 0
-IsDrained state = demultiplexing.IsDrained state.demultiplexer
+-- no turn is still to come, so the next packet may; and to a spent receiver anything may
+abbrev pub IsIdle : ReceiverState → Type 0
+IsIdle state = state.spent ≡ false → (state.waiting ≡ []) × IsDrained state.kept.demultiplexer
 
--- how many sections are whole and not handled yet
+-- how many sections are waiting
 abbrev pub sections_left : ReceiverState → ℕ
-sections_left state = length (waiting_in state.demultiplexer)
+sections_left state = length state.waiting
 
--- no section is waiting: whatever came, all that it prints was given
-pub record IsIdle (state : ReceiverState) : Type 0 where
-  pub drained : IsDrained state
-  pub all : (selection : Selection) (inputs : List Input) (given : List (List ℕ)) → StandsFor selection state inputs given → given ≡ outputs selection inputs
+-- ---- calls
+
+-- for whatever a receiver stood, it stands for it still
+abbrev pub Stays : ReceiverState → ReceiverState → Type 0
+Stays old new =
+    (selection : Selection) (area : List ℕ) (inputs : List Input) (given : List Piece)
+    → StandsFor selection area old inputs given → StandsFor selection area new inputs given
+
+-- it stands for one input more
+abbrev pub Takes : Input → ReceiverState → ReceiverState → Type 0
+Takes input old new =
+    (selection : Selection) (area : List ℕ) (inputs : List Input) (given : List Piece)
+    → StandsFor selection area old inputs given
+    → StandsFor selection area new (inputs ++ input ∷ []) given
+
+-- it gave one piece more: this text, with its area
+abbrev pub Gives : List ℕ → ReceiverState → ReceiverState → Type 0
+Gives text old new =
+    (selection : Selection) (area : List ℕ) (inputs : List Input) (given : List Piece)
+    → StandsFor selection area old inputs given
+    → StandsFor selection area new inputs (given ++ record { text = text; area = new.area } ∷ [])
+
+-- it was asked to show, and gave this text for that
+abbrev pub Shows : List ℕ → ReceiverState → ReceiverState → Type 0
+Shows text old new =
+    (selection : Selection) (area : List ℕ) (inputs : List Input) (given : List Piece)
+    → StandsFor selection area old inputs given
+    → StandsFor selection area new (inputs ++ Show ∷ []) (given ++ record { text = text; area = new.area } ∷ [])
+
+-- No section was waiting: nothing is printed, and nothing done.
+pub record IsOver (old new : ReceiverState) (before after : List ℕ) : Type 0 where
+  pub none : old.waiting ≡ []
+  pub left : new.waiting ≡ []
+  pub silent : after ≡ before
+  pub stays : Stays old new
+
+-- The next section is damaged: it is passed over, and nothing is printed.
+pub record PassesDamaged (old new : ReceiverState) (before after : List ℕ) : Type 0 where
+  pub section : List ℕ
+  pub next : old.waiting ≡ section ∷ new.waiting
+  pub damaged : is_intact section ≡ false
+  pub silent : after ≡ before
+  pub stays : Stays old new
+
+-- The next section is intact: its turn is made, and its text printed. As long as their PID is wanted, those behind it go
+-- on waiting.
+pub record MakesTurn (old new : ReceiverState) (before after : List ℕ) : Type 0 where
+  pub section : List ℕ
+  pub rest : List (List ℕ)
+  pub text : List ℕ
+  pub next : old.waiting ≡ section ∷ rest
+  pub intact : is_intact section ≡ true
+  pub left : new.waiting ≡ (if wants new.services old.pid then rest else [])
+  pub printed : after ≡ before ++ text
+  pub gives : Gives text old new

@@ -29,6 +29,8 @@ pub record State : Type 0 where
   -- the components with their messages
   pub store : Stored
   pub start : Start
+  -- the persistent area. Nothing changes it at this stage.
+  pub area : List ℕ
 
 -- the service and the component map at present
 abbrev pub services : State → ServicesState
@@ -37,12 +39,13 @@ services s = record { selection = s.selection; service = service_of s.selection 
 abbrev pub wants : State → ℕ → Bool
 wants s pid = services_of.wants (services s) pid
 
--- before the first input: with a data PID its component is there at once
-abbrev pub opening : Selection → State
-opening selection = record {
+-- before the first input, with that area: with a data PID its component is there at once
+abbrev pub opening : Selection → List ℕ → State
+opening selection area = record {
   selection = selection;
   handled = [];
   packets = λ pid. [];
   store = store.with_map (map_of selection []) store.at_start;
   start = Wanted;
+  area = area;
 }

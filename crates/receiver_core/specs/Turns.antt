@@ -7,8 +7,8 @@ use Rattle.module_store.specs.Store as store
 use Rattle.receiver_core.specs.Lines.{line_of_change}
 use Rattle.receiver_core.specs.State.{State, services, wants}
 
--- what a section makes of the state, and what its turn prints
-pub record Turned : Type 0 where
+-- a step: the state that it leaves, and what it prints
+pub record Step : Type 0 where
   pub state : State
   pub text : List ℕ
 
@@ -19,26 +19,26 @@ with_handled pid section s =
     record now { packets = λ other. if wants now other then s.packets other else [] }
 
 -- A table: the components are those of the map that it leaves; what left is gone.
-abbrev pub turned_by_table : State → Turned
-turned_by_table now = record {
+abbrev pub step_of_table : State → Step
+step_of_table now = record {
   state = record now { store = store.with_map (services now).map now.store };
   text = flat_map (λ gone. line_of_change gone.0 gone.1) (store.gone_by (services now).map now.store);
 }
 
 -- A section of a component: its changes
-abbrev pub turned_by_component : ℕ → List ℕ → State → Turned
-turned_by_component component section now = record {
+abbrev pub step_of_component : ℕ → List ℕ → State → Step
+step_of_component component section now = record {
   state = record now { store = store.fed component section now.store };
   text = flat_map (line_of_change component) (store.changes_by component section now.store);
 }
 
-abbrev pub turned_by_tag : Option ℕ → List ℕ → State → Turned
-turned_by_tag None section now = record { state = now; text = [] }
-turned_by_tag (Some component) section now = turned_by_component component section now
+abbrev pub step_of_tag : Option ℕ → List ℕ → State → Step
+step_of_tag None section now = record { state = now; text = [] }
+step_of_tag (Some component) section now = step_of_component component section now
 
 -- A section is read as a table, or as one of the component on its PID, by the service and the map before it.
-abbrev pub turned_by : ℕ → List ℕ → State → Turned
-turned_by pid section s =
+abbrev pub step_of_section : ℕ → List ℕ → State → Step
+step_of_section pid section s =
     if reads_table s.selection (services s).service pid
-    then turned_by_table (with_handled pid section s)
-    else turned_by_tag (tag_in (services s).map pid) section (with_handled pid section s)
+    then step_of_table (with_handled pid section s)
+    else step_of_tag (tag_in (services s).map pid) section (with_handled pid section s)

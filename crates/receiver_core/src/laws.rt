@@ -6,23 +6,26 @@ ghost use Rattle.psi_tables.specs.Components.{AreApart};
 ghost use Rattle.module_store.specs.Store.{Stored, changes_by, fed, gone_by, with_map};
 ghost use Rattle.receiver_core.specs.declared.startup.Startup.{Startup};
 ghost use Rattle.receiver_core.specs.Fronts.{IsFront};
-ghost use Rattle.receiver_core.specs.Outputs.{outputs};
-ghost use Rattle.receiver_core.specs.Receiving.{ReceiverState, StandsFor};
+ghost use Rattle.receiver_core.specs.Outputs.{Piece, outputs};
+ghost use Rattle.receiver_core.specs.Receiving.{IsIdle, ReceiverState, StandsFor};
 ghost use Rattle.receiver_core.specs.Startups.{IsCurrent, following, is_told_by, went_with};
 ghost use Rattle.receiver_core.specs.State.{Input};
 
 use module_store::{law_of_found_resources, law_of_start_paths};
 
-/// Without inputs nothing is printed; further inputs add texts behind those so far, and change none.
+/// Without inputs nothing is printed; further inputs add pieces behind those so far, and change none.
 pub fn law_of_outputs()
-    ensures none { (selection : Selection) → outputs selection [] ≡ [] }
-    ensures more { (selection : Selection) (inputs further : List Input) → IsFront (outputs selection inputs) (outputs selection (inputs ++ further)) }
+    ensures none { (selection : Selection) (area : List ℕ) → outputs selection area [] ≡ [] }
+    ensures more { (selection : Selection) (area : List ℕ) (inputs further : List Input)
+        → IsFront (outputs selection area inputs) (outputs selection area (inputs ++ further)) }
 {}
 
-/// What a receiver gave so far is a front of what its inputs come to.
+/// What a receiver gave so far is a front of what its inputs come to, and all of it once no turn is still to come.
 pub fn law_of_receivers()
-    ensures { (selection : Selection) (state : ReceiverState) (inputs : List Input) (given : List (List ℕ))
-        → StandsFor selection state inputs given → IsFront given (outputs selection inputs) }
+    ensures front { (selection : Selection) (area : List ℕ) (state : ReceiverState) (inputs : List Input) (given : List Piece)
+        → StandsFor selection area state inputs given → IsFront given (outputs selection area inputs) }
+    ensures all { (selection : Selection) (area : List ℕ) (state : ReceiverState) (inputs : List Input) (given : List Piece)
+        → StandsFor selection area state inputs given → IsIdle state → given ≡ outputs selection area inputs }
 {}
 
 /// A document that was read stays the one that is there, until a change of its module is told.

@@ -4,14 +4,14 @@
 //! acquires the modules of its data carousels (ISO/IEC 13818-1, 13818-6; ARIB STD-B24, volume 3); it loads the start
 //! document once its module is held (volume 2), and shows it. Its contract names the whole list of inputs: what it prints
 //! for them is `specs/Outputs`, whatever it keeps. [`law_of_outputs`] and [`law_of_receivers`] say what the layer above
-//! builds on: more inputs only add texts, and the texts given so far are the first of those that the inputs come to.
+//! builds on: more inputs only add pieces, and the pieces given so far are the first of those that the inputs come to.
 #![tactic(auto)]
 
+mod broadcast;
 mod laws;
 mod lines;
 mod loading;
 mod pending;
-mod program;
 mod receiver;
 mod startup;
 

@@ -1,13 +1,14 @@
 //! The receiver: from the packets of a stream to what the turns of its sections print.
 
-ghost use Rattle.std.specs.Prelude.{◌≡◌, ℕ, ◌<◌, ◌++◌, ◌∷◌, [], List, true, false, IfOk, OnOk, Ok};
-ghost use Rattle.std.specs.List.{concat};
+ghost use Rattle.std.specs.Prelude.{◌≡◌, ◌⊎◌, ℕ, ◌<◌, ◌++◌, ◌∷◌, [], List, length, true, false, IfOk, OnOk, OnErr, IsErr, Ok};
+ghost use Rattle.std.specs.Io.{StartsWith};
 ghost use Rattle.ts_packets.specs.Packet.{pid_of};
 ghost use Rattle.psi_tables.specs.declared.services.Selection.{Selection as Asked};
 ghost use Rattle.psi_tables.specs.Service.{wants as wants_by};
-ghost use Rattle.receiver_core.specs.State.{Input, Packet as APacket, Show};
+ghost use Rattle.receiver_core.specs.Outputs.{Piece, display_of, sections_by};
+ghost use Rattle.receiver_core.specs.State.{Input, Packet as APacket};
 
-use crate::program::Program;
+use crate::broadcast::Broadcast;
 use bml_bytes::{AreaBytes, NoMemory};
 use psi_tables::Selection;
 use section_demultiplexer::Demultiplexer;
@@ -19,98 +20,148 @@ use ts_sections::is_intact;
 /// Receives a service of a stream, with the modules of its data carousels, and loads and shows its start document.
 ///
 /// Hand in a packet by [`packet`](Receiver::packet), and then make the turns of the sections that it completes by
-/// [`section_turn`](Receiver::section_turn), until that answers `false`.
+/// [`section_turn`](Receiver::section_turn), until that answers `false`. Once a call has answered `NoMemory` the receiver
+/// is spent: each later one that can answer it does.
 #[derive(Drop)]
 pub struct Receiver {
     demultiplexer: Demultiplexer,
-    program: Program,
+    broadcast: Broadcast,
     area: AreaBytes,
+    spent: bool,
 }
 
 impl Model for Receiver {
-    ghost use Rattle.receiver_core.specs.Receiving.{ReceiverState, AreWanted};
+    ghost use Rattle.receiver_core.specs.Keeping.{AreWanted, waiting_in};
+    ghost use Rattle.receiver_core.specs.Receiving.{ReceiverState};
 
     ghost Value = { ReceiverState };
 
-    ghost view = { λ r. record { demultiplexer = r.demultiplexer; program = r.program; area = r.area } };
+    ghost view = { λ r. record {
+      services = r.broadcast.services;
+      pid = r.demultiplexer.pid;
+      waiting = waiting_in r.demultiplexer;
+      area = r.area;
+      spent = r.spent;
+      kept = record { demultiplexer = r.demultiplexer; broadcast = r.broadcast };
+    } };
 
-    ghost invariant = { λ r. AreWanted r.demultiplexer r.program };
+    ghost invariant = { λ r. AreWanted (record { demultiplexer = r.demultiplexer; broadcast = r.broadcast }) };
 }
 
 impl Receiver {
-    ghost use Rattle.receiver_core.specs.Receiving.{StandsFor, IsIdle, IsDrained, sections_left};
+    ghost use Rattle.receiver_core.specs.Receiving.{StandsFor, IsIdle, IsOver, IsSpent, Gives, MakesTurn, PassesDamaged, Shows, Takes, sections_left};
 
     /// A receiver of the service or the data that is asked for, with this persistent area, to which nothing came.
     pub fn new(alloc: Global, selection: Selection, area: AreaBytes) -> Result<Receiver, NoMemory>
-        ensures stands { IfOk result (λ receiver. StandsFor selection receiver [] []) }
+        ensures stands { IfOk result (λ receiver. StandsFor selection area receiver [] []) }
         ensures idle { IfOk result (λ receiver. IsIdle receiver) }
+        ensures unspent { IfOk result (λ receiver. receiver.spent ≡ false) }
         ensures area { IfOk result (λ receiver. receiver.area ≡ area) }
     {
         Ok(Receiver {
             demultiplexer: Demultiplexer::new(alloc)?,
-            program: Program::new(alloc, selection)?,
+            broadcast: Broadcast::new(alloc, selection)?,
             area,
+            spent: false,
         })
     }
 
     /// Whether packets of that PID are received. Others need not be handed in, where all turns are made.
     pub fn wants(&self, pid: u16) -> bool
-        ensures exact { result ≡ wants_by self.now.program.services pid }
-        ensures passes { result ≡ false → IsDrained self.now
-            → (selection : Asked) (inputs : List Input) (given : List (List ℕ)) (packet : List ℕ)
-            → pid_of packet ≡ pid → StandsFor selection self.now inputs given
-            → StandsFor selection self.now (inputs ++ APacket packet ∷ []) given }
+        ensures exact { result ≡ wants_by self.now.services pid }
+        ensures passes { result ≡ false → IsIdle self.now
+            → (packet : List ℕ) → pid_of packet ≡ pid → Takes (APacket packet) self.now self.now }
     {
-        self.program.services().wants(pid)
+        self.broadcast.services().wants(pid)
     }
 
     /// Hands in the next packet of the stream, of whatever PID. Takes no memory.
     pub fn packet(&mut self, packet: &Packet)
-        requires drained { IsDrained self.old }
-        ensures pushed { (selection : Asked) (inputs : List Input) (given : List (List ℕ)) → StandsFor selection self.old inputs given
-            → StandsFor selection self.new (inputs ++ APacket packet.now ∷ []) given }
+        requires idle { IsIdle self.old }
+        ensures taken { Takes (APacket packet.now) self.old self.new }
+        ensures sections { (selection : Asked) (area : List ℕ) (inputs : List Input) (given : List Piece)
+            → (stood : StandsFor selection area self.old inputs given) → self.new.waiting ≡ sections_by packet.now stood.now }
+        ensures spent { self.new.spent ≡ self.old.spent }
         ensures area { self.new.area ≡ self.old.area }
     {
         if self.wants(packet.pid()) {
+            self.wanted_packet(packet);
+        }
+    }
+
+    /// Hands in the next packet of the stream, of a PID that [`wants`](Receiver::wants) told to be received.
+    pub fn wanted_packet(&mut self, packet: &Packet)
+        requires idle { IsIdle self.old }
+        requires wanted { wants_by self.old.services (pid_of packet.now) ≡ true }
+        ensures taken { Takes (APacket packet.now) self.old self.new }
+        ensures sections { (selection : Asked) (area : List ℕ) (inputs : List Input) (given : List Piece)
+            → (stood : StandsFor selection area self.old inputs given) → self.new.waiting ≡ sections_by packet.now stood.now }
+        ensures spent { self.new.spent ≡ self.old.spent }
+        ensures area { self.new.area ≡ self.old.area }
+    {
+        if !self.spent {
             self.demultiplexer.push(packet);
         }
     }
 
-    /// Makes the turn of the next section that is whole, and appends what it prints. `false` where there is none;
-    /// a damaged section answers `true` and does nothing. After `NoMemory` nothing is said of the receiver.
+    /// Makes the turn of the next section that the packet completed, and appends what it prints. `false` where no further
+    /// one is whole; a damaged section answers `true` and does nothing.
     pub fn section_turn(&mut self, out: &mut Vec<u8>) -> Result<bool, NoMemory>
-        ensures turned { IfOk result (λ more. (texts : List (List ℕ)) × (out.new.items ≡ out.old.items ++ concat texts)
-            × ((selection : Asked) (inputs : List Input) (given : List (List ℕ)) → StandsFor selection self.old inputs given
-            → StandsFor selection self.new inputs (given ++ texts))) }
-        ensures over { result ≡ Ok false → IsIdle self.new }
-        ensures stays { result ≡ Ok false → (selection : Asked) (inputs : List Input) (given : List (List ℕ))
-            → StandsFor selection self.old inputs given → StandsFor selection self.new inputs given }
+        ensures over { result ≡ Ok false → IsOver self.old self.new out.old.items out.new.items }
+        ensures handled { result ≡ Ok true → PassesDamaged self.old self.new out.old.items out.new.items
+            ⊎ MakesTurn self.old self.new out.old.items out.new.items }
         ensures fewer { result ≡ Ok true → sections_left self.new < sections_left self.old }
+        ensures idle { result ≡ Ok false → IsIdle self.new }
+        ensures begins { StartsWith out.new.items out.old.items }
         ensures area { OnOk result (self.new.area ≡ self.old.area) }
+        ensures unspent { OnOk result (self.new.spent ≡ false) }
+        ensures spent { OnErr result (IsSpent self.new) }
+        ensures after_spent { IsSpent self.old → IsErr result }
     {
+        if self.spent {
+            return Err(NoMemory);
+        }
         let pid = self.demultiplexer.pid();
         let Some(section) = self.demultiplexer.next() else {
             return Ok(false);
         };
-        if is_intact(section) {
-            let turned = self.program.turn(pid, section, out);
-            self.demultiplexer.follow(self.program.services());
-            turned?;
+        if !is_intact(section) {
+            return Ok(true);
         }
-        Ok(true)
+        let turned = self.broadcast.turn(pid, section, out);
+        self.demultiplexer.follow(self.broadcast.services());
+        match turned {
+            Ok(()) => Ok(true),
+            Err(error) => {
+                self.spent = true;
+                Err(error)
+            }
+        }
     }
 
-    /// Appends the display list: `show 0`, and the boxes and texts of the document, where one is loaded. All turns
-    /// have to be made before.
+    /// Appends the display list: `show 0`, and the boxes and texts of the document, where one is loaded.
     pub fn show(&mut self, out: &mut Vec<u8>) -> Result<(), NoMemory>
-        requires idle { IsIdle self.old }
-        ensures idle { OnOk result (IsIdle self.new) }
+        ensures same { OnOk result (self.new ≡ self.old) }
         ensures shown { OnOk result ((text : List ℕ) × (out.new.items ≡ out.old.items ++ text)
-            × ((selection : Asked) (inputs : List Input) (given : List (List ℕ)) → StandsFor selection self.old inputs given
-            → StandsFor selection self.new (inputs ++ Show ∷ []) (given ++ text ∷ []))) }
+            × ((selection : Asked) (area : List ℕ) (inputs : List Input) (given : List Piece)
+            → (stood : StandsFor selection area self.old inputs given) → text ≡ display_of stood.now.start)
+            × (IsIdle self.old → Shows text self.old self.new)) }
+        ensures begins { StartsWith out.new.items out.old.items }
         ensures area { self.new.area ≡ self.old.area }
+        ensures unspent { OnOk result (self.new.spent ≡ false) }
+        ensures spent { OnErr result (IsSpent self.new) }
+        ensures after_spent { IsSpent self.old → IsErr result }
     {
-        self.program.show(out)
+        if self.spent {
+            return Err(NoMemory);
+        }
+        match self.broadcast.show(out) {
+            Ok(()) => Ok(()),
+            Err(error) => {
+                self.spent = true;
+                Err(error)
+            }
+        }
     }
 
     /// The persistent area. Nothing changes it at this stage.

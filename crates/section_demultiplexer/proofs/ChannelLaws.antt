@@ -1,39 +1,29 @@
 -- Lists of channels.
 use Rattle.std.proofs.Common.{◌≡◌, ◌≢◌, ◌≤◌, ◌<◌, ℕ, zero, suc, Bool, true, false, cond, eqb, ltb, List, [], ◌∷◌, ◌++◌, refl, sym, ap, ◌∙◌, subst, arith, length, get_or, set, filter, append-nil, length-append, ⊎_elim, not}
-use Rattle.std.specs.Prelude.{Option, Some, None, find, position, slice_get, is_some, ◌||◌, if◌then◌else◌}
+use Rattle.std.specs.Prelude.{Option, Some, None, find, position, slice_get, is_some, ◌||◌, ◌&&◌, if◌then◌else◌}
 use Rattle.std.specs.List.{list_any, position_or_len}
 use Rattle.std.specs.Option.{option_or}
-use Rattle.std.proofs.lemmas.Bool.{false≢true, eqb-true, ne_eqb, eq-eqb, ltb-true, ltb-false, lt-ltb, cases_eq}
+use Rattle.std.proofs.lemmas.Bool.{false≢true, eqb-true, ne_eqb, eq-eqb, ltb-true, ltb-false, lt-ltb, le-ltb, cases_eq}
 use Rattle.std.proofs.lemmas.List.Folds.{find-set, find_past, find-append, find_at, position_or_len_push, length-prefix_len}
 use Rattle.std.proofs.lemmas.List.Filters.{length-filter_both}
 use Rattle.std.proofs.lemmas.List.Quantifiers.{position-Some}
 use Rattle.std.proofs.lemmas.List.{length-take}
 use Rattle.std.proofs.lemmas.List.Elements.{filter-append}
 use Rattle.std.proofs.lemmas.Option.{slice_get_past, slice_get-get_or}
-use Rattle.ts_sections.specs.Assembly.{AssemblerState, waiting, sections_ahead}
+use Rattle.ts_sections.specs.Sections.{sections}
+use Rattle.ts_sections.specs.Assembly.{AssemblerState}
 use Rattle.ts_sections.specs.Assembly as assembly
-use Rattle.ts_sections.proofs.RunLemmas.{sections-ahead}
-use Rattle.ts_sections.proofs.RemainderLemmas.{HasGivenAll-from}
 use Rattle.section_demultiplexer.specs.declared.demultiplexer.Channel.{Channel}
-use Rattle.section_demultiplexer.specs.Demultiplexing.{AreDistinct, Continues, DemultiplexerState, HasRoom, IsDrained, IsSpent, NextSection, assembler_of, assembler_on, fresh, has_channel, is_on, with_next}
+use Rattle.section_demultiplexer.specs.Channels.{AreDistinct, Continues, StandsIn, can_have, channel_on, has_channel, is_on, waiting_in}
 
 -- ---- one channel more
 
-pub fresh_stands : assembly.StandsFor fresh [] []
-fresh_stands = record { ahead = λ behind. sections-ahead behind }
-
-pub fresh_spent : IsSpent fresh
-fresh_spent = record { drained = refl; none = refl }
-
-pub continues_same : (state : AssemblerState) → Continues state state
-continues_same state = record { stands = λ packets given s. s; spent = λ s. s }
+pub continues_same : (channel : Option Channel) → Continues channel channel
+continues_same channel = record { stands = λ packets given s. s; waiting = refl }
 
 -- a new assembler goes on where none was
-pub continues_fresh : (new : AssemblerState) → assembly.StandsFor new [] [] → assembly.IsDrained new → Continues fresh new
-continues_fresh new s drained = record {
-  stands = λ packets given f. record { ahead = λ behind. f.ahead behind ∙ ap (λ (l : List (List ℕ)). given ++ l) (sym (fresh_stands.ahead behind) ∙ s.ahead behind) };
-  spent = λ _. record { drained = drained; none = sym (s.ahead []) };
-}
+pub continues_fresh : (channel : Channel) → assembly.StandsFor channel.assembler [] [] → channel.assembler.waiting ≡ [] → Continues None (Some channel)
+continues_fresh channel s drained = record { stands = λ packets given none. rw (none.0, none.1) s; waiting = drained }
 
 pub position_none : (p : Channel → Bool) (channels : List Channel) → position p channels ≡ None → find p channels ≡ None
 position_none p channels h = by (ltb (position_or_len p channels) (length channels)) refl h
@@ -42,31 +32,20 @@ position_none p channels h = by (ltb (position_or_len p channels) (length channe
     by true e h = absurd cc
     by false e h = find_at p channels ∙ slice_get_past channels (position_or_len p channels) (ltb-false _ _ e)
 
-pub no_channel : (channels : List Channel) (pid : ℕ) → has_channel channels pid ≡ false → find (is_on pid) channels ≡ None
-no_channel channels pid h = by (find (is_on pid) channels) refl h
-  where
-    by : (found : Option Channel) → find (is_on pid) channels ≡ found → is_some found ≡ false → find (is_on pid) channels ≡ None
-    by None e h = e
-    by (Some channel) e h = absurd cc
-
 pub no_channel_at : (channels : List Channel) (pid : ℕ) → position (is_on pid) channels ≡ None → has_channel channels pid ≡ false
 no_channel_at channels pid h = ap is_some (position_none (is_on pid) channels h)
 
-find_with : (pid other : ℕ) (before : Option Channel) (channel : Channel) → channel.pid ≡ pid → (pid ≡ other → before ≡ None) → Continues fresh channel.assembler
-    → Continues (assembler_of before) (assembler_of (option_or before (find (is_on other) (channel ∷ []))))
-find_with pid other (Some c) channel is none new = continues_same c.assembler
-find_with pid other None channel is none new = by (eqb channel.pid other)
+find_with : (other : ℕ) (before : Option Channel) (channel : Channel) → Continues None (Some channel) → Continues before (option_or before (find (is_on other) (channel ∷ [])))
+find_with other (Some c) channel new = continues_same (Some c)
+find_with other None channel new = by (eqb channel.pid other)
   where
-    by : (test : Bool) → Continues fresh (assembler_of (cond test (Some channel) None))
+    by : (test : Bool) → Continues None (cond test (Some channel) None)
     by true = new
-    by false = continues_same fresh
+    by false = continues_same None
 
 -- a channel of a PID that had none
-pub continues_with : (channels : List Channel) (channel : Channel) (pid other : ℕ) → position (is_on pid) channels ≡ None → channel.pid ≡ pid → Continues fresh channel.assembler
-    → Continues (assembler_on channels other) (assembler_on (channels ++ channel ∷ []) other)
-continues_with channels channel pid other none is new =
-    rw (find-append (is_on other) channels (channel ∷ []))
-    (find_with pid other (find (is_on other) channels) channel is (λ same. subst (λ p. find (is_on p) channels ≡ None) same (position_none (is_on pid) channels none)) new)
+pub continues_with : (channels : List Channel) (channel : Channel) (other : ℕ) → Continues None (Some channel) → Continues (channel_on channels other) (channel_on (channels ++ channel ∷ []) other)
+continues_with channels channel other new = rw (find-append (is_on other) channels (channel ∷ [])) (find_with other (find (is_on other) channels) channel new)
 
 is_some-with : (before : Option Channel) (channel : Channel) (test : Bool) → is_some (option_or before (cond test (Some channel) None)) ≡ (is_some before || test)
 is_some-with None channel true = refl
@@ -138,6 +117,12 @@ place_of_position p channels place h = by (ltb (position_or_len p channels) (len
         record { first = same; within = rw (← same) (ltb-true (position_or_len p channels) (length channels) e) }
     by false e h = absurd cc
 
+-- the channel at the place that was found
+pub channel_at : (channels : List Channel) (pid place : ℕ) (channel : Channel) → position (is_on pid) channels ≡ Some place → channel ≡ get_or channels place channel → channel_on channels pid ≡ Some channel
+channel_at channels pid place channel h at_place =
+    let its = place_of_position (is_on pid) channels place h in
+    find_at (is_on pid) channels ∙ ap (slice_get channels) its.first ∙ slice_get-get_or channels place channel its.within ∙ ap (λ (c : Channel). Some c) (sym at_place)
+
 has_at : (channels : List Channel) (pid place : ℕ) → position (is_on pid) channels ≡ Some place → has_channel channels pid ≡ true
 has_at channels pid place h =
     let at_place = place_of_position (is_on pid) channels place h in
@@ -170,74 +155,35 @@ filter_set p (c ∷ channels) (suc place) old new h = by (p c) (filter_set p cha
     by true h = ap suc h
     by false h = h
 
--- the assembler of a PID is another one, and nothing else changed
-pub record IsWritten (old new : List Channel) (pid : ℕ) (before after : AssemblerState) : Type 0 where
-  pub was : assembler_on old pid ≡ before
-  pub is : assembler_on new pid ≡ after
-  pub others : (other : ℕ) → other ≢ pid → assembler_on new other ≡ assembler_on old other
+-- the channel of a PID has another assembler, and nothing else changed
+pub record IsWritten (old new : List Channel) (pid : ℕ) (channel : Channel) (assembler : AssemblerState) : Type 0 where
+  pub was : channel_on old pid ≡ Some channel
+  pub is : channel_on new pid ≡ Some (record { pid = channel.pid; assembler = assembler })
+  pub others : (other : ℕ) → other ≢ pid → channel_on new other ≡ channel_on old other
   pub same : (other : ℕ) → has_channel new other ≡ has_channel old other
   pub distinct : AreDistinct old → AreDistinct new
 
 pub written : (channels : List Channel) (pid place : ℕ) (channel : Channel) (assembler : AssemblerState) → position (is_on pid) channels ≡ Some place → channel ≡ get_or channels place channel
-    → IsWritten channels (set channels place (record { pid = channel.pid; assembler = assembler })) pid channel.assembler assembler
+    → IsWritten channels (set channels place (record { pid = channel.pid; assembler = assembler })) pid channel assembler
 written channels pid place channel assembler h at_place =
     let p = is_on pid in
     let its = place_of_position p channels place h in
     let passes : p channel ≡ true = ap p at_place ∙ (position-Some p channels place channel h).1 in
     let on = eqb-true channel.pid pid passes in
     let new : Channel = record { pid = channel.pid; assembler = assembler } in
+    let was = channel_at channels pid place channel h at_place in
     let found = find-set p channels place new (sym its.first) its.within passes in
     let fails : (other : ℕ) → other ≢ pid → is_on other channel ≡ false = λ other apart. ne_eqb channel.pid other (λ same. apart (sym same ∙ on)) in
     let passed : (other : ℕ) → other ≢ pid → find (is_on other) (set channels place new) ≡ find (is_on other) channels
     = λ other apart. find_past (is_on other) channels place new channel (ap (is_on other) (sym at_place) ∙ fails other apart) (fails other apart) in
     record {
-      was = ap assembler_of (find_at p channels ∙ ap (slice_get channels) its.first ∙ slice_get-get_or channels place channel its.within ∙ ap (λ (c : Channel). Some c) (sym at_place));
-      is = ap assembler_of found;
-      others = λ other apart. ap assembler_of (passed other apart);
-      same = λ other. ⊎_elim (λ (same : other ≡ pid). ap (has_channel (set channels place new)) same ∙ ap is_some found ∙ sym (ap (has_channel channels) same ∙ has_at channels pid place h))
+      was = was;
+      is = found;
+      others = passed;
+      same = λ other. ⊎_elim (λ (same : other ≡ pid). ap (has_channel (set channels place new)) same ∙ ap is_some found ∙ sym (ap (has_channel channels) same ∙ ap is_some was))
           (λ (apart : other ≢ pid). ap is_some (passed other apart)) (cases_eq other pid);
       distinct = λ few other. rw (filter_set (is_on other) channels place channel new (ap (is_on other) at_place)) (few other);
     }
-
--- ---- a packet handed in
-
-all_spent : (channels : List Channel) (pid : ℕ) → IsSpent (assembler_on channels pid) → ((other : ℕ) → other ≢ pid → IsSpent (assembler_on channels other)) → (other : ℕ) → IsSpent (assembler_on channels other)
-all_spent channels pid drained spent other =
-    ⊎_elim (λ (same : other ≡ pid). subst (λ p. IsSpent (assembler_on channels p)) (sym same) drained) (λ (apart : other ≢ pid). spent other apart) (cases_eq other pid)
-
--- all is spent, with room for a channel more
-pub spent_before : (state : DemultiplexerState) → IsDrained state → ((other : ℕ) → other ≢ state.pid → IsSpent (assembler_on state.channels other)) → (other : ℕ) → IsSpent (assembler_on state.channels other)
-spent_before state drained spent other = all_spent state.channels state.pid drained spent other
-
-pub stands_pushed : (old between new : List Channel) (pid : ℕ) (packet : List ℕ) (before after : AssemblerState) → ((other : ℕ) → Continues (assembler_on old other) (assembler_on between other))
-    → IsWritten between new pid before after → ((packets given : List (List ℕ)) → assembly.StandsFor before packets given → assembly.StandsFor after (packets ++ packet ∷ []) given)
-    → (packets given : ℕ → List (List ℕ)) → ((other : ℕ) → assembly.StandsFor (assembler_on old other) (packets other) (given other))
-    → (other : ℕ) → assembly.StandsFor (assembler_on new other) (with_next pid packet packets other) (given other)
-stands_pushed old between new pid packet before after continues write pushes packets given s other =
-    ⊎_elim
-    (λ (same : pid ≡ other).
-    subst (λ q. assembly.StandsFor (assembler_on new q) (with_next pid packet packets q) (given q)) same
-    (rw (eq-eqb pid pid refl, write.is) (pushes (packets pid) (given pid) (subst (λ a. assembly.StandsFor a (packets pid) (given pid)) write.was ((continues pid).stands (packets pid) (given pid) (s pid))))))
-    (λ (apart : pid ≢ other). rw (ne_eqb pid other apart, write.others other (λ same. apart (sym same))) ((continues other).stands (packets other) (given other) (s other)))
-    (cases_eq pid other)
-
--- ---- a section taken
-
-pub nothing_next : (state : DemultiplexerState) (section : Option (List ℕ)) → position (is_on state.pid) state.channels ≡ None → section ≡ None → NextSection state state section
-nothing_next state section none is =
-    let absent = ap assembler_of (position_none (is_on state.pid) state.channels none) in
-    let given : assembly.HasGivenAll (assembler_on state.channels state.pid) (assembler_on state.channels state.pid)
-    = subst (λ a. assembly.HasGivenAll a a) (sym absent) (HasGivenAll-from fresh fresh refl refl (λ behind. refl)) in
-    subst (λ r. NextSection state state r) (sym is) (record { pid = refl; present = given; others = λ other apart. refl; same = λ other. refl })
-
-pub advances : (state : DemultiplexerState) (new : List Channel) (before after : AssemblerState) (section : Option (List ℕ)) → IsWritten state.channels new state.pid before after
-    → assembly.NextSection before after section → NextSection state (record { channels = new; pid = state.pid }) section
-advances state new before after section write next = record {
-  pid = refl;
-  present = subst (λ a. assembly.NextSection a (assembler_on new state.pid) section) (sym write.was) (subst (λ a. assembly.NextSection before a section) (sym write.is) next);
-  others = write.others;
-  same = write.same;
-}
 
 -- ---- PIDs that aren't wanted any more
 
@@ -256,19 +202,36 @@ find_kept keeps (c ∷ channels) pid = by (eqb c.pid pid) (keeps c.pid) refl ref
     by false true e k h = rw e h
     by false false e k h = h
 
-pub kept_assemblers : (keeps : ℕ → Bool) (channels : List Channel) (pid : ℕ) → assembler_on (filter (λ channel. keeps channel.pid) channels) pid ≡ (if keeps pid then assembler_on channels pid else fresh)
-kept_assemblers keeps channels pid = ap assembler_of (find_kept keeps channels pid) ∙ by (keeps pid)
+pub kept_channels : (keeps : ℕ → Bool) (channels : List Channel) (pid : ℕ) → has_channel (filter (λ channel. keeps channel.pid) channels) pid ≡ (has_channel channels pid && keeps pid)
+kept_channels keeps channels pid = ap is_some (find_kept keeps channels pid) ∙ by (keeps pid) (find (is_on pid) channels)
   where
-    by : (test : Bool) → assembler_of (if test then find (is_on pid) channels else None) ≡ (if test then assembler_on channels pid else fresh)
+    by : (test : Bool) (found : Option Channel) → is_some (if test then found else None) ≡ (is_some found && test)
+    by true None = refl
+    by true (Some c) = refl
+    by false None = refl
+    by false (Some c) = refl
+
+pub kept_waiting : (keeps : ℕ → Bool) (channels : List Channel) (pid : ℕ) → waiting_in (channel_on (filter (λ channel. keeps channel.pid) channels) pid) ≡ (if keeps pid then waiting_in (channel_on channels pid) else [])
+kept_waiting keeps channels pid = ap waiting_in (find_kept keeps channels pid) ∙ by (keeps pid)
+  where
+    by : (test : Bool) → waiting_in (if test then find (is_on pid) channels else None) ≡ (if test then waiting_in (find (is_on pid) channels) else [])
     by true = refl
     by false = refl
 
-pub kept_channels : (keeps : ℕ → Bool) (channels : List Channel) (pid : ℕ) → has_channel (filter (λ channel. keeps channel.pid) channels) pid ≡ (if keeps pid then has_channel channels pid else false)
-kept_channels keeps channels pid = ap is_some (find_kept keeps channels pid) ∙ by (keeps pid)
+pub kept_none : (keeps : ℕ → Bool) (channels : List Channel) (pid : ℕ) → waiting_in (channel_on channels pid) ≡ [] → waiting_in (channel_on (filter (λ channel. keeps channel.pid) channels) pid) ≡ []
+kept_none keeps channels pid none = kept_waiting keeps channels pid ∙ by (keeps pid)
   where
-    by : (test : Bool) → is_some (if test then find (is_on pid) channels else None) ≡ (if test then has_channel channels pid else false)
-    by true = refl
+    by : (test : Bool) → (if test then waiting_in (channel_on channels pid) else []) ≡ []
+    by true = none
     by false = refl
+
+pub kept_stands : (keeps : ℕ → Bool) (channels : List Channel) (pid : ℕ) (packets given : List (List ℕ)) → StandsIn (channel_on channels pid) packets given
+    → StandsIn (channel_on (filter (λ channel. keeps channel.pid) channels) pid) (if keeps pid then packets else []) (if keeps pid then given else [])
+kept_stands keeps channels pid packets given s = rw (find_kept keeps channels pid) (by (keeps pid))
+  where
+    by : (test : Bool) → StandsIn (if test then find (is_on pid) channels else None) (if test then packets else []) (if test then given else [])
+    by true = s
+    by false = (refl, refl)
 
 fewer_kept : (p q : Channel → Bool) (channels : List Channel) → length (filter p (filter q channels)) ≤ length (filter p channels)
 fewer_kept p q [] = omega arith
@@ -284,13 +247,6 @@ fewer_kept p q (c ∷ channels) = by (p c) (q c) refl (fewer_kept p q channels)
 pub distinct_kept : (q : Channel → Bool) (channels : List Channel) → AreDistinct channels → AreDistinct (filter q channels)
 distinct_kept q channels distinct pid = let few = distinct pid in omega (arith, fewer_kept (is_on pid) q channels)
 
-pub spent_kept : (keeps : ℕ → Bool) (channels : List Channel) (pid : ℕ) → IsSpent (assembler_on channels pid) → IsSpent (assembler_on (filter (λ channel. keeps channel.pid) channels) pid)
-spent_kept keeps channels pid spent = rw (kept_assemblers keeps channels pid) (by (keeps pid))
-  where
-    by : (test : Bool) → IsSpent (if test then assembler_on channels pid else fresh)
-    by true = spent
-    by false = fresh_spent
-
 -- ---- room for one more
 
 any_left : (first pid : ℕ) (rest : Bool) → (eqb first pid || rest) ≡ true → not (eqb pid first) ≡ true → rest ≡ true
@@ -301,9 +257,10 @@ any_left first pid false h apart = by (eqb first pid) refl h
     by true e h = let other : eqb pid first ≡ true = eq-eqb pid first (sym (eqb-true first pid e)) in absurd (false≢true (rw other at apart))
     by false e h = h
 
-among_rest : (keeps has any : Bool) → (if keeps then has else false) ≡ true → (has ≡ true → keeps ≡ true → any ≡ true) → any ≡ true
-among_rest true has any h f = f h refl
-among_rest false has any h f = absurd cc
+among_rest : (has keeps any : Bool) → (has && keeps) ≡ true → (has ≡ true → keeps ≡ true → any ≡ true) → any ≡ true
+among_rest true true any h f = f refl refl
+among_rest true false any h f = absurd cc
+among_rest false keeps any h f = absurd cc
 
 -- distinct channels whose PIDs are among these are no more than these
 few_channels : (pids : List ℕ) (channels : List Channel) → AreDistinct channels → ((pid : ℕ) → has_channel channels pid ≡ true → list_any (λ p. eqb p pid) pids ≡ true) → length channels ≤ length pids
@@ -313,16 +270,72 @@ few_channels (first ∷ pids) channels distinct among =
     let keeps : ℕ → Bool = λ pid. not (eqb pid first) in
     let rest = filter (λ (channel : Channel). keeps channel.pid) channels in
     let others = few_channels pids rest (distinct_kept (λ (channel : Channel). keeps channel.pid) channels distinct)
-    (λ pid h. among_rest (keeps pid) (has_channel channels pid) (list_any (λ p. eqb p pid) pids) (sym (kept_channels keeps channels pid) ∙ h)
+    (λ pid h. among_rest (has_channel channels pid) (keeps pid) (list_any (λ p. eqb p pid) pids) (sym (kept_channels keeps channels pid) ∙ h)
     (λ has apart. any_left first pid (list_any (λ p. eqb p pid) pids) (among pid has) apart)) in
     let one = distinct first in
     omega (arith, length-filter_both (is_on first) (λ (channel : Channel). keeps channel.pid) (λ channel. refl) channels)
 
--- where there are as many as there is room for, the packet's PID is one of them
-pub not_full : (state : DemultiplexerState) (pid : ℕ) → HasRoom state pid → AreDistinct state.channels → position (is_on pid) state.channels ≡ None → 18 ≤ length state.channels → ⊥
-not_full state pid room distinct none full =
-    let channel : Channel = record { pid = pid; assembler = fresh } in
-    let more = few_channels room.pids (state.channels ++ channel ∷ []) (distinct_with state.channels channel pid none refl distinct)
-    (λ other h. room.among other (sym (has_with state.channels channel pid other refl) ∙ h)) in
-    let few = room.few in
-    omega (arith, length-append state.channels (channel ∷ []))
+-- without one of them they are fewer
+fewer_pids : (keeps : ℕ → Bool) (pids : List ℕ) → length (filter keeps pids) ≤ length pids
+fewer_pids keeps [] = omega arith
+fewer_pids keeps (p ∷ pids) = by (keeps p) (fewer_pids keeps pids)
+  where
+    by : (kept : Bool) → length (filter keeps pids) ≤ length pids → length (cond kept (p ∷ filter keeps pids) (filter keeps pids)) ≤ suc (length pids)
+    by true h = omega arith
+    by false h = omega arith
+
+one_less : (pid : ℕ) (pids : List ℕ) → list_any (λ p. eqb p pid) pids ≡ true → length (filter (λ p. not (eqb p pid)) pids) < length pids
+one_less pid [] h = absurd cc
+one_less pid (p ∷ pids) h = by (eqb p pid) h (one_less pid pids) (fewer_pids (λ q. not (eqb q pid)) pids)
+  where
+    by : (on : Bool) → (on || list_any (λ q. eqb q pid) pids) ≡ true → (list_any (λ q. eqb q pid) pids ≡ true → length (filter (λ q. not (eqb q pid)) pids) < length pids)
+        → length (filter (λ q. not (eqb q pid)) pids) ≤ length pids
+        → length (cond (not on) (p ∷ filter (λ q. not (eqb q pid)) pids) (filter (λ q. not (eqb q pid)) pids)) < suc (length pids)
+    by true h less few = omega arith
+    by false h less few = let l = less h in omega arith
+
+among_others : (pid other : ℕ) (pids : List ℕ) → eqb other pid ≡ false → list_any (λ p. eqb p other) pids ≡ true → list_any (λ p. eqb p other) (filter (λ p. not (eqb p pid)) pids) ≡ true
+among_others pid other [] apart h = absurd cc
+among_others pid other (p ∷ pids) apart h = by (eqb p pid) (eqb p other) refl refl h (among_others pid other pids apart)
+  where
+    by : (on its : Bool) → eqb p pid ≡ on → eqb p other ≡ its → (its || list_any (λ q. eqb q other) pids) ≡ true
+        → (list_any (λ q. eqb q other) pids ≡ true → list_any (λ q. eqb q other) (filter (λ q. not (eqb q pid)) pids) ≡ true)
+        → list_any (λ q. eqb q other) (cond (not on) (p ∷ filter (λ q. not (eqb q pid)) pids) (filter (λ q. not (eqb q pid)) pids)) ≡ true
+    by true true e f h more =
+        let same : eqb other pid ≡ true = eq-eqb other pid (sym (eqb-true p other f) ∙ eqb-true p pid e) in absurd (false≢true (sym apart ∙ same))
+    by true false e f h more = more h
+    by false true e f h more = rw f refl
+    by false false e f h more = rw f (more h)
+
+-- a PID of these, which has no channel, can have one, where the others are of these too
+pub room_left : (channels : List Channel) (pids : List ℕ) (pid : ℕ) → AreDistinct channels → length pids ≤ 18 → list_any (λ p. eqb p pid) pids ≡ true
+    → ((other : ℕ) → has_channel channels other ≡ true → list_any (λ p. eqb p other) pids ≡ true) → has_channel channels pid ≡ false → length channels < 18
+room_left channels pids pid distinct few its among none =
+    let rest = filter (λ p. not (eqb p pid)) pids in
+    let fits = few_channels rest channels distinct
+    (λ other h. among_others pid other pids (ne_eqb other pid (λ (same : other ≡ pid). false≢true (sym none ∙ ap (has_channel channels) (sym same) ∙ h))) (among other h)) in
+    let less = one_less pid pids its in
+    omega arith
+
+pub can_have_wanted : (channels : List Channel) (pids : List ℕ) (pid : ℕ) → AreDistinct channels → length pids ≤ 18 → list_any (λ p. eqb p pid) pids ≡ true
+    → ((other : ℕ) → has_channel channels other ≡ true → list_any (λ p. eqb p other) pids ≡ true) → can_have channels pid ≡ true
+can_have_wanted channels pids pid distinct few its among = by (has_channel channels pid) refl
+  where
+    by : (has : Bool) → has_channel channels pid ≡ has → (has || ltb (length channels) 18) ≡ true
+    by true e = refl
+    by false e = lt-ltb (length channels) 18 (room_left channels pids pid distinct few its among e)
+
+-- ---- what a place that was looked for says of that
+
+pub has_place : (channels : List Channel) (pid place : ℕ) → position (is_on pid) channels ≡ Some place → true ≡ can_have channels pid
+has_place channels pid place h = sym (ap (λ (b : Bool). b || ltb (length channels) 18) (has_at channels pid place h))
+
+pub no_place : (channels : List Channel) (pid : ℕ) → position (is_on pid) channels ≡ None → 18 ≤ length channels → false ≡ can_have channels pid
+no_place channels pid h full = sym (ap (λ (b : Bool). b || ltb (length channels) 18) (no_channel_at channels pid h) ∙ le-ltb (length channels) 18 full)
+
+pub place_left : (channels : List Channel) (pid : ℕ) → length channels < 18 → true ≡ can_have channels pid
+place_left channels pid left = by (has_channel channels pid)
+  where
+    by : (has : Bool) → true ≡ (has || ltb (length channels) 18)
+    by true = refl
+    by false = sym (lt-ltb (length channels) 18 left)

@@ -1,88 +1,83 @@
--- What a demultiplexer stands for: for each PID the packets handed in since it was wanted without a break, and the
--- sections given of these. (This project's own.)
-use Rattle.std.specs.Prelude.{◌≡◌, ◌≢◌, ◌≤◌, ◌==◌, ℕ, Bool, true, ◌||◌, if◌then◌else◌, List, [], ◌∷◌, ◌++◌, length, filter, find, Option, Some, None, is_some}
-use Rattle.std.specs.List.{list_any}
-use Rattle.ts_packets.specs.Packet.{pid_of}
-use Rattle.ts_sections.specs.Assembly.{AssemblerState, waiting}
-use Rattle.ts_sections.specs.Assembly as assembly
+-- What a demultiplexer stands for: for each PID the packets handed in since it was wanted without a
+-- break, the sections given of these, and those that are waiting. (This project's own, over the
+-- sections of ISO/IEC 13818-1, 2.4.4.)
+use Rattle.std.specs.Prelude.{◌≡◌, ◌==◌, ◌||◌, nat_lt, ℕ, Bool, true, if◌then◌else◌, List, [], ◌∷◌, ◌++◌, length, Option, MatchOption}
+use Rattle.ts_sections.specs.Sections.{sections}
+use Rattle.section_demultiplexer.specs.Channels.{AreKept, channel_on, has_channel, waiting_in}
 use Rattle.section_demultiplexer.specs.declared.demultiplexer.Channel.{Channel}
 
+-- a demultiplexer, as its callers see it
 pub record DemultiplexerState : Type 0 where
-  -- the PIDs on which packets came since they were wanted, each with its assembler
-  pub channels : List Channel
   -- the PID of the packet pushed last
   pub pid : ℕ
+  -- the sections that this packet completed and that aren't given yet, in their order
+  pub waiting : List (List ℕ)
+  -- what it keeps for the packets to come, of which no promise speaks
+  pub kept : List Channel
 
-abbrev pub is_on : ℕ → Channel → Bool
-is_on pid channel = channel.pid == pid
+-- no section is waiting, so the next packet may come
+abbrev pub IsDrained : DemultiplexerState → Type 0
+IsDrained state = state.waiting ≡ []
 
-abbrev pub has_channel : List Channel → ℕ → Bool
-has_channel channels pid = is_some (find (is_on pid) channels)
+-- ---- the PIDs that are followed
 
--- an assembler that no packet was handed to
-abbrev pub fresh : AssemblerState
-fresh = record { before = None; piece = None; pending = []; gathered = [] }
+-- packets came on that PID since it was wanted
+abbrev pub is_followed : DemultiplexerState → ℕ → Bool
+is_followed state pid = has_channel state.kept pid
 
-abbrev pub assembler_of : Option Channel → AssemblerState
-assembler_of None = fresh
-assembler_of (Some channel) = channel.assembler
+-- the most PIDs that can be followed: those of the PAT, of the PMT, and of 16 components
+abbrev pub pid_limit : ℕ
+pid_limit = 18
 
--- the assembler of a PID; where there is none, no packet was handed to it
-abbrev pub assembler_on : List Channel → ℕ → AssemblerState
-assembler_on channels pid = assembler_of (find (is_on pid) channels)
+-- that PID is followed, or can be
+abbrev pub has_room : DemultiplexerState → ℕ → Bool
+has_room state pid = is_followed state pid || nat_lt (length state.kept) pid_limit
 
--- for each PID these packets were handed in, and these sections given
+-- ---- what it stands for
+
+-- the sections of a PID that are waiting: those of the packet pushed last
+abbrev pub waiting_on : DemultiplexerState → ℕ → List (List ℕ)
+waiting_on state pid = if pid == state.pid then state.waiting else []
+
+-- For each PID these packets were handed in since it was wanted without a break, and these sections
+-- of them given.
 pub record StandsFor (state : DemultiplexerState) (packets given : ℕ → List (List ℕ)) : Type 0 where
-  pub on : (pid : ℕ) → assembly.StandsFor (assembler_on state.channels pid) (packets pid) (given pid)
+  -- the sections of the packets of a PID, in their order, are those given and then those waiting
+  pub all : (pid : ℕ) → given pid ++ waiting_on state pid ≡ sections (packets pid)
+  -- and what is kept stands for them (a device of the proofs)
+  pub kept : AreKept state.kept packets given
 
 -- with one more, a packet or a section, behind those of its PID
 abbrev pub with_next : ℕ → List ℕ → (ℕ → List (List ℕ)) → ℕ → List (List ℕ)
 with_next pid next before other = if pid == other then before other ++ next ∷ [] else before other
 
--- nothing is left of what was handed to it
-pub record IsSpent (assembler : AssemblerState) : Type 0 where
-  pub drained : assembly.IsDrained assembler
-  pub none : waiting assembler ≡ []
+-- those of the PIDs that are wanted; none of the others
+abbrev pub of_wanted : (ℕ → Bool) → (ℕ → List (List ℕ)) → ℕ → List (List ℕ)
+of_wanted wanted before pid = if wanted pid then before pid else []
 
--- what stood for packets stands for them still, and nothing is left where nothing was
-pub record Continues (old new : AssemblerState) : Type 0 where
-  pub stands : (packets given : List (List ℕ)) → assembly.StandsFor old packets given → assembly.StandsFor new packets given
-  pub spent : IsSpent old → IsSpent new
+-- nothing is different but the PID of the packet pushed last
+abbrev pub with_pid : ℕ → DemultiplexerState → DemultiplexerState
+with_pid pid state = record { pid = pid; waiting = state.waiting; kept = state.kept }
 
--- the next packet may come, on whatever PID
-abbrev pub IsDrained : DemultiplexerState → Type 0
-IsDrained state = IsSpent (assembler_on state.channels state.pid)
+-- ---- one call of `next`
 
--- These PIDs, no more than there is room for, are all that have an assembler or get one with the next packet.
-pub record HasRoom (state : DemultiplexerState) (pid : ℕ) : Type 0 where
-  pub pids : List ℕ
-  pub few : length pids ≤ 18
-  pub among : (other : ℕ) → (has_channel state.channels other || (pid == other)) ≡ true → list_any (λ p. p == other) pids ≡ true
-
--- the packet was handed in, where nothing was left of those on its PID
-pub record IsPushed (old new : DemultiplexerState) (packet : List ℕ) : Type 0 where
-  pub pid : new.pid ≡ pid_of packet
-  pub spent : IsSpent (assembler_on old.channels (pid_of packet))
-  pub stands : (packets given : ℕ → List (List ℕ)) → StandsFor old packets given → StandsFor new (with_next (pid_of packet) packet packets) given
-  pub channels : (other : ℕ) → has_channel new.channels other ≡ (has_channel old.channels other || (pid_of packet == other))
-
--- no two assemblers are of one PID
-abbrev pub AreDistinct : List Channel → Type 0
-AreDistinct channels = (pid : ℕ) → length (filter (is_on pid) channels) ≤ 1
-
--- there is memory for 18 assemblers, and only that of the packet pushed last has something left
-pub record IsSound (channels : List Channel) (capacity pid : ℕ) : Type 0 where
-  pub distinct : AreDistinct channels
-  pub room : 18 ≤ capacity
-  pub spent : (other : ℕ) → other ≢ pid → IsSpent (assembler_on channels other)
-
--- one call of `next`: nothing changes but for the assembler of the PID
-pub record Advances (old new : DemultiplexerState) (Changes : AssemblerState → AssemblerState → Type 0) : Type 0 where
+-- the section was the first of those waiting
+pub record GivesNext (old new : DemultiplexerState) (section : List ℕ) : Type 0 where
   pub pid : new.pid ≡ old.pid
-  pub present : Changes (assembler_on old.channels old.pid) (assembler_on new.channels old.pid)
-  pub others : (other : ℕ) → other ≢ old.pid → assembler_on new.channels other ≡ assembler_on old.channels other
-  pub same : (other : ℕ) → has_channel new.channels other ≡ has_channel old.channels other
+  pub next : old.waiting ≡ section ∷ new.waiting
+  pub stands : (packets given : ℕ → List (List ℕ)) → StandsFor old packets given
+      → StandsFor new packets (with_next old.pid section given)
+  pub same : (pid : ℕ) → is_followed new pid ≡ is_followed old pid
+  pub followed : is_followed old old.pid ≡ true
 
--- the section was the next to give, or there was none
+-- none was waiting
+pub record HasGivenAll (old new : DemultiplexerState) : Type 0 where
+  pub pid : new.pid ≡ old.pid
+  pub none : old.waiting ≡ []
+  pub left : new.waiting ≡ []
+  pub stands : (packets given : ℕ → List (List ℕ)) → StandsFor old packets given
+      → StandsFor new packets given
+  pub same : (pid : ℕ) → is_followed new pid ≡ is_followed old pid
+
 abbrev pub NextSection : DemultiplexerState → DemultiplexerState → Option (List ℕ) → Type 0
-NextSection old new section = Advances old new (λ before after. assembly.NextSection before after section)
+NextSection old new result = MatchOption result (HasGivenAll old new) (GivesNext old new)

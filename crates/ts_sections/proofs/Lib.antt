@@ -11,3 +11,4 @@ pub mod RunLemmas
 pub mod GrowthLemmas
 pub mod TakeLemmas
 pub mod RemainderLemmas
+pub mod AssemblerLemmas

@@ -3,9 +3,10 @@ use Rattle.std.proofs.Common.{◌≡◌, ℕ, ◌+◌, ◌-◌, ◌≤◌, true,
 use Rattle.std.specs.Prelude.{slice_range, unwrap_or}
 use Rattle.std.proofs.lemmas.List.{length-map, take-take, take_all, drop_all, drop-take, drop-drop}
 use Rattle.ts_sections.specs.Sections.{Byte, Mark, sections}
-use Rattle.ts_sections.specs.Assembly.{AssemblerState, GivesNext, HasGivenAll, Tokens, in_front, tokens_behind, sections_of_open, sections_from, waiting}
+use Rattle.ts_sections.specs.Ahead.{Kept, Tokens, in_front, tokens_behind, sections_of_open, sections_from, sections_ahead}
+use Rattle.ts_sections.specs.Assembly.{AssemblerState, GivesNext, HasGivenAll, StandsFor}
 use Rattle.ts_sections.specs.Piece.{PieceState, TakesAll, TakesSection}
-use Rattle.ts_sections.specs.Remainder.{tokens_from, tokens_of, IsWithin, Passes, Finds, Drains, section_of}
+use Rattle.ts_sections.specs.Remainder.{tokens_from, tokens_of, IsWithin, Passes, Finds, Finishes, Drains, kept_of, section_of, state_of}
 use Rattle.ts_sections.specs.declared.remainder.Remainder.{Remainder}
 use Rattle.ts_sections.specs.declared.remainder.Found.{Found}
 use Rattle.ts_sections.specs.declared.remainder.Found.TheVariants.{Gathered, InPacket}
@@ -121,37 +122,51 @@ Drains-behind packet old middle new piece between piece' s h = record { drained 
 
 -- ---- what it says of the assembler
 
--- the state of an assembler that read this packet last
-abbrev pub state_of : List ℕ → Remainder → PieceState → AssemblerState
-state_of packet rest piece = record { before = Some packet; piece = piece.known; pending = tokens_of packet rest; gathered = piece.gathered }
+-- what is told of all that may come behind tells what is waiting
+pub stands_for : (kept : Kept) (packets given : List (List ℕ)) → ((behind : List (List ℕ)) → sections (packets ++ behind) ≡ given ++ sections_ahead kept behind)
+    → StandsFor (record { waiting = sections_ahead kept []; kept = kept }) packets given
+stands_for kept packets given h = record { all = sym (ap sections (sym (append-nil packets)) ∙ h []); ahead = h }
 
-pub GivesNext-from : (packet : List ℕ) (old new : Remainder) (piece piece' : PieceState) (found : Found) → Finds packet old new piece piece' found → GivesNext (state_of packet old piece) (state_of packet new piece') (section_of packet piece'.gathered found)
+pub GivesNext-from : (packet : List ℕ) (old new : Remainder) (piece piece' : PieceState) (found : Found) → Finds packet old new piece piece' found
+    → GivesNext (state_of (Some packet) old piece) (state_of (Some packet) new piece') (section_of packet piece'.gathered found)
 GivesNext-from packet old new piece piece' found h =
     let section = section_of packet piece'.gathered found in
     record {
       next = h.ahead (tokens_behind (Some packet) []);
-      stands = λ packets given s. record {
-        ahead = λ behind. s.ahead behind ∙ ap (λ x. given ++ x) (h.ahead (tokens_behind (Some packet) behind)) ∙ sym (append_assoc given (section ∷ []) (sections_from piece'.known (in_front true (tokens_of packet new) (tokens_behind (Some packet) behind))));
-      };
+      stands = λ packets given s.
+          stands_for (kept_of (Some packet) new piece') packets (given ++ section ∷ [])
+          (λ behind. s.ahead behind ∙ ap (λ x. given ++ x) (h.ahead (tokens_behind (Some packet) behind)) ∙ sym (append_assoc given (section ∷ []) (sections_from piece'.known (in_front true (tokens_of packet new) (tokens_behind (Some packet) behind)))));
     }
 
--- a drained assembler whose sections ahead are those that were ahead has given all
-pub HasGivenAll-from : (old new : AssemblerState) → new.pending ≡ [] → sections_of_open new.piece [] ≡ [] → ((behind : List (List ℕ)) → sections_from old.piece (in_front true old.pending (tokens_behind old.before behind)) ≡ sections_from new.piece (tokens_behind new.before behind)) → HasGivenAll old new
-HasGivenAll-from old new drained ended same =
-    let none : waiting old ≡ [] = same [] ∙ rw ended refl in
+-- where all is taken in and no section ended in it, all are given
+HasGivenAll-from : (old new : Kept) → new.pending ≡ [] → sections_of_open new.piece [] ≡ []
+    → ((behind : List (List ℕ)) → sections_ahead old behind ≡ sections_from new.piece (tokens_behind new.before behind))
+    → HasGivenAll (record { waiting = sections_ahead old []; kept = old }) (record { waiting = sections_ahead new []; kept = new })
+HasGivenAll-from old new taken ended same =
+    let none : sections_ahead old [] ≡ [] = same [] ∙ rw ended refl in
     record {
       none = none;
-      left = rw (drained, ended) refl;
-      drained = drained;
-      stands = λ packets given s. record { ahead = λ behind. s.ahead behind ∙ ap (λ x. given ++ x) (same behind ∙ rw drained refl) };
-      all = λ packets given s. sym (ap sections (sym (append-nil packets)) ∙ s.ahead [] ∙ ap (λ x. given ++ x) none ∙ append-nil given);
+      left = rw (taken, ended) refl;
+      stands = λ packets given s. stands_for new packets given (λ behind. s.ahead behind ∙ ap (λ x. given ++ x) (same behind ∙ rw taken refl));
+      all = λ packets given s. sym (sym s.all ∙ ap (λ x. given ++ x) none ∙ append-nil given);
     }
 
-pub HasGivenAll-drained : (packet : List ℕ) (old new : Remainder) (piece piece' : PieceState) → Drains packet old new piece piece' → HasGivenAll (state_of packet old piece) (state_of packet new piece')
-HasGivenAll-drained packet old new piece piece' h =
-    HasGivenAll-from (state_of packet old piece) (state_of packet new piece') h.drained h.ended (λ behind. h.ahead (tokens_behind (Some packet) behind))
+Finishes-drained : (packet : List ℕ) (old new : Remainder) (piece piece' : PieceState) → Drains packet old new piece piece' → Finishes (Some packet) old new piece piece'
+Finishes-drained packet old new piece piece' h = record {
+  taken = h.drained;
+  ended = h.ended;
+  gives = HasGivenAll-from (kept_of (Some packet) old piece) (kept_of (Some packet) new piece') h.drained h.ended (λ behind. h.ahead (tokens_behind (Some packet) behind));
+}
 
-pub NextSection-from : (packet : List ℕ) (old new : Remainder) (piece piece' : PieceState) (result : Option Found) → MatchOption result (Drains packet old new piece piece') (Finds packet old new piece piece')
-    → MatchOption result (HasGivenAll (state_of packet old piece) (state_of packet new piece')) (λ found. GivesNext (state_of packet old piece) (state_of packet new piece') (section_of packet piece'.gathered found))
-NextSection-from packet old new piece piece' None h = HasGivenAll-drained packet old new piece piece' h
-NextSection-from packet old new piece piece' (Some found) h = GivesNext-from packet old new piece piece' found h
+-- before the first packet that is read there is nothing to take in
+pub Finishes-first : (rest : Remainder) (piece : PieceState) → piece.known ≡ None → Finishes None rest rest piece piece
+Finishes-first rest piece none = record {
+  taken = refl;
+  ended = rw none refl;
+  gives = HasGivenAll-from (kept_of None rest piece) (kept_of None rest piece) refl (rw none refl) (λ behind. refl);
+}
+
+pub advances : (packet : List ℕ) (old new : Remainder) (piece piece' : PieceState) (result : Option Found) → MatchOption result (Drains packet old new piece piece') (Finds packet old new piece piece')
+    → MatchOption result (Finishes (Some packet) old new piece piece') (λ found. GivesNext (state_of (Some packet) old piece) (state_of (Some packet) new piece') (section_of packet piece'.gathered found))
+advances packet old new piece piece' None h = Finishes-drained packet old new piece piece' h
+advances packet old new piece piece' (Some found) h = GivesNext-from packet old new piece piece' found h

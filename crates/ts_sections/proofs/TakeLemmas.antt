@@ -4,7 +4,7 @@ use Rattle.std.proofs.lemmas.Bool.{false_from_ne_true, both_ways}
 use Rattle.std.proofs.Math.Seq.{take-add}
 use Rattle.std.proofs.lemmas.List.{take-append-drop, take_all, drop_all}
 use Rattle.ts_sections.specs.Sections.{bytes_to_mark, section_size, begins_whole}
-use Rattle.ts_sections.specs.Assembly.{Tokens, sections_of_open, sections_from}
+use Rattle.ts_sections.specs.Ahead.{Tokens, sections_of_open, sections_from}
 use Rattle.ts_sections.specs.Piece.{PieceState, IsPart, known_of, IsSound, TakesAll, TakesSection}
 use Rattle.ts_sections.specs.declared.piece.Stage.{Stage}
 use Rattle.ts_sections.specs.declared.piece.Stage.TheVariants.{Unread, Gathering, Given}

@@ -2,14 +2,14 @@
 use Rattle.std.proofs.Common.{◌≡◌, ℕ, true, false, List, [], ◌∷◌, ◌++◌, take, drop, map, refl, sym, ap, append_assoc, Option, Some, None}
 use Rattle.std.specs.List.{flat_map}
 use Rattle.ts_sections.specs.Sections.{Token, Byte, Mark, bytes_to_mark, pieces, section_size, begins_whole, sections_of_piece}
-use Rattle.ts_sections.specs.Assembly.{Tokens, in_front, sections_of_open, sections_of_tokens, sections_from}
+use Rattle.ts_sections.specs.Ahead.{Tokens, in_front, sections_of_open, sections_of_tokens, sections_from}
 use Rattle.ts_sections.proofs.PieceLemmas.{sections_of_piece-whole}
 
-bytes_to_mark-bytes : (bytes : List ℕ) (tokens : List Token) → bytes_to_mark (map Byte bytes ++ tokens) ≡ bytes ++ bytes_to_mark tokens
+pub bytes_to_mark-bytes : (bytes : List ℕ) (tokens : List Token) → bytes_to_mark (map Byte bytes ++ tokens) ≡ bytes ++ bytes_to_mark tokens
 bytes_to_mark-bytes [] tokens = refl
 bytes_to_mark-bytes (b ∷ bs) tokens = ap (λ x. b ∷ x) (bytes_to_mark-bytes bs tokens)
 
-pieces-bytes : (bytes : List ℕ) (tokens : List Token) → pieces (map Byte bytes ++ tokens) ≡ pieces tokens
+pub pieces-bytes : (bytes : List ℕ) (tokens : List Token) → pieces (map Byte bytes ++ tokens) ≡ pieces tokens
 pieces-bytes [] tokens = refl
 pieces-bytes (b ∷ bs) tokens = pieces-bytes bs tokens
 

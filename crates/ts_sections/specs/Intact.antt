@@ -7,7 +7,8 @@ use Rattle.ts_sections.specs.Crc.{remainder_of}
 abbrev pub section_syntax_indicator : List ℕ → ℕ
 section_syntax_indicator section = bit_at (slice_index section 1) 7
 
--- section_length: 12 bits, the low four of the second byte and the third byte. It counts the bytes behind itself
+-- section_length: 12 bits, the low four of the second byte and the third byte. It counts the bytes
+-- behind itself
 abbrev pub section_length : List ℕ → ℕ
 section_length section = slice_index section 1 % 16 * 256 + slice_index section 2
 

@@ -1,7 +1,7 @@
--- The sections that the packets of one PID carry, as functions of whole lists (ISO/IEC 13818-1, 2.4.4).
--- Leave out what isn't read and repeats; cut into runs of following counters; join each run's payloads;
--- cut at the marks; cut each marked piece into sections laid end to end.
--- A packet, a piece and a section are each the list of its bytes.
+-- The sections that the packets of one PID carry, as functions of whole lists (ISO/IEC 13818-1,
+-- 2.4.4). Leave out what isn't read and repeats; cut into runs of following counters; join each
+-- run's payloads; cut at the marks; cut each marked piece into sections laid end to end. A packet,
+-- a piece and a section are each the list of its bytes.
 use Rattle.std.specs.Prelude.{ℕ, zero, suc, ◌+◌, ◌-◌, ◌*◌, ◌%◌, ◌==◌, nat_le, Bool, false, not, ◌&&◌, List, [], ◌∷◌, ◌++◌, length, take, drop, map, filter, slice_index, unwrap_or, if◌then◌else◌}
 use Rattle.std.specs.List.{flat_map}
 use Rattle.std.specs.Str.{bytes_eq}
@@ -13,13 +13,15 @@ use Rattle.ts_packets.specs.Packet.{is_readable, payload_of, starts_unit, counte
 abbrev pub readable_packets : List (List ℕ) → List (List ℕ)
 readable_packets packets = filter is_readable packets
 
--- what comes behind the packet `before`, without each packet that is the one before it again, byte for byte
+-- what comes behind the packet `before`, without each packet that is the one before it again, byte
+-- for byte
 abbrev pub unrepeated : List ℕ → List (List ℕ) → List (List ℕ)
 unrepeated before [] = []
-unrepeated before (packet ∷ rest) = if bytes_eq before packet then unrepeated before rest else packet ∷ unrepeated packet rest
+unrepeated before (packet ∷ rest) =
+    if bytes_eq before packet then unrepeated before rest else packet ∷ unrepeated packet rest
 
--- a packet may be sent twice in a row and counts once (2.4.3.3, continuity_counter); that it counts once however
--- often it is sent is this project's own rule
+-- a packet may be sent twice in a row and counts once (2.4.3.3, continuity_counter); that it counts
+-- once however often it is sent is this project's own rule
 abbrev pub without_repeats : List (List ℕ) → List (List ℕ)
 without_repeats [] = []
 without_repeats (packet ∷ rest) = packet ∷ unrepeated packet rest
@@ -35,8 +37,9 @@ pub data Token : Type 0 where
   Byte : ℕ → Token
   Mark : Token
 
--- pointer_field (2.4.4.1, 2.4.4.2): how many bytes stand between it and the first section that begins in
--- the packet. It may not pass the payload; at the payload's very end the section begins with the next packet.
+-- pointer_field (2.4.4.1, 2.4.4.2): how many bytes stand between it and the first section that
+-- begins in the packet. It may not pass the payload; at the payload's very end the section begins
+-- with the next packet.
 abbrev pub pointer_fits : List ℕ → Bool
 pointer_fits [] = false
 pointer_fits (pointer ∷ bytes) = nat_le pointer (length bytes)
@@ -52,7 +55,8 @@ marked (pointer ∷ bytes) =
 
 -- what one packet carries: where a unit starts in it, its payload begins with a pointer field
 abbrev pub tokens_of_packet : List ℕ → List Token
-tokens_of_packet packet = if starts_unit packet then marked (payload packet) else map Byte (payload packet)
+tokens_of_packet packet =
+    if starts_unit packet then marked (payload packet) else map Byte (payload packet)
 
 -- ---- runs of packets that follow each other
 
@@ -60,10 +64,12 @@ tokens_of_packet packet = if starts_unit packet then marked (payload packet) els
 abbrev pub pointer_passes : List ℕ → Bool
 pointer_passes packet = starts_unit packet && not (pointer_fits (payload packet))
 
--- the packet goes on with what `before` carries: no packet is lost between them (2.4.3.3, continuity_counter),
--- and its pointer doesn't pass its payload, which begins a run too (this project's own)
+-- the packet goes on with what `before` carries: no packet is lost between them (2.4.3.3,
+-- continuity_counter), and its pointer doesn't pass its payload, which begins a run too (this
+-- project's own)
 abbrev pub follows : List ℕ → List ℕ → Bool
-follows before packet = (counter_of packet == (counter_of before + 1) % 16) && not (pointer_passes packet)
+follows before packet =
+    (counter_of packet == (counter_of before + 1) % 16) && not (pointer_passes packet)
 
 -- the packet in front of the first of these runs
 abbrev pub onto_first_run : List ℕ → List (List (List ℕ)) → List (List (List ℕ))
@@ -104,20 +110,24 @@ pieces_of_run run = pieces (flat_map tokens_of_packet run)
 abbrev pub section_size : List ℕ → ℕ
 section_size bytes = 3 + (slice_index bytes 1 % 16 * 256 + slice_index bytes 2)
 
--- a whole section begins these bytes. 0xFF where one should begin is stuffing, up to the next mark (2.4.4);
--- what ends before its last byte is no section.
+-- a whole section begins these bytes. 0xFF where one should begin is stuffing, up to the next mark
+-- (2.4.4); what ends before its last byte is no section.
 abbrev pub begins_whole : List ℕ → Bool
-begins_whole bytes = not (slice_index bytes 0 == 0xFF) && (nat_le 3 (length bytes) && nat_le (section_size bytes) (length bytes))
+begins_whole bytes =
+    not (slice_index bytes 0 == 0xFF)
+    && (nat_le 3 (length bytes) && nat_le (section_size bytes) (length bytes))
 
--- the sections of a piece behind its first `skipped` bytes: one stands where a whole one begins, and the next
--- is behind it. Without the count: `sections_of_piece piece` is empty where no whole section begins the piece,
--- and else that section and then the sections of what is behind it (law `sections_lie_end_to_end`).
+-- the sections of a piece behind its first `skipped` bytes: one stands where a whole one begins,
+-- and the next is behind it. Without the count: `sections_of_piece piece` is empty where no whole
+-- section begins the piece, and else that section and then the sections of what is behind it (law
+-- `sections_lie_end_to_end`).
 unfoldable pub sections_behind : ℕ → List ℕ → List (List ℕ)
 sections_behind skipped [] = []
 sections_behind (suc skipped) (byte ∷ bytes) = sections_behind skipped bytes
 sections_behind zero (byte ∷ bytes) =
     if begins_whole (byte ∷ bytes)
-    then take (section_size (byte ∷ bytes)) (byte ∷ bytes) ∷ sections_behind (section_size (byte ∷ bytes) - 1) bytes
+    then take (section_size (byte ∷ bytes)) (byte ∷ bytes)
+    ∷ sections_behind (section_size (byte ∷ bytes) - 1) bytes
     else []
 
 abbrev pub sections_of_piece : List ℕ → List (List ℕ)
@@ -128,7 +138,8 @@ sections_of_piece piece = sections_behind 0 piece
 -- the sections that these packets of one PID carry, in their order
 abbrev pub sections : List (List ℕ) → List (List ℕ)
 sections packets =
-    flat_map sections_of_piece (flat_map pieces_of_run (runs (without_repeats (readable_packets packets))))
+    flat_map sections_of_piece
+    (flat_map pieces_of_run (runs (without_repeats (readable_packets packets))))
 
 -- the sections that the packet completes behind these
 abbrev pub completed_by : List (List ℕ) → List ℕ → List (List ℕ)

@@ -4,9 +4,10 @@ ghost use Rattle.std.specs.Borrow.{sem};
 ghost use Rattle.std.specs.Io.BufRead.{Rests};
 ghost use Rattle.ts_packets.specs.Packet.{payload_of};
 ghost use Rattle.ts_sections.specs.contracts.assembler.Assembler.{the_row};
-ghost use Rattle.ts_sections.specs.Sections.{pointer_passes};
-ghost use Rattle.ts_sections.specs.Assembly.{StandsFor, IsDrained, NextSection, HasGivenAll, GivesNext, is_repeated, goes_on};
-ghost use Rattle.ts_sections.specs.Remainder.{section_of, IsFoundIn, last_bytes};
+ghost use Rattle.ts_sections.specs.Sections.{completed_by, pointer_passes};
+ghost use Rattle.ts_sections.specs.Ahead.{is_repeated, goes_on, sections_of_open};
+ghost use Rattle.ts_sections.specs.Assembly.{StandsFor, IsDrained, NextSection, HasGivenAll, GivesNext};
+ghost use Rattle.ts_sections.specs.Remainder.{Finishes, IsRemainder, IsFoundIn, last_bytes, section_of, state_of};
 
 use crate::piece::Piece;
 use crate::remainder::{Found, Remainder};
@@ -26,11 +27,11 @@ pub struct Assembler {
 
 impl Model for Assembler {
     ghost use Rattle.ts_sections.specs.Assembly.{AssemblerState};
-    ghost use Rattle.ts_sections.specs.Remainder.{pending_of, IsRemainder};
+    ghost use Rattle.ts_sections.specs.Remainder.{state_of, IsRemainder};
 
     ghost Value = { AssemblerState };
 
-    ghost view = { λ a. record { before = a.last; piece = a.piece.known; pending = pending_of a.last a.rest; gathered = a.piece.gathered } };
+    ghost view = { λ a. state_of a.last a.rest a.piece };
 
     ghost invariant = { λ a. IsRemainder a.last a.rest a.piece };
 }
@@ -51,22 +52,24 @@ impl Assembler {
         }
     }
 
-    /// Whether all of the last packet is taken in, so that [`push`](Assembler::push) may be called.
+    /// Whether no section is waiting to be given, so that [`push`](Assembler::push) may be called.
     pub fn is_drained(&self) -> bool
         ensures { IsTrue result ↔ IsDrained self.now }
     {
         match &self.last {
             None => true,
-            Some(packet) => self.rest.is_empty(packet.bytes()),
+            Some(packet) => self.rest.is_done(packet.bytes(), &self.piece),
         }
     }
 
-    /// Hands in the next packet of the PID, in the stream's order. Packets of other PIDs are the caller's to
-    /// leave out.
+    /// Hands in the next packet of the PID, in the stream's order. Packets of other PIDs are the
+    /// caller's to leave out.
     pub fn push(&mut self, packet: &Packet)
         requires drained { IsDrained self.old }
         ensures stands { (packets given : List (List ℕ)) → StandsFor self.old packets given
             → StandsFor self.new (packets ++ packet.now ∷ []) given }
+        ensures completed { (packets given : List (List ℕ)) → StandsFor self.old packets given
+            → self.new.waiting ≡ completed_by packets packet.now }
     {
         if !packet.is_readable() {
             return;
@@ -74,6 +77,7 @@ impl Assembler {
         if repeats(&self.last, packet) {
             return;
         }
+        finish(&self.last, &mut self.rest, &mut self.piece);
         if !goes_on(&self.last, packet) {
             self.piece.abandon();
         }
@@ -81,38 +85,62 @@ impl Assembler {
         self.last = Some(*packet);
     }
 
-    /// The next section that ended in the packet pushed last, or `None` where there is no further one.
+    /// The next section that ended in the packet pushed last, or `None` where there is no further
+    /// one.
     pub fn next(&mut self) -> Option<&[u8]>
-        ensures* after { sem 𝓛 (Rests the_row self.entry (λ new. NextSection self.old new (option_copied result))) }
+        ensures* after { sem 𝓛 (Rests the_row self.entry
+            (λ new. NextSection self.old new (option_copied result))) }
     {
-        let found = self.advance();
+        let found = advance(&self.last, &mut self.rest, &mut self.piece);
         let assembler: &Assembler = self;
         match found {
             None => None,
-            Some(found) => Some(assembler.section(found)),
+            Some(found) => Some(section_at(&assembler.last, &assembler.piece, found)),
         }
     }
+}
 
-    fn advance(&mut self) -> Option<Found>
-        ensures found { MatchOption result (HasGivenAll self.old self.new)
-            (λ found. GivesNext self.old self.new (section_of (last_bytes self.new.before) self.new.gathered found)) }
-        ensures place { IfSome result (IsFoundIn (last_bytes self.new.before)) }
-    {
-        match &self.last {
-            None => None,
-            Some(packet) => self.rest.next_section(packet.bytes(), &mut self.piece),
-        }
+/// Takes in bytes of the packet that was read last, up to the end of the next section that ends in
+/// it.
+fn advance(last: &Option<Packet>, rest: &mut Remainder, piece: &mut Piece) -> Option<Found>
+    requires remainder { IsRemainder last.now rest.old piece.old }
+    ensures remainder { IsRemainder last.now rest.new piece.new }
+    ensures found { MatchOption result
+        (Finishes last.now rest.old rest.new piece.old piece.new)
+        (λ found. GivesNext
+        (state_of last.now rest.old piece.old)
+        (state_of last.now rest.new piece.new)
+        (section_of (last_bytes last.now) piece.new.gathered found)) }
+    ensures place { IfSome result (IsFoundIn (last_bytes last.now)) }
+{
+    match last {
+        None => None,
+        Some(packet) => rest.next_section(packet.bytes(), piece),
     }
+}
 
-    fn section(&self, found: Found) -> &[u8]
-        requires place { IsFoundIn (last_bytes self.now.before) found }
-        ensures { result.now ≡ section_of (last_bytes self.now.before) self.now.gathered found }
-    {
-        match (found, &self.last) {
-            (Found::InPacket(start, end), Some(packet)) => &packet.bytes()[start..end],
-            (Found::InPacket(_, _), None) => &[],
-            (Found::Gathered, _) => self.piece.gathered(),
-        }
+/// Takes in what is left of the packet that was read last, in which no section ends.
+fn finish(last: &Option<Packet>, rest: &mut Remainder, piece: &mut Piece)
+    requires remainder { IsRemainder last.now rest.old piece.old }
+    requires drained { IsDrained (state_of last.now rest.old piece.old) }
+    ensures remainder { IsRemainder last.now rest.new piece.new }
+    ensures finishes { Finishes last.now rest.old rest.new piece.old piece.new }
+{
+    match advance(last, rest, piece) {
+        None => (),
+        Some(_) => unreachable!(),
+    }
+}
+
+/// The bytes of a section that was found.
+fn section_at<'a>(last: &'a Option<Packet>, piece: &'a Piece, found: Found) -> &'a [u8]
+    requires place { IsFoundIn (last_bytes last.now) found }
+    ensures { result.now ≡ section_of (last_bytes last.now) piece.now.gathered found }
+{
+    match (found, last) {
+        (Found::InPacket(start, end), Some(packet)) => &packet.bytes()[start..end],
+        (Found::InPacket(_, _), None) => &[],
+        (Found::Gathered, _) => piece.gathered(),
     }
 }
 

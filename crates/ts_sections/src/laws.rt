@@ -8,8 +8,8 @@ pub fn sections_only_grow()
         → sections (packets ++ packet ∷ []) ≡ sections packets ++ completed_by packets packet }
 {}
 
-/// Sections lie end to end: where a whole one begins a piece it is the first, and the others are those of
-/// what is behind it; where none does, there is none.
+/// Sections lie end to end: where a whole one begins a piece it is the first, and the others are
+/// those of what is behind it; where none does, there is none.
 pub fn sections_lie_end_to_end()
     ensures { (piece : List ℕ)
         → sections_of_piece piece ≡ (if begins_whole piece

@@ -1,8 +1,9 @@
-//! Sections of an MPEG-2 transport stream (ISO/IEC 13818-1, 2.4.4), put together from the packets of one PID.
+//! Sections of an MPEG-2 transport stream (ISO/IEC 13818-1, 2.4.4), put together from the packets
+//! of one PID.
 //!
-//! An [`Assembler`] gives, packet by packet, exactly the sections that the list of all packets handed in
-//! carries, in their order, each as soon as its last byte is there. The laws say that more packets only add
-//! sections at the end, and how sections lie in a piece.
+//! An [`Assembler`] gives, packet by packet, exactly the sections that the list of all packets
+//! handed in carries, in their order, each as soon as its last byte is there. The laws say that
+//! more packets only add sections at the end, and how sections lie in a piece.
 #![tactic(auto)]
 
 mod assembler;

@@ -1,13 +1,15 @@
-//! The piece that is being read: what stands between a mark and the next, and the section in the making.
-ghost use Rattle.std.specs.Prelude.{◌≡◌, ◌≢◌, ℕ, ◌+◌, ◌-◌, ◌<◌, ◌≤◌, true, false, List, [], ◌∷◌, ◌++◌, length, take, min, slice_index, Some, None, IsTrue, ◌↔◌};
+//! The piece that is being read: what stands between a mark and the next, and the section in the
+//! making.
+ghost use Rattle.std.specs.Prelude.{◌≡◌, ◌≢◌, ℕ, ◌+◌, ◌-◌, ◌*◌, ◌%◌, ◌<◌, ◌≤◌, true, false, List, [], ◌∷◌, ◌++◌, length, take, min, slice_index, Some, None, IsTrue, ◌↔◌};
 ghost use Rattle.ts_sections.specs.Sections.{section_size, begins_whole};
-ghost use Rattle.ts_sections.specs.Assembly.{sections_of_open};
-ghost use Rattle.ts_sections.specs.Piece.{IsPart, Takes};
+ghost use Rattle.ts_sections.specs.Ahead.{sections_of_open};
+ghost use Rattle.ts_sections.specs.Piece.{IsPart, Takes, ends_in};
 
 use arrayvec::ArrayVec;
 use std::marker::Model;
 
-/// Stands where a table_id would: what comes up to the next mark is stuffing (ISO/IEC 13818-1, 2.4.4).
+/// Stands where a table_id would: what comes up to the next mark is stuffing (ISO/IEC 13818-1,
+/// 2.4.4).
 const STUFFING: u8 = 0xFF;
 
 /// The bytes of a section up to the end of its section_length (ISO/IEC 13818-1, 2.4.4.11).
@@ -50,7 +52,10 @@ impl Model for Piece {
 
     ghost Value = { PieceState };
 
-    ghost view = { λ p. record { known = known_of p.stage p.buffer.items; gathered = p.buffer.items } };
+    ghost view = { λ p. record {
+      known = known_of p.stage p.buffer.items;
+      gathered = p.buffer.items;
+    } };
 
     ghost invariant = { λ p. IsSound p.stage p.buffer.items };
 }
@@ -88,6 +93,17 @@ impl Piece {
         ensures { result.now ≡ self.now.gathered }
     {
         self.buffer.as_slice()
+    }
+
+    /// Whether a section ends in bytes that come next.
+    pub fn ends_in(&self, bytes: &[u8]) -> bool
+        ensures { result ≡ ends_in self.now.known bytes.now }
+    {
+        match self.stage {
+            Stage::Unread => false,
+            Stage::Gathering => both_start_section(self.buffer.as_slice(), bytes),
+            Stage::Given => starts_section(bytes),
+        }
     }
 
     /// Takes in bytes, up to the end of the next section that ends in them.
@@ -139,10 +155,35 @@ impl Piece {
 }
 
 /// Whether a whole section begins the bytes.
-fn starts_section(bytes: &[u8]) -> bool
+pub fn starts_section(bytes: &[u8]) -> bool
     ensures { result ≡ begins_whole bytes.now }
 {
     bytes.len() >= HEADER_LENGTH && bytes[0] != STUFFING && bytes.len() >= size_of_section(bytes)
+}
+
+/// Whether a whole section begins these bytes and those behind them.
+fn both_start_section(bytes: &[u8], behind: &[u8]) -> bool
+    ensures { result ≡ begins_whole (bytes.now ++ behind.now) }
+{
+    let length = bytes.len() + behind.len();
+    if length < HEADER_LENGTH || byte_of_both(bytes, behind, 0) == STUFFING {
+        return false;
+    }
+    let high = byte_of_both(bytes, behind, 1);
+    let low = byte_of_both(bytes, behind, 2);
+    length >= size_in(high, low)
+}
+
+/// The byte at a place of these bytes and those behind them.
+fn byte_of_both(bytes: &[u8], behind: &[u8], place: usize) -> u8
+    requires within { place < length bytes.now + length behind.now }
+    ensures { result ≡ slice_index (bytes.now ++ behind.now) place }
+{
+    if place < bytes.len() {
+        bytes[place]
+    } else {
+        behind[place - bytes.len()]
+    }
 }
 
 /// Whether stuffing begins the bytes.
@@ -158,17 +199,27 @@ fn size_of_section(bytes: &[u8]) -> usize
     ensures size { result ≡ section_size bytes.now }
     ensures limit { result ≤ 4098 }
 {
-    HEADER_LENGTH + (bytes[1] as usize % 16 * 256 + bytes[2] as usize)
+    size_in(bytes[1], bytes[2])
 }
 
-/// Appends to the first bytes of a section those that follow, up to its end, and says how many they are.
+/// The size of a section of which these bytes hold the section_length.
+fn size_in(high: u8, low: u8) -> usize
+    ensures { result ≡ 3 + (high % 16 * 256 + low) }
+{
+    HEADER_LENGTH + (high as usize % 16 * 256 + low as usize)
+}
+
+/// Appends to the first bytes of a section those that follow, up to its end, and says how many they
+/// are.
 fn gather(buffer: &mut ArrayVec<u8, SECTION_LIMIT>, bytes: &[u8]) -> usize
     requires part { IsPart buffer.old.items }
     requires begun { 0 < length buffer.old.items }
     ensures within { result ≤ length bytes.now }
     ensures items { buffer.new.items ≡ buffer.old.items ++ take result bytes.now }
-    ensures whole { begins_whole buffer.new.items ≡ true → section_size buffer.new.items ≡ length buffer.new.items }
-    ensures part { begins_whole buffer.new.items ≡ false → (result ≡ length bytes.now) × IsPart buffer.new.items }
+    ensures whole { begins_whole buffer.new.items ≡ true
+        → section_size buffer.new.items ≡ length buffer.new.items }
+    ensures part { begins_whole buffer.new.items ≡ false
+        → (result ≡ length bytes.now) × IsPart buffer.new.items }
 {
     let header = fill(buffer, HEADER_LENGTH, bytes);
     if buffer.len() < HEADER_LENGTH {

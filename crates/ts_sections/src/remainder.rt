@@ -1,9 +1,9 @@
 //! What of a packet isn't taken in yet.
-ghost use Rattle.std.specs.Prelude.{◌≡◌, ◌↔◌, ◌<◌, [], length, drop, MatchOption, IsTrue};
+ghost use Rattle.std.specs.Prelude.{◌≡◌, ◌<◌, [], length, drop, MatchOption};
 ghost use Rattle.ts_sections.specs.Sections.{tokens_of_packet, marked};
-ghost use Rattle.ts_sections.specs.Remainder.{tokens_of, IsWithin, Passes, Finds, Drains};
+ghost use Rattle.ts_sections.specs.Remainder.{tokens_of, is_done, IsWithin, Passes, Finds, Drains};
 
-use crate::piece::{Piece, Taken};
+use crate::piece::{Piece, Taken, starts_section};
 use ts_packets::Packet;
 
 /// The bytes of a packet from `place` on, where a mark may stand before the byte at `mark`.
@@ -40,7 +40,8 @@ impl Remainder {
         }
     }
 
-    /// What a payload that begins at `place` with a pointer field carries (ISO/IEC 13818-1, 2.4.4.1).
+    /// What a payload that begins at `place` with a pointer field carries (ISO/IEC 13818-1,
+    /// 2.4.4.1).
     fn of_unit(packet: &[u8], place: usize) -> Remainder
         requires within { place < length packet.now }
         ensures tokens { tokens_of packet.now result ≡ marked (drop place packet.now) }
@@ -67,19 +68,26 @@ impl Remainder {
         }
     }
 
-    /// Whether all is taken in.
-    pub fn is_empty(&self, packet: &[u8]) -> bool
+    /// Whether no section of that piece, or of the next one, ends in it.
+    pub fn is_done(&self, packet: &[u8], piece: &Piece) -> bool
         requires { IsWithin packet.now self.now }
-        ensures { IsTrue result ↔ (tokens_of packet.now self.now ≡ []) }
+        ensures { result ≡ is_done packet.now self.now piece.now }
     {
-        self.place == packet.len() && self.mark.is_none()
+        match self.mark {
+            None => !piece.ends_in(&packet[self.place..]),
+            Some(mark) => {
+                !piece.ends_in(&packet[self.place..mark]) && !starts_section(&packet[mark..])
+            }
+        }
     }
 
     /// Takes in bytes of the packet, up to the end of the next section that ends in it.
     pub fn next_section(&mut self, packet: &[u8], piece: &mut Piece) -> Option<Found>
         requires within { IsWithin packet.now self.old }
         ensures within { IsWithin packet.now self.new }
-        ensures found { MatchOption result (Drains packet.now self.old self.new piece.old piece.new) (Finds packet.now self.old self.new piece.old piece.new) }
+        ensures found { MatchOption result
+            (Drains packet.now self.old self.new piece.old piece.new)
+            (Finds packet.now self.old self.new piece.old piece.new) }
     {
         match self.next_in_piece(packet, piece) {
             Some(found) => Some(found),
@@ -97,7 +105,9 @@ impl Remainder {
     fn next_in_piece(&mut self, packet: &[u8], piece: &mut Piece) -> Option<Found>
         requires within { IsWithin packet.now self.old }
         ensures within { IsWithin packet.now self.new }
-        ensures found { MatchOption result (Passes packet.now self.old self.new piece.old piece.new) (Finds packet.now self.old self.new piece.old piece.new) }
+        ensures found { MatchOption result
+            (Passes packet.now self.old self.new piece.old piece.new)
+            (Finds packet.now self.old self.new piece.old piece.new) }
     {
         let start = self.place;
         let end = self.mark.unwrap_or(packet.len());

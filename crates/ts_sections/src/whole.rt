@@ -6,9 +6,11 @@ use crate::assembler::Assembler;
 use std::alloc::{AllocError, Global};
 use ts_packets::Packet;
 
-/// The sections that these packets of one PID carry, in their order. Fails only where memory runs out.
+/// The sections that these packets of one PID carry, in their order. Fails only where memory runs
+/// out.
 pub fn sections_of(alloc: Global, packets: &[Packet]) -> Result<Vec<Vec<u8>>, AllocError>
-    ensures { IfOk result (λ found. map (λ section. section.items) found.items ≡ sections packets.now) }
+    ensures { IfOk result
+        (λ found. map (λ section. section.items) found.items ≡ sections packets.now) }
 {
     let mut assembler = Assembler::new();
     let mut found = Vec::new(alloc);

@@ -28,8 +28,8 @@ impl Tree {
         })
     }
 
-    /// Adds an element without attributes as the last child of an element on the path from the last node to
-    /// the root.
+    /// Adds an element without attributes as the last child of an element on the path from the last
+    /// node to the root.
     pub fn add_element(&mut self, parent: NodeId, tag: Text) -> Result<NodeId, NoMemory>
         requires element { IsElement self.old parent.0 }
         requires open { IsOpen self.old parent.0 }
@@ -48,7 +48,8 @@ impl Tree {
         requires element { IsElement self.old parent.0 }
         requires open { IsOpen self.old parent.0 }
         requires room { length self.old < most_nodes }
-        ensures added { OnOk result (self.new ≡ self.old ++ text_node_in (Some parent.0) text ∷ []) }
+        ensures added { OnOk result (self.new
+            ≡ self.old ++ text_node_in (Some parent.0) text ∷ []) }
         ensures number { IfOk result (λ node. node.0 ≡ length self.old) }
         ensures extends { OnOk result (Extends self.old self.new parent.0) }
         ensures err { OnErr result (self.new ≡ self.old) }
@@ -56,8 +57,8 @@ impl Tree {
         self.add(parent, NodeKind::Text(text))
     }
 
-    /// Whether the node is on the path from the last node to the root, so that a node added to it stands
-    /// last in document order. The cost is the length of that path.
+    /// Whether the node is on the path from the last node to the root, so that a node added to it
+    /// stands last in document order. The cost is the length of that path.
     pub fn is_open(&self, node: NodeId) -> bool
         ensures { IsTrue result ↔ IsOpen self.now node.0 }
     {
@@ -77,7 +78,8 @@ impl Tree {
         requires open { IsOpen self.old parent.0 }
         requires room { length self.old < most_nodes }
         requires plain { attributes_in (content_of kind) ≡ [] }
-        ensures added { OnOk result (self.new ≡ self.old ++ record { parent = Some parent.0; content = content_of kind } ∷ []) }
+        ensures added { OnOk result (self.new
+            ≡ self.old ++ record { parent = Some parent.0; content = content_of kind } ∷ []) }
         ensures number { IfOk result (λ node. node.0 ≡ length self.old) }
         ensures extends { OnOk result (Extends self.old self.new parent.0) }
         ensures err { OnErr result (self.new ≡ self.old) }
@@ -95,7 +97,8 @@ fn hang_last(nodes: &mut Vec<Node>, node: NodeId, parent: NodeId, previous: Opti
     requires parent { parent.0 < length nodes.old.items }
     requires previous { ForSome previous (λ n. n.0 < length nodes.old.items) }
     ensures items { items_in nodes.new.items ≡ items_in nodes.old.items }
-    ensures links { links_in nodes.new.items ≡ hung_last node.0 parent.0 (number_of previous) (links_in nodes.old.items) }
+    ensures links { links_in nodes.new.items
+        ≡ hung_last node.0 parent.0 (number_of previous) (links_in nodes.old.items) }
 {
     give_last_child(nodes, parent, node);
     if let Some(previous) = previous {
@@ -107,7 +110,8 @@ fn hang_last(nodes: &mut Vec<Node>, node: NodeId, parent: NodeId, previous: Opti
 fn give_last_child(nodes: &mut Vec<Node>, parent: NodeId, child: NodeId)
     requires { parent.0 < length nodes.old.items }
     ensures items { items_in nodes.new.items ≡ items_in nodes.old.items }
-    ensures links { links_in nodes.new.items ≡ changed_at (with_last_child child.0) parent.0 (links_in nodes.old.items) }
+    ensures links { links_in nodes.new.items
+        ≡ changed_at (with_last_child child.0) parent.0 (links_in nodes.old.items) }
 {
     let up = &mut nodes[parent.0 as usize];
     up.first_child = Some(up.first_child.unwrap_or(child));
@@ -118,7 +122,8 @@ fn give_last_child(nodes: &mut Vec<Node>, parent: NodeId, child: NodeId)
 fn give_next_sibling(nodes: &mut Vec<Node>, node: NodeId, next: NodeId)
     requires { node.0 < length nodes.old.items }
     ensures items { items_in nodes.new.items ≡ items_in nodes.old.items }
-    ensures links { links_in nodes.new.items ≡ changed_at (with_next_sibling next.0) node.0 (links_in nodes.old.items) }
+    ensures links { links_in nodes.new.items
+        ≡ changed_at (with_next_sibling next.0) node.0 (links_in nodes.old.items) }
 {
     nodes[node.0 as usize].next_sibling = Some(next);
 }

@@ -1,7 +1,8 @@
 //! Changes of one text or one attribute.
 
 ghost use Rattle.std.specs.Prelude.{◌≡◌, ◌<◌, ◌↔◌, ◌≤◌, ◌∷◌, ◌++◌, ℕ, [], Some, None, length, slice_get, codes, IsTrue, IsNone, IfOk, IfSome, OnOk, OnErr, IsOk, option_map};
-ghost use Rattle.dom_tree.specs.Items.{IsElement, IsText, value_of, is_same, changed_at, with_text, with_attribute, with_last_attribute};
+ghost use Rattle.bml_bytes.specs.Words.{is_same};
+ghost use Rattle.dom_tree.specs.Items.{IsElement, IsText, value_of, changed_at, with_text, with_attribute, with_last_attribute};
 ghost use Rattle.std.specs.Prelude.{List, IsFalse, ◌+◌, min};
 ghost use Rattle.std.specs.Option.{option_map_or};
 ghost use Rattle.indexmap.specs.IndexMap.{get, spare};
@@ -14,9 +15,6 @@ use crate::node_ids::NodeId;
 use crate::nodes::{Node, NodeKind};
 use bml_bytes::{NoMemory, Text};
 use indexmap::IndexMap;
-
-// The name of the attribute by which an element is found.
-const ID: [u16; 2] = [0x69, 0x64];
 
 impl Tree {
     /// Gives a text node another text.
@@ -32,7 +30,8 @@ impl Tree {
     pub fn add_attribute(&mut self, node: NodeId, name: Text, value: Text) -> Result<(), NoMemory>
         requires element { IsElement self.old node.0 }
         requires absent { value_of self.old node.0 name ≡ None }
-        ensures ok { OnOk result (self.new ≡ changed_at (with_last_attribute name value) node.0 self.old) }
+        ensures ok { OnOk result (self.new
+            ≡ changed_at (with_last_attribute name value) node.0 self.old) }
         ensures err { OnErr result (self.new ≡ self.old) }
         ensures places { KeepsPlaces self.old self.new }
     {
@@ -43,11 +42,12 @@ impl Tree {
         Ok(())
     }
 
-    /// Gives an element's attribute a value. An attribute that the element has keeps its place, and a new one
-    /// stands behind the others.
+    /// Gives an element's attribute a value. An attribute that the element has keeps its place, and
+    /// a new one stands behind the others.
     pub fn set_attribute(&mut self, node: NodeId, name: &Text, value: Text) -> Result<(), NoMemory>
         requires { IsElement self.old node.0 }
-        ensures ok { OnOk result (self.new ≡ changed_at (with_attribute name.now value) node.0 self.old) }
+        ensures ok { OnOk result (self.new
+            ≡ changed_at (with_attribute name.now value) node.0 self.old) }
         ensures err { OnErr result (self.new ≡ self.old) }
         ensures places { KeepsPlaces self.old self.new }
     {
@@ -64,7 +64,8 @@ impl Tree {
         requires element { IsElement self.old node.0 }
         requires absent { value_of self.old node.0 name ≡ None }
         requires name { IsTrue (is_same name (codes "id")) }
-        ensures ok { OnOk result (self.new ≡ changed_at (with_last_attribute name value) node.0 self.old) }
+        ensures ok { OnOk result (self.new
+            ≡ changed_at (with_last_attribute name value) node.0 self.old) }
         ensures err { OnErr result (self.new ≡ self.old) }
         ensures places { KeepsPlaces self.old self.new }
     {
@@ -75,11 +76,13 @@ impl Tree {
         Ok(())
     }
 
-    // Gives an element an id. What may fail comes first; then the index is mended at the old and the new id.
+    // Gives an element an id. What may fail comes first; then the index is mended at the old and
+    // the new id.
     fn set_id(&mut self, node: NodeId, name: Text, value: Text) -> Result<(), NoMemory>
         requires element { IsElement self.old node.0 }
         requires name { IsTrue (is_same name (codes "id")) }
-        ensures ok { OnOk result (self.new ≡ changed_at (with_attribute name value) node.0 self.old) }
+        ensures ok { OnOk result (self.new
+            ≡ changed_at (with_attribute name value) node.0 self.old) }
         ensures err { OnErr result (self.new ≡ self.old) }
         ensures places { KeepsPlaces self.old self.new }
     {
@@ -101,7 +104,8 @@ fn put_attribute(
     value: Text,
 ) -> Result<Option<Text>, NoMemory>
     requires { IsElement (items_in nodes.old.items) node.0 }
-    ensures ok { OnOk result (items_in nodes.new.items ≡ changed_at (with_attribute name value) node.0 (items_in nodes.old.items)) }
+    ensures ok { OnOk result (items_in nodes.new.items
+        ≡ changed_at (with_attribute name value) node.0 (items_in nodes.old.items)) }
     ensures had { IfOk result (λ had. had ≡ value_of (items_in nodes.old.items) node.0 name) }
     ensures err { OnErr result (items_in nodes.new.items ≡ items_in nodes.old.items) }
     ensures links { links_in nodes.new.items ≡ links_in nodes.old.items }
@@ -112,8 +116,10 @@ fn put_attribute(
 // Notes that one node more has an id.
 fn index_one_more(ids: &mut IndexMap<Text, NodeId>, id: Text, node: NodeId)
     requires { 0 < spare ids.old }
-    ensures here { number_of (get is_same ids.new id) ≡ Some (option_map_or (min node.0) (number_of (get is_same ids.old id)) node.0) }
-    ensures others { (other : List ℕ) → IsFalse (is_same id other) → get is_same ids.new other ≡ get is_same ids.old other }
+    ensures here { number_of (get is_same ids.new id)
+        ≡ Some (option_map_or (min node.0) (number_of (get is_same ids.old id)) node.0) }
+    ensures others { (other : List ℕ) → IsFalse (is_same id other)
+        → get is_same ids.new other ≡ get is_same ids.old other }
 {
     let first = match ids.get(&id) {
         Some(first) => node.min(*first),
@@ -128,8 +134,10 @@ fn index_had(ids: &mut IndexMap<Text, NodeId>, nodes: &[Node], name: &Text, had:
     requires room { 1 < spare ids.old }
     requires few { length nodes.now ≤ most_nodes }
     ensures room { 0 < spare ids.new }
-    ensures here { IfSome had (λ id. number_of (get is_same ids.new id) ≡ node_of_id (items_in nodes.now) id) }
-    ensures others { (other : List ℕ) → IfSome had (λ id. IsFalse (is_same id other)) → get is_same ids.new other ≡ get is_same ids.old other }
+    ensures here { IfSome had (λ id. number_of (get is_same ids.new id)
+        ≡ node_of_id (items_in nodes.now) id) }
+    ensures others { (other : List ℕ) → IfSome had (λ id. IsFalse (is_same id other))
+        → get is_same ids.new other ≡ get is_same ids.old other }
 {
     if let Some(id) = had {
         index_anew(ids, nodes, name, id);
@@ -143,7 +151,8 @@ fn index_anew(ids: &mut IndexMap<Text, NodeId>, nodes: &[Node], name: &Text, id:
     requires few { length nodes.now ≤ most_nodes }
     ensures room { spare ids.old ≤ spare ids.new + 1 }
     ensures here { number_of (get is_same ids.new id) ≡ node_of_id (items_in nodes.now) id }
-    ensures others { (other : List ℕ) → IsFalse (is_same id other) → get is_same ids.new other ≡ get is_same ids.old other }
+    ensures others { (other : List ℕ) → IsFalse (is_same id other)
+        → get is_same ids.new other ≡ get is_same ids.old other }
 {
     match first_of_id(nodes, name, &id) {
         Some(node) => {
@@ -175,5 +184,5 @@ fn first_of_id(nodes: &[Node], name: &Text, id: &Text) -> Option<NodeId>
 fn is_id(name: &Text) -> bool
     ensures { result ≡ is_same name.now (codes "id") }
 {
-    name.codes() == ID.as_slice()
+    name.is_word("id")
 }

@@ -12,7 +12,7 @@ returns c =
     let l = c.args.bytes.now in
     let base = c.args.base in
     let some : nat_lt 0 (length (front test l)) ≡ true = subst (λ (z : List ℕ). nat_lt 0 (length z) ≡ true) c.split_run.ensures.run (some-left c.split_run.result.0.now (c.if-is_empty.ensures {u = tt})) in
-    c.closed.ensures
+    c.outside_element.ensures
     ∙ (ap (λ n. closed_by n c.split_run.result.1.now) c.number_of.ensures
     ∙ (closed_by-min (number_behind base 0 c.split_run.result.0.now) c.split_run.result.1.now
     ∙ (ap (λ z. closed_by (number_behind base 0 z) c.split_run.result.1.now) c.split_run.ensures.run

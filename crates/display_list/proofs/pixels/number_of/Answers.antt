@@ -8,4 +8,4 @@ digits-init c = none-read
 pub digits-preserved : goal.digits-preserved
 digits-preserved c =
     let digit = c.in_ok-decimal_digit.ensures in
-    rw c.min-number.ensures (one_more-read c.args.digits.now c.digits.digit-index c.digits.number c.in_ok-decimal_digit.field-0 c.digits.invariant c.digits-test.true (sym digit.digit) digit.value)
+    rw c.min-number.ensures (one_more-read c.law_of_decimals.ensures.more c.args.digits.now c.digits.digit-index c.digits.number c.in_ok-decimal_digit.field-0 c.digits.invariant c.digits-test.true (sym digit.digit) digit.value)

@@ -1,12 +1,12 @@
 use Rattle.std.proofs.Common.{arith}
 use Rattle.module_store.proofs.StayingLaws.{start_stays, section_keeps, map_keeps}
 use Rattle.module_store.specs.Resources.{start_component}
-use Rattle.module_store.specs.Store.{fed, with_map}
+use Rattle.module_store.specs.Store.{with_section, with_map}
 use Rattle.module_store.proofs.laws.law_of_start_paths.Goals as goal
 
 pub returns-clause-sections : goal.returns-clause-sections
 returns-clause-sections c = λ stored component section bytes found quiet.
-    start_stays stored (fed component section stored) bytes (section_keeps c.law_of_messages.ensures stored component section start_component 0 (omega arith) quiet) found
+    start_stays stored (with_section component section stored) bytes (section_keeps c.law_of_messages.ensures stored component section start_component 0 (omega arith) quiet) found
 
 pub returns-clause-maps : goal.returns-clause-maps
 returns-clause-maps c = λ stored components bytes apart found none.

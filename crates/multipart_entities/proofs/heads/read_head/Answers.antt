@@ -2,7 +2,7 @@ use Rattle.std.proofs.Common.{◌≡◌, ◌+◌, ◌-◌, List, [], ◌∷◌, 
 use Rattle.std.specs.Prelude.{option_map, IfSome}
 use Rattle.std.specs.Option.{option_copied, option_map_or}
 use Rattle.multipart_entities.specs.Lines.{lines_of}
-use Rattle.multipart_entities.specs.HeadViews.{Kept, good_head, header_in, seen_head, seen_header}
+use Rattle.multipart_entities.specs.HeadViews.{HeadValues, good_head, header_in, seen_head, seen_header}
 use Rattle.multipart_entities.proofs.LineLemmas.{nothing-left, something-left}
 use Rattle.multipart_entities.proofs.HeadLemmas.{of_size, onto, head-empty, head-more}
 use Rattle.multipart_entities.proofs.heads.read_head.Goals as goal
@@ -33,6 +33,6 @@ lines-preserved c =
     let left : length line ≡ 0 → ⊥ = something-left line (sym c.is_empty.ensures ∙ c.if-is_empty.false) in
     let header = seen_header c.in_ok-read_header.field-0 in
     let is : header_in line ≡ Some header = sym c.read_header.ensures ∙ ap (option_map seen_header) (c.in_ok-read_header.was {u = tt}) in
-    let head : Kept = of_size (length bytes - length rest) (seen_head c.lines.head) in
+    let head : HeadValues = of_size (length bytes - length rest) (seen_head c.lines.head) in
     let n : ℕ = length bytes - length more in
     (head-more bytes rest more line head header n c.lines.invariant.0 lines left is (omega (arith, size)) ∙ ap (λ k. option_map (onto (of_size n k)) (good_head more)) (sym c.with-head.ensures), omega (arith, size))

@@ -9,10 +9,10 @@ pub returns-then-is_empty : goal.returns-then-is_empty
 returns-then-is_empty c =
     rw (behind_root-more c.args.codes.now c.in_ok-front.front.now c.in_ok-front.rest.now c.in_ok-front.ensures, ← c.if-is_empty.ensures) refl
 
-pub returns-then-is_text : goal.returns-then-is_text
-returns-then-is_text c =
-    rw (behind_root-more c.args.codes.now c.in_ok-front.front.now c.in_ok-front.rest.now c.in_ok-front.ensures, ← c.if-is_empty.ensures, ← c.if-is_text.ensures) c.behind_host.ensures
+pub returns-then-is_word : goal.returns-then-is_word
+returns-then-is_word c =
+    rw (behind_root-more c.args.codes.now c.in_ok-front.front.now c.in_ok-front.rest.now c.in_ok-front.ensures, ← c.if-is_empty.ensures, ← c.if-is_word.ensures) c.behind_host.ensures
 
-pub returns-else-is_text : goal.returns-else-is_text
-returns-else-is_text c =
-    rw (behind_root-more c.args.codes.now c.in_ok-front.front.now c.in_ok-front.rest.now c.in_ok-front.ensures, ← c.if-is_empty.ensures, ← c.if-is_text.ensures) refl
+pub returns-else-is_word : goal.returns-else-is_word
+returns-else-is_word c =
+    rw (behind_root-more c.args.codes.now c.in_ok-front.front.now c.in_ok-front.rest.now c.in_ok-front.ensures, ← c.if-is_empty.ensures, ← c.if-is_word.ensures) refl

@@ -23,7 +23,7 @@ digits-preserved c =
     let so_far = c.digits.invariant in
     let digit = c.in_ok-number.ensures in
     record {
-      read = one_more_read c.args.field.now c.digits.code-index c.digits.number c.in_ok-number.field-0 so_far.read c.digits-test.true digit.digit digit.value digit.small;
+      read = one_more_read c.law_of_digits.ensures.more c.args.field.now c.digits.code-index c.digits.number c.in_ok-number.field-0 so_far.read c.digits-test.true digit.digit digit.value digit.small;
       whole = so_far.whole;
       few = so_far.few;
     }

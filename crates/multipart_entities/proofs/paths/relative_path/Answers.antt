@@ -16,7 +16,7 @@ returns-in_err-field-in-Some c =
 
 pub returns-in_ok-field-in-Some : goal.returns-in_ok-field-in-Some
 returns-in_ok-field-in-Some c =
-    rw (relative_in-more c.args.base.now c.args.codes.now c.in-Some.front.now c.in-Some.rest.now c.in_ok-field-in-Some.field.now c.in_ok-field-in-Some.name.now c.in-Some.ensures c.in_ok-field-in-Some.ensures, ← c.if-is_text.ensures) c.resource_path.ensures
+    rw (relative_in-more c.args.base.now c.args.codes.now c.in-Some.front.now c.in-Some.rest.now c.in_ok-field-in-Some.field.now c.in_ok-field-in-Some.name.now c.in-Some.ensures c.in_ok-field-in-Some.ensures, ← c.if-is_word.ensures) c.resource_path.ensures
 
-pub returns-else-is_text : goal.returns-else-is_text
-returns-else-is_text c = sym (relative_in-other c.args.base.now c.args.codes.now c.in-Some.front.now c.in-Some.rest.now c.in-Some.ensures (sym c.if-is_text.ensures))
+pub returns-else-is_word : goal.returns-else-is_word
+returns-else-is_word c = sym (relative_in-other c.args.base.now c.args.codes.now c.in-Some.front.now c.in-Some.rest.now c.in-Some.ensures (sym c.if-is_word.ensures))

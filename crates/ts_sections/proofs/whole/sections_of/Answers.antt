@@ -27,4 +27,4 @@ loop-section-preserved c =
 pub loop-packet-preserved : goal.loop-packet-preserved
 loop-packet-preserved c =
     let ends = rw c.in_default.is at c.next.follows.holds-at-none in
-    (ends.stands _ _ c.loop-section.invariant, ends.drained, ends.all _ _ c.loop-section.invariant)
+    (ends.stands _ _ c.loop-section.invariant, ends.left, ends.all _ _ c.loop-section.invariant)

@@ -1,6 +1,6 @@
 use Rattle.std.proofs.Common.{◌∙◌, ◌≡◌, ◌*◌, ap, refl, true, arith}
 use Rattle.std.specs.Prelude.{slice_get, slice_set, Some}
-use Rattle.carousel_blocks.specs.Held.{joined}
+use Rattle.carousel_blocks.specs.Held.{joined_bytes}
 use Rattle.carousel_blocks.specs.Buffers.{is_unmarked, overwritten}
 use Rattle.carousel_blocks.proofs.BufferLaws.{viewed, unmarked_by, room_by, ends_within, sound_staged, view_staged, whole_staged, part_staged}
 use Rattle.carousel_blocks.proofs.buffer.Buffer.stage.Goals as goal
@@ -39,7 +39,7 @@ returns-then-self-gt1 c =
       record {
         same = tt;
         whole = part_staged b.shape b.bytes.items b.marks.items b.missing n block c.self.invariant room unmarked (omega arith)
-            ∙ ap (λ v. joined (slice_set v.blocks n (Some block))) c.self.view_is;
+            ∙ ap (λ v. joined_bytes (slice_set v.blocks n (Some block))) c.self.view_is;
       },
     )
 
@@ -59,6 +59,6 @@ returns c =
       record {
         same = tt;
         whole = ap (λ x. Some x) (c.as_slice.ensures.value ∙ written) ∙ whole_staged b.shape b.bytes.items b.marks.items b.missing n block c.self.invariant room unmarked (omega arith)
-            ∙ ap (λ v. joined (slice_set v.blocks n (Some block))) c.self.view_is;
+            ∙ ap (λ v. joined_bytes (slice_set v.blocks n (Some block))) c.self.view_is;
       },
     )

@@ -18,14 +18,14 @@ pub returns-clause-keeps : goal.returns-clause-keeps
 returns-clause-keeps c = keep_grown c.args.old.now c.args.buffers.now c.key_for.new.buffers c.requires.modules c.key_for.ensures.grows
 
 pub returns-then-contains_key-clause-added : goal.returns-then-contains_key-clause-added
-returns-then-contains_key-clause-added c = λ dii kept before same is. draft_again dii kept before c.args.self.now c.args.buffers.now c.args.entry (sym c.contains_key.ensures ∙ c.if-contains_key.true) is
+returns-then-contains_key-clause-added c = λ dii kept_module before same is. draft_again dii kept_module before c.args.self.now c.args.buffers.now c.args.entry (sym c.contains_key.ensures ∙ c.if-contains_key.true) is
 
 pub returns-clause-added : goal.returns-clause-added
-returns-clause-added c = λ dii kept before same is.
+returns-clause-added c = λ dii kept_module before same is.
     let old = c.args.self.now in
     let s = c.of-standing.result in
     let more : Draft = record { download = old.download; block_size = old.block_size; size = old.size + c.counted_size.result; modules = c.insert.new.self } in
-    draft_more dii kept before old more c.args.buffers.now c.key_for.new.buffers c.args.entry s c.in_ok-key.key
+    draft_more dii kept_module before old more c.args.buffers.now c.key_for.new.buffers c.args.entry s c.in_ok-key.key
     (sym c.contains_key.ensures ∙ c.if-contains_key.false)
     c.of-standing.ensures
     c.key_for.ensures.grows

@@ -2,7 +2,8 @@ use Rattle.std.proofs.Common.{◌≡◌, ℕ, List, Some, None, sym, ap, subst, 
 use Rattle.std.specs.Prelude.{false, min}
 use Rattle.std.specs.Option.{option_map_or}
 use Rattle.indexmap.specs.IndexMap.{get}
-use Rattle.dom_tree.specs.Items.{Item, IsElement, is_same, value_of, changed_at, with_attribute}
+use Rattle.bml_bytes.specs.Words.{is_same}
+use Rattle.dom_tree.specs.Items.{Item, IsElement, value_of, changed_at, with_attribute}
 use Rattle.dom_tree.specs.Walks.{KeepsPlaces}
 use Rattle.dom_tree.specs.NodeNumbers.{number_of}
 use Rattle.dom_tree.specs.Links.{items_in}

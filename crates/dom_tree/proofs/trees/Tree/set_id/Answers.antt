@@ -1,7 +1,8 @@
 use Rattle.std.proofs.Common.{◌≡◌, ℕ, List, sym, ap, subst, ◌∙◌}
 use Rattle.std.specs.Prelude.{false, IfSome}
 use Rattle.indexmap.specs.IndexMap.{get}
-use Rattle.dom_tree.specs.Items.{Item, IsElement, is_same, changed_at, with_attribute}
+use Rattle.bml_bytes.specs.Words.{is_same}
+use Rattle.dom_tree.specs.Items.{Item, IsElement, changed_at, with_attribute}
 use Rattle.dom_tree.specs.Walks.{KeepsPlaces, node_of_id}
 use Rattle.dom_tree.specs.NodeNumbers.{number_of}
 use Rattle.dom_tree.specs.Links.{items_in}

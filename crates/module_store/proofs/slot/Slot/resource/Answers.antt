@@ -1,9 +1,5 @@
 use Rattle.std.proofs.Common.{◌≡◌, ◌∙◌, ◌<◌, ◌^◌, true, List, option_copied, length, ap, sym, subst, arith}
 use Rattle.std.specs.Prelude.{is_some}
-use Rattle.std.proofs.Math.Logic.{∥∥₁_elim}
-use Rattle.std.specs.Coded.{le_prop}
-use Rattle.carousel_blocks.specs.Message.{Message}
-use Rattle.carousel_blocks.specs.Carousel.{StandsFor}
 use Rattle.module_store.specs.Resources.{HasAtMost, holds_entity, named_in}
 use Rattle.module_store.specs.Entities.{ArePartsOf}
 use Rattle.module_store.proofs.DeliveryNumber.{two_bytes}
@@ -11,20 +7,21 @@ use Rattle.module_store.proofs.ResourceLaws.{look_held, parts_held, few_found}
 use Rattle.module_store.proofs.slot.Slot.resource.Goals as goal
 
 pub returns-clause-look : goal.returns-clause-look
-returns-clause-look c = λ messages stands parts.
+returns-clause-look c =
+    let was = c.self.invariant in
     let bytes = c.in-Some-bytes_of.bytes.now in
     let name = c.args.name.now in
     let low : c.args.module < 2 ^ 16 = omega arith in
-    let entry_is = c.in-Some.ensures messages stands in
-    let held_is = c.in-Some-bytes_of.ensures messages stands in
-    let kept = parts_held c.args.self.now.entities messages c.args.module c.in-Some.entry.now bytes (option_copied c.of-parts.result) parts (two_bytes c.args.module low) entry_is held_is c.of-parts.ensures in
+    let kept = parts_held c.self.inside.entities was.messages c.args.module c.in-Some.entry.now bytes (option_copied c.of-parts.result) was.parts (two_bytes c.args.module low)
+    (c.in-Some.ensures was.messages was.stands) (c.in-Some-bytes_of.ensures was.messages was.stands) c.of-parts.ensures in
     let found = c.named.ensures.named (subst (λ i. holds_entity i ≡ true → ArePartsOf bytes (option_copied c.of-parts.result)) (sym c.as_slice.ensures) kept) ∙ ap (λ i. named_in i bytes name) c.as_slice.ensures in
+    rw (← c.self.view_is) (λ messages stands.
     c.found_or_missing.ensures
-    ∙ look_held messages c.args.module name c.in-Some.entry.now bytes (option_copied c.named.result) held_is found entry_is (c.if-is_some.ensures ∙ ap (λ o. is_some o) (c.skip_of.ensures messages stands))
+    ∙ look_held messages c.args.module name c.in-Some.entry.now bytes (option_copied c.named.result) (c.in-Some-bytes_of.ensures messages stands) found (c.in-Some.ensures messages stands)
+    (c.if-is_some.ensures ∙ ap (λ o. is_some o) (c.skip_of.ensures messages stands)))
 
 pub returns-clause-bound : goal.returns-clause-bound
 returns-clause-bound c =
-    let most = ∥∥₁_elim c.args.self.now.stands le_prop
-    (λ (m : (messages : List Message) × StandsFor c.args.self.now.carousel messages).
-    c.law_of_held_sizes.ensures.limit m.0 c.args.module c.in-Some-bytes_of.bytes.now (sym (c.in-Some-bytes_of.ensures m.0 m.1))) in
+    let was = c.self.invariant in
+    let most = c.law_of_held_sizes.ensures.limit was.messages c.args.module c.in-Some-bytes_of.bytes.now (sym (c.in-Some-bytes_of.ensures was.messages was.stands)) in
     subst (λ r. HasAtMost 1048576 r) (sym c.found_or_missing.ensures) (few_found c.named.result (length c.in-Some-bytes_of.bytes.now) 1048576 most c.named.ensures.within)

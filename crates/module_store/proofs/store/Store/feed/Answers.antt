@@ -1,32 +1,56 @@
-use Rattle.std.proofs.Common.{◌≡◌, ◌∙◌, ℕ, eqb, false, true, position, Option, Result, List, Ok, Err, get_or, set, ap, sym, subst}
-use Rattle.std.specs.Prelude.{is_some, OnErr}
-use Rattle.module_store.specs.declared.slot.Slot.{Slot}
-use Rattle.module_store.specs.Standing.{StoreState, AreDistinct, has_tag, has_component, slot_in}
+use Rattle.std.proofs.Common.{◌≡◌, ◌∙◌, ℕ, eqb, Bool, false, true, position, Option, Some, None, Result, List, Ok, Err, get_or, set, refl, ap, sym, subst}
+use Rattle.std.specs.Prelude.{is_some, option_map, OnErr}
+use Rattle.module_store.specs.Store.{Followed, Stored, component_in, changes_behind}
+use Rattle.module_store.specs.Resources.{LooksAlike}
+use Rattle.module_store.specs.Standing.{ComponentState, StoreState, StandsFor, has_tag, has_component, component_with}
+use Rattle.module_store.specs.Slots.{AreDistinct}
 use Rattle.module_store.proofs.FindLaws.{is_some-position, length-filter-set}
-use Rattle.module_store.proofs.FeedLaws.{same_components, stands_taken, stands_kept, changes_taken}
+use Rattle.module_store.proofs.FeedLaws.{absent_section, same_components, stands_taken, stands_kept, changes_taken}
 use Rattle.module_store.proofs.AlikeLaws.{alike_taken, quiet_taken}
 use Rattle.module_store.proofs.store.Store.feed.Goals as goal
 
-pub unreachable-requires : goal.unreachable-requires
-unreachable-requires c =
-    let slots = c.self.inside.slots.items in
-    let found : is_some (slot_in slots c.args.component) ≡ true = subst (λ (s : StoreState). has_component s c.args.component ≡ true) (sym c.self.view_is) c.requires.component in
-    let none : is_some (position (has_tag c.args.component) slots) ≡ false = ap (λ (o : Option ℕ). is_some o) (ap (λ l. position (has_tag c.args.component) l) (sym c.deref.ensures.value) ∙ sym c.place_of.ensures ∙ c.in_default.is) in
-    let same = is_some-position (has_tag c.args.component) slots in
-    cc
+-- the component isn't in the map
+absent : (c : goal.After-new) → (stored : Stored) → StandsFor c.args.self.now stored → component_in stored.components c.args.component ≡ None
+absent c stored stands = none (component_in stored.components c.args.component) (sym (stands.tags c.args.component) ∙ not_there)
+  where
+    none : (o : Option Followed) → is_some o ≡ false → o ≡ None
+    none None e = refl
+    none (Some f) e = absurd cc
+
+    not_there : is_some (component_with c.args.self.now.components c.args.component) ≡ false
+    not_there =
+        ap (λ (s : StoreState). is_some (component_with s.components c.args.component)) (sym c.self.view_is) ∙ sym (is_some-position (has_tag c.args.component) c.self.inside.slots.items)
+        ∙ ap (λ (o : Option ℕ). is_some o) (ap (λ l. position (has_tag c.args.component) l) (sym c.deref.ensures.value) ∙ sym c.place_of.ensures ∙ c.in_default.is)
+
+same_but_changed : (state : StoreState) (changed : Bool) (stored : Stored) → StandsFor state stored → StandsFor (record { components = state.components; count = state.count; changed = changed }) stored
+same_but_changed state changed stored stands = record { count = stands.count; tags = stands.tags; components = stands.components }
+
+pub returns-in_default-clause-stands : goal.returns-in_default-clause-stands
+returns-in_default-clause-stands c = λ stored stands.
+    rw (absent_section c.args.component c.args.section.now stored (absent c stored stands))
+    (same_but_changed (record { components = c.self.inside.slots.items; count = c.self.inside.count; changed = c.self.inside.changed }) false stored (subst (λ (s : StoreState). StandsFor s stored) (sym c.self.view_is) stands))
+
+pub returns-in_default-clause-changes : goal.returns-in_default-clause-changes
+returns-in_default-clause-changes c = λ stored stands.
+    c.new.ensures.items ∙ sym (ap (λ (o : Option Followed). changes_behind (option_map (λ f. f.messages) o) c.args.section.now) (absent c stored stands))
+
+pub returns-in_default-clause-alike : goal.returns-in_default-clause-alike
+returns-in_default-clause-alike c = λ unchanged stored stands.
+    subst (λ s. LooksAlike stored s) (sym (absent_section c.args.component c.args.section.now stored (absent c stored stands)))
+    (record { looks = λ path. refl; start = refl })
 
 -- a slot in place of one with the same tag
-still_distinct : (slots : List Slot) (place : ℕ) (slot new : Slot) → AreDistinct slots → new.tag ≡ slot.tag → slot ≡ get_or slots place slot → AreDistinct (set slots place new)
+still_distinct : (slots : List ComponentState) (place : ℕ) (slot new : ComponentState) → AreDistinct slots → new.tag ≡ slot.tag → slot ≡ get_or slots place slot → AreDistinct (set slots place new)
 still_distinct slots place slot new distinct tagged is tag =
-    let same = ap (λ u. eqb u tag) tagged ∙ ap (λ (s : Slot). has_tag tag s) is in
+    let same = ap (λ u. eqb u tag) tagged ∙ ap (λ (s : ComponentState). has_tag tag s) is in
     rw (length-filter-set (has_tag tag) slots place new slot same) (distinct tag)
 
 on_err : {A E : Type 0} (result : Result A E) (P : Type 0) → P → OnErr result P
 on_err (Ok a) P h = tt
 on_err (Err e) P h = h
 
-pub invariant_of-self : goal.invariant_of-self
-invariant_of-self c =
+pub invariant_of-self-in_err-changes : goal.invariant_of-self-in_err-changes
+invariant_of-self-in_err-changes c =
     still_distinct c.self.inside.slots.items c.in-Some.place c.index_mut-slot.result.now c.take.new.self c.self.invariant c.in_err-changes.ensures.same.tag c.index_mut-slot.ensures.value
 
 pub invariant_of-self-2 : goal.invariant_of-self-2

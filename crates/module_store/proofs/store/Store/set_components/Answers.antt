@@ -5,10 +5,9 @@ use Rattle.std.specs.Vec.{vec_len}
 use Rattle.std.proofs.lemmas.Bool.{eqb-true}
 use Rattle.psi_tables.specs.declared.components.Component.{Component}
 use Rattle.psi_tables.specs.Components.{AreApart}
-use Rattle.module_store.specs.declared.slot.Slot.{Slot}
 use Rattle.module_store.specs.Store.{with_map, gone_by}
-use Rattle.module_store.specs.Standing.{StoreState, StandsFor, AreDistinct, slot_in}
-use Rattle.module_store.specs.Slots.{AreAdded, kept_of}
+use Rattle.module_store.specs.Standing.{ComponentState, StoreState, StandsFor, component_with}
+use Rattle.module_store.specs.Slots.{AreDistinct, AreAdded, kept_of}
 use Rattle.module_store.proofs.MapLaws.{is_tagged, one_of_each, stands_mapped, still_distinct, has_components}
 use Rattle.module_store.proofs.AlikeLaws.{alike_mapped}
 use Rattle.module_store.proofs.SameMapLaws.{none_added, all_stay}
@@ -37,19 +36,19 @@ invariant_of-self-2 c =
 
 pub returns-clause-stands : goal.returns-clause-stands
 returns-clause-stands c = λ stored stands.
-    subst (λ l. StandsFor (record { slots = l; count = c.self.inside.count; changed = c.if-is_wider.self }) (with_map c.args.services.now.map stored)) (sym (kept c))
+    subst (λ l. StandsFor (record { components = l; count = c.self.inside.count; changed = c.if-is_wider.self }) (with_map c.args.services.now.map stored)) (sym (kept c))
     (stands_mapped c.args.services.now.map (each c) c.self.inside.slots.items c.in_ok-added.added.items c.self.invariant (added c) c.self.inside.count c.self.inside.changed c.if-is_wider.self stored
     (subst (λ (s : StoreState). StandsFor s stored) (sym c.self.view_is) stands))
 
-no_items : (slots : Vec Slot Global) → (vec_len slots == 0) ≡ true → slots.items ≡ []
+no_items : (slots : Vec ComponentState Global) → (vec_len slots == 0) ≡ true → slots.items ≡ []
 no_items slots e = by_items slots.items (sym slots.ok.0 ∙ eqb-true (vec_len slots) 0 e)
   where
-    by_items : (l : List Slot) → length l ≡ 0 → l ≡ []
+    by_items : (l : List ComponentState) → length l ≡ 0 → l ≡ []
     by_items [] e = refl
     by_items (slot ∷ l) e = absurd (omega arith)
 
-is_empty_by : (slots : Vec Slot Global) → slots.items ≡ [] → (vec_len slots == 0) ≡ true
-is_empty_by slots e = ap (λ n. n == 0) (slots.ok.0 ∙ ap (λ (l : List Slot). length l) e)
+is_empty_by : (slots : Vec ComponentState Global) → slots.items ≡ [] → (vec_len slots == 0) ≡ true
+is_empty_by slots e = ap (λ n. n == 0) (slots.ok.0 ∙ ap (λ (l : List ComponentState). length l) e)
 
 not_both : (b : Bool) → b ≡ true → b ≡ false → ⊥
 not_both b e f = cc
@@ -81,6 +80,6 @@ returns-clause-gone c = λ stored stands.
 
 pub returns-clause-components : goal.returns-clause-components
 returns-clause-components c = λ tag.
-    ap (λ l. is_some (slot_in l tag)) (kept c)
+    ap (λ l. is_some (component_with l tag)) (kept c)
     ∙ has_components c.args.services.now.map (each c) c.self.inside.slots.items c.in_ok-added.added.items c.self.invariant (added c) tag
     ∙ with_pid (find (is_tagged tag) c.args.services.now.map)

@@ -1,74 +1,66 @@
-use Rattle.std.proofs.Common.{◌≡◌, ◌≤◌, ◌∙◌, ℕ, ap, sym, subst, arith, append-nil, ◌++◌, ◌∷◌, [], length, true}
+use Rattle.std.proofs.Common.{◌≡◌, ◌∙◌, ℕ, ap, refl, sym, subst, true, inl, inr}
 use Rattle.psi_tables.specs.Service.{ServicesState, wants}
 use Rattle.section_demultiplexer.specs.Demultiplexing.{DemultiplexerState, has_channel}
-use Rattle.receiver_core.specs.Programs.{HasTurned}
-use Rattle.receiver_core.specs.Receiving.{ReceiverState, StandsFor, sections_left, waiting_in}
+use Rattle.receiver_core.specs.Broadcasts.{HasTurned}
 use Rattle.receiver_core.specs.Dispatches.{turn}
-use Rattle.receiver_core.proofs.ReceivingLaws.{drained_after, followed, is_idle, no_more, no_turn, one_less, turn_of_damaged, turn_of_intact, wanted_after}
+use Rattle.receiver_core.specs.Keeping.{waiting_in}
+use Rattle.receiver_core.proofs.DemultiplexerLaws.{followed, follows, has_next, has_none, waiting_followed, wanted_after}
+use Rattle.receiver_core.proofs.ReceivingLaws.{IsFollowed, less_behind, makes_turn, no_turn, passes_damaged}
 use Rattle.receiver_core.proofs.receiver.Receiver.section_turn.Goals as goal
-
-pub returns-in_default-clause-turned : goal.returns-in_default-clause-turned
-returns-in_default-clause-turned c =
-    let inside : ReceiverState = record { demultiplexer = c.self.inside.demultiplexer; program = c.self.inside.program; area = c.self.inside.area } in
-    let ends = rw c.in_default.is at c.next.follows.holds-at-none in (
-      [],
-      sym (append-nil c.args.out.now.items),
-      λ selection inputs given s.
-          subst (λ texts. StandsFor selection (record { demultiplexer = c.next.follows.lender-at-none; program = inside.program; area = inside.area }) inputs texts) (sym (append-nil given))
-          (no_turn inside c.next.follows.lender-at-none ends selection inputs given (subst (λ (r : ReceiverState). StandsFor selection r inputs given) (sym c.self.view_is) s)),
-    )
-
-pub returns-in_default-clause-over : goal.returns-in_default-clause-over
-returns-in_default-clause-over c = λ _.
-    let ends = rw c.in_default.is at c.next.follows.holds-at-none in
-    is_idle _ (drained_after c.self.inside.demultiplexer c.next.follows.lender-at-none ends)
 
 -- the channels behind a turn are those of the PIDs that are wanted then
 channels_wanted : (new between : DemultiplexerState) (lent x : ServicesState) → new ≡ followed lent between → lent ≡ x → (pid : ℕ) → has_channel new.channels pid ≡ true → wants x pid ≡ true
 channels_wanted new between lent x is same pid h = wanted_after x between pid (subst (λ (d : DemultiplexerState). has_channel d.channels pid ≡ true) (is ∙ ap (λ (y : ServicesState). followed y between) same) h)
 
-pub invariant_of-self-in-Continue-1 : goal.invariant_of-self-in-Continue-1
-invariant_of-self-in-Continue-1 c = channels_wanted c.follow.new.self c.next.follows.lender-at-none c.services.result.now c.turn-turned.new.self.services c.follow.ensures c.services.ensures
+pub invariant_of-self-in-Ok : goal.invariant_of-self-in-Ok
+invariant_of-self-in-Ok c = channels_wanted c.follow.new.self c.next.follows.lender-at-none c.services.result.now c.turn-turned.new.self.services c.follow.ensures c.services.ensures
 
-pub invariant_of-self-in_err-turned : goal.invariant_of-self-in_err-turned
-invariant_of-self-in_err-turned c = channels_wanted c.follow.new.self c.next.follows.lender-at-none c.services.result.now c.turn-turned.new.self.services c.follow.ensures c.services.ensures
+pub invariant_of-self-in-Err : goal.invariant_of-self-in-Err
+invariant_of-self-in-Err c = channels_wanted c.follow.new.self c.next.follows.lender-at-none c.services.result.now c.turn-turned.new.self.services c.follow.ensures c.services.ensures
 
-pub returns-in_ok-turned-clause-turned : goal.returns-in_ok-turned-clause-turned
-returns-in_ok-turned-clause-turned c =
-    let inside : ReceiverState = record { demultiplexer = c.self.inside.demultiplexer; program = c.self.inside.program; area = c.self.inside.area } in
+is_followed : (between new : DemultiplexerState) (lent x : ServicesState) → new ≡ followed lent between → lent ≡ x → IsFollowed between new x
+is_followed between new lent x is same =
+    subst (λ (d : DemultiplexerState). IsFollowed between d x) (sym (is ∙ ap (λ (y : ServicesState). followed y between) same))
+    (record { pid = refl; waiting = waiting_followed x between; stands = follows x between })
+
+pub returns-in_default-clause-over : goal.returns-in_default-clause-over
+returns-in_default-clause-over c = λ _.
+    let inside = c.self.inside in
+    let ends = rw c.in_default.is at c.next.follows.holds-at-none in
+    rw (← c.self.view_is) (no_turn inside.demultiplexer c.next.follows.lender-at-none inside.broadcast inside.area inside.spent c.args.out.now.items (has_none inside.demultiplexer c.next.follows.lender-at-none ends))
+
+pub returns-then-not-is_intact-clause-handled : goal.returns-then-not-is_intact-clause-handled
+returns-then-not-is_intact-clause-handled c = λ _.
+    let inside = c.self.inside in
     let between = c.next.follows.lender-at-none in
-    let program = c.turn-turned.new.self in
     let gives = rw c.in-Some.is at c.next.follows.holds-at-none in
-    let turned = c.in_ok-turned.ensures.turned in
+    rw (← c.self.view_is)
+    (inl (passes_damaged inside.demultiplexer between inside.broadcast inside.area inside.spent c.in-Some.section.now c.args.out.now.items
+    (has_next inside.demultiplexer between c.in-Some.section.now gives) (sym c.is_intact.ensures.test ∙ c.if-not-is_intact.true)))
+
+pub returns-in-Ok-clause-handled : goal.returns-in-Ok-clause-handled
+returns-in-Ok-clause-handled c = λ _.
+    let inside = c.self.inside in
+    let between = c.next.follows.lender-at-none in
     let section = c.in-Some.section.now in
-    let kept : c.follow.new.self ≡ followed program.services between = c.follow.ensures ∙ ap (λ (y : ServicesState). followed y between) c.services.ensures in (
-      turned.text ∷ [],
-      turned.printed ∙ ap (λ l. c.args.out.now.items ++ l) (sym (append-nil turned.text)),
-      λ selection inputs given s.
-          subst (λ (d : DemultiplexerState). StandsFor selection (record { demultiplexer = d; program = program; area = inside.area }) inputs (given ++ turned.text ∷ [])) (sym kept)
-          (turn_of_intact inside between program section turned.text gives (sym c.is_intact.ensures.test ∙ c.if-is_intact.true)
-          (λ state stands. subst (λ (pid : ℕ). HasTurned program turned.text (turn pid section state)) c.pid-pid.ensures (turned.turns state stands))
-          c.self.invariant selection inputs given (subst (λ (r : ReceiverState). StandsFor selection r inputs given) (sym c.self.view_is) s)),
-    )
+    let broadcast = c.turn-turned.new.self in
+    let gives = has_next inside.demultiplexer between section (rw c.in-Some.is at c.next.follows.holds-at-none) in
+    let turned = c.in-Ok.ensures.turned in
+    rw (← c.self.view_is)
+    (inr (makes_turn inside.demultiplexer between c.follow.new.self inside.broadcast broadcast inside.area inside.spent inside.spent section turned.text
+    c.args.out.now.items c.turn-turned.new.out.items gives (sym c.is_intact.ensures.test ∙ c.if-not-is_intact.false)
+    (is_followed between c.follow.new.self c.services.result.now broadcast.services c.follow.ensures c.services.ensures)
+    (λ state stands. subst (λ (pid : ℕ). HasTurned broadcast turned.text (turn pid section state)) c.pid-pid.ensures (turned.turns state stands))
+    (c.self.invariant inside.demultiplexer.pid gives.among)
+    c.if-self.false turned.printed))
 
-pub returns-in_ok-turned-clause-fewer : goal.returns-in_ok-turned-clause-fewer
-returns-in_ok-turned-clause-fewer c = λ _.
+pub returns-in-Ok-clause-fewer : goal.returns-in-Ok-clause-fewer
+returns-in-Ok-clause-fewer c = λ _.
+    let inside = c.self.inside in
     let between = c.next.follows.lender-at-none in
-    let gives = rw c.in-Some.is at c.next.follows.holds-at-none in
-    let kept : c.follow.new.self ≡ followed c.turn-turned.new.self.services between = c.follow.ensures ∙ ap (λ (y : ServicesState). followed y between) c.services.ensures in
-    let most : length (waiting_in c.follow.new.self) ≤ length (waiting_in between) =
-    subst (λ (d : DemultiplexerState). length (waiting_in d) ≤ length (waiting_in between)) (sym kept) (no_more c.turn-turned.new.self.services between) in
-    let less = one_less c.self.inside.demultiplexer between c.in-Some.section.now gives in
-    let same : length (waiting_in c.self.inside.demultiplexer) ≡ sections_left c.args.self.now = ap sections_left c.self.view_is in
-    omega arith
-
-pub returns-else-is_intact-clause-turned : goal.returns-else-is_intact-clause-turned
-returns-else-is_intact-clause-turned c =
-    let inside : ReceiverState = record { demultiplexer = c.self.inside.demultiplexer; program = c.self.inside.program; area = c.self.inside.area } in
-    let gives = rw c.in-Some.is at c.next.follows.holds-at-none in (
-      [],
-      sym (append-nil c.args.out.now.items),
-      λ selection inputs given s.
-          turn_of_damaged inside c.next.follows.lender-at-none c.in-Some.section.now gives (sym c.is_intact.ensures.test ∙ c.if-is_intact.false) selection inputs given
-          (subst (λ (r : ReceiverState). StandsFor selection r inputs given) (sym c.self.view_is) s),
-    )
+    let section = c.in-Some.section.now in
+    let services = c.turn-turned.new.self.services in
+    let gives = has_next inside.demultiplexer between section (rw c.in-Some.is at c.next.follows.holds-at-none) in
+    let follows = is_followed between c.follow.new.self c.services.result.now services c.follow.ensures c.services.ensures in
+    rw (← c.self.view_is)
+    (less_behind section (waiting_in inside.demultiplexer) (waiting_in between) (waiting_in c.follow.new.self) (wants services between.pid) gives.next follows.waiting)

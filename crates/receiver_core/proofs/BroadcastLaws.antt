@@ -1,0 +1,409 @@
+-- What is kept of a broadcast, behind one section more.
+use Rattle.std.proofs.Common.{◌≡◌, ◌≢◌, ℕ, suc, Bool, true, false, cond, eqb, List, [], ◌∷◌, ◌++◌, refl, sym, ap, ap₂, ◌∙◌, subst, append-nil, append_assoc, inl, inr}
+use Rattle.std.specs.Prelude.{zero, ◌⊎◌, AllPairs, Option, Some, None, Result, find, is_some, option_map}
+use Rattle.std.specs.List.{flat_map}
+use Rattle.std.proofs.lemmas.Bool.{eq-eqb}
+use Rattle.dom_tree.specs.Items.{Item}
+use Rattle.bml_reader.specs.declared.faults.DocFault.{DocFault}
+use Rattle.psi_tables.specs.declared.components.Component.{Component}
+use Rattle.psi_tables.specs.declared.pat.PatEntry.{PatEntry}
+use Rattle.psi_tables.specs.declared.services.Selection.{Selection}
+use Rattle.psi_tables.specs.Components.{AreApart, pid_in, tag_in}
+use Rattle.psi_tables.specs.History.{Handled, service_of, map_of}
+use Rattle.psi_tables.specs.Service.{ServicesState, reads_table}
+use Rattle.psi_tables.specs.Service as services_of
+use Rattle.psi_tables.proofs.HistoryLemmas.{stands_unread}
+use Rattle.carousel_blocks.specs.declared.changes.Change.{Change}
+use Rattle.multipart_entities.specs.declared.paths.Path.{Path}
+use Rattle.module_store.specs.Resources.{LooksAlike, start_path}
+use Rattle.module_store.specs.Store.{Stored, at_start, changes_by, fed, gone_by, with_map}
+use Rattle.module_store.specs.Standing.{StoreState, has_component}
+use Rattle.module_store.specs.Standing as store
+use Rattle.receiver_core.specs.declared.startup.Startup.{Startup}
+use Rattle.receiver_core.specs.declared.startup.Startup.TheVariants as kept
+use Rattle.receiver_core.specs.Dispatches.{dispatch, dispatch_of, dispatches, load, loadable_reading, most_dispatches, next_and, turn, wanted_path}
+use Rattle.receiver_core.specs.Lines.{line_of_change, load_line}
+use Rattle.receiver_core.specs.Loading.{Loads, LoadsAs}
+use Rattle.receiver_core.specs.Broadcasts.{Dispatches, HasDispatched, HasTaken, HasTurned, Keeps, LeavesLooks, BroadcastState, StandsFor, Takes, Turns}
+use Rattle.receiver_core.proofs.DispatchLaws.{dispatch_wanted, done_behind, next_made, none_of_most, none_wanted, nothing_at_first, one_of_most, still_done}
+use Rattle.receiver_core.specs.Startups.{IsCurrent, following, is_told_by, start_of, went_with}
+use Rattle.receiver_core.specs.State.{Start, State, opening, services, wants}
+use Rattle.receiver_core.specs.State.Start.{Wanted, Refused, Loaded}
+use Rattle.receiver_core.specs.Turns.{Step, step_of_section, step_of_component, step_of_table, step_of_tag, with_handled}
+
+same_services : (a b : ServicesState) → a.selection ≡ b.selection → a.service ≡ b.service → a.map ≡ b.map → a ≡ b
+same_services a b selection service map =
+    ap (λ (x : Selection). record { selection = x; service = a.service; map = a.map }) selection
+    ∙ ap (λ (x : Option PatEntry). record { selection = b.selection; service = x; map = a.map }) service
+    ∙ ap (λ (x : List Component). record { selection = b.selection; service = b.service; map = x }) map
+
+-- the services that are kept are those of the state
+pub services_kept : (state : BroadcastState) (s : State) → Keeps state s → state.services ≡ services s
+services_kept state s stands = same_services state.services (services s) stands.selection
+    (stands.services.service ∙ ap (λ (x : Selection). service_of x s.handled) stands.selection)
+    (stands.services.map ∙ ap (λ (x : Selection). map_of x s.handled) stands.selection)
+
+pub services_are : (state : BroadcastState) (s : State) → StandsFor state s → state.services ≡ services s
+services_are state s stands = services_kept state s stands.keeps
+
+-- ---- before the first section
+
+pub stands_first : (services : ServicesState) (before new : StoreState) (selection : Selection) → services.selection ≡ selection → services_of.StandsFor services [] → store.StandsFor before at_start
+    → ((stored : Stored) → store.StandsFor before stored → store.StandsFor new (with_map services.map stored)) → ((tag : ℕ) → has_component new tag ≡ is_some (pid_in services.map tag))
+    → (area : List ℕ) → StandsFor (record { services = services; store = new; startup = kept.Wanted }) (opening selection area)
+stands_first services before new selection same stands first sets has area = record {
+  keeps = record {
+    selection = same;
+    services = stands;
+    store = subst (λ (map : List Component). store.StandsFor new (with_map map at_start)) (stands.map ∙ ap (λ (x : Selection). map_of x []) same) (sets at_start first);
+    components = has;
+    start = refl;
+    current = tt;
+  };
+  done = nothing_at_first selection area;
+}
+
+-- ---- a section that isn't read as a table
+
+pub handled_unread : (state : BroadcastState) (s : State) (pid : ℕ) (section : List ℕ) → Keeps state s → reads_table state.services.selection state.services.service pid ≡ false → Keeps state (with_handled pid section s)
+handled_unread state s pid section stands unread = record {
+  selection = stands.selection;
+  services = stands_unread state.services s.handled pid section unread stands.services;
+  store = stands.store;
+  components = stands.components;
+  start = stands.start;
+  current = stands.current;
+}
+
+turned_unread : (s : State) (pid : ℕ) (section : List ℕ) (tag : Option ℕ) → reads_table s.selection (services s).service pid ≡ false → tag_in (services s).map pid ≡ tag
+    → step_of_section pid section s ≡ step_of_tag tag section (with_handled pid section s)
+turned_unread s pid section tag unread is = rw (unread, is) refl
+
+pub unread_by : (state : BroadcastState) (s : State) (pid : ℕ) → Keeps state s → reads_table state.services.selection state.services.service pid ≡ false → reads_table s.selection (services s).service pid ≡ false
+unread_by state s pid stands unread = subst (λ (x : ServicesState). reads_table x.selection x.service pid ≡ false) (services_kept state s stands) unread
+
+-- no component is on its PID
+pub passes : (state : BroadcastState) (pid : ℕ) (section before : List ℕ) → reads_table state.services.selection state.services.service pid ≡ false → tag_in state.services.map pid ≡ None
+    → Takes state state before before (step_of_section pid section)
+passes state pid section before unread none = record {
+  text = [];
+  printed = sym (append-nil before);
+  takes = λ s stands.
+      subst (λ (t : Step). HasTaken state [] t)
+      (sym (turned_unread s pid section None (unread_by state s pid stands unread) (subst (λ (x : ServicesState). tag_in x.map pid ≡ None) (services_kept state s stands) none)))
+      (record { keeps = handled_unread state s pid section stands unread; text_is = refl });
+}
+
+start_by_tag : (tag : Option ℕ) (section : List ℕ) (now : State) → (step_of_tag tag section now).state.start ≡ now.start
+start_by_tag None section now = refl
+start_by_tag (Some component) section now = refl
+
+-- a section changes nothing of the document
+start_kept : (pid : ℕ) (section : List ℕ) (s : State) → (step_of_section pid section s).state.start ≡ s.start
+start_kept pid section s = by (reads_table s.selection (services s).service pid)
+  where
+    by : (table : Bool) → (cond table (step_of_table (with_handled pid section s)) (step_of_tag (tag_in (services s).map pid) section (with_handled pid section s))).state.start ≡ s.start
+    by true = refl
+    by false = start_by_tag (tag_in (services s).map pid) section (with_handled pid section s)
+
+same_looks : (stored : Stored) → LooksAlike stored stored
+same_looks stored = record { looks = λ path. refl; start = refl }
+
+-- and where no component is on its PID, nothing of what look-ups answer
+pub passes_looks : (state : BroadcastState) (pid : ℕ) (section : List ℕ) → reads_table state.services.selection state.services.service pid ≡ false → tag_in state.services.map pid ≡ None → LeavesLooks state (step_of_section pid section)
+passes_looks state pid section unread none = record {
+  start = start_kept pid section;
+  looks = λ s keeps.
+      subst (λ (t : Step). LooksAlike s.store t.state.store)
+      (sym (turned_unread s pid section None (unread_by state s pid keeps unread) (subst (λ (x : ServicesState). tag_in x.map pid ≡ None) (services_kept state s keeps) none)))
+      (same_looks s.store);
+}
+
+-- ---- what is told of the start document
+
+-- what is told changes nothing of what became of the start document
+followed_at_start : (told : Bool) (startup : Startup) → (told ≡ true → start_of startup ≡ Wanted) → start_of (following told startup) ≡ start_of startup
+followed_at_start true startup wanted = sym (wanted refl)
+followed_at_start false startup wanted = refl
+
+told_wanted : (component : ℕ) (changes : List Change) (startup : Startup) → is_told_by component changes startup ≡ true → start_of startup ≡ Wanted
+told_wanted component changes kept.Wanted e = refl
+told_wanted component changes (kept.Pending pending) e = refl
+told_wanted component changes kept.Refused e = absurd cc
+told_wanted component changes (kept.Loaded document) e = absurd cc
+
+went_wanted : (gone : List (ℕ × Change)) (startup : Startup) → went_with gone startup ≡ true → start_of startup ≡ Wanted
+went_wanted gone kept.Wanted e = refl
+went_wanted gone (kept.Pending pending) e = refl
+went_wanted gone kept.Refused e = absurd cc
+went_wanted gone (kept.Loaded document) e = absurd cc
+
+pub start_told : (component : ℕ) (changes : List Change) (startup : Startup) → start_of (following (is_told_by component changes startup) startup) ≡ start_of startup
+start_told component changes startup = followed_at_start (is_told_by component changes startup) startup (told_wanted component changes startup)
+
+pub start_gone : (gone : List (ℕ × Change)) (startup : Startup) → start_of (following (went_with gone startup) startup) ≡ start_of startup
+start_gone gone startup = followed_at_start (went_with gone startup) startup (went_wanted gone startup)
+
+-- a document that was read stays the one that is there, until one of its module's changes is told
+abbrev pub StaysInSections : Type 0
+StaysInSections = (stored : Stored) (component : ℕ) (section : List ℕ) (startup : Startup) → IsCurrent stored startup
+    → IsCurrent (fed component section stored) (following (is_told_by component (changes_by component section stored) startup) startup)
+
+abbrev pub StaysInMaps : Type 0
+StaysInMaps = (stored : Stored) (components : List Component) (startup : Startup) → AllPairs AreApart components → IsCurrent stored startup
+    → IsCurrent (with_map components stored) (following (went_with (gone_by components stored) startup) startup)
+
+-- ---- a table
+
+pub table_taken : (old : BroadcastState) (services : ServicesState) (new : StoreState) (startup : Startup) (went : List (ℕ × Change)) (pid : ℕ) (section : List ℕ) → services.selection ≡ old.services.selection
+    → ((handled : List Handled) → services_of.StandsFor old.services handled → services_of.StandsFor services (handled ++ record { pid = pid; section = section } ∷ []))
+    → ((stored : Stored) → store.StandsFor old.store stored → store.StandsFor new (with_map services.map stored))
+    → ((stored : Stored) → store.StandsFor old.store stored → went ≡ gone_by services.map stored)
+    → ((tag : ℕ) → has_component new tag ≡ is_some (pid_in services.map tag))
+    → ((selection : Selection) (handled : List Handled) → AllPairs AreApart (map_of selection handled)) → startup ≡ following (went_with went old.startup) old.startup → StaysInMaps
+    → (s : State) → Keeps old s → HasTaken (record { services = services; store = new; startup = startup }) (flat_map (λ gone. line_of_change gone.0 gone.1) went) (step_of_table (with_handled pid section s))
+table_taken old tables new startup went pid section same feeds sets told has apart follows stays s stands =
+    let now = with_handled pid section s in
+    let fed_with = feeds s.handled stands.services in
+    let asked = same ∙ stands.selection in
+    let map_is : tables.map ≡ (services now).map = fed_with.map ∙ ap (λ (x : Selection). map_of x now.handled) asked in
+    record {
+      keeps = record {
+        selection = asked;
+        services = fed_with;
+        store = subst (λ (map : List Component). store.StandsFor new (with_map map s.store)) map_is (sets s.store stands.store);
+        components = has;
+        start = ap start_of follows ∙ start_gone went old.startup ∙ stands.start;
+        current =
+            subst (λ (map : List Component). IsCurrent (with_map map s.store) startup) map_is
+            (subst (λ (x : Startup). IsCurrent (with_map tables.map s.store) x) (sym (follows ∙ ap (λ (l : List (ℕ × Change)). following (went_with l old.startup) old.startup) (told s.store stands.store)))
+            (stays s.store tables.map old.startup (subst (λ (map : List Component). AllPairs AreApart map) (sym fed_with.map) (apart tables.selection now.handled)) stands.current));
+      };
+      text_is = ap (flat_map (λ gone. line_of_change gone.0 gone.1)) (told s.store stands.store ∙ ap (λ (map : List Component). gone_by map s.store) map_is);
+    }
+
+-- ---- a section of a component
+
+-- a component on a PID has a PID
+tag_has_pid : (map : List Component) (pid tag : ℕ) → tag_in map pid ≡ Some tag → is_some (pid_in map tag) ≡ true
+tag_has_pid [] pid tag h = absurd cc
+tag_has_pid (c ∷ map) pid tag h = by (eqb c.pid pid) h (tag_has_pid map pid tag)
+  where
+    passed : (test : Bool) → is_some (pid_in map tag) ≡ true → is_some (option_map (λ (x : Component). x.pid) (cond test (Some c) (find (λ (x : Component). eqb x.tag tag) map))) ≡ true
+    passed true h = refl
+    passed false h = h
+
+    by : (on : Bool) → option_map (λ (x : Component). x.tag) (cond on (Some c) (find (λ (x : Component). eqb x.pid pid) map)) ≡ Some tag → (tag_in map pid ≡ Some tag → is_some (pid_in map tag) ≡ true)
+        → is_some (pid_in (c ∷ map) tag) ≡ true
+    by true h later = let same : c.tag ≡ tag = cc in rw (eq-eqb c.tag tag same) refl
+    by false h later = passed (eqb c.tag tag) (later h)
+
+pub has_its_component : (state : BroadcastState) (s : State) (pid component : ℕ) → Keeps state s → tag_in state.services.map pid ≡ Some component → has_component state.store component ≡ true
+has_its_component state s pid component stands is = stands.components component ∙ tag_has_pid state.services.map pid component is
+
+pub data_taken : (old : BroadcastState) (new : StoreState) (startup : Startup) (changes : List Change) (pid component : ℕ) (section : List ℕ) → reads_table old.services.selection old.services.service pid ≡ false
+    → ((stored : Stored) → store.StandsFor old.store stored → store.StandsFor new (fed component section stored))
+    → ((stored : Stored) → store.StandsFor old.store stored → changes ≡ changes_by component section stored)
+    → ((tag : ℕ) → has_component new tag ≡ has_component old.store tag) → startup ≡ following (is_told_by component changes old.startup) old.startup → StaysInSections
+    → (s : State) → Keeps old s → HasTaken (record { services = old.services; store = new; startup = startup }) (flat_map (line_of_change component) changes) (step_of_component component section (with_handled pid section s))
+data_taken old new startup changes pid component section unread feeds told same follows stays s stands =
+    let handled = handled_unread old s pid section stands unread in
+    record {
+      keeps = record {
+        selection = handled.selection;
+        services = handled.services;
+        store = feeds s.store stands.store;
+        components = λ tag. same tag ∙ stands.components tag;
+        start = ap start_of follows ∙ start_told component changes old.startup ∙ stands.start;
+        current =
+            subst (λ (x : Startup). IsCurrent (fed component section s.store) x) (sym (follows ∙ ap (λ (l : List Change). following (is_told_by component l old.startup) old.startup) (told s.store stands.store)))
+            (stays s.store component section old.startup stands.current);
+      };
+      text_is = ap (flat_map (line_of_change component)) (told s.store stands.store);
+    }
+
+-- ---- dispatches
+
+dispatched_to : (state : BroadcastState) (text : List ℕ) (s : State) (t : Step) → dispatches most_dispatches s ≡ t → Keeps state t.state → dispatch t.state ≡ None → text ≡ t.text → HasDispatched state text s
+dispatched_to state text s t e keeps done is = record {
+  stands = subst (λ (x : Step). StandsFor state x.state) (sym e) (record { keeps = keeps; done = done });
+  text_is = is ∙ ap (λ (x : Step). x.text) (sym e);
+}
+
+nothing_made : (state : BroadcastState) (s : State) → Keeps state s → dispatch s ≡ None → HasDispatched state [] s
+nothing_made state s keeps done = dispatched_to state [] s (record { state = s; text = [] }) (none_of_most s done) keeps done refl
+
+-- where nothing is wanted
+pub none_dispatched : (old : BroadcastState) (before : List ℕ) → start_of old.startup ≢ Wanted → Dispatches old old before before
+none_dispatched old before other = record {
+  text = [];
+  printed = sym (append-nil before);
+  dispatches_made = λ s keeps. nothing_made old s keeps (none_wanted s (λ e. other (keeps.start ∙ e)));
+}
+
+abbrev pub with_startup : BroadcastState → Startup → BroadcastState
+with_startup state startup = record { services = state.services; store = state.store; startup = startup }
+
+-- what is kept of the same state, with another start document
+keeps_with : (state : BroadcastState) (s t : State) (startup : Startup) → Keeps state s → t ≡ record s { start = t.start } → start_of startup ≡ t.start → IsCurrent s.store startup → Keeps (with_startup state startup) t
+keeps_with state s t startup keeps same start current = subst (λ (x : State). Keeps (with_startup state startup) x) (sym same) (record {
+  selection = keeps.selection;
+  services = keeps.services;
+  store = keeps.store;
+  components = keeps.components;
+  start = start;
+  current = current;
+})
+
+-- what comes of what is there under the start path is what a dispatch makes of it
+dispatched_as : (old : BroadcastState) (startup : Startup) (text : List ℕ) (s : State) (reading : Option (Result (List Item) DocFault)) → Keeps old s → s.start ≡ Wanted → loadable_reading s.store (start_path s.store) ≡ reading
+    → LoadsAs s.store reading startup text → HasDispatched (with_startup old startup) text s
+dispatched_as old startup text s None keeps wanted is loads =
+    subst (λ (l : List ℕ). HasDispatched (with_startup old startup) l s) (sym loads.text_is)
+    (nothing_made (with_startup old startup) s (keeps_with old s s startup keeps refl (loads.start_is ∙ sym wanted) loads.current)
+    (dispatch_wanted s wanted ∙ ap (option_map (load s (start_path s.store))) is))
+dispatched_as old startup text s (Some reading) keeps wanted is loads =
+    let path = start_path s.store in
+    dispatched_to (with_startup old startup) text s (record { state = (load s path reading).state; text = load_line path reading ++ [] })
+    (one_of_most s (load s path reading) (dispatch_wanted s wanted ∙ ap (option_map (load s path)) is) (done_behind s path reading))
+    (keeps_with old s (load s path reading).state startup keeps refl loads.start_is loads.current) (done_behind s path reading) (loads.text_is ∙ sym (append-nil (load_line path reading)))
+
+pub dispatched_by : (old : BroadcastState) (startup : Startup) (before after : List ℕ) → start_of old.startup ≡ Wanted → Loads old.store old.startup startup before after → Dispatches old (with_startup old startup) before after
+dispatched_by old startup before after wanted loads = record {
+  text = loads.text;
+  printed = loads.printed;
+  dispatches_made = λ s keeps.
+      dispatched_as old startup loads.text s (loadable_reading s.store (start_path s.store)) keeps (sym keeps.start ∙ wanted) refl (loads.loads s.store keeps.store keeps.current);
+}
+
+is_wanted : (start : Start) → (start ≡ Wanted) ⊎ (start ≢ Wanted)
+is_wanted Wanted = inl refl
+is_wanted Refused = inr (λ e. absurd cc)
+is_wanted (Loaded items) = inr (λ e. absurd cc)
+
+-- a document that is wanted is loaded where it can be, and every other is left as it is
+pub dispatched : (old : BroadcastState) (was startup : Startup) (before after : List ℕ) → was ≡ old.startup → (start_of was ≡ Wanted → Loads old.store was startup before after)
+    → (start_of was ≢ Wanted → (startup ≡ was) × (after ≡ before)) → Dispatches old (with_startup old startup) before after
+dispatched old was startup before after is_old wanted other = by (is_wanted (start_of old.startup))
+  where
+    dispatches_as : Startup → Type 0
+    dispatches_as x = (start_of x ≡ Wanted → Loads old.store x startup before after) × (start_of x ≢ Wanted → (startup ≡ x) × (after ≡ before))
+
+    known : dispatches_as old.startup
+    known = subst dispatches_as is_old (wanted, other)
+
+    by : (start_of old.startup ≡ Wanted) ⊎ (start_of old.startup ≢ Wanted) → Dispatches old (with_startup old startup) before after
+    by (inl is) = dispatched_by old startup before after is (known.0 is)
+    by (inr not) =
+        let same = known.1 not in
+        subst (λ (x : Startup). Dispatches old (with_startup old x) before after) (sym same.0)
+        (subst (λ (l : List ℕ). Dispatches old old before l) (sym same.1) (none_dispatched old before not))
+
+-- ---- turns
+
+turned_to : (state : BroadcastState) (text : List ℕ) (pid : ℕ) (section : List ℕ) (s : State) (d : Step) → dispatches most_dispatches (step_of_section pid section s).state ≡ d → Keeps state d.state → dispatch d.state ≡ None
+    → text ≡ (step_of_section pid section s).text ++ d.text → HasTurned state text (turn pid section s)
+unfolding turn
+turned_to state text pid section s d e keeps done is = record {
+  stands = subst (λ (x : Step). StandsFor state x.state) (sym e) (record { keeps = keeps; done = done });
+  text_is = is ∙ ap (λ (x : Step). (step_of_section pid section s).text ++ x.text) (sym e);
+}
+
+-- nothing was there to be dispatched before the section, and it changed nothing that a dispatch looks at
+pub turned_without : (old mid : BroadcastState) (pid : ℕ) (section before after : List ℕ) → Takes old mid before after (step_of_section pid section) → LeavesLooks old (step_of_section pid section) → Turns old mid before after (turn pid section)
+turned_without old mid pid section before after takes leaves = record {
+  text = takes.text;
+  printed = takes.printed;
+  turns = λ s stands.
+      let taken = takes.takes s stands.keeps in
+      let t = step_of_section pid section s in
+      let done = still_done s t.state (leaves.start s) (leaves.looks s stands.keeps) stands.done in
+      turned_to mid takes.text pid section s (record { state = t.state; text = [] }) (none_of_most t.state done) taken.keeps done (taken.text_is ∙ sym (append-nil t.text));
+}
+
+-- a section, and then the dispatches
+pub turned_with : (old mid new : BroadcastState) (pid : ℕ) (section before between after : List ℕ) → Takes old mid before between (step_of_section pid section) → Dispatches mid new between after → Turns old new before after (turn pid section)
+turned_with old mid new pid section before between after takes made = record {
+  text = takes.text ++ made.text;
+  printed = made.printed ∙ ap (λ (l : List ℕ). l ++ made.text) takes.printed ∙ append_assoc before takes.text made.text;
+  turns = λ s stands.
+      let taken = takes.takes s stands.keeps in
+      let t = step_of_section pid section s in
+      let dispatched = made.dispatches_made t.state taken.keeps in
+      turned_to new (takes.text ++ made.text) pid section s (dispatches most_dispatches t.state) refl dispatched.stands.keeps dispatched.stands.done (ap₂ (λ (a b : List ℕ). a ++ b) taken.text_is dispatched.text_is);
+}
+
+-- ---- the packets that a turn leaves
+
+-- a PID that isn't wanted has no packets, and each other one those that it had
+abbrev KeepsWanted : State → State → Type 0
+KeepsWanted s now = (other : ℕ) → now.packets other ≡ cond (wants now other) (s.packets other) []
+
+keeps_loaded : (s now : State) (path : Path) (reading : Option (Result (List Item) DocFault)) (t : Step) → option_map (load now path) reading ≡ Some t → KeepsWanted s now → KeepsWanted s t.state
+keeps_loaded s now path None t e k = absurd cc
+keeps_loaded s now path (Some reading) t e k = let same : load now path reading ≡ t = cc in subst (λ (x : Step). KeepsWanted s x.state) same (λ other. k other)
+
+keeps_dispatched : (s now : State) (path : Option Path) (t : Step) → dispatch_of now path ≡ Some t → KeepsWanted s now → KeepsWanted s t.state
+keeps_dispatched s now None t e k = absurd cc
+keeps_dispatched s now (Some path) t e k = keeps_loaded s now path (loadable_reading now.store path) t e k
+
+keeps_dispatch : (s now : State) (t : Step) → dispatch now ≡ Some t → KeepsWanted s now → KeepsWanted s t.state
+unfolding dispatch
+keeps_dispatch s now t e k = keeps_dispatched s now (wanted_path now.start now.store) t e k
+
+keeps_dispatches : (bound : ℕ) (s now : State) → KeepsWanted s now → KeepsWanted s (dispatches bound now).state
+unfolding dispatches
+keeps_dispatches zero s now k = k
+keeps_dispatches (suc more) s now k = subst (λ (t : Step). KeepsWanted s t.state) (sym (next_made more now)) (by (dispatch now) refl (keeps_dispatches more s))
+  where
+    by : (next : Option Step) → dispatch now ≡ next → ((after : State) → KeepsWanted s after → KeepsWanted s (dispatches more after).state) → KeepsWanted s (next_and (dispatches more) now next).state
+    by None e later = k
+    by (Some t) e later = later t.state (keeps_dispatch s now t e k)
+
+keeps_by_tag : (s now : State) (tag : Option ℕ) (section : List ℕ) → KeepsWanted s now → KeepsWanted s (step_of_tag tag section now).state
+keeps_by_tag s now None section k = k
+keeps_by_tag s now (Some component) section k = λ other. k other
+
+keeps_turned : (s : State) (pid : ℕ) (section : List ℕ) (table : Bool) → KeepsWanted s (cond table (step_of_table (with_handled pid section s)) (step_of_tag (tag_in (services s).map pid) section (with_handled pid section s))).state
+keeps_turned s pid section true = λ other. refl
+keeps_turned s pid section false = keeps_by_tag s (with_handled pid section s) (tag_in (services s).map pid) section (λ other. refl)
+
+pub turn_packets : (pid : ℕ) (section : List ℕ) (s : State) (other : ℕ) → (turn pid section s).state.packets other ≡ cond (wants (turn pid section s).state other) (s.packets other) []
+unfolding turn
+turn_packets pid section s = keeps_dispatches most_dispatches s (step_of_section pid section s).state (keeps_turned s pid section (reads_table s.selection (services s).service pid))
+
+-- ---- the area that a turn leaves
+
+area_loaded : (now : State) (path : Path) (reading : Option (Result (List Item) DocFault)) (t : Step) → option_map (load now path) reading ≡ Some t → t.state.area ≡ now.area
+area_loaded now path None t e = absurd cc
+area_loaded now path (Some reading) t e = let same : load now path reading ≡ t = cc in subst (λ (x : Step). x.state.area ≡ now.area) same refl
+
+area_dispatched : (now : State) (path : Option Path) (t : Step) → dispatch_of now path ≡ Some t → t.state.area ≡ now.area
+area_dispatched now None t e = absurd cc
+area_dispatched now (Some path) t e = area_loaded now path (loadable_reading now.store path) t e
+
+area_dispatch : (now : State) (t : Step) → dispatch now ≡ Some t → t.state.area ≡ now.area
+unfolding dispatch
+area_dispatch now t e = area_dispatched now (wanted_path now.start now.store) t e
+
+area_dispatches : (bound : ℕ) (now : State) → (dispatches bound now).state.area ≡ now.area
+unfolding dispatches
+area_dispatches zero now = refl
+area_dispatches (suc more) now = ap (λ (t : Step). t.state.area) (next_made more now) ∙ by (dispatch now) refl (area_dispatches more)
+  where
+    by : (next : Option Step) → dispatch now ≡ next → ((after : State) → (dispatches more after).state.area ≡ after.area) → (next_and (dispatches more) now next).state.area ≡ now.area
+    by None e later = refl
+    by (Some t) e later = later t.state ∙ area_dispatch now t e
+
+area_by_tag : (now : State) (tag : Option ℕ) (section : List ℕ) → (step_of_tag tag section now).state.area ≡ now.area
+area_by_tag now None section = refl
+area_by_tag now (Some component) section = refl
+
+area_by_section : (s : State) (pid : ℕ) (section : List ℕ) (table : Bool)
+    → (cond table (step_of_table (with_handled pid section s)) (step_of_tag (tag_in (services s).map pid) section (with_handled pid section s))).state.area ≡ s.area
+area_by_section s pid section true = refl
+area_by_section s pid section false = area_by_tag (with_handled pid section s) (tag_in (services s).map pid) section
+
+pub turn_area : (pid : ℕ) (section : List ℕ) (s : State) → (turn pid section s).state.area ≡ s.area
+unfolding turn
+turn_area pid section s = area_dispatches most_dispatches (step_of_section pid section s).state ∙ area_by_section s pid section (reads_table s.selection (services s).service pid)

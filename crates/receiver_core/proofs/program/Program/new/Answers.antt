@@ -1,7 +1,0 @@
-use Rattle.receiver_core.proofs.ProgramLaws.{stands_first}
-use Rattle.receiver_core.proofs.program.Program.new.Goals as goal
-
-pub returns : goal.returns
-returns c =
-    let set = c.in_ok-set_components.ensures in
-    stands_first c.new-services.result c.new-store.result c.set_components.new.self c.args.selection c.new-services.ensures.selection c.new-services.ensures.stands c.new-store.ensures set.stands set.components
