@@ -4,10 +4,11 @@ use Rattle.std.proofs.Common.{[], ◌∷◌, ◌++◌, codes, Option, Some, None
 use Rattle.std.proofs.Common.{refl, sym, ap, ap₂, ◌∙◌, subst, true≢false, ne_eqb, leb-true, le-leb}
 use Rattle.std.proofs.lemmas.Option.{cond_some, none-some}
 use Rattle.std.specs.Cmp.Lexicographic.{bytes_decides}
+use Rattle.bml_bytes.specs.Words.{is_same}
 use Rattle.bml_bytes.specs.Numerals.{decimal_field}
 use Rattle.psi_tables.specs.declared.services.Selection.{Selection}
 use Rattle.psi_tables.specs.declared.services.Selection.TheVariants.{First, Service, Pid}
-use Rattle.replay_run.specs.Words.{CommandWords, is_same, is_file_name, service, data_pid}
+use Rattle.replay_run.specs.Words.{CommandWords, is_file_name, service, data_pid}
 use Rattle.replay_run.specs.Words.{selection_of, replay_of, command, IsFileName, AskFor, IsReplay}
 
 both : (a b : Bool) → a ≡ true → b ≡ true → (a && b) ≡ true
@@ -171,8 +172,7 @@ asks_service option number selection o n =
       number = number;
       written = ap (λ w. w ∷ number ∷ []) o;
       field = n.field;
-      least_is =
-          n.least_is;
+      least_is = n.least_is;
       most_is = n.most_is;
     })
 
@@ -184,8 +184,7 @@ asks_data option number selection o n =
       number = number;
       written = ap (λ w. w ∷ number ∷ []) o;
       field = n.field;
-      least_is =
-          n.least_is;
+      least_is = n.least_is;
       most_is = n.most_is;
     })
 

@@ -33,28 +33,28 @@ never_beyond stream notes before behind free (inl more) =
     never_more _ stream _ free.stream_short more
 never_beyond stream notes before behind free (inr more) = never_more _ notes _ free.notes_short more
 
-pub comes_to_end : (status : Status) (selection : Selection) (stream notes : List ℕ)
+pub comes_to_end : (status : Status) (selection : Selection) (area stream notes : List ℕ)
     (before behind : Outside)
-    → EndsAs (replay_meaning selection stream notes) (account stream notes before behind) status
+    → EndsAs (replay_meaning selection area stream notes) (account stream notes before behind) status
     → IsCaused status before behind → status ≢ Usage
     → IsUnhindered stream notes before behind
     → (status ≡ Done) ⊎ (status ≡ NoMemory)
-comes_to_end Done selection stream notes before behind ends cause obeyed free = inl refl
-comes_to_end NoMemory selection stream notes before behind ends cause obeyed free = inr refl
-comes_to_end (BadRecord line) selection stream notes before behind ends cause obeyed free =
+comes_to_end Done selection area stream notes before behind ends cause obeyed free = inl refl
+comes_to_end NoMemory selection area stream notes before behind ends cause obeyed free = inr refl
+comes_to_end (BadRecord line) selection area stream notes before behind ends cause obeyed free =
     let clash : Done ≡ BadRecord line = ap status_behind (sym free.good) ∙ ends.same in cc
-comes_to_end Usage selection stream notes before behind ends cause obeyed free =
+comes_to_end Usage selection area stream notes before behind ends cause obeyed free =
     absurd (obeyed refl)
-comes_to_end OpenFault selection stream notes before behind ends cause obeyed free =
+comes_to_end OpenFault selection area stream notes before behind ends cause obeyed free =
     absurd (free.opened cause.0.rose)
-comes_to_end ReadFault selection stream notes before behind ends (inl cause) obeyed free =
+comes_to_end ReadFault selection area stream notes before behind ends (inl cause) obeyed free =
     absurd (free.stream_read cause.rose)
-comes_to_end ReadFault selection stream notes before behind ends (inr cause) obeyed free =
+comes_to_end ReadFault selection area stream notes before behind ends (inr cause) obeyed free =
     absurd (free.notes_read cause.rose)
-comes_to_end WriteFault selection stream notes before behind ends cause obeyed free =
+comes_to_end WriteFault selection area stream notes before behind ends cause obeyed free =
     absurd (free.written cause.rose)
-comes_to_end KeepFault selection stream notes before behind ends cause obeyed free = absurd cause
-comes_to_end (BadArea length) selection stream notes before behind ends cause obeyed free =
+comes_to_end KeepFault selection area stream notes before behind ends cause obeyed free = absurd cause
+comes_to_end (BadArea length) selection area stream notes before behind ends cause obeyed free =
     absurd cause
-comes_to_end TooLong selection stream notes before behind ends cause obeyed free =
+comes_to_end TooLong selection area stream notes before behind ends cause obeyed free =
     absurd (never_beyond stream notes before behind free ends.0)

@@ -65,8 +65,7 @@ cut_unfinished held ended noted taken clear short open_end is_more none = record
   need_more = (
     λ e. record {
       open_end = open_end;
-      no_line_feed =
-          no_line_feed held clear short;
+      no_line_feed = no_line_feed held clear short;
       short = short;
     },
     λ waits. is_more,

@@ -2,8 +2,6 @@
 use Rattle.std.proofs.Common.{◌≡◌, ℕ, ◌≤◌, List, [], ◌∷◌, ◌++◌, map, refl, sym, ap, ◌∙◌, subst}
 use Rattle.std.proofs.Common.{append_assoc, append-nil, Option, Some, None, Result, Ok, Err, OnOk}
 use Rattle.std.proofs.Common.{IfErr, arith, inl, inr}
-use Rattle.std.specs.List.{concat}
-use Rattle.std.proofs.lemmas.List.Folds.{concat-append}
 use Rattle.std.specs.Io.KnownBytes.{Appends}
 use Rattle.std.proofs.KnownBytes.{Appends-nil}
 use Rattle.bml_ports.specs.declared.outside.Port.TheVariants.{Stream, Notes}
@@ -11,12 +9,11 @@ use Rattle.bml_ports.specs.declared.outside.Port.{Port}
 use Rattle.bml_ports.specs.Worlds.{WorldState, PortState}
 use Rattle.ts_packets.specs.Packets.{packets_of}
 use Rattle.psi_tables.specs.declared.services.Selection.{Selection}
-use Rattle.receiver_core.specs.Fronts.{IsFront}
-use Rattle.receiver_core.specs.Outputs.{outputs}
+use Rattle.receiver_core.specs.Fronts.{IsFront, front_of_self, front_of_append, front_of_front}
+use Rattle.receiver_core.specs.Fronts.{front_of_concat, front_of_map}
+use Rattle.receiver_core.specs.Outputs.{Piece, outputs, texts_of}
 use Rattle.receiver_core.specs.Receiving.{ReceiverState, StandsFor, IsIdle}
 use Rattle.receiver_core.specs.State.{Input}
-use Rattle.receiver_core.proofs.FrontLaws.{front_of_self, front_of_append, front_of_front}
-use Rattle.receiver_core.proofs.FrontLaws.{front_of_concat}
 use Rattle.replay_run.specs.declared.record.RecordItem.{RecordItem}
 use Rattle.replay_run.specs.declared.status.Status.{Status}
 use Rattle.replay_run.specs.declared.status.Status.TheVariants.{Done, Usage, BadRecord, OpenFault}
@@ -24,8 +21,8 @@ use Rattle.replay_run.specs.declared.status.Status.TheVariants.{ReadFault, Write
 use Rattle.replay_run.specs.declared.status.Status.TheVariants.{BadArea, TooLong, NoMemory}
 use Rattle.replay_run.specs.Ending.{EndsAs}
 use Rattle.replay_run.specs.Lines.{end_line}
-use Rattle.replay_run.specs.Meaning.{Meaning, Piece, piece_of, replay_inputs, replay_meaning}
-use Rattle.replay_run.specs.Meaning.{replay_texts, texts_of, last_texts, status_behind}
+use Rattle.replay_run.specs.Meaning.{Meaning, replay_inputs, replay_meaning, replay_pieces}
+use Rattle.replay_run.specs.Meaning.{end_piece, last_pieces, status_behind}
 use Rattle.replay_run.specs.Midway.{StopsIn}
 use Rattle.replay_run.specs.RecordProgress.{RecordState, IsAt, IsBadBehind, IsWhole, LeavesItems}
 use Rattle.replay_run.specs.Outside.{Outside, Account, account}
@@ -33,79 +30,31 @@ use Rattle.replay_run.specs.Play.{inputs_of, packet_count}
 use Rattle.replay_run.specs.Progress.{Replay, Moment, IsMidway, IsBetween}
 use Rattle.replay_run.specs.Record.{items_before_bad, first_bad}
 use Rattle.replay_run.specs.Replaying.{StopsLine, StopsOpening, OnlyReadsBoth, outcome_of}
-use Rattle.replay_run.specs.Output.{WritesPieces, WritesBytes}
+use Rattle.replay_run.specs.Output.{WritesPieces, WritesBytes, bytes_of}
 use Rattle.replay_run.specs.Files.{file, GaveAtMost, stream_limit, record_limit}
 use Rattle.replay_run.specs.Stopping.{LeavesPackets, IsReadOn, OnlyReads}
 use Rattle.replay_run.specs.Writing.{WritesOn, WritesShort}
 use Rattle.replay_run.proofs.RecordProgressLaws.{items_of_whole}
 use Rattle.replay_run.proofs.PlayLaws.{front_of_inputs}
 use Rattle.replay_run.proofs.StoppingLaws.{midway_within, read_on_none, read_on_more}
-use Rattle.replay_run.proofs.WritingLaws.{appends_from, appends_more}
+use Rattle.replay_run.proofs.WritingLaws.{appends_from, appends_more, bytes-append}
 
 -- what is known of receivers
 pub record ReceiverLaws : Type 0 where
-  pub more : (selection : Selection) (inputs further : List Input)
-      → IsFront (outputs selection inputs) (outputs selection (inputs ++ further))
-  pub given : (selection : Selection) (state : ReceiverState) (inputs : List Input)
-      (given : List (List ℕ)) → StandsFor selection state inputs given
-      → IsFront given (outputs selection inputs)
+  pub more : (selection : Selection) (area : List ℕ) (inputs further : List Input)
+      → IsFront (outputs selection area inputs) (outputs selection area (inputs ++ further))
+  pub front : (selection : Selection) (area : List ℕ) (state : ReceiverState) (inputs : List Input)
+      (given : List Piece)
+      → StandsFor selection area state inputs given → IsFront given (outputs selection area inputs)
+  pub all : (selection : Selection) (area : List ℕ) (state : ReceiverState) (inputs : List Input)
+      (given : List Piece)
+      → StandsFor selection area state inputs given → IsIdle state → given ≡ outputs selection area inputs
 
--- the texts of a meaning are those that it was made of
-pub texts_of_pieces : (texts : List (List ℕ)) → map (λ (piece : Piece). piece.text)
-    (map piece_of texts) ≡ texts
-texts_of_pieces [] = refl
-texts_of_pieces (text ∷ texts) = ap (λ l. text ∷ l) (texts_of_pieces texts)
-
--- what the first items hand over stands in front of all
-front_of_items : (stream notes : List ℕ) (items : List RecordItem)
-    → IsFront items (items_before_bad notes) → IsFront (inputs_of (packets_of stream) items)
-    (replay_inputs stream notes)
-front_of_items stream notes items front =
-    subst (λ l. IsFront (inputs_of (packets_of stream) items) (inputs_of (packets_of stream) l))
-    (sym front.joined) (front_of_inputs (packets_of stream) items front.rest)
-
--- texts that a receiver gave for the first inputs stand in front of all
-front_of_given : ReceiverLaws → (selection : Selection) (stream notes : List ℕ)
-    (receiver : ReceiverState) (inputs : List Input) (given : List (List ℕ))
-    → IsFront inputs (replay_inputs stream notes) → StandsFor selection receiver inputs given
-    → IsFront given (texts_of (replay_meaning selection stream notes))
-unfolding replay_texts
-front_of_given laws selection stream notes receiver inputs given front stands =
-    let all = replay_inputs stream notes in
-    let first : IsFront given (outputs selection inputs) =
-    laws.given selection receiver inputs given stands in
-    let more : IsFront (outputs selection inputs) (outputs selection all) =
-    subst (λ l. IsFront (outputs selection inputs) (outputs selection l)) (sym front.joined)
-    (laws.more selection inputs front.rest) in
-    let last : IsFront (outputs selection all) (replay_texts selection stream notes) =
-    front_of_append (outputs selection all) (last_texts (first_bad notes) all) in
-    subst (λ l. IsFront given l) (sym (texts_of_pieces (replay_texts selection stream notes)))
-    (front_of_front given (outputs selection all) (replay_texts selection stream notes)
-    (front_of_front given (outputs selection inputs) (outputs selection all) first more) last)
-
--- pieces that were written stand in front of all
-writes_in_front : (old new : Option (List ℕ)) (pieces all : List (List ℕ)) → IsFront pieces all
-    → WritesPieces old new pieces → WritesPieces old new all
-writes_in_front old new pieces all front w =
-    record {
-      whole = w.whole;
-      front = front_of_front w.whole pieces all w.front front;
-      appended =
-          w.appended;
-    }
-
-bytes_in_front : (old new : Option (List ℕ)) (pieces all : List (List ℕ)) → IsFront pieces all
-    → WritesBytes old new pieces → WritesBytes old new all
-bytes_in_front old new pieces all front w = record {
-  bytes = w.bytes;
-  front = front_of_front w.bytes (concat pieces) (concat all) w.front
-      (front_of_concat pieces all front);
-  appended = w.appended;
-}
-
--- what a run is of: the stream, the record, and what the outside told before it
+-- what a run is of: the service or data that is asked for, the area at its start, the stream, the
+-- record, and what the outside told before it
 pub record Course : Type 0 where
   pub selection : Selection
+  pub area : List ℕ
   pub stream : List ℕ
   pub notes : List ℕ
   pub before : Outside
@@ -113,17 +62,66 @@ pub record Course : Type 0 where
 abbrev pub replay_of : Course → Replay
 replay_of run = record {
   selection = run.selection;
+  area = run.area;
   stream = run.stream;
-  first =
-      run.before.sink.written;
+  first = run.before.sink.written;
 }
 
 abbrev pub means : Course → Meaning
-means run = replay_meaning run.selection run.stream run.notes
+means run = replay_meaning run.selection run.area run.stream run.notes
 
 -- it ends as it should
 abbrev pub Ends : Course → Outside → Status → Type 0
 Ends run behind status = EndsAs (means run) (account run.stream run.notes run.before behind) status
+
+-- what the first items hand over stands in front of all
+front_of_items : (stream notes : List ℕ) (items : List RecordItem)
+    → IsFront items (items_before_bad notes)
+    → IsFront (inputs_of (packets_of stream) items) (replay_inputs stream notes)
+front_of_items stream notes items front =
+    subst (λ l. IsFront (inputs_of (packets_of stream) items) (inputs_of (packets_of stream) l))
+    (sym front.joined) (front_of_inputs (packets_of stream) items front.rest)
+
+-- pieces that a receiver gave for the first inputs stand in front of all
+front_of_given : ReceiverLaws → (run : Course) (receiver : ReceiverState) (inputs : List Input)
+    (given : List Piece)
+    → IsFront inputs (replay_inputs run.stream run.notes)
+    → StandsFor run.selection run.area receiver inputs given
+    → IsFront given (means run).pieces
+unfolding replay_pieces
+front_of_given laws run receiver inputs given front stands =
+    let all = replay_inputs run.stream run.notes in
+    let first : IsFront given (outputs run.selection run.area inputs) =
+    laws.front run.selection run.area receiver inputs given stands in
+    let more : IsFront (outputs run.selection run.area inputs) (outputs run.selection run.area all) =
+    subst (λ l. IsFront (outputs run.selection run.area inputs) (outputs run.selection run.area l))
+    (sym front.joined) (laws.more run.selection run.area inputs front.rest) in
+    let last = last_pieces (first_bad run.notes) (end_piece run.selection run.area all) in
+    front_of_front given (outputs run.selection run.area all)
+    (replay_pieces run.selection run.area run.stream run.notes)
+    (front_of_front given (outputs run.selection run.area inputs)
+    (outputs run.selection run.area all) first more)
+    (front_of_append (outputs run.selection run.area all) last)
+
+-- pieces that were written stand in front of all
+writes_in_front : (old new : Option (List ℕ)) (pieces all : List Piece) → IsFront pieces all
+    → WritesPieces old new pieces → WritesPieces old new all
+writes_in_front old new pieces all front w =
+    record {
+      whole = w.whole;
+      front = front_of_front w.whole pieces all w.front front;
+      appended = w.appended;
+    }
+
+bytes_in_front : (old new : Option (List ℕ)) (pieces all : List Piece) → IsFront pieces all
+    → WritesBytes old new pieces → WritesBytes old new all
+bytes_in_front old new pieces all front w = record {
+  bytes = w.bytes;
+  front = front_of_front w.bytes (bytes_of pieces) (bytes_of all) w.front
+      (front_of_concat (texts_of pieces) (texts_of all)
+      (front_of_map (λ (piece : Piece). piece.text) pieces all front));
+  appended = w.appended;
+}
 
 -- neither file gave more than it may, as far as it was read
 abbrev pub StreamWithin : Course → Outside → Type 0
@@ -142,18 +140,18 @@ between_within replay now items limit within b =
 -- whole pieces between two items
 between_pieces : ReceiverLaws → (run : Course) (now : Moment) (items : List RecordItem)
     → IsFront items (items_before_bad run.notes) → IsBetween (replay_of run) now items
-    → WritesPieces run.before.sink.written now.written (texts_of (means run))
+    → WritesPieces run.before.sink.written now.written (means run).pieces
 between_pieces laws run now items front b = record {
   whole = b.given;
-  front = front_of_given laws run.selection run.stream run.notes now.receiver _ b.given
+  front = front_of_given laws run now.receiver _ b.given
       (front_of_items run.stream run.notes items front) b.stands;
   appended = b.wrote;
 }
 
 -- ---- an item stops the replay
 
-leaves_in_front : (status : Status) (run : Course) (behind : Outside) (given : List (List ℕ))
-    → IsFront given (texts_of (means run)) → RecordWithin run behind
+leaves_in_front : (status : Status) (run : Course) (behind : Outside) (given : List Piece)
+    → IsFront given (means run).pieces → RecordWithin run behind
     → LeavesPackets status (file run.stream behind.world.stream.left) run.before.sink.written
     behind.sink.written given
     → Ends run behind status
@@ -182,7 +180,7 @@ ends_in_item laws status run behind items front within s =
     (replay_inputs run.stream run.notes) s.front
     (front_of_items run.stream run.notes items front) in
     leaves_in_front status run behind s.given
-    (front_of_given laws run.selection run.stream run.notes s.receiver s.inputs s.given some
+    (front_of_given laws run s.receiver s.inputs s.given some
     s.stands) within s.leaves
 
 -- ---- the record stops the replay
@@ -204,24 +202,24 @@ ends_bad : ReceiverLaws → (line : ℕ) (run : Course) (now : Moment) (behind :
     → StreamWithin run behind
     → IsIdle now.receiver → IsBetween (replay_of run) now items
     → Ends run behind (BadRecord line)
-unfolding replay_texts
+unfolding replay_pieces
 ends_bad laws line run now behind items bad told within idle b =
     let packets = packets_of run.stream in
     let inputs = inputs_of packets items in
     let all = replay_inputs run.stream run.notes in
-    let texts : replay_texts run.selection run.stream run.notes ≡ b.given =
-    ap (λ n. outputs run.selection all ++ last_texts n all) bad.number
-    ∙ append-nil (outputs run.selection all)
-    ∙ ap (λ l. outputs run.selection (inputs_of packets l)) bad.items_are
-    ∙ sym (idle.all run.selection inputs b.given b.stands) in
+    let pieces : (means run).pieces ≡ b.given =
+    ap (λ n. outputs run.selection run.area all
+    ++ last_pieces n (end_piece run.selection run.area all)) bad.number
+    ∙ append-nil (outputs run.selection run.area all)
+    ∙ ap (λ l. outputs run.selection run.area (inputs_of packets l)) bad.items_are
+    ∙ sym (laws.all run.selection run.area now.receiver inputs b.given b.stands idle) in
     record {
       same = ap status_behind bad.number;
       within = record { stream = within; notes = bad.within };
-      written = subst (λ o. Appends run.before.sink.written o (concat (texts_of (means run))))
+      written = subst (λ o. Appends run.before.sink.written o (bytes_of (means run).pieces))
           told.written
-          (subst (λ l. Appends run.before.sink.written now.written (concat l))
-          (sym (texts_of_pieces (replay_texts run.selection run.stream run.notes) ∙ texts))
-          b.wrote);
+          (subst (λ l. Appends run.before.sink.written now.written (bytes_of l))
+          (sym pieces) b.wrote);
     }
 
 pub ends_in_items : ReceiverLaws → (status : Status) (run : Course) (now : Moment)
@@ -232,12 +230,12 @@ pub ends_in_items : ReceiverLaws → (status : Status) (run : Course) (now : Mom
     → Ends run behind status
 ends_in_items laws ReadFault run now behind items front told within idle b l = (
   record { stream = within; notes = l },
-  subst (λ o. WritesPieces run.before.sink.written o (texts_of (means run))) told.written
+  subst (λ o. WritesPieces run.before.sink.written o (means run).pieces) told.written
       (between_pieces laws run now items front b),
 )
 ends_in_items laws TooLong run now behind items front told within idle b l = (
   inr l,
-  subst (λ o. WritesPieces run.before.sink.written o (texts_of (means run))) told.written
+  subst (λ o. WritesPieces run.before.sink.written o (means run).pieces) told.written
       (between_pieces laws run now items front b),
 )
 ends_in_items laws (BadRecord line) run now behind items front told within idle b l =
@@ -252,34 +250,28 @@ ends_in_items laws NoMemory run now behind items front told within idle b l = ab
 
 -- ---- the last line
 
--- all bytes of the texts
-whole_bytes : (pieces : List (List ℕ)) (line : List ℕ) → concat (pieces ++ line ∷ [])
-    ≡ concat pieces ++ line
-whole_bytes pieces line = concat-append pieces (line ∷ []) ∙ ap (λ l. concat pieces ++ l)
-    (append-nil line)
-
 -- the bytes of a record of good lines
 all_bytes : ReceiverLaws → (run : Course) (now : Moment) (left : Option (List ℕ))
     (items : List RecordItem)
     → IsWhole (file run.notes left) items → IsIdle now.receiver
     → (b : IsBetween (replay_of run) now items)
-    → concat (texts_of (means run)) ≡ concat b.given ++ end_line now.packets
-unfolding replay_texts
+    → bytes_of (means run).pieces ≡ bytes_of b.given ++ end_line now.packets
+unfolding replay_pieces
 all_bytes laws run now left items whole idle b =
     let good = items_of_whole run.notes left items whole in
     let packets = packets_of run.stream in
     let inputs = inputs_of packets items in
     let all = replay_inputs run.stream run.notes in
-    ap concat (
-    texts_of_pieces (replay_texts run.selection run.stream run.notes)
-    ∙ ap (λ n. outputs run.selection all ++ last_texts n all) good.0
-    ∙ ap (λ l. outputs run.selection (inputs_of packets l) ++ end_line
-    (packet_count (inputs_of packets l)) ∷ []) good.1
-    ∙ ap (λ l. l ++ end_line (packet_count inputs) ∷ [])
-    (sym (idle.all run.selection inputs b.given b.stands))
-    ∙ ap (λ n. b.given ++ end_line n ∷ []) (sym b.packets)
-    )
-    ∙ whole_bytes b.given (end_line now.packets)
+    let printed = outputs run.selection run.area all in
+    let last = end_piece run.selection run.area all in
+    ap (λ n. bytes_of (printed ++ last_pieces n last)) good.0
+    ∙ bytes-append printed (last ∷ [])
+    ∙ ap (λ l. bytes_of printed ++ l) (append-nil last.text)
+    ∙ ap (λ l. bytes_of (outputs run.selection run.area (inputs_of packets l))
+    ++ end_line (packet_count (inputs_of packets l))) good.1
+    ∙ ap (λ l. bytes_of l ++ end_line (packet_count inputs))
+    (sym (laws.all run.selection run.area now.receiver inputs b.given b.stands idle))
+    ∙ ap (λ n. bytes_of b.given ++ end_line n) (sym b.packets)
 
 -- it was written
 ends_done : ReceiverLaws → (run : Course) (now : Moment) (behind : Outside)
@@ -293,16 +285,16 @@ ends_done laws run now behind items whole within wrote idle b = record {
   within = record { stream = within; notes = whole.within };
   written = subst (λ l. Appends run.before.sink.written behind.sink.written l)
       (sym (all_bytes laws run now _ items whole idle b))
-      (appends_more run.before.sink.written now.written behind.sink.written (concat b.given)
+      (appends_more run.before.sink.written now.written behind.sink.written (bytes_of b.given)
       (end_line now.packets) b.wrote wrote);
 }
 
 -- the last bytes were cut short
-line_short : (first old new : Option (List ℕ)) (pieces : List (List ℕ)) (shown line : List ℕ)
-    → concat pieces ≡ shown ++ line
+line_short : (first old new : Option (List ℕ)) (pieces : List Piece) (shown line : List ℕ)
+    → bytes_of pieces ≡ shown ++ line
     → WritesShort old new line → Appends first old shown → WritesBytes first new pieces
 line_short None old new pieces shown line bytes short a =
-    record { bytes = []; front = record { rest = concat pieces; joined = refl }; appended = tt }
+    record { bytes = []; front = record { rest = bytes_of pieces; joined = refl }; appended = tt }
 line_short (Some start) None new pieces shown line bytes short a = absurd a
 line_short (Some start) (Some told) new pieces shown line bytes short a =
     let cut = short told refl in
@@ -326,8 +318,8 @@ ends_in_line : ReceiverLaws → (status : Status) (run : Course) (now : Moment) 
     → Ends run behind status
 ends_in_line laws WriteFault run now behind items whole within short idle b = (
   record { stream = within; notes = whole.within },
-  line_short run.before.sink.written now.written behind.sink.written (texts_of (means run))
-      (concat b.given)
+  line_short run.before.sink.written now.written behind.sink.written (means run).pieces
+      (bytes_of b.given)
       (end_line now.packets) (all_bytes laws run now _ items whole idle b) short b.wrote,
 )
 ends_in_line laws NoMemory run now behind items whole within kept idle b =
@@ -336,12 +328,12 @@ ends_in_line laws NoMemory run now behind items whole within kept idle b =
     subst (λ l. IsFront items l) (sym all.1) (front_of_self items) in
     record {
       whole = b.given;
-      front = front_of_given laws run.selection run.stream run.notes now.receiver _ b.given
+      front = front_of_given laws run now.receiver _ b.given
           (front_of_items run.stream run.notes items front) b.stands;
       appended = subst (λ l. Appends run.before.sink.written behind.sink.written l)
-          (append-nil (concat b.given))
+          (append-nil (bytes_of b.given))
           (appends_more run.before.sink.written now.written behind.sink.written
-          (concat b.given) [] b.wrote kept);
+          (bytes_of b.given) [] b.wrote kept);
     }
 ends_in_line laws Done run now behind items whole within s idle b = absurd s
 ends_in_line laws Usage run now behind items whole within s idle b = absurd s
@@ -393,8 +385,7 @@ reads_none a = record {
   files = refl;
   openings = refl;
   stream = read_on_none a.stream;
-  notes =
-      read_on_none a.notes;
+  notes = read_on_none a.notes;
 }
 
 pub reads_stream : (a b c : WorldState) → OnlyReadsBoth a b → OnlyReads Stream b c
@@ -422,7 +413,7 @@ pub ends_unopened : (status : Status) (meaning : Meaning) (run : Account) (port 
 ends_unopened OpenFault meaning run port old new same s = same
 ends_unopened NoMemory meaning run port old new same s = record {
   whole = [];
-  front = record { rest = texts_of meaning; joined = refl };
+  front = record { rest = meaning.pieces; joined = refl };
   appended = subst (λ o. Appends run.first o []) (sym same) (Appends-nil run.first);
 }
 ends_unopened Done meaning run port old new same s = absurd s

@@ -6,21 +6,22 @@ use Rattle.std.proofs.Common.{le-leb}
 use Rattle.std.proofs.lemmas.Bool.Decides.{nat_tests}
 use Rattle.std.specs.Cmp.Lexicographic.{bytes_decides}
 use Rattle.bml_bytes.specs.Numerals.{decimal_field}
+use Rattle.bml_bytes.specs.Words.{is_same}
 use Rattle.replay_run.specs.declared.record.RecordItem.{RecordItem}
 use Rattle.replay_run.specs.declared.record.RecordItem.TheVariants.{All, Packets, Show}
 use Rattle.replay_run.specs.declared.record.Line.{Line}
 use Rattle.replay_run.specs.declared.record.Line.TheVariants.{Item as Read, Nothing, Bad}
-use Rattle.replay_run.specs.Record.{fields, is_word, packets_item, item_of, item_line, is_comment}
+use Rattle.replay_run.specs.Record.{fields, packets_item, item_of, item_line, is_comment}
 use Rattle.replay_run.specs.Record.{line_with, line_of, IsWritten, AsksNothing}
 
 -- ---- from how it is written
 
-same_word : (word : List ℕ) → is_word word word ≡ true
+same_word : (word : List ℕ) → is_same word word ≡ true
 same_word word = (bytes_decides word word).1 refl
 
 all_written : line_with (codes "all" ∷ []) ≡ Read All
 all_written = ap (λ b. item_line
-    (cond b (Some All) (cond (is_word (codes "all") (codes "show")) (Some Show) None)))
+    (cond b (Some All) (cond (is_same (codes "all") (codes "show")) (Some Show) None)))
     (same_word (codes "all"))
 
 show_written : line_with (codes "show" ∷ []) ≡ Read Show

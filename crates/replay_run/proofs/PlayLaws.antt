@@ -33,8 +33,7 @@ pub front_of_inputs : (packets : List (List ℕ)) (items more : List RecordItem)
 front_of_inputs packets items more =
     record {
       rest = inputs_of (packets_left packets items) more;
-      joined =
-          inputs_of-append packets items more;
+      joined = inputs_of-append packets items more;
     }
 
 -- one item more

@@ -2,24 +2,24 @@
 use Rattle.std.proofs.Common.{◌≡◌, ℕ, ◌+◌, true, false, List, [], ◌∷◌, ◌++◌, drop, refl, sym, ap}
 use Rattle.std.proofs.Common.{◌∙◌, subst, append_assoc, append-nil, length, Option, Some, arith}
 use Rattle.std.proofs.Common.{length-append, drop-drop}
-use Rattle.std.specs.List.{concat}
 use Rattle.std.proofs.KnownBytes.{Appends-nil}
-use Rattle.std.proofs.lemmas.List.Folds.{concat-append}
 use Rattle.std.specs.Io.KnownBytes.{Appends}
 use Rattle.ts_packets.specs.Cutter.{CutterState, Gives}
 use Rattle.ts_packets.specs.Packets.{packets_of}
 use Rattle.psi_tables.specs.declared.services.Selection.{Selection}
+use Rattle.receiver_core.specs.Outputs.{Piece}
 use Rattle.receiver_core.specs.Receiving.{ReceiverState, StandsFor}
 use Rattle.receiver_core.specs.State.{Input, Packet}
 use Rattle.replay_run.specs.declared.record.RecordItem.{RecordItem}
 use Rattle.replay_run.specs.Midway.{item_of_count}
 use Rattle.replay_run.specs.Play.{inputs_of_item, packets_behind, inputs_of, packets_left}
 use Rattle.replay_run.specs.Play.{packet_count}
+use Rattle.replay_run.specs.Output.{bytes_of}
 use Rattle.replay_run.specs.Progress.{Replay, Moment, IsMidway, IsBetween}
 use Rattle.replay_run.proofs.PlayLaws.{inputs_of-push, packets_left-push, no_items}
 use Rattle.replay_run.proofs.PlayLaws.{packet_count-packet, with_packets, with_none, with_more}
 use Rattle.replay_run.proofs.PlayLaws.{Allows, took_all}
-use Rattle.replay_run.proofs.WritingLaws.{appends_more}
+use Rattle.replay_run.proofs.WritingLaws.{appends_more, bytes-append}
 
 -- the cutter left bytes out in front of the next packet
 pub midway_seek : (replay : Replay) (now : Moment) (inputs : List Input) (ahead : List (List ℕ))
@@ -50,9 +50,9 @@ behind_packet now cutter receiver =
 pub midway_packet : (replay : Replay) (now : Moment) (inputs : List Input) (ahead : List (List ℕ))
     (cutter : CutterState) (receiver : ReceiverState) (packet : List ℕ)
     → Gives now.cutter (packet ∷ []) cutter → cutter.ended ≡ now.cutter.ended
-    → ((inputs : List Input) (given : List (List ℕ))
-    → StandsFor replay.selection now.receiver inputs given
-    → StandsFor replay.selection receiver (inputs ++ Packet packet ∷ []) given)
+    → ((inputs : List Input) (given : List Piece)
+    → StandsFor replay.selection replay.area now.receiver inputs given
+    → StandsFor replay.selection replay.area receiver (inputs ++ Packet packet ∷ []) given)
     → IsMidway replay now inputs ahead
     → IsMidway replay (behind_packet now cutter receiver) (with_packets inputs 1 ahead)
     (drop 1 ahead)
@@ -76,20 +76,20 @@ midway_packet replay now inputs ahead cutter receiver packet gives ended pushed 
       wrote = m.wrote;
     })
 
--- the receiver gave texts, which were written
-pub midway_texts : (replay : Replay) (now : Moment) (inputs more : List Input)
+-- the receiver gave pieces, which were written
+pub midway_pieces : (replay : Replay) (now : Moment) (inputs more : List Input)
     (ahead : List (List ℕ))
-    (receiver : ReceiverState) (texts : List (List ℕ)) (written : Option (List ℕ))
-    → ((given : List (List ℕ)) → StandsFor replay.selection now.receiver inputs given
-    → StandsFor replay.selection receiver more (given ++ texts))
+    (receiver : ReceiverState) (pieces : List Piece) (written : Option (List ℕ))
+    → ((given : List Piece) → StandsFor replay.selection replay.area now.receiver inputs given
+    → StandsFor replay.selection replay.area receiver more (given ++ pieces))
     → packet_count more ≡ packet_count inputs
-    → ((start : List ℕ) → now.written ≡ Some start → written ≡ Some (start ++ concat texts))
+    → ((start : List ℕ) → now.written ≡ Some start → written ≡ Some (start ++ bytes_of pieces))
     → IsMidway replay now inputs ahead
     → IsMidway replay (record now { receiver = receiver; written = written }) more ahead
-midway_texts replay now inputs more ahead receiver texts written gave count appended m = record {
+midway_pieces replay now inputs more ahead receiver pieces written gave count appended m = record {
   taken = m.taken;
   rest = m.rest;
-  given = m.given ++ texts;
+  given = m.given ++ pieces;
   left_is = m.left_is;
   whole = m.whole;
   counted = m.counted;
@@ -97,9 +97,9 @@ midway_texts replay now inputs more ahead receiver texts written gave count appe
   ahead_is = m.ahead_is;
   packets = m.packets ∙ sym count;
   stands = gave m.given m.stands;
-  wrote = subst (λ l. Appends replay.first written l) (sym (concat-append m.given texts))
-      (appends_more replay.first now.written written (concat m.given)
-      (concat texts) m.wrote appended);
+  wrote = subst (λ l. Appends replay.first written l) (sym (bytes-append m.given pieces))
+      (appends_more replay.first now.written written (bytes_of m.given)
+      (bytes_of pieces) m.wrote appended);
 }
 
 -- the stream gave bytes, and the cutter took them
@@ -113,8 +113,7 @@ pub midway_read : (replay : Replay) (now : Moment) (inputs : List Input) (ahead 
     → IsMidway replay (record now {
       cutter = cutter;
       bytes = now.bytes + length bytes;
-      left =
-          left;
+      left = left;
     }) inputs ahead
 midway_read replay now inputs ahead cutter left bytes gave open_end held ended m =
     let g = gave m.rest m.left_is in
@@ -163,9 +162,9 @@ midway_end replay now inputs ahead cutter left gave held m =
 pub between_start : (replay : Replay) (now : Moment)
     → now.left ≡ Some replay.stream → now.written ≡ replay.first
     → now.cutter.held ≡ [] → now.cutter.ended ≡ false → now.bytes ≡ 0 → now.packets ≡ 0
-    → StandsFor replay.selection now.receiver [] []
+    → (zeros : List ℕ) → zeros ≡ replay.area → StandsFor replay.selection zeros now.receiver [] []
     → IsBetween replay now []
-between_start replay now l w held open_end bytes packets stands =
+between_start replay now l w held open_end bytes packets zeros same stands =
     let none = no_items (packets_of replay.stream) in
     let P : List Input → Type 0 =
     λ inputs. IsMidway replay now inputs (packets_left (packets_of replay.stream) []) in
@@ -179,7 +178,7 @@ between_start replay now l w held open_end bytes packets stands =
       ended = λ e. let clash : true ≡ false = sym e ∙ open_end in cc;
       ahead_is = ap (λ l. packets_of (l ++ replay.stream)) held ∙ sym none.1;
       packets = packets;
-      stands = stands;
+      stands = subst (λ area. StandsFor replay.selection area now.receiver [] []) same stands;
       wrote = subst (λ o. Appends replay.first o []) (sym w) (Appends-nil replay.first);
     })
 

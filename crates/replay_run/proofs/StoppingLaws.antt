@@ -2,19 +2,17 @@
 use Rattle.std.proofs.Common.{◌≡◌, ℕ, ◌+◌, ◌<◌, ◌≤◌, List, [], ◌∷◌, ◌++◌, take, drop, refl, sym, ap}
 use Rattle.std.proofs.Common.{◌∙◌, subst, append_assoc, length, Option, Some, None, Result, Ok, Err}
 use Rattle.std.proofs.Common.{OnErr, IfErr, arith, length-append}
-use Rattle.std.specs.List.{concat}
 use Rattle.std.specs.Io.KnownBytes.{Appends, Consumes, IsAtEnd, Keeps, ReadConsumes}
 use Rattle.std.proofs.KnownBytes.{Consumes-nil, Consumes-trans, Consumes-kept}
-use Rattle.std.proofs.lemmas.List.Folds.{concat-append}
 use Rattle.bml_ports.specs.declared.outside.Port.{Port}
 use Rattle.bml_ports.specs.Counters.{Counts}
 use Rattle.bml_ports.specs.Worlds.{WorldState, PortState, port_of}
 use Rattle.ts_packets.specs.Packets.{packets_of, packets_after}
 use Rattle.psi_tables.specs.declared.services.Selection.{Selection}
-use Rattle.receiver_core.specs.Fronts.{IsFront}
+use Rattle.receiver_core.specs.Fronts.{IsFront, front_of_self, front_of_front}
+use Rattle.receiver_core.specs.Outputs.{Piece}
 use Rattle.receiver_core.specs.Receiving.{ReceiverState, StandsFor}
 use Rattle.receiver_core.specs.State.{Input}
-use Rattle.receiver_core.proofs.FrontLaws.{front_of_self, front_of_front}
 use Rattle.replay_run.specs.declared.record.RecordItem.{RecordItem}
 use Rattle.replay_run.specs.declared.status.Status.{Status}
 use Rattle.replay_run.specs.declared.status.Status.TheVariants.{ReadFault, WriteFault, TooLong}
@@ -23,12 +21,12 @@ use Rattle.replay_run.specs.Midway.{StopsIn}
 use Rattle.replay_run.specs.Play.{inputs_of_item, inputs_of, packets_left}
 use Rattle.replay_run.specs.Outside.{Outside}
 use Rattle.replay_run.specs.Progress.{Replay, Moment, IsMidway}
-use Rattle.replay_run.specs.Output.{WritesPieces, WritesBytes}
+use Rattle.replay_run.specs.Output.{WritesPieces, WritesBytes, bytes_of}
 use Rattle.replay_run.specs.Files.{file, GaveAtMost, stream_limit}
 use Rattle.replay_run.specs.Stopping.{IsReadOn, OnlyReads}
 use Rattle.replay_run.specs.Writing.{CutShort}
 use Rattle.replay_run.proofs.PlayLaws.{inputs_of-push, with_packets, with_more}
-use Rattle.replay_run.proofs.WritingLaws.{appends_from}
+use Rattle.replay_run.proofs.WritingLaws.{appends_from, bytes-append}
 
 -- what a read that gave these bytes left
 pub consumed_some : (bytes : List ℕ) (old new : Option (List ℕ)) → Consumes old new bytes
@@ -78,7 +76,7 @@ pub stops_more : (status : Status) (replay : Replay) (told : Outside) (inputs : 
 stops_more status replay told inputs ahead count s =
     subst (λ l. StopsIn status replay told l) (with_more inputs count 1 ahead) s
 
--- whole texts
+-- whole pieces
 pub stops_whole : (replay : Replay) (now : Moment) (inputs : List Input) (ahead : List (List ℕ))
     → (m : IsMidway replay now inputs ahead) → WritesPieces replay.first now.written m.given
 stops_whole replay now inputs ahead m =
@@ -123,8 +121,7 @@ within_kept limit bytes (Some x) (Some y) kept g = record {
   gave = record {
     given = g.gave.given;
     rest = g.gave.rest;
-    left_is =
-        ap Some kept ∙ g.gave.left_is;
+    left_is = ap Some kept ∙ g.gave.left_is;
     whole = g.gave.whole;
   };
   most = g.most;
@@ -182,54 +179,53 @@ stops_long replay now told inputs ahead bytes count size above consumed written 
       );
     }
 
--- the bytes of texts, of which the last ones were cut short
-short_bytes : (first old new : Option (List ℕ)) (given texts : List (List ℕ))
-    → ((start : List ℕ) → old ≡ Some start → CutShort start new (concat texts))
-    → Appends first old (concat given) → WritesBytes first new (given ++ texts)
-short_bytes None old new given texts cut a =
+-- the bytes of pieces, of which the last ones were cut short
+short_bytes : (first old new : Option (List ℕ)) (given pieces : List Piece)
+    → ((start : List ℕ) → old ≡ Some start → CutShort start new (bytes_of pieces))
+    → Appends first old (bytes_of given) → WritesBytes first new (given ++ pieces)
+short_bytes None old new given pieces cut a =
     record {
       bytes = [];
-      front =
-          record { rest = concat (given ++ texts); joined = refl };
+      front = record { rest = bytes_of (given ++ pieces); joined = refl };
       appended = tt;
     }
-short_bytes (Some start) None new given texts cut a = absurd a
-short_bytes (Some start) (Some told) new given texts cut a =
+short_bytes (Some start) None new given pieces cut a = absurd a
+short_bytes (Some start) (Some told) new given pieces cut a =
     let short = cut told refl in
     record {
-      bytes = concat given ++ short.front;
+      bytes = bytes_of given ++ short.front;
       front = record {
         rest = short.rest;
-        joined = concat-append given texts ∙ ap (λ l. concat given ++ l) short.whole
-            ∙ sym (append_assoc (concat given) short.front short.rest);
+        joined = bytes-append given pieces ∙ ap (λ l. bytes_of given ++ l) short.whole
+            ∙ sym (append_assoc (bytes_of given) short.front short.rest);
       };
-      appended = appends_from start (concat given ++ short.front) new
+      appended = appends_from start (bytes_of given ++ short.front) new
           (short.written ∙ ap Some
-          (ap (λ l. l ++ short.front) a ∙ append_assoc start (concat given) short.front));
+          (ap (λ l. l ++ short.front) a ∙ append_assoc start (bytes_of given) short.front));
     }
 
--- texts were cut short that the receiver gave
+-- pieces were cut short that the receiver gave
 pub stops_short : (replay : Replay) (now : Moment) (told : Outside) (inputs more : List Input)
     (ahead : List (List ℕ))
-    (receiver : ReceiverState) (texts : List (List ℕ))
-    → ((given : List (List ℕ)) → StandsFor replay.selection now.receiver inputs given
-    → StandsFor replay.selection receiver more (given ++ texts))
+    (receiver : ReceiverState) (pieces : List Piece)
+    → ((given : List Piece) → StandsFor replay.selection replay.area now.receiver inputs given
+    → StandsFor replay.selection replay.area receiver more (given ++ pieces))
     → told.world.stream.left ≡ now.left
     → ((start : List ℕ) → now.written ≡ Some start → CutShort start told.sink.written
-    (concat texts))
+    (bytes_of pieces))
     → now.bytes ≤ stream_limit
     → IsMidway replay now inputs ahead
     → StopsIn WriteFault replay told more
-stops_short replay now told inputs more ahead receiver texts gave left cut within m = record {
+stops_short replay now told inputs more ahead receiver pieces gave left cut within m = record {
   inputs = more;
   front = front_of_self more;
   receiver = receiver;
-  given = m.given ++ texts;
+  given = m.given ++ pieces;
   stands = gave m.given m.stands;
   leaves = (
     subst (λ l. GaveAtMost stream_limit (file replay.stream l)) (sym left)
         (midway_within replay now inputs ahead stream_limit within m),
-    short_bytes replay.first now.written told.sink.written m.given texts cut m.wrote,
+    short_bytes replay.first now.written told.sink.written m.given pieces cut m.wrote,
   );
 }
 
@@ -247,8 +243,7 @@ read_on_none port = record {
   asked = refl;
   later = omega arith;
   given = [];
-  consumed =
-      Consumes-nil port.left;
+  consumed = Consumes-nil port.left;
 }
 
 pub read_on_more : (a b c : PortState) → IsReadOn a b → IsReadOn b c → IsReadOn a c

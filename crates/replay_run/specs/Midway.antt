@@ -4,6 +4,7 @@ use Rattle.std.specs.Prelude.{Option, Some, None}
 use Rattle.ts_packets.specs.Cutter.{CutterState}
 use Rattle.bml_ports.specs.Worlds.{WorldState}
 use Rattle.receiver_core.specs.Fronts.{IsFront}
+use Rattle.receiver_core.specs.Outputs.{Piece}
 use Rattle.receiver_core.specs.Receiving.{ReceiverState, StandsFor}
 use Rattle.receiver_core.specs.State.{Input}
 use Rattle.replay_run.specs.declared.player.Player.{Player}
@@ -59,15 +60,15 @@ Handles item old new =
     → IsMidway replay old inputs ahead
     → IsMidway replay new (inputs ++ inputs_of_item item ahead) (packets_behind item ahead)
 
--- The replay stopped somewhere in these inputs: a front of the texts is written that a receiver
+-- The replay stopped somewhere in these inputs: a front of the pieces is written that a receiver
 -- gave for the first of them.
 pub record StopsIn (status : Status) (replay : Replay) (told : Outside)
     (all : List Input) : Type 0 where
   pub inputs : List Input
   pub front : IsFront inputs all
   pub receiver : ReceiverState
-  pub given : List (List ℕ)
-  pub stands : StandsFor replay.selection receiver inputs given
+  pub given : List Piece
+  pub stands : StandsFor replay.selection replay.area receiver inputs given
   pub leaves : LeavesPackets status (file replay.stream told.world.stream.left)
       replay.first told.sink.written given
 

@@ -1,21 +1,23 @@
--- A device of the proofs: how far a replay has come; the stream, the inputs, the texts and what was
+-- A device of the proofs: how far a replay has come; the stream, the inputs, the pieces and what was
 -- written hang together. (What a run means is in `Meaning`.)
 use Rattle.std.specs.Prelude.{◌≡◌, ℕ, true, List, [], ◌++◌, length, Option, Some}
-use Rattle.std.specs.List.{concat}
 use Rattle.std.specs.Io.KnownBytes.{Appends}
 use Rattle.ts_packets.specs.Cutter.{CutterState}
 use Rattle.ts_packets.specs.Packets.{packets_of}
 use Rattle.psi_tables.specs.declared.services.Selection.{Selection}
+use Rattle.receiver_core.specs.Outputs.{Piece}
 use Rattle.receiver_core.specs.Receiving.{ReceiverState, StandsFor}
 use Rattle.receiver_core.specs.State.{Input}
 use Rattle.replay_run.specs.declared.record.RecordItem.{RecordItem}
+use Rattle.replay_run.specs.Output.{bytes_of}
 use Rattle.replay_run.specs.Outside.{Outside}
 use Rattle.replay_run.specs.Play.{inputs_of, packets_left, packet_count}
 
--- what a replay is of: the service or data that is asked for, the stream, and what the sink told at
--- the start
+-- what a replay is of: the service or data that is asked for, the area at the start, the stream, and
+-- what the sink told at the start
 pub record Replay : Type 0 where
   pub selection : Selection
+  pub area : List ℕ
   pub stream : List ℕ
   pub first : Option (List ℕ)
 
@@ -31,21 +33,21 @@ pub record Moment : Type 0 where
   pub left : Option (List ℕ)
   pub written : Option (List ℕ)
 
--- These inputs came to the receiver, all texts that it gave for them so far are written, and these
+-- These inputs came to the receiver, all pieces that it gave for them so far are written, and these
 -- packets are ahead.
 pub record IsMidway (replay : Replay) (now : Moment) (inputs : List Input)
     (ahead : List (List ℕ)) : Type 0 where
   pub taken : List ℕ
   pub rest : List ℕ
-  pub given : List (List ℕ)
+  pub given : List Piece
   pub left_is : now.left ≡ Some rest
   pub whole : replay.stream ≡ taken ++ rest
   pub counted : now.bytes ≡ length taken
   pub ended : now.cutter.ended ≡ true → rest ≡ []
   pub ahead_is : packets_of (now.cutter.held ++ rest) ≡ ahead
   pub packets : now.packets ≡ packet_count inputs
-  pub stands : StandsFor replay.selection now.receiver inputs given
-  pub wrote : Appends replay.first now.written (concat given)
+  pub stands : StandsFor replay.selection replay.area now.receiver inputs given
+  pub wrote : Appends replay.first now.written (bytes_of given)
 
 -- Between two items: the inputs and the packets ahead are those of the items so far.
 abbrev pub IsBetween : Replay → Moment → List RecordItem → Type 0
@@ -53,10 +55,14 @@ IsBetween replay now items =
     IsMidway replay now (inputs_of (packets_of replay.stream) items)
     (packets_left (packets_of replay.stream) items)
 
--- A replay begins: where the stream is told, nothing came yet, and nothing is written but what the
--- sink tells.
-abbrev pub StartsReplay : Selection → Outside → Moment → Type 0
-StartsReplay selection told now =
+-- A replay begins with an area: where the stream is told, nothing came yet, and nothing is written
+-- but what the sink tells.
+abbrev pub StartsReplay : Selection → List ℕ → Outside → Moment → Type 0
+StartsReplay selection area told now =
     (stream : List ℕ) → told.world.stream.left ≡ Some stream
-    → IsBetween (record { selection = selection; stream = stream; first = told.sink.written })
-    now []
+    → IsBetween (record {
+      selection = selection;
+      area = area;
+      stream = stream;
+      first = told.sink.written;
+    }) now []

@@ -5,8 +5,8 @@ use Rattle.std.specs.Prelude.{if◌then◌else◌, List, [], ◌∷◌, map, len
 use Rattle.std.specs.Prelude.{Option, Some, None, option_map, option_and_then}
 use Rattle.std.specs.List.{slice_split}
 use Rattle.std.specs.Str.Lines.{lines}
-use Rattle.std.specs.Cmp.Lexicographic.{pointwise}
 use Rattle.bml_bytes.specs.Numerals.{decimal_field}
+use Rattle.bml_bytes.specs.Words.{is_same}
 use Rattle.replay_run.specs.declared.record.RecordItem.{RecordItem}
 use Rattle.replay_run.specs.declared.record.RecordItem.TheVariants.{All, Packets, Show}
 use Rattle.replay_run.specs.declared.record.Line.{Line}
@@ -45,15 +45,11 @@ is_field (_ ∷ _) = true
 unfoldable pub fields : List ℕ → List (List ℕ)
 fields line = filter is_field (slice_split is_blank line)
 
--- the field is this word
-abbrev pub is_word : List ℕ → List ℕ → Bool
-is_word field word = pointwise nat_eq field word
-
 -- `all` or `show`
 abbrev pub plain_item : List ℕ → Option RecordItem
 plain_item name =
-    if is_word name (codes "all") then Some All
-    else if is_word name (codes "show") then Some Show
+    if is_same name (codes "all") then Some All
+    else if is_same name (codes "show") then Some Show
     else None
 
 -- so many packets, and at least one
@@ -64,7 +60,7 @@ packets_item count = if count == 0 then None else Some (Packets count)
 abbrev pub item_of : List (List ℕ) → Option RecordItem
 item_of (name ∷ []) = plain_item name
 item_of (name ∷ number ∷ []) =
-    if is_word name (codes "packets") then option_and_then packets_item (decimal_field number)
+    if is_same name (codes "packets") then option_and_then packets_item (decimal_field number)
     else None
 item_of _ = None
 

@@ -10,7 +10,7 @@ use Rattle.replay_run.specs.declared.status.Status.TheVariants.{ReadFault, Write
 use Rattle.replay_run.specs.declared.status.Status.TheVariants.{BadArea, TooLong, NoMemory}
 use Rattle.replay_run.specs.Causes.{ReadFaulted, WriteFaulted}
 use Rattle.replay_run.specs.Ending.{EndsAs}
-use Rattle.replay_run.specs.Meaning.{replay_meaning}
+use Rattle.replay_run.specs.Meaning.{empty_area, replay_meaning}
 use Rattle.replay_run.specs.Opening.{bytes_under}
 use Rattle.replay_run.specs.Outside.{Outside, account}
 use Rattle.replay_run.specs.Stopping.{IsReadOn}
@@ -88,11 +88,11 @@ StopsLine (BadArea length) old new line = ⊥
 StopsLine TooLong old new line = ⊥
 
 -- Where the files are told, the replay ends as its meaning says.
-abbrev pub ReplayEnds : Selection → Outside → Outside → Status → Type 0
-ReplayEnds selection before behind status =
+abbrev pub ReplayEnds : Selection → List ℕ → Outside → Outside → Status → Type 0
+ReplayEnds selection area before behind status =
     (stream notes : List ℕ)
     → before.world.stream.left ≡ Some stream → before.world.notes.left ≡ Some notes
-    → EndsAs (replay_meaning selection stream notes) (account stream notes before behind) status
+    → EndsAs (replay_meaning selection area stream notes) (account stream notes before behind) status
 
 -- The same of a replay of two files under their names.
 abbrev pub RunEnds : Selection → List ℕ → List ℕ → Outside → Outside → Status → Type 0
@@ -100,4 +100,4 @@ RunEnds selection stream_name notes_name before behind status =
     (stream notes : List ℕ)
     → bytes_under before.world stream_name ≡ Some stream
     → bytes_under before.world notes_name ≡ Some notes
-    → EndsAs (replay_meaning selection stream notes) (account stream notes before behind) status
+    → EndsAs (replay_meaning selection empty_area stream notes) (account stream notes before behind) status

@@ -4,6 +4,7 @@ use Rattle.std.specs.Io.KnownBytes.{Consumes}
 use Rattle.bml_ports.specs.declared.outside.Port.{Port}
 use Rattle.bml_ports.specs.Counters.{Counter, FaultedSince}
 use Rattle.bml_ports.specs.Worlds.{WorldState, PortState, port_of, other_port}
+use Rattle.receiver_core.specs.Outputs.{Piece}
 use Rattle.replay_run.specs.declared.status.Status.{Status}
 use Rattle.replay_run.specs.declared.status.Status.TheVariants.{Done, Usage, BadRecord, OpenFault}
 use Rattle.replay_run.specs.declared.status.Status.TheVariants.{ReadFault, WriteFault, KeepFault}
@@ -60,7 +61,7 @@ StopsPackets status old new bytes =
     ⊎ StopsTurns status old.sink.writes new.sink.writes
 
 -- what is written of the pieces where handling packets stops
-abbrev pub LeavesPackets : Status → File → Option (List ℕ) → Option (List ℕ) → List (List ℕ)
+abbrev pub LeavesPackets : Status → File → Option (List ℕ) → Option (List ℕ) → List Piece
     → Type 0
 LeavesPackets ReadFault stream first written pieces =
     GaveAtMost stream_limit stream × WritesPieces first written pieces

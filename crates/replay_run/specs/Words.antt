@@ -3,8 +3,8 @@
 use Rattle.std.specs.Prelude.{◌≡◌, ◌≢◌, ℕ, ◌≤◌, Bool, false, ◌&&◌, not, ◌==◌, nat_eq, nat_le}
 use Rattle.std.specs.Prelude.{if◌then◌else◌, List, [], ◌∷◌, ◌++◌, slice_get, codes, Option, Some}
 use Rattle.std.specs.Prelude.{None, option_map, option_and_then}
-use Rattle.std.specs.Cmp.Lexicographic.{pointwise}
 use Rattle.bml_bytes.specs.Numerals.{decimal_field}
+use Rattle.bml_bytes.specs.Words.{is_same}
 use Rattle.psi_tables.specs.declared.services.Selection.{Selection}
 use Rattle.psi_tables.specs.declared.services.Selection.TheVariants.{First, Service, Pid}
 
@@ -14,10 +14,6 @@ pub record CommandWords : Type 0 where
   pub selection : Selection
   pub stream : List ℕ
   pub notes : List ℕ
-
--- the two words are the same
-abbrev pub is_same : List ℕ → List ℕ → Bool
-is_same = pointwise nat_eq
 
 -- the code of a hyphen (ASCII)
 abbrev pub hyphen : ℕ

@@ -42,6 +42,7 @@ pub struct Player {
 impl Player {
     ghost use Rattle.replay_run.specs.Midway.{moment, item_of_count, Goes, Stops, Handles};
     ghost use Rattle.replay_run.specs.Midway.{StopsHandling, IsReadable, work_left};
+    ghost use Rattle.replay_run.specs.Meaning.{empty_area};
     ghost use Rattle.replay_run.specs.Outside.{Outside, outside};
     ghost use Rattle.replay_run.specs.Progress.{StartsReplay};
     ghost use Rattle.receiver_core.specs.Receiving.{IsIdle};
@@ -49,8 +50,8 @@ impl Player {
 
     /// A replay at the start of its stream, with an area of zeros.
     pub fn new(alloc: Global, selection: Selection) -> Result<Player, NoMemory>
-        ensures start { IfOk result
-            (λ player. (told : Outside) → StartsReplay selection told (moment player told)) }
+        ensures start { IfOk result (λ player. (told : Outside)
+            → StartsReplay selection empty_area told (moment player told)) }
         ensures idle { IfOk result (λ player. IsIdle player.receiver) }
         ensures within { IfOk result (λ player. player.bytes ≤ stream_limit) }
         ensures readable { IfOk result (λ player. (world : WorldState)
@@ -67,8 +68,7 @@ impl Player {
 
     /// The packets that were taken.
     pub fn packets(&self) -> u64
-        ensures packets { result ≡ self.now.packets }
-        ensures few { result < 2 ^ 63 }
+        ensures { result ≡ self.now.packets }
     {
         self.packets
     }
@@ -207,7 +207,7 @@ impl Player {
             return Ok(());
         }
         let packet = self.cutter.take_packet();
-        self.receiver.packet(&packet);
+        self.receiver.wanted_packet(&packet);
         self.turns(out)
     }
 

@@ -5,7 +5,9 @@ ghost use Rattle.std.specs.Prelude.{Some, None};
 ghost use Rattle.bml_ports.specs.Worlds.{port_of};
 ghost use Rattle.replay_run.specs.Causes.{IsCaused};
 ghost use Rattle.replay_run.specs.Lines.{end_line};
+ghost use Rattle.replay_run.specs.Meaning.{empty_area};
 ghost use Rattle.replay_run.specs.Opening.{AsksAtMost, AsksInOrder, IsUnasked, LacksFile};
+ghost use Rattle.replay_run.specs.Meaning.{empty_area};
 ghost use Rattle.replay_run.specs.Opening.{LeavesRest, StopsAtOpening, bytes_under};
 ghost use Rattle.replay_run.specs.Outside.{outside};
 ghost use Rattle.replay_run.specs.Replaying.{outcome_of, LacksName, OnlyOpens, OnlyReadsBoth};
@@ -57,7 +59,7 @@ pub fn play_record<W: World, S: Sink>(
     ensures cause { IfErr result (λ status. StopsReplay status
         (outside (W.told world.old) (S.told out.old))
         (outside (W.told world.new) (S.told out.new))) }
-    ensures ends { ReplayEnds selection
+    ensures ends { ReplayEnds selection empty_area
         (outside (W.told world.old) (S.told out.old)) (outside (W.told world.new) (S.told out.new))
         (outcome_of result) }
 {
@@ -75,7 +77,6 @@ pub fn play_record<W: World, S: Sink>(
 
 // Writes the last line.
 fn write_end<S: Sink>(alloc: Global, packets: u64, out: &mut S) -> Result<(), Status>
-    requires few { packets < 2 ^ 63 }
     ensures whole { OnOk result
         (WritesOn (S.told out.old).written (S.told out.new).written (end_line packets)) }
     ensures cause { IfErr result

@@ -2,7 +2,7 @@
 
 ghost use Rattle.std.specs.Prelude.{◌≡◌, None, option_map, MatchOption};
 ghost use Rattle.replay_run.specs.Words.{command, data_pid, is_file_name as is_file_name_of};
-ghost use Rattle.replay_run.specs.Words.{is_same, selection_of as selected_by};
+ghost use Rattle.replay_run.specs.Words.{selection_of as selected_by};
 ghost use Rattle.replay_run.specs.Words.{replay_of as replay_by, service};
 ghost use Rattle.bml_bytes.specs.Numerals.{decimal_field};
 ghost use Rattle.replay_run.specs.CommandSeen.{command_seen};
@@ -48,7 +48,7 @@ fn replay_of<'a>(
 ) -> Option<Command<'a>>
     ensures { option_map command_seen result ≡ replay_by name.now selection stream.now notes.now }
 {
-    if !is_word(name.codes(), b"replay") {
+    if !name.is_word("replay") {
         return None;
     }
     if !is_file_name(stream) {
@@ -68,27 +68,13 @@ fn replay_of<'a>(
 fn selection_of(option: &Text, number: &Text) -> Option<Selection>
     ensures { result ≡ selected_by option.now number.now }
 {
-    if is_word(option.codes(), b"--service") {
+    if option.is_word("--service") {
         return read_service(number);
     }
-    if is_word(option.codes(), b"--data-pid") {
+    if option.is_word("--data-pid") {
         return read_data_pid(number);
     }
     None
-}
-
-fn is_word(codes: &[u16], expected: &[u8]) -> bool
-    ensures { result ≡ is_same codes.now expected.now }
-{
-    if codes.len() != expected.len() {
-        return false;
-    }
-    for (code, byte) in codes.iter().zip(expected) {
-        if *code != u16::from(*byte) {
-            return false;
-        }
-    }
-    true
 }
 
 fn is_file_name(word: &Text) -> bool

@@ -1,6 +1,7 @@
 use Rattle.std.proofs.Common.{refl, ℕ, List, [], ◌∷◌, ◌++◌, Ok, sym, ap, subst, IsTrue, arith}
 use Rattle.std.proofs.lemmas.Result.{err_from_is_err_and}
 use Rattle.bml_ports.specs.Worlds.{PortState}
+use Rattle.replay_run.specs.Meaning.{empty_area}
 use Rattle.replay_run.specs.Midway.{moment}
 use Rattle.replay_run.specs.Outside.{outside}
 use Rattle.replay_run.specs.RecordProgress.{record_state}
@@ -36,10 +37,15 @@ returns-in_err-item-clause-ends g c =
     c.from_residual-in_err-item.ensures.1 in
     let stopped = c.in_err-item.ensures in
     let laws : ReceiverLaws =
-    record { more = c.law_of_outputs.ensures.more; given = c.law_of_receivers.ensures } in
+    record {
+      more = c.law_of_outputs.ensures.more;
+      front = c.law_of_receivers.ensures.front;
+      all = c.law_of_receivers.ensures.all;
+    } in
     rw (p.1, p.2) (λ stream notes l n.
     let run : Course = record {
       selection = c.args.selection;
+      area = empty_area;
       stream = stream;
       notes = notes;
       before = outside (g.W.World.told c.args.world.now) (g.S.Sink.told c.args.out.now);
@@ -84,10 +90,15 @@ returns-in_err-handle-in-Some-clause-ends g c =
     let next = c.in_ok-item.ensures in
     let stopped = c.in_err-handle-in-Some.ensures in
     let laws : ReceiverLaws =
-    record { more = c.law_of_outputs.ensures.more; given = c.law_of_receivers.ensures } in
+    record {
+      more = c.law_of_outputs.ensures.more;
+      front = c.law_of_receivers.ensures.front;
+      all = c.law_of_receivers.ensures.all;
+    } in
     rw (p.1, p.2) (λ stream notes l n.
     let run : Course = record {
       selection = c.args.selection;
+      area = empty_area;
       stream = stream;
       notes = notes;
       before = outside (g.W.World.told c.args.world.now) (g.S.Sink.told c.args.out.now);
@@ -105,9 +116,14 @@ pub returns-in-None-clause-ends : goal.returns-in-None-clause-ends
 returns-in-None-clause-ends g c = λ stream notes l n.
     let next = c.in_ok-item.ensures in
     let laws : ReceiverLaws =
-    record { more = c.law_of_outputs.ensures.more; given = c.law_of_receivers.ensures } in
+    record {
+      more = c.law_of_outputs.ensures.more;
+      front = c.law_of_receivers.ensures.front;
+      all = c.law_of_receivers.ensures.all;
+    } in
     let run : Course = record {
       selection = c.args.selection;
+      area = empty_area;
       stream = stream;
       notes = notes;
       before = outside (g.W.World.told c.args.world.now) (g.S.Sink.told c.args.out.now);

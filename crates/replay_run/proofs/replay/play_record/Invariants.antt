@@ -2,6 +2,7 @@ use Rattle.std.proofs.Common.{◌≡◌, ◌≤◌, ℕ, ◌-◌, ◌*◌, List,
 use Rattle.receiver_core.specs.Receiving.{IsIdle}
 use Rattle.replay_run.specs.declared.record.RecordItem.{RecordItem}
 use Rattle.replay_run.specs.Files.{stream_limit, record_limit}
+use Rattle.replay_run.specs.Meaning.{empty_area}
 use Rattle.replay_run.specs.Midway as midway
 use Rattle.replay_run.specs.Outside.{outside}
 use Rattle.replay_run.specs.Progress.{IsBetween}
@@ -25,9 +26,9 @@ invariant-items g l = record {
       → (items : List RecordItem)
       × IsBetween (record {
         selection = l.fn.selection;
+        area = empty_area;
         stream = stream;
-        first =
-            (g.S.Sink.told l.initial.out).written;
+        first = (g.S.Sink.told l.initial.out).written;
       })
       (midway.moment l.player (outside (g.W.World.told l.world) (g.S.Sink.told l.out))) items
       × progress.IsAt notes (progress.record_state l.items (g.W.World.told l.world)) items;

@@ -1,10 +1,11 @@
 //! Blocks in any order, repeated, of two versions and under two indications, against what is counted by hand.
 
-use super::{DONE, REPLAY, SOUND, replayed};
-use crate::rows::streams::{Entry, Sent, Stream};
+use crate::runs::{REPLAY, SOUND, replayed};
 use bml_bytes::push_decimal;
 use bml_ports::NoMemory;
+use replay_run::Status;
 use std::test::Fail;
+use test_streams::{Entry, Sent, Stream};
 
 // Two indications: the second has another version of module 2, and module 3 besides.
 const ONE: Sent = Sent::Indication(1, 4, &[Entry(1, 1, 10, &[]), Entry(2, 1, 8, &[])]);
@@ -147,7 +148,7 @@ fn shuffled_blocks(rt: HostRuntime) -> Result<(), Fail> {
         lines.extend_from_slice(b"end 60\n")?;
         let stream = Stream::of_sections(alloc, sections.as_slice())?;
         let run = replayed(alloc, REPLAY, stream.bytes(), b"all\n", SOUND)?;
-        assert_eq!(rt; run.status, DONE);
+        assert_eq!(rt; run.status, Status::Done);
         assert_eq!(rt; run.sink.written(), lines.as_slice());
     }
     Ok(())
