@@ -1,23 +1,21 @@
 -- What is kept of a broadcast, behind one section more.
-use Rattle.std.proofs.Common.{◌≡◌, ◌≢◌, ℕ, suc, Bool, true, false, cond, eqb, List, [], ◌∷◌, ◌++◌, refl, sym, ap, ap₂, ◌∙◌, subst, append-nil, append_assoc, inl, inr}
-use Rattle.std.specs.Prelude.{zero, ◌⊎◌, AllPairs, Option, Some, None, Result, find, is_some, option_map}
+use Rattle.std.proofs.Common.{◌≡◌, ◌≢◌, ℕ, suc, Bool, true, false, cond, List, [], ◌∷◌, ◌++◌, refl, sym, ap, ap₂, ◌∙◌, subst, append-nil, append_assoc, inl, inr}
+use Rattle.std.specs.Prelude.{zero, ◌⊎◌, AllPairs, Option, Some, None, Result, option_map}
 use Rattle.std.specs.List.{flat_map}
-use Rattle.std.proofs.lemmas.Bool.{eq-eqb}
 use Rattle.dom_tree.specs.Items.{Item}
 use Rattle.bml_reader.specs.declared.faults.DocFault.{DocFault}
 use Rattle.psi_tables.specs.declared.components.Component.{Component}
 use Rattle.psi_tables.specs.declared.pat.PatEntry.{PatEntry}
 use Rattle.psi_tables.specs.declared.services.Selection.{Selection}
-use Rattle.psi_tables.specs.Components.{AreApart, pid_in, tag_in}
+use Rattle.psi_tables.specs.Components.{AreApart, AreSameMap, pid_in, tag_in}
 use Rattle.psi_tables.specs.History.{Handled, service_of, map_of}
 use Rattle.psi_tables.specs.Service.{ServicesState, reads_table}
 use Rattle.psi_tables.specs.Service as services_of
-use Rattle.psi_tables.proofs.HistoryLemmas.{stands_unread}
 use Rattle.carousel_blocks.specs.declared.changes.Change.{Change}
 use Rattle.multipart_entities.specs.declared.paths.Path.{Path}
 use Rattle.module_store.specs.Resources.{LooksAlike, start_path}
-use Rattle.module_store.specs.Store.{Stored, at_start, changes_by, fed, gone_by, with_map}
-use Rattle.module_store.specs.Standing.{StoreState, has_component}
+use Rattle.module_store.specs.Store.{Stored, at_start, changes_by, with_section, gone_by, with_map}
+use Rattle.module_store.specs.Standing.{StoreState}
 use Rattle.module_store.specs.Standing as store
 use Rattle.receiver_core.specs.declared.startup.Startup.{Startup}
 use Rattle.receiver_core.specs.declared.startup.Startup.TheVariants as kept
@@ -25,8 +23,9 @@ use Rattle.receiver_core.specs.Dispatches.{dispatch, dispatch_of, dispatches, lo
 use Rattle.receiver_core.specs.Lines.{line_of_change, load_line}
 use Rattle.receiver_core.specs.Loading.{Loads, LoadsAs}
 use Rattle.receiver_core.specs.Broadcasts.{Dispatches, HasDispatched, HasTaken, HasTurned, Keeps, LeavesLooks, BroadcastState, StandsFor, Takes, Turns}
+use Rattle.receiver_core.proofs.MapLaws.{IsSameMap, looks_alike, none_gone, pids_of_map, pids_of_section, stands_still}
 use Rattle.receiver_core.proofs.DispatchLaws.{dispatch_wanted, done_behind, next_made, none_of_most, none_wanted, nothing_at_first, one_of_most, still_done}
-use Rattle.receiver_core.specs.Startups.{IsCurrent, following, is_told_by, start_of, went_with}
+use Rattle.receiver_core.specs.Startups.{IsCurrent, startup_behind, is_told_by, start_of, is_gone_with}
 use Rattle.receiver_core.specs.State.{Start, State, opening, services, wants}
 use Rattle.receiver_core.specs.State.Start.{Wanted, Refused, Loaded}
 use Rattle.receiver_core.specs.Turns.{Step, step_of_section, step_of_component, step_of_table, step_of_tag, with_handled}
@@ -49,14 +48,14 @@ services_are state s stands = services_kept state s stands.keeps
 -- ---- before the first section
 
 pub stands_first : (services : ServicesState) (before new : StoreState) (selection : Selection) → services.selection ≡ selection → services_of.StandsFor services [] → store.StandsFor before at_start
-    → ((stored : Stored) → store.StandsFor before stored → store.StandsFor new (with_map services.map stored)) → ((tag : ℕ) → has_component new tag ≡ is_some (pid_in services.map tag))
+    → ((stored : Stored) → store.StandsFor before stored → store.StandsFor new (with_map services.map stored))
     → (area : List ℕ) → StandsFor (record { services = services; store = new; startup = kept.Wanted }) (opening selection area)
-stands_first services before new selection same stands first sets has area = record {
+stands_first services before new selection same stands first sets area = record {
   keeps = record {
     selection = same;
     services = stands;
     store = subst (λ (map : List Component). store.StandsFor new (with_map map at_start)) (stands.map ∙ ap (λ (x : Selection). map_of x []) same) (sets at_start first);
-    components = has;
+    pids = λ tag. pids_of_map (map_of selection []) at_start tag ∙ ap (λ (l : List Component). pid_in l tag) (sym (stands.map ∙ ap (λ (x : Selection). map_of x []) same));
     start = refl;
     current = tt;
   };
@@ -65,12 +64,17 @@ stands_first services before new selection same stands first sets has area = rec
 
 -- ---- a section that isn't read as a table
 
-pub handled_unread : (state : BroadcastState) (s : State) (pid : ℕ) (section : List ℕ) → Keeps state s → reads_table state.services.selection state.services.service pid ≡ false → Keeps state (with_handled pid section s)
-handled_unread state s pid section stands unread = record {
+-- a section on a PID that isn't read as a table changes nothing of the tables
+abbrev pub PassesUnread : Type 0
+PassesUnread = (state : ServicesState) (history : List Handled) (handled : Handled) → reads_table state.selection state.service handled.pid ≡ false
+    → services_of.StandsFor state history → services_of.StandsFor state (history ++ handled ∷ [])
+
+pub handled_unread : PassesUnread → (state : BroadcastState) (s : State) (pid : ℕ) (section : List ℕ) → Keeps state s → reads_table state.services.selection state.services.service pid ≡ false → Keeps state (with_handled pid section s)
+handled_unread passing state s pid section stands unread = record {
   selection = stands.selection;
-  services = stands_unread state.services s.handled pid section unread stands.services;
+  services = passing state.services s.handled (record { pid = pid; section = section }) unread stands.services;
   store = stands.store;
-  components = stands.components;
+  pids = stands.pids;
   start = stands.start;
   current = stands.current;
 }
@@ -83,15 +87,15 @@ pub unread_by : (state : BroadcastState) (s : State) (pid : ℕ) → Keeps state
 unread_by state s pid stands unread = subst (λ (x : ServicesState). reads_table x.selection x.service pid ≡ false) (services_kept state s stands) unread
 
 -- no component is on its PID
-pub passes : (state : BroadcastState) (pid : ℕ) (section before : List ℕ) → reads_table state.services.selection state.services.service pid ≡ false → tag_in state.services.map pid ≡ None
+pub passes : PassesUnread → (state : BroadcastState) (pid : ℕ) (section before : List ℕ) → reads_table state.services.selection state.services.service pid ≡ false → tag_in state.services.map pid ≡ None
     → Takes state state before before (step_of_section pid section)
-passes state pid section before unread none = record {
+passes passing state pid section before unread none = record {
   text = [];
   printed = sym (append-nil before);
   takes = λ s stands.
       subst (λ (t : Step). HasTaken state [] t)
       (sym (turned_unread s pid section None (unread_by state s pid stands unread) (subst (λ (x : ServicesState). tag_in x.map pid ≡ None) (services_kept state s stands) none)))
-      (record { keeps = handled_unread state s pid section stands unread; text_is = refl });
+      (record { keeps = handled_unread passing state s pid section stands unread; text_is = refl });
 }
 
 start_by_tag : (tag : Option ℕ) (section : List ℕ) (now : State) → (step_of_tag tag section now).state.start ≡ now.start
@@ -122,7 +126,7 @@ passes_looks state pid section unread none = record {
 -- ---- what is told of the start document
 
 -- what is told changes nothing of what became of the start document
-followed_at_start : (told : Bool) (startup : Startup) → (told ≡ true → start_of startup ≡ Wanted) → start_of (following told startup) ≡ start_of startup
+followed_at_start : (told : Bool) (startup : Startup) → (told ≡ true → start_of startup ≡ Wanted) → start_of (startup_behind told startup) ≡ start_of startup
 followed_at_start true startup wanted = sym (wanted refl)
 followed_at_start false startup wanted = refl
 
@@ -132,26 +136,26 @@ told_wanted component changes (kept.Pending pending) e = refl
 told_wanted component changes kept.Refused e = absurd cc
 told_wanted component changes (kept.Loaded document) e = absurd cc
 
-went_wanted : (gone : List (ℕ × Change)) (startup : Startup) → went_with gone startup ≡ true → start_of startup ≡ Wanted
+went_wanted : (gone : List (ℕ × Change)) (startup : Startup) → is_gone_with gone startup ≡ true → start_of startup ≡ Wanted
 went_wanted gone kept.Wanted e = refl
 went_wanted gone (kept.Pending pending) e = refl
 went_wanted gone kept.Refused e = absurd cc
 went_wanted gone (kept.Loaded document) e = absurd cc
 
-pub start_told : (component : ℕ) (changes : List Change) (startup : Startup) → start_of (following (is_told_by component changes startup) startup) ≡ start_of startup
+pub start_told : (component : ℕ) (changes : List Change) (startup : Startup) → start_of (startup_behind (is_told_by component changes startup) startup) ≡ start_of startup
 start_told component changes startup = followed_at_start (is_told_by component changes startup) startup (told_wanted component changes startup)
 
-pub start_gone : (gone : List (ℕ × Change)) (startup : Startup) → start_of (following (went_with gone startup) startup) ≡ start_of startup
-start_gone gone startup = followed_at_start (went_with gone startup) startup (went_wanted gone startup)
+pub start_gone : (gone : List (ℕ × Change)) (startup : Startup) → start_of (startup_behind (is_gone_with gone startup) startup) ≡ start_of startup
+start_gone gone startup = followed_at_start (is_gone_with gone startup) startup (went_wanted gone startup)
 
 -- a document that was read stays the one that is there, until one of its module's changes is told
 abbrev pub StaysInSections : Type 0
 StaysInSections = (stored : Stored) (component : ℕ) (section : List ℕ) (startup : Startup) → IsCurrent stored startup
-    → IsCurrent (fed component section stored) (following (is_told_by component (changes_by component section stored) startup) startup)
+    → IsCurrent (with_section component section stored) (startup_behind (is_told_by component (changes_by component section stored) startup) startup)
 
 abbrev pub StaysInMaps : Type 0
 StaysInMaps = (stored : Stored) (components : List Component) (startup : Startup) → AllPairs AreApart components → IsCurrent stored startup
-    → IsCurrent (with_map components stored) (following (went_with (gone_by components stored) startup) startup)
+    → IsCurrent (with_map components stored) (startup_behind (is_gone_with (gone_by components stored) startup) startup)
 
 -- ---- a table
 
@@ -159,64 +163,99 @@ pub table_taken : (old : BroadcastState) (services : ServicesState) (new : Store
     → ((handled : List Handled) → services_of.StandsFor old.services handled → services_of.StandsFor services (handled ++ record { pid = pid; section = section } ∷ []))
     → ((stored : Stored) → store.StandsFor old.store stored → store.StandsFor new (with_map services.map stored))
     → ((stored : Stored) → store.StandsFor old.store stored → went ≡ gone_by services.map stored)
-    → ((tag : ℕ) → has_component new tag ≡ is_some (pid_in services.map tag))
-    → ((selection : Selection) (handled : List Handled) → AllPairs AreApart (map_of selection handled)) → startup ≡ following (went_with went old.startup) old.startup → StaysInMaps
+    → ((selection : Selection) (handled : List Handled) → AllPairs AreApart (map_of selection handled)) → startup ≡ startup_behind (is_gone_with went old.startup) old.startup → StaysInMaps
     → (s : State) → Keeps old s → HasTaken (record { services = services; store = new; startup = startup }) (flat_map (λ gone. line_of_change gone.0 gone.1) went) (step_of_table (with_handled pid section s))
-table_taken old tables new startup went pid section same feeds sets told has apart follows stays s stands =
+table_taken old tables new startup went pid section same feeds sets told apart follows stays s stands =
     let now = with_handled pid section s in
-    let fed_with = feeds s.handled stands.services in
+    let fed = feeds s.handled stands.services in
     let asked = same ∙ stands.selection in
-    let map_is : tables.map ≡ (services now).map = fed_with.map ∙ ap (λ (x : Selection). map_of x now.handled) asked in
+    let map_is : tables.map ≡ (services now).map = fed.map ∙ ap (λ (x : Selection). map_of x now.handled) asked in
     record {
       keeps = record {
         selection = asked;
-        services = fed_with;
+        services = fed;
         store = subst (λ (map : List Component). store.StandsFor new (with_map map s.store)) map_is (sets s.store stands.store);
-        components = has;
+        pids = λ tag. pids_of_map (services now).map s.store tag ∙ ap (λ (l : List Component). pid_in l tag) (sym map_is);
         start = ap start_of follows ∙ start_gone went old.startup ∙ stands.start;
         current =
             subst (λ (map : List Component). IsCurrent (with_map map s.store) startup) map_is
-            (subst (λ (x : Startup). IsCurrent (with_map tables.map s.store) x) (sym (follows ∙ ap (λ (l : List (ℕ × Change)). following (went_with l old.startup) old.startup) (told s.store stands.store)))
-            (stays s.store tables.map old.startup (subst (λ (map : List Component). AllPairs AreApart map) (sym fed_with.map) (apart tables.selection now.handled)) stands.current));
+            (subst (λ (x : Startup). IsCurrent (with_map tables.map s.store) x) (sym (follows ∙ ap (λ (l : List (ℕ × Change)). startup_behind (is_gone_with l old.startup) old.startup) (told s.store stands.store)))
+            (stays s.store tables.map old.startup (subst (λ (map : List Component). AllPairs AreApart map) (sym fed.map) (apart tables.selection now.handled)) stands.current));
       };
       text_is = ap (flat_map (λ gone. line_of_change gone.0 gone.1)) (told s.store stands.store ∙ ap (λ (map : List Component). gone_by map s.store) map_is);
     }
 
+-- a table that leaves the map as it was
+none_is_gone : (startup : Startup) → is_gone_with [] startup ≡ false
+none_is_gone kept.Wanted = refl
+none_is_gone (kept.Pending pending) = refl
+none_is_gone kept.Refused = refl
+none_is_gone (kept.Loaded document) = refl
+
+same_map : (old : BroadcastState) (tables : ServicesState) (s now : State) → tables.map ≡ (services now).map → AreSameMap old.services.map tables.map → Keeps old s → IsSameMap (services now).map s.store
+same_map old tables s now map_is same stands tag = ap (λ (l : List Component). pid_in l tag) (sym map_is) ∙ sym (same tag) ∙ sym (stands.pids tag)
+
+map_behind : (old : BroadcastState) (tables : ServicesState) (pid : ℕ) (section : List ℕ) (s : State) → tables.selection ≡ old.services.selection
+    → ((handled : List Handled) → services_of.StandsFor old.services handled → services_of.StandsFor tables (handled ++ record { pid = pid; section = section } ∷ []))
+    → Keeps old s → tables.map ≡ (services (with_handled pid section s)).map
+map_behind old tables pid section s same feeds stands =
+    (feeds s.handled stands.services).map ∙ ap (λ (x : Selection). map_of x (with_handled pid section s).handled) (same ∙ stands.selection)
+
+pub table_kept : (old : BroadcastState) (tables : ServicesState) (pid : ℕ) (section before : List ℕ) → tables.selection ≡ old.services.selection
+    → ((handled : List Handled) → services_of.StandsFor old.services handled → services_of.StandsFor tables (handled ++ record { pid = pid; section = section } ∷ []))
+    → AreSameMap old.services.map tables.map → ((selection : Selection) (handled : List Handled) → AllPairs AreApart (map_of selection handled)) → StaysInMaps
+    → Takes old (record { services = tables; store = old.store; startup = old.startup }) before before (λ s. step_of_table (with_handled pid section s))
+table_kept old tables pid section before same feeds unchanged apart stays = record {
+  text = [];
+  printed = sym (append-nil before);
+  takes = λ s stands.
+      let now = with_handled pid section s in
+      let map_is = map_behind old tables pid section s same feeds stands in
+      let unchanged_now = same_map old tables s now map_is unchanged stands in
+      let none = none_gone (services now).map s.store unchanged_now in
+      record {
+        keeps = record {
+          selection = same ∙ stands.selection;
+          services = feeds s.handled stands.services;
+          store = stands_still old.store s.store (services now).map unchanged_now stands.store;
+          pids = λ tag. pids_of_map (services now).map s.store tag ∙ ap (λ (l : List Component). pid_in l tag) (sym map_is);
+          start = stands.start;
+          current =
+              subst (λ (b : Bool). IsCurrent (with_map (services now).map s.store) (startup_behind b old.startup)) (ap (λ (l : List (ℕ × Change)). is_gone_with l old.startup) none ∙ none_is_gone old.startup)
+              (stays s.store (services now).map old.startup (apart s.selection now.handled) stands.current);
+        };
+        text_is = ap (flat_map (λ gone. line_of_change gone.0 gone.1)) (sym none);
+      };
+}
+
+pub table_looks : (old : BroadcastState) (tables : ServicesState) (pid : ℕ) (section : List ℕ) → tables.selection ≡ old.services.selection
+    → ((handled : List Handled) → services_of.StandsFor old.services handled → services_of.StandsFor tables (handled ++ record { pid = pid; section = section } ∷ []))
+    → AreSameMap old.services.map tables.map → LeavesLooks old (λ s. step_of_table (with_handled pid section s))
+table_looks old tables pid section same feeds unchanged = record {
+  start = λ s. refl;
+  looks = λ s stands.
+      looks_alike s.store (services (with_handled pid section s)).map
+      (same_map old tables s (with_handled pid section s) (map_behind old tables pid section s same feeds stands) unchanged stands);
+}
+
 -- ---- a section of a component
 
--- a component on a PID has a PID
-tag_has_pid : (map : List Component) (pid tag : ℕ) → tag_in map pid ≡ Some tag → is_some (pid_in map tag) ≡ true
-tag_has_pid [] pid tag h = absurd cc
-tag_has_pid (c ∷ map) pid tag h = by (eqb c.pid pid) h (tag_has_pid map pid tag)
-  where
-    passed : (test : Bool) → is_some (pid_in map tag) ≡ true → is_some (option_map (λ (x : Component). x.pid) (cond test (Some c) (find (λ (x : Component). eqb x.tag tag) map))) ≡ true
-    passed true h = refl
-    passed false h = h
-
-    by : (on : Bool) → option_map (λ (x : Component). x.tag) (cond on (Some c) (find (λ (x : Component). eqb x.pid pid) map)) ≡ Some tag → (tag_in map pid ≡ Some tag → is_some (pid_in map tag) ≡ true)
-        → is_some (pid_in (c ∷ map) tag) ≡ true
-    by true h later = let same : c.tag ≡ tag = cc in rw (eq-eqb c.tag tag same) refl
-    by false h later = passed (eqb c.tag tag) (later h)
-
-pub has_its_component : (state : BroadcastState) (s : State) (pid component : ℕ) → Keeps state s → tag_in state.services.map pid ≡ Some component → has_component state.store component ≡ true
-has_its_component state s pid component stands is = stands.components component ∙ tag_has_pid state.services.map pid component is
-
-pub data_taken : (old : BroadcastState) (new : StoreState) (startup : Startup) (changes : List Change) (pid component : ℕ) (section : List ℕ) → reads_table old.services.selection old.services.service pid ≡ false
-    → ((stored : Stored) → store.StandsFor old.store stored → store.StandsFor new (fed component section stored))
+pub data_taken : PassesUnread → (old : BroadcastState) (new : StoreState) (startup : Startup) (changes : List Change) (pid component : ℕ) (section : List ℕ) → reads_table old.services.selection old.services.service pid ≡ false
+    → ((stored : Stored) → store.StandsFor old.store stored → store.StandsFor new (with_section component section stored))
     → ((stored : Stored) → store.StandsFor old.store stored → changes ≡ changes_by component section stored)
-    → ((tag : ℕ) → has_component new tag ≡ has_component old.store tag) → startup ≡ following (is_told_by component changes old.startup) old.startup → StaysInSections
+    → startup ≡ startup_behind (is_told_by component changes old.startup) old.startup → StaysInSections
     → (s : State) → Keeps old s → HasTaken (record { services = old.services; store = new; startup = startup }) (flat_map (line_of_change component) changes) (step_of_component component section (with_handled pid section s))
-data_taken old new startup changes pid component section unread feeds told same follows stays s stands =
-    let handled = handled_unread old s pid section stands unread in
+data_taken passing old new startup changes pid component section unread feeds told follows stays s stands =
+    let handled = handled_unread passing old s pid section stands unread in
     record {
       keeps = record {
         selection = handled.selection;
         services = handled.services;
         store = feeds s.store stands.store;
-        components = λ tag. same tag ∙ stands.components tag;
+        pids = λ tag. pids_of_section component section s.store tag ∙ stands.pids tag;
         start = ap start_of follows ∙ start_told component changes old.startup ∙ stands.start;
         current =
-            subst (λ (x : Startup). IsCurrent (fed component section s.store) x) (sym (follows ∙ ap (λ (l : List Change). following (is_told_by component l old.startup) old.startup) (told s.store stands.store)))
+            subst (λ (x : Startup). IsCurrent (with_section component section s.store) x) (sym (follows ∙ ap (λ (l : List Change). startup_behind (is_told_by component l old.startup) old.startup) (told s.store stands.store)))
             (stays s.store component section old.startup stands.current);
       };
       text_is = ap (flat_map (line_of_change component)) (told s.store stands.store);
@@ -250,7 +289,7 @@ keeps_with state s t startup keeps same start current = subst (λ (x : State). K
   selection = keeps.selection;
   services = keeps.services;
   store = keeps.store;
-  components = keeps.components;
+  pids = keeps.pids;
   start = start;
   current = current;
 })

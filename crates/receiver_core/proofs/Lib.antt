@@ -1,6 +1,6 @@
 pub mod OutputLaws
 pub mod LoadingLaws
 pub mod DispatchLaws
+pub mod MapLaws
 pub mod BroadcastLaws
-pub mod DemultiplexerLaws
 pub mod ReceivingLaws

@@ -1,6 +1,6 @@
 -- What the load of a document comes to.
-use Rattle.std.proofs.Common.{◌≡◌, ◌∙◌, ℕ, ◌<◌, Bool, true, false, cond, eqb, ◌&&◌, List, [], refl, sym, ap, subst, append-nil, arith}
-use Rattle.std.specs.Prelude.{AllPairs, Option, Some, None, Result, Ok}
+use Rattle.std.proofs.Common.{◌≡◌, ◌∙◌, ℕ, suc, ◌+◌, ◌<◌, Bool, true, false, cond, eqb, ◌&&◌, List, [], ◌∷◌, take, drop, refl, sym, ap, subst, append-nil, arith}
+use Rattle.std.specs.Prelude.{zero, AllPairs, Option, Some, None, Result, Ok, slice_get}
 use Rattle.std.proofs.lemmas.Bool.{eq-eqb}
 use Rattle.std.specs.Option.{option_map_or}
 use Rattle.dom_tree.specs.Items.{Item}
@@ -9,18 +9,18 @@ use Rattle.multipart_entities.specs.declared.paths.Path.{Path}
 use Rattle.carousel_blocks.specs.declared.changes.Change.{Change}
 use Rattle.psi_tables.specs.declared.components.Component.{Component}
 use Rattle.psi_tables.specs.Components.{AreApart}
-use Rattle.module_store.specs.Resources.{look, start_component, start_path}
-use Rattle.module_store.specs.Resources.Resource.{Found}
+use Rattle.module_store.specs.Resources.{Resource, look, start_component, start_path}
+use Rattle.module_store.specs.Resources.Resource.{Found, Waiting}
 use Rattle.module_store.specs.Standing.{StoreState}
-use Rattle.module_store.specs.Staying.{tells_of, went}
-use Rattle.module_store.specs.Store.{Stored, changes_by, fed, gone_by, with_map}
+use Rattle.module_store.specs.Staying.{tells_of, is_gone}
+use Rattle.module_store.specs.Store.{Stored, changes_by, with_section, gone_by, with_map}
 use Rattle.receiver_core.specs.declared.startup.Startup.{Startup}
 use Rattle.receiver_core.specs.declared.startup.Startup.TheVariants as kept
-use Rattle.receiver_core.specs.Dispatches.{are_settled, loadable_reading, reading_in, start_after_load, once_settled}
+use Rattle.receiver_core.specs.Dispatches.{are_settled, is_settled, loadable_reading, reading_in, start_after_load, once_settled}
 use Rattle.receiver_core.specs.Lines.{load_line}
 use Rattle.receiver_core.specs.Loading.{Loads, LoadsAs, WaitsAt}
 use Rattle.receiver_core.specs.Pendings.{IsStart, PendingState}
-use Rattle.receiver_core.specs.Startups.{IsCurrent, following, is_told_by, went_with}
+use Rattle.receiver_core.specs.Startups.{IsCurrent, startup_behind, is_told_by, is_gone_with}
 use Rattle.receiver_core.specs.State.Start.{Wanted}
 
 -- what a document that was read and is the one that is there comes to
@@ -36,14 +36,50 @@ waits_as stored pending reading is none = record {
   text_is = ap (λ (o : Option (Result (List Item) DocFault)). option_map_or (load_line (start_path stored)) o []) (sym none);
 }
 
+-- wherever it waits, it is the same document
+moved : (stored : Stored) (pending : PendingState) (place : ℕ) → IsStart stored pending → IsStart stored (record { path = pending.path; draft = pending.draft; place = place })
+moved stored pending place is = record { path_is = is.path_is; bytes = is.bytes; found = is.found; reading_is = is.reading_is; needs_are = is.needs_are }
+
+-- ---- the need at a place
+
+at_drop : (start : ℕ) (needs : List Path) (place : ℕ) → slice_get (drop start needs) place ≡ slice_get needs (start + place)
+at_drop zero needs place = let e : place ≡ zero + place = omega arith in ap (slice_get needs) e
+at_drop (suc start) [] place = refl
+at_drop (suc start) (x ∷ needs) place = let e : suc (start + place) ≡ suc start + place = omega arith in at_drop start needs place ∙ ap (slice_get (x ∷ needs)) e
+
+at_take : (end : ℕ) (needs : List Path) (place : ℕ) (need : Path) → slice_get (take end needs) place ≡ Some need → slice_get needs place ≡ Some need
+at_take zero needs place need h = absurd cc
+at_take (suc end) [] place need h = absurd cc
+at_take (suc end) (x ∷ needs) zero need h = h
+at_take (suc end) (x ∷ needs) (suc place) need h = at_take end needs place need h
+
+pub waits_behind : (store : StoreState) (needs : List Path) (start place : ℕ) → WaitsAt store (drop start needs) place → WaitsAt store needs (start + place)
+waits_behind store needs start place w = record { need = w.need; is_there = sym (at_drop start needs place) ∙ w.is_there; waits = w.waits }
+
+pub waits_before : (store : StoreState) (needs : List Path) (end place : ℕ) → WaitsAt store (take end needs) place → WaitsAt store needs place
+waits_before store needs end place w = record { need = w.need; is_there = at_take end needs place w.need w.is_there; waits = w.waits }
+
+never_both : (b : Bool) → (b && false) ≡ false
+never_both true = refl
+never_both false = refl
+
+unsettled_at : (stored : Stored) (needs : List Path) (place : ℕ) (need : Path) → slice_get needs place ≡ Some need → look stored need ≡ Waiting → are_settled stored needs ≡ false
+unsettled_at stored [] place need h waits = absurd cc
+unsettled_at stored (x ∷ needs) zero need h waits =
+    let same : x ≡ need = cc in
+    ap (λ (r : Resource). is_settled r && are_settled stored needs) (ap (look stored) same ∙ waits)
+unsettled_at stored (x ∷ needs) (suc place) need h waits =
+    ap (λ (b : Bool). is_settled (look stored x) && b) (unsettled_at stored needs place need h waits) ∙ never_both (is_settled (look stored x))
+
 -- something is waited for
-pub goes_on : (store : StoreState) (pending : PendingState) (place : ℕ) (before : List ℕ) → WaitsAt store pending.draft.needs place → Loads store (kept.Pending pending) (kept.Pending pending) before before
-goes_on store pending place before waits = record {
+pub goes_on : (store : StoreState) (pending : PendingState) (place : ℕ) (before : List ℕ) → WaitsAt store pending.draft.needs place
+    → Loads store (kept.Pending pending) (kept.Pending (record { path = pending.path; draft = pending.draft; place = place })) before before
+goes_on store pending place before w = record {
   text = [];
   printed = sym (append-nil before);
   loads = λ stored stands is.
-      waits_as stored pending (loadable_reading stored (start_path stored)) is
-      (loadable_pending stored pending is ∙ ap (λ (b : Bool). cond b (Some (Ok pending.draft.items)) None) (waits.waits stored stands));
+      waits_as stored (record { path = pending.path; draft = pending.draft; place = place }) (loadable_reading stored (start_path stored)) (moved stored pending place is)
+      (loadable_pending stored pending is ∙ ap (λ (b : Bool). cond b (Some (Ok pending.draft.items)) None) (unsettled_at stored pending.draft.needs place w.need w.is_there (w.waits stored stands)));
 }
 
 -- ---- a document that was read stays the one that is there
@@ -66,43 +102,43 @@ untold : (component own number : ℕ) (changes : List Change) → (eqb own compo
 untold component own number changes none same = sym (ap (λ b. b && tells_of number changes) (eq-eqb own component (sym same))) ∙ none
 
 module _ (found : (stored : Stored) (component : ℕ) (section : List ℕ) (path : Path) (bytes : List ℕ) → path.«module» < 65536 → look stored path ≡ Found bytes
-    → (component ≡ path.component → tells_of path.«module» (changes_by component section stored) ≡ false) → look (fed component section stored) path ≡ Found bytes)
+    → (component ≡ path.component → tells_of path.«module» (changes_by component section stored) ≡ false) → look (with_section component section stored) path ≡ Found bytes)
     (start : (stored : Stored) (component : ℕ) (section : List ℕ) (bytes : List ℕ) → look stored (start_path stored) ≡ Found bytes
-    → (component ≡ start_component → tells_of 0 (changes_by component section stored) ≡ false) → start_path (fed component section stored) ≡ start_path stored) where
+    → (component ≡ start_component → tells_of 0 (changes_by component section stored) ≡ false) → start_path (with_section component section stored) ≡ start_path stored) where
   pending_in_sections : (stored : Stored) (component : ℕ) (section : List ℕ) (pending : PendingState) (told : Bool) → is_told_by component (changes_by component section stored) (kept.Pending pending) ≡ told
-      → IsStart stored pending → IsCurrent (fed component section stored) (following told (kept.Pending pending))
+      → IsStart stored pending → IsCurrent (with_section component section stored) (startup_behind told (kept.Pending pending))
   pending_in_sections stored component section pending true e is = tt
   pending_in_sections stored component section pending false e is =
       let none = untold component pending.path.component pending.path.«module» (changes_by component section stored) e in
-      still_start stored (fed component section stored) pending is
+      still_start stored (with_section component section stored) pending is
       (found stored component section pending.path is.bytes (is_low stored pending is).1 is.found none)
       (start stored component section is.bytes (ap (look stored) (sym is.path_is) ∙ is.found)
       (subst (λ (path : Path). component ≡ path.component → tells_of path.«module» (changes_by component section stored) ≡ false) is.path_is none))
 
   pub current_in_sections : (stored : Stored) (component : ℕ) (section : List ℕ) (startup : Startup) → IsCurrent stored startup
-      → IsCurrent (fed component section stored) (following (is_told_by component (changes_by component section stored) startup) startup)
+      → IsCurrent (with_section component section stored) (startup_behind (is_told_by component (changes_by component section stored) startup) startup)
   current_in_sections stored component section kept.Wanted is = tt
   current_in_sections stored component section (kept.Pending pending) is = pending_in_sections stored component section pending (is_told_by component (changes_by component section stored) (kept.Pending pending)) refl is
   current_in_sections stored component section kept.Refused is = tt
   current_in_sections stored component section (kept.Loaded document) is = tt
 
 module _ (found : (stored : Stored) (components : List Component) (path : Path) (bytes : List ℕ) → path.component < 256 → path.«module» < 65536 → AllPairs AreApart components → look stored path ≡ Found bytes
-    → went path.component path.«module» (gone_by components stored) ≡ false → look (with_map components stored) path ≡ Found bytes)
+    → is_gone path.component path.«module» (gone_by components stored) ≡ false → look (with_map components stored) path ≡ Found bytes)
     (start : (stored : Stored) (components : List Component) (bytes : List ℕ) → AllPairs AreApart components → look stored (start_path stored) ≡ Found bytes
-    → went start_component 0 (gone_by components stored) ≡ false → start_path (with_map components stored) ≡ start_path stored) where
-  pending_in_maps : (stored : Stored) (components : List Component) (pending : PendingState) (told : Bool) → AllPairs AreApart components → went_with (gone_by components stored) (kept.Pending pending) ≡ told
-      → IsStart stored pending → IsCurrent (with_map components stored) (following told (kept.Pending pending))
+    → is_gone start_component 0 (gone_by components stored) ≡ false → start_path (with_map components stored) ≡ start_path stored) where
+  pending_in_maps : (stored : Stored) (components : List Component) (pending : PendingState) (told : Bool) → AllPairs AreApart components → is_gone_with (gone_by components stored) (kept.Pending pending) ≡ told
+      → IsStart stored pending → IsCurrent (with_map components stored) (startup_behind told (kept.Pending pending))
   pending_in_maps stored components pending true apart e is = tt
   pending_in_maps stored components pending false apart e is =
       let low = is_low stored pending is in
       still_start stored (with_map components stored) pending is
       (found stored components pending.path is.bytes low.0 low.1 apart is.found e)
       (start stored components is.bytes apart (ap (look stored) (sym is.path_is) ∙ is.found)
-      (subst (λ (path : Path). went path.component path.«module» (gone_by components stored) ≡ false) is.path_is e))
+      (subst (λ (path : Path). is_gone path.component path.«module» (gone_by components stored) ≡ false) is.path_is e))
 
   pub current_in_maps : (stored : Stored) (components : List Component) (startup : Startup) → AllPairs AreApart components → IsCurrent stored startup
-      → IsCurrent (with_map components stored) (following (went_with (gone_by components stored) startup) startup)
+      → IsCurrent (with_map components stored) (startup_behind (is_gone_with (gone_by components stored) startup) startup)
   current_in_maps stored components kept.Wanted apart is = tt
-  current_in_maps stored components (kept.Pending pending) apart is = pending_in_maps stored components pending (went_with (gone_by components stored) (kept.Pending pending)) apart refl is
+  current_in_maps stored components (kept.Pending pending) apart is = pending_in_maps stored components pending (is_gone_with (gone_by components stored) (kept.Pending pending)) apart refl is
   current_in_maps stored components kept.Refused apart is = tt
   current_in_maps stored components (kept.Loaded document) apart is = tt

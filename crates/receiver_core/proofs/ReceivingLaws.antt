@@ -7,13 +7,13 @@ use Rattle.ts_sections.specs.Intact.{is_intact}
 use Rattle.ts_sections.specs.Sections.{completed_by}
 use Rattle.psi_tables.specs.declared.services.Selection.{Selection}
 use Rattle.psi_tables.specs.Service.{ServicesState, wants}
-use Rattle.section_demultiplexer.specs.Demultiplexing.{DemultiplexerState, IsDrained, has_channel, with_next}
+use Rattle.section_demultiplexer.specs.Demultiplexing.{DemultiplexerState, GivesNext, HasGivenAll, has_room, is_followed, of_wanted, with_next}
 use Rattle.section_demultiplexer.specs.Demultiplexing as demultiplexing
+use Rattle.section_demultiplexer.specs.Laws.{SameLists}
 use Rattle.receiver_core.specs.Broadcasts.{BroadcastState, HasTurned}
 use Rattle.receiver_core.specs.Broadcasts as broadcasts
 use Rattle.receiver_core.specs.Dispatches.{turn}
 use Rattle.receiver_core.specs.Fronts.{IsFront}
-use Rattle.receiver_core.specs.Keeping.{waiting_in}
 use Rattle.receiver_core.specs.Outputs.{Piece, display_of, outputs, piece_of, pieces_of, pieces_of_turns, sections_by, state_after, state_behind, state_behind_turns, with_packet}
 use Rattle.receiver_core.specs.Receiving.{Gives, IsIdle, IsOver, MakesTurn, PassesDamaged, ReceiverState, Shows, StandsFor, Takes}
 use Rattle.receiver_core.specs.Startups.{start_of}
@@ -22,14 +22,13 @@ use Rattle.receiver_core.specs.State as state_of
 use Rattle.receiver_core.proofs.OutputLaws.{behind_one_more, no_outputs, outputs_one_more}
 use Rattle.receiver_core.proofs.DispatchLaws.{same_dispatch}
 use Rattle.receiver_core.proofs.BroadcastLaws.{services_are, turn_area, turn_packets}
-use Rattle.receiver_core.proofs.DemultiplexerLaws.{HasNext, HasNone, of_wanted, same_lists}
 
 -- what callers see of a receiver that keeps this
 abbrev pub seen : DemultiplexerState → BroadcastState → List ℕ → Bool → ReceiverState
 seen d b area spent = record {
   services = b.services;
   pid = d.pid;
-  waiting = waiting_in d;
+  waiting = d.waiting;
   area = area;
   spent = spent;
   kept = record { demultiplexer = d; broadcast = b };
@@ -54,7 +53,7 @@ state_at_rest : (selection : Selection) (area : List ℕ) (state : ReceiverState
 state_at_rest selection area state inputs given s none = s.left ∙ no_turns state.pid state.waiting s.now none
 
 pub all_given : (selection : Selection) (area : List ℕ) (state : ReceiverState) (inputs : List Input) (given : List Piece) → StandsFor selection area state inputs given → IsIdle state → given ≡ outputs selection area inputs
-all_given selection area state inputs given s idle = sym (given_at_rest selection area state inputs given s (idle s.unspent).0)
+all_given selection area state inputs given s idle = sym (given_at_rest selection area state inputs given s (idle s.unspent))
 
 -- what one input more prints, and what it leaves
 next_pieces : (selection : Selection) (area : List ℕ) (state : ReceiverState) (inputs : List Input) (given : List Piece) (s : StandsFor selection area state inputs given) (input : Input) → state.waiting ≡ []
@@ -69,12 +68,12 @@ next_state : (selection : Selection) (area : List ℕ) (state : ReceiverState) (
 next_state selection area state inputs given s input none =
     behind_one_more (opening selection area) inputs input ∙ ap (state_after input) (state_at_rest selection area state inputs given s none)
 
-pub stands_first : (selection : Selection) (area : List ℕ) (d : DemultiplexerState) (b : BroadcastState) → waiting_in d ≡ [] → demultiplexing.StandsFor d (λ pid. []) (λ pid. [])
+pub stands_first : (selection : Selection) (area : List ℕ) (d : DemultiplexerState) (b : BroadcastState) → d.waiting ≡ [] → demultiplexing.StandsFor d (λ pid. []) (λ pid. [])
     → broadcasts.StandsFor b (opening selection area) → StandsFor selection area (seen d b area false) [] []
 stands_first selection area d b none assembled stands = record {
   now = opening selection area;
-  left = sym (no_turns d.pid (waiting_in d) (opening selection area) none);
-  pieces = no_outputs selection area ∙ sym (no_pieces d.pid (waiting_in d) (opening selection area) none);
+  left = sym (no_turns d.pid d.waiting (opening selection area) none);
+  pieces = no_outputs selection area ∙ sym (no_pieces d.pid d.waiting (opening selection area) none);
   services_are = services_are b (opening selection area) stands;
   area_is = refl;
   unspent = refl;
@@ -109,7 +108,7 @@ displays state selection area inputs given s = ap display_of s.kept.broadcast.ke
 -- the state with one packet more is one for the same broadcast
 same_broadcast : (b : BroadcastState) (s : State) (packet : List ℕ) → broadcasts.StandsFor b s → broadcasts.StandsFor b (with_packet packet s)
 same_broadcast b s packet p = record {
-  keeps = record { selection = p.keeps.selection; services = p.keeps.services; store = p.keeps.store; components = p.keeps.components; start = p.keeps.start; current = p.keeps.current };
+  keeps = record { selection = p.keeps.selection; services = p.keeps.services; store = p.keeps.store; pids = p.keeps.pids; start = p.keeps.start; current = p.keeps.current };
   done = same_dispatch s packet p.done;
 }
 
@@ -143,9 +142,9 @@ sections_if : (w : Bool) (packet : List ℕ) (s : State) → state_of.wants s (p
 sections_if w packet s e = ap (λ (x : Bool). cond x (completed_by (s.packets (pid_of packet)) packet) []) e
 
 -- a packet of a PID that isn't wanted
-pub passes_packet : (d : DemultiplexerState) (b : BroadcastState) (a : List ℕ) (spent : Bool) (packet : List ℕ) → (spent ≡ false → waiting_in d ≡ []) → wants b.services (pid_of packet) ≡ false
+pub passes_packet : SameLists → (d : DemultiplexerState) (b : BroadcastState) (a : List ℕ) (spent : Bool) (packet : List ℕ) → (spent ≡ false → d.waiting ≡ []) → wants b.services (pid_of packet) ≡ false
     → Takes (Packet packet) (seen d b a spent) (seen d b a spent)
-passes_packet d b a spent packet idle off selection area inputs given s =
+passes_packet same d b a spent packet idle off selection area inputs given s =
     let state = seen d b a spent in
     let now = with_packet packet s.now in
     let none = idle s.unspent in
@@ -155,22 +154,22 @@ passes_packet d b a spent packet idle off selection area inputs given s =
       now = now;
       left =
           next_state selection area state inputs given s (Packet packet) none ∙ no_turns (pid_of packet) (sections_by packet s.now) now nothing
-          ∙ sym (no_turns d.pid (waiting_in d) now none);
+          ∙ sym (no_turns d.pid d.waiting now none);
       pieces =
           next_pieces selection area state inputs given s (Packet packet) none
-          ∙ ap (λ (l : List Piece). given ++ l) (no_pieces (pid_of packet) (sections_by packet s.now) now nothing ∙ sym (no_pieces d.pid (waiting_in d) now none));
+          ∙ ap (λ (l : List Piece). given ++ l) (no_pieces (pid_of packet) (sections_by packet s.now) now nothing ∙ sym (no_pieces d.pid d.waiting now none));
       services_are = s.services_are;
       area_is = s.area_is;
       unspent = s.unspent;
       kept = record {
         broadcast = same_broadcast b s.now packet s.kept.broadcast;
         sections = s.kept.sections;
-        assembled = same_lists d s.now.packets now.packets s.kept.sections (left_alone s.now packet unwanted) s.kept.assembled;
+        assembled = same d s.now.packets s.kept.sections now.packets s.kept.sections s.kept.assembled (left_alone s.now packet unwanted) (λ pid. refl);
       };
     }
 
-pub passes_sections : (d : DemultiplexerState) (b : BroadcastState) (a : List ℕ) (spent : Bool) (packet : List ℕ) → (spent ≡ false → waiting_in d ≡ []) → wants b.services (pid_of packet) ≡ false
-    → (selection : Selection) (area : List ℕ) (inputs : List Input) (given : List Piece) (s : StandsFor selection area (seen d b a spent) inputs given) → waiting_in d ≡ sections_by packet s.now
+pub passes_sections : (d : DemultiplexerState) (b : BroadcastState) (a : List ℕ) (spent : Bool) (packet : List ℕ) → (spent ≡ false → d.waiting ≡ []) → wants b.services (pid_of packet) ≡ false
+    → (selection : Selection) (area : List ℕ) (inputs : List Input) (given : List Piece) (s : StandsFor selection area (seen d b a spent) inputs given) → d.waiting ≡ sections_by packet s.now
 passes_sections d b a spent packet idle off selection area inputs given s =
     idle s.unspent ∙ sym (sections_if false packet s.now (wanted_by b s.now (pid_of packet) false s.kept.broadcast off))
 
@@ -178,20 +177,24 @@ passes_sections d b a spent packet idle off selection area inputs given s =
 pub record IsHandedIn (old new : DemultiplexerState) (packet : List ℕ) : Type 0 where
   pub pid : new.pid ≡ pid_of packet
   pub stands : (packets given : ℕ → List (List ℕ)) → demultiplexing.StandsFor old packets given → demultiplexing.StandsFor new (with_next (pid_of packet) packet packets) given
-  pub completed : (packets given : ℕ → List (List ℕ)) → demultiplexing.StandsFor old packets given → waiting_in new ≡ completed_by (packets (pid_of packet)) packet
+  pub completed : (packets given : ℕ → List (List ℕ)) → demultiplexing.StandsFor old packets given → new.waiting ≡ completed_by (packets (pid_of packet)) packet
+
+-- there is room for the packet's PID, whatever was received
+abbrev pub HasRoomFor : DemultiplexerState → BroadcastState → List ℕ → Type 0
+HasRoomFor d b packet = (now : State) (given : ℕ → List (List ℕ)) → broadcasts.StandsFor b now → demultiplexing.StandsFor d now.packets given → has_room d (pid_of packet) ≡ true
 
 completes_sections : (old new : DemultiplexerState) (b : BroadcastState) (packet : List ℕ) (now : State) (given : ℕ → List (List ℕ)) → IsHandedIn old new packet → wants b.services (pid_of packet) ≡ true
-    → broadcasts.StandsFor b now → demultiplexing.StandsFor old now.packets given → waiting_in new ≡ sections_by packet now
+    → broadcasts.StandsFor b now → demultiplexing.StandsFor old now.packets given → new.waiting ≡ sections_by packet now
 completes_sections old new b packet now given is on stands assembled =
     is.completed now.packets given assembled ∙ sym (sections_if true packet now (wanted_by b now (pid_of packet) true stands on))
 
-pub takes_packet : (old new : DemultiplexerState) (b : BroadcastState) (a : List ℕ) (spent : Bool) (packet : List ℕ) → (spent ≡ false → waiting_in old ≡ []) → wants b.services (pid_of packet) ≡ true
-    → ((now : State) → broadcasts.StandsFor b now → IsHandedIn old new packet) → Takes (Packet packet) (seen old b a spent) (seen new b a spent)
-takes_packet old new b a spent packet idle on hands selection area inputs given s =
+pub takes_packet : SameLists → (old new : DemultiplexerState) (b : BroadcastState) (a : List ℕ) (spent : Bool) (packet : List ℕ) → (spent ≡ false → old.waiting ≡ []) → wants b.services (pid_of packet) ≡ true
+    → HasRoomFor old b packet → (has_room old (pid_of packet) ≡ true → IsHandedIn old new packet) → Takes (Packet packet) (seen old b a spent) (seen new b a spent)
+takes_packet same old new b a spent packet idle on room hands selection area inputs given s =
     let state = seen old b a spent in
     let now = with_packet packet s.now in
     let none = idle s.unspent in
-    let is = hands s.now s.kept.broadcast in
+    let is = hands (room s.now s.kept.sections s.kept.broadcast s.kept.assembled) in
     let all = completes_sections old new b packet s.now s.kept.sections is on s.kept.broadcast s.kept.assembled in
     record {
       now = now;
@@ -208,29 +211,29 @@ takes_packet old new b a spent packet idle on hands selection area inputs given 
         broadcast = same_broadcast b s.now packet s.kept.broadcast;
         sections = s.kept.sections;
         assembled =
-            same_lists new (with_next (pid_of packet) packet s.now.packets) now.packets s.kept.sections
-            (added s.now packet (wanted_by b s.now (pid_of packet) true s.kept.broadcast on)) (is.stands s.now.packets s.kept.sections s.kept.assembled);
+            same new (with_next (pid_of packet) packet s.now.packets) s.kept.sections now.packets s.kept.sections
+            (is.stands s.now.packets s.kept.sections s.kept.assembled) (added s.now packet (wanted_by b s.now (pid_of packet) true s.kept.broadcast on)) (λ pid. refl);
       };
     }
 
 pub takes_sections : (old new : DemultiplexerState) (b : BroadcastState) (a : List ℕ) (spent : Bool) (packet : List ℕ) → wants b.services (pid_of packet) ≡ true
-    → ((now : State) → broadcasts.StandsFor b now → IsHandedIn old new packet)
-    → (selection : Selection) (area : List ℕ) (inputs : List Input) (given : List Piece) (s : StandsFor selection area (seen old b a spent) inputs given) → waiting_in new ≡ sections_by packet s.now
-takes_sections old new b a spent packet on hands selection area inputs given s =
-    completes_sections old new b packet s.now s.kept.sections (hands s.now s.kept.broadcast) on s.kept.broadcast s.kept.assembled
+    → HasRoomFor old b packet → (has_room old (pid_of packet) ≡ true → IsHandedIn old new packet)
+    → (selection : Selection) (area : List ℕ) (inputs : List Input) (given : List Piece) (s : StandsFor selection area (seen old b a spent) inputs given) → new.waiting ≡ sections_by packet s.now
+takes_sections old new b a spent packet on room hands selection area inputs given s =
+    completes_sections old new b packet s.now s.kept.sections (hands (room s.now s.kept.sections s.kept.broadcast s.kept.assembled)) on s.kept.broadcast s.kept.assembled
 
 -- ---- the next section
 
 -- no section was left
-pub no_turn : (old new : DemultiplexerState) (b : BroadcastState) (a : List ℕ) (spent : Bool) (text : List ℕ) → HasNone old new → IsOver (seen old b a spent) (seen new b a spent) text text
+pub no_turn : (old new : DemultiplexerState) (b : BroadcastState) (a : List ℕ) (spent : Bool) (text : List ℕ) → HasGivenAll old new → IsOver (seen old b a spent) (seen new b a spent) text text
 no_turn old new b a spent text over = record {
   none = over.none;
   left = over.left;
   silent = refl;
   stays = λ selection area inputs given s. record {
     now = s.now;
-    left = s.left ∙ no_turns old.pid (waiting_in old) s.now over.none ∙ sym (no_turns new.pid (waiting_in new) s.now over.left);
-    pieces = s.pieces ∙ ap (λ (l : List Piece). given ++ l) (no_pieces old.pid (waiting_in old) s.now over.none ∙ sym (no_pieces new.pid (waiting_in new) s.now over.left));
+    left = s.left ∙ no_turns old.pid old.waiting s.now over.none ∙ sym (no_turns new.pid new.waiting s.now over.left);
+    pieces = s.pieces ∙ ap (λ (l : List Piece). given ++ l) (no_pieces old.pid old.waiting s.now over.none ∙ sym (no_pieces new.pid new.waiting s.now over.left));
     services_are = s.services_are;
     area_is = s.area_is;
     unspent = s.unspent;
@@ -245,10 +248,10 @@ damaged_rest section rest h = rw h refl
 intact_rest : (section : List ℕ) (rest : List (List ℕ)) → is_intact section ≡ true → filter is_intact (section ∷ rest) ≡ section ∷ filter is_intact rest
 intact_rest section rest h = rw h refl
 
-pub passes_damaged : (old new : DemultiplexerState) (b : BroadcastState) (a : List ℕ) (spent : Bool) (section text : List ℕ) → HasNext old new section → is_intact section ≡ false
+pub passes_damaged : (old new : DemultiplexerState) (b : BroadcastState) (a : List ℕ) (spent : Bool) (section text : List ℕ) → GivesNext old new section → is_intact section ≡ false
     → PassesDamaged (seen old b a spent) (seen new b a spent) text text
 passes_damaged old new b a spent section text gives damaged =
-    let same : filter is_intact (waiting_in old) ≡ filter is_intact (waiting_in new) = ap (filter is_intact) gives.next ∙ damaged_rest section (waiting_in new) damaged in
+    let same : filter is_intact old.waiting ≡ filter is_intact new.waiting = ap (filter is_intact) gives.next ∙ damaged_rest section new.waiting damaged in
     record {
       section = section;
       next = gives.next;
@@ -270,7 +273,7 @@ passes_damaged old new b a spent section text gives damaged =
 -- the sections of PIDs that aren't wanted any more are left
 pub record IsFollowed (old new : DemultiplexerState) (x : ServicesState) : Type 0 where
   pub pid : new.pid ≡ old.pid
-  pub waiting : waiting_in new ≡ (if wants x old.pid then waiting_in old else [])
+  pub waiting : new.waiting ≡ (if wants x old.pid then old.waiting else [])
   pub stands : (packets given : ℕ → List (List ℕ)) → demultiplexing.StandsFor old packets given → demultiplexing.StandsFor new (of_wanted (wants x) packets) (of_wanted (wants x) given)
 
 rest_state : (w : Bool) (pid : ℕ) (rest : List (List ℕ)) (s : State) → state_of.wants s pid ≡ w
@@ -292,17 +295,17 @@ rest_pieces false pid rest s e = by (filter is_intact rest)
     by (section ∷ l) = ap (λ (b : Bool). cond b (piece_of (turn pid section s) ∷ pieces_of_turns pid l (turn pid section s).state) []) e
 
 -- what a turn makes of the state that a receiver stands for
-turned : (old between new : DemultiplexerState) (b c : BroadcastState) (a : List ℕ) (spent still : Bool) (section text : List ℕ) → HasNext old between section → is_intact section ≡ true → IsFollowed between new c.services
+turned : SameLists → (old between new : DemultiplexerState) (b c : BroadcastState) (a : List ℕ) (spent still : Bool) (section text : List ℕ) → GivesNext old between section → is_intact section ≡ true → IsFollowed between new c.services
     → ((s : State) → broadcasts.StandsFor b s → HasTurned c text (turn old.pid section s)) → wants b.services old.pid ≡ true → still ≡ false → Gives text (seen old b a spent) (seen new c a still)
-turned old between new b c a spent still section text gives intact follows turns wanted unspent selection area inputs given s =
+turned same old between new b c a spent still section text gives intact follows turns wanted unspent selection area inputs given s =
     let t = turn old.pid section s.now in
     let made = turns s.now s.kept.broadcast in
     let is : c.services ≡ services t.state = services_are c t.state made.stands in
     let was : state_of.wants s.now old.pid ≡ true = wanted_by b s.now old.pid true s.kept.broadcast wanted in
-    let rest = waiting_in between in
-    let all : filter is_intact (waiting_in old) ≡ section ∷ filter is_intact rest = ap (filter is_intact) gives.next ∙ intact_rest section rest intact in
+    let rest = between.waiting in
+    let all : filter is_intact old.waiting ≡ section ∷ filter is_intact rest = ap (filter is_intact) gives.next ∙ intact_rest section rest intact in
     let pid_is : new.pid ≡ old.pid = follows.pid ∙ gives.pid in
-    let left_is : waiting_in new ≡ (if wants c.services old.pid then rest else []) = follows.waiting ∙ ap (λ (p : ℕ). if wants c.services p then rest else []) gives.pid in
+    let left_is : new.waiting ≡ (if wants c.services old.pid then rest else []) = follows.waiting ∙ ap (λ (p : ℕ). if wants c.services p then rest else []) gives.pid in
     let now_wanted : state_of.wants t.state old.pid ≡ wants c.services old.pid = ap (λ (x : ServicesState). wants x old.pid) (sym is) in
     let kept_area : a ≡ t.state.area = s.area_is ∙ sym (turn_area old.pid section s.now) in
     record {
@@ -328,24 +331,25 @@ turned old between new b c a spent still section text gives intact follows turns
         broadcast = made.stands;
         sections = of_wanted (wants c.services) (with_next old.pid section s.kept.sections);
         assembled =
-            same_lists new (of_wanted (wants c.services) s.now.packets) t.state.packets (of_wanted (wants c.services) (with_next old.pid section s.kept.sections))
-            (λ other. ap (λ (x : ServicesState). cond (wants x other) (s.now.packets other) []) is ∙ sym (turn_packets old.pid section s.now other))
-            (follows.stands s.now.packets (with_next old.pid section s.kept.sections) (gives.stands s.now.packets s.kept.sections s.kept.assembled));
+            let left = of_wanted (wants c.services) (with_next old.pid section s.kept.sections) in
+            same new (of_wanted (wants c.services) s.now.packets) left t.state.packets left
+            (follows.stands s.now.packets (with_next old.pid section s.kept.sections) (gives.stands s.now.packets s.kept.sections s.kept.assembled))
+            (λ other. ap (λ (x : ServicesState). cond (wants x other) (s.now.packets other) []) is ∙ sym (turn_packets old.pid section s.now other)) (λ pid. refl);
       };
     }
 
-pub makes_turn : (old between new : DemultiplexerState) (b c : BroadcastState) (a : List ℕ) (spent still : Bool) (section text before after : List ℕ) → HasNext old between section → is_intact section ≡ true
+pub makes_turn : SameLists → (old between new : DemultiplexerState) (b c : BroadcastState) (a : List ℕ) (spent still : Bool) (section text before after : List ℕ) → GivesNext old between section → is_intact section ≡ true
     → IsFollowed between new c.services → ((s : State) → broadcasts.StandsFor b s → HasTurned c text (turn old.pid section s)) → wants b.services old.pid ≡ true → still ≡ false
     → after ≡ before ++ text → MakesTurn (seen old b a spent) (seen new c a still) before after
-makes_turn old between new b c a spent still section text before after gives intact follows turns wanted unspent printed = record {
+makes_turn same old between new b c a spent still section text before after gives intact follows turns wanted unspent printed = record {
   section = section;
-  rest = waiting_in between;
+  rest = between.waiting;
   text = text;
   next = gives.next;
   intact = intact;
-  left = follows.waiting ∙ ap (λ (p : ℕ). if wants c.services p then waiting_in between else []) gives.pid;
+  left = follows.waiting ∙ ap (λ (p : ℕ). if wants c.services p then between.waiting else []) gives.pid;
   printed = printed;
-  gives = turned old between new b c a spent still section text gives intact follows turns wanted unspent;
+  gives = turned same old between new b c a spent still section text gives intact follows turns wanted unspent;
 }
 
 -- ---- what gets less
@@ -362,3 +366,15 @@ less_behind section old rest new w is left =
     let same : length old ≡ suc (length rest) = ap length is in
     let most = rest_or_none w rest in
     let also : length new ≡ length (if w then rest else []) = ap length left in omega arith
+
+-- ---- what stays true
+
+-- a PID that is still followed is wanted
+both : (a b : Bool) → (a && b) ≡ true → b ≡ true
+both true b h = h
+both false b h = absurd (true≢false (sym h))
+
+pub wanted_behind : (between new : DemultiplexerState) (lent x : ServicesState) → ((pid : ℕ) → is_followed new pid ≡ (is_followed between pid && wants lent pid)) → lent ≡ x
+    → (pid : ℕ) → is_followed new pid ≡ true → wants x pid ≡ true
+wanted_behind between new lent x follows same pid h =
+    ap (λ (y : ServicesState). wants y pid) (sym same) ∙ both (is_followed between pid) (wants lent pid) (sym (follows pid) ∙ h)

@@ -1,11 +1,12 @@
--- What is kept of a broadcast, and for which state it stands. (This project's own.)
-use Rattle.std.specs.Prelude.{◌≡◌, ℕ, List, ◌++◌, None, is_some}
+-- A device of the proofs: what is kept of a broadcast, and for which state it stands.
+use Rattle.std.specs.Prelude.{◌≡◌, ℕ, List, ◌++◌, None}
 use Rattle.psi_tables.specs.Components.{pid_in}
 use Rattle.psi_tables.specs.Service.{ServicesState}
 use Rattle.psi_tables.specs.Service as services_of
 use Rattle.module_store.specs.Resources.{LooksAlike}
-use Rattle.module_store.specs.Standing.{StoreState, has_component}
+use Rattle.module_store.specs.Standing.{StoreState}
 use Rattle.module_store.specs.Standing as store
+use Rattle.module_store.specs.Store.{pid_of}
 use Rattle.receiver_core.specs.declared.startup.Startup.{Startup}
 use Rattle.receiver_core.specs.Dispatches.{dispatch, dispatches, most_dispatches}
 use Rattle.receiver_core.specs.Startups.{IsCurrent, start_of}
@@ -22,8 +23,8 @@ pub record Keeps (state : BroadcastState) (s : State) : Type 0 where
   pub selection : state.services.selection ≡ s.selection
   pub services : services_of.StandsFor state.services s.handled
   pub store : store.StandsFor state.store s.store
-  -- the store has the components of the map
-  pub components : (tag : ℕ) → has_component state.store tag ≡ is_some (pid_in state.services.map tag)
+  -- the store follows the components of the map, each on its PID
+  pub pids : (tag : ℕ) → pid_of s.store tag ≡ pid_in state.services.map tag
   pub start : start_of state.startup ≡ s.start
   -- a document that was read is the one that is there
   pub current : IsCurrent s.store state.startup

@@ -7,7 +7,7 @@ use Rattle.dom_tree.specs.Items.{Item}
 use Rattle.bml_reader.specs.declared.faults.DocFault.{DocFault}
 use Rattle.bml_reader.specs.declared.faults.DocFault.TheVariants.{Malformed, WrongRoot, TooDeep, TooManyNodes, NoMemory}
 use Rattle.multipart_entities.specs.declared.paths.Path.{Path}
-use Rattle.multipart_entities.specs.Paths.{printed}
+use Rattle.multipart_entities.specs.Paths.{path_text}
 use Rattle.carousel_blocks.specs.declared.standing.SkipCause.{SkipCause}
 use Rattle.carousel_blocks.specs.declared.standing.SkipCause.TheVariants.{Compressed, Large}
 use Rattle.carousel_blocks.specs.declared.changes.Change.{Change}
@@ -16,7 +16,13 @@ use Rattle.carousel_blocks.specs.declared.changes.ChangeLine.TheVariants.{Delive
 
 -- ` cc mmmm` of a component's module
 abbrev pub module_fields : ℕ → ℕ → List ℕ
-module_fields component number = codes " " ++ (hex_digits 2 component ++ (codes " " ++ hex_digits 4 number))
+module_fields component number =
+    codes " " ++ (hex_digits 2 component ++ (codes " " ++ hex_digits 4 number))
+
+-- ` vv size` of what was delivered
+abbrev pub delivery_fields : ℕ → ℕ → List ℕ
+delivery_fields version size =
+    codes " " ++ (hex_digits 2 version ++ (codes " " ++ decimal_digits size))
 
 abbrev pub cause_name : SkipCause → List ℕ
 cause_name Compressed = codes "compressed"
@@ -25,9 +31,10 @@ cause_name Large = codes "large"
 -- what is said of a module: `module cc mmmm vv size`, `gone cc mmmm`, `skip cc mmmm CAUSE`
 abbrev pub line_with : ℕ → ℕ → ChangeLine → List ℕ
 line_with component number (Delivered version size) =
-    codes "module" ++ (module_fields component number ++ (codes " " ++ (hex_digits 2 version ++ (codes " " ++ (decimal_digits size ++ codes "\n")))))
+    codes "module" ++ (module_fields component number ++ (delivery_fields version size ++ codes "\n"))
 line_with component number Gone = codes "gone" ++ (module_fields component number ++ codes "\n")
-line_with component number (Skipped cause) = codes "skip" ++ (module_fields component number ++ (codes " " ++ (cause_name cause ++ codes "\n")))
+line_with component number (Skipped cause) =
+    codes "skip" ++ (module_fields component number ++ (codes " " ++ (cause_name cause ++ codes "\n")))
 
 -- the line of a change, where it has one
 abbrev pub line_of_change : ℕ → Change → List ℕ
@@ -43,5 +50,6 @@ fault_name NoMemory = codes "NoMemory"
 
 -- the document at this path was loaded, or refused for this fault
 abbrev pub load_line : Path → Result (List Item) DocFault → List ℕ
-load_line path (Ok items) = codes "load " ++ (printed path ++ codes "\n")
-load_line path (Err fault) = codes "refuse " ++ (printed path ++ (codes " " ++ (fault_name fault ++ codes "\n")))
+load_line path (Ok items) = codes "load " ++ (path_text path ++ codes "\n")
+load_line path (Err fault) =
+    codes "refuse " ++ (path_text path ++ (codes " " ++ (fault_name fault ++ codes "\n")))

@@ -1,22 +1,30 @@
--- What the load of the start document comes to, whatever service the store stands for. (This project's own.)
-use Rattle.std.specs.Prelude.{◌≡◌, ◌<◌, ℕ, false, List, [], ◌++◌, length, Option, Result}
+-- A device of the proofs: what the load of the start document comes to, whatever the store stands for.
+use Rattle.std.specs.Prelude.{◌≡◌, ℕ, List, [], ◌++◌, slice_get, Option, Some, Result}
 use Rattle.std.specs.Option.{option_map_or}
 use Rattle.dom_tree.specs.Items.{Item}
 use Rattle.bml_reader.specs.declared.faults.DocFault.{DocFault}
 use Rattle.multipart_entities.specs.declared.paths.Path.{Path}
-use Rattle.module_store.specs.Resources.{start_path}
+use Rattle.module_store.specs.Resources.{look, start_path}
+use Rattle.module_store.specs.Resources.Resource.{Waiting}
 use Rattle.module_store.specs.Standing.{StoreState, StandsFor}
 use Rattle.module_store.specs.Store.{Stored}
 use Rattle.receiver_core.specs.declared.startup.Startup.{Startup}
-use Rattle.receiver_core.specs.Dispatches.{are_settled, loadable_reading, start_after_load}
+use Rattle.receiver_core.specs.declared.startup.Startup.TheVariants as kept
+use Rattle.receiver_core.specs.Dispatches.{loadable_reading, start_after_load}
 use Rattle.receiver_core.specs.Lines.{load_line}
 use Rattle.receiver_core.specs.Startups.{IsCurrent, start_of}
 use Rattle.receiver_core.specs.State.Start.{Wanted}
 
--- one of these is waited for, and stands here
+-- the need at this place is waited for
 pub record WaitsAt (store : StoreState) (needs : List Path) (place : ℕ) : Type 0 where
-  pub within : place < length needs
-  pub waits : (stored : Stored) → StandsFor store stored → are_settled stored needs ≡ false
+  pub need : Path
+  pub is_there : slice_get needs place ≡ Some need
+  pub waits : (stored : Stored) → StandsFor store stored → look stored need ≡ Waiting
+
+-- a document that goes on waiting knows the place of a need that is waited for
+abbrev pub KnowsItsPlace : StoreState → Startup → Type 0
+KnowsItsPlace store (kept.Pending pending) = WaitsAt store pending.draft.needs pending.place
+KnowsItsPlace store _ = Unit {0}
 
 -- what comes of a reading under the start path, where there is one, and the line that tells it
 pub record LoadsAs (stored : Stored) (reading : Option (Result (List Item) DocFault)) (startup : Startup) (text : List ℕ) : Type 0 where

@@ -4,7 +4,7 @@ use Rattle.std.specs.Prelude.{ℕ, ◌==◌, ◌&&◌, if◌then◌else◌, List
 use Rattle.ts_packets.specs.Packet.{pid_of}
 use Rattle.ts_sections.specs.Sections.{completed_by}
 use Rattle.ts_sections.specs.Intact.{is_intact}
-use Rattle.display_list.specs.Show.{clock_line, shown}
+use Rattle.display_list.specs.Show.{clock_line, display_lines}
 use Rattle.psi_tables.specs.declared.services.Selection.{Selection}
 use Rattle.receiver_core.specs.State.{Input, Packet, Show, Start, State, opening, wants}
 use Rattle.receiver_core.specs.State.Start.{Wanted, Refused, Loaded}
@@ -60,7 +60,7 @@ intact_sections packet s = filter is_intact (sections_by packet s)
 abbrev pub display_of : Start → List ℕ
 display_of Wanted = clock_line 0
 display_of Refused = clock_line 0
-display_of (Loaded items) = shown items 0
+display_of (Loaded items) = display_lines items 0
 
 -- what one input prints, and what it leaves: a packet the turns of the intact sections that it completes
 abbrev pub pieces_of : Input → State → List Piece

@@ -1,4 +1,4 @@
--- A document that was read, and waits for what it needs. (This project's own.)
+-- A device of the proofs: a document that was read, and waits for what it needs.
 use Rattle.std.specs.Prelude.{◌≡◌, ℕ, List, Ok}
 use Rattle.bml_reader.specs.Readings.{reading_of}
 use Rattle.multipart_entities.specs.declared.paths.Path.{Path}
@@ -11,6 +11,8 @@ use Rattle.document_load.specs.Needs.{needs_of}
 pub record PendingState : Type 0 where
   pub path : Path
   pub draft : DraftState
+  -- where the need stands that was waited for last
+  pub place : ℕ
 
 -- it is the document that is found under the start path, with its needs
 pub record IsStart (stored : Stored) (pending : PendingState) : Type 0 where

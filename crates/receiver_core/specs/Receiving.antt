@@ -3,7 +3,6 @@ use Rattle.std.specs.Prelude.{◌≡◌, ℕ, Bool, true, false, if◌then◌els
 use Rattle.ts_sections.specs.Intact.{is_intact}
 use Rattle.psi_tables.specs.declared.services.Selection.{Selection}
 use Rattle.psi_tables.specs.Service.{ServicesState, wants}
-use Rattle.section_demultiplexer.specs.Demultiplexing.{IsDrained}
 use Rattle.receiver_core.specs.Keeping.{KeptState, Keeps}
 use Rattle.receiver_core.specs.Outputs.{Piece, outputs, pieces_of_turns, state_behind, state_behind_turns}
 use Rattle.receiver_core.specs.State.{Input, Show, State, opening, services}
@@ -42,7 +41,7 @@ IsSpent state = state.spent ≡ true
 
 -- no turn is still to come, so the next packet may; and to a spent receiver anything may
 abbrev pub IsIdle : ReceiverState → Type 0
-IsIdle state = state.spent ≡ false → (state.waiting ≡ []) × IsDrained state.kept.demultiplexer
+IsIdle state = state.spent ≡ false → state.waiting ≡ []
 
 -- how many sections are waiting
 abbrev pub sections_left : ReceiverState → ℕ

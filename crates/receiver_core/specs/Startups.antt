@@ -1,7 +1,7 @@
--- What is kept of the start document. (This project's own.)
+-- A device of the proofs: what is kept of the start document.
 use Rattle.std.specs.Prelude.{ℕ, ◌==◌, Bool, false, ◌&&◌, if◌then◌else◌, List}
 use Rattle.carousel_blocks.specs.declared.changes.Change.{Change}
-use Rattle.module_store.specs.Staying.{tells_of, went}
+use Rattle.module_store.specs.Staying.{tells_of, is_gone}
 use Rattle.module_store.specs.Store.{Stored}
 use Rattle.receiver_core.specs.declared.startup.Startup.{Startup}
 use Rattle.receiver_core.specs.declared.startup.Startup.TheVariants as kept
@@ -28,11 +28,11 @@ abbrev pub is_told_by : ℕ → List Change → Startup → Bool
 is_told_by component changes (kept.Pending pending) = (pending.path.component == component) && tells_of pending.path.«module» changes
 is_told_by component changes _ = false
 
--- a document was read, and its module went with its component
-abbrev pub went_with : List (ℕ × Change) → Startup → Bool
-went_with gone (kept.Pending pending) = went pending.path.component pending.path.«module» gone
-went_with gone _ = false
+-- a document was read, and its module is gone with its component
+abbrev pub is_gone_with : List (ℕ × Change) → Startup → Bool
+is_gone_with gone (kept.Pending pending) = is_gone pending.path.component pending.path.«module» gone
+is_gone_with gone _ = false
 
 -- then it is wanted anew
-abbrev pub following : Bool → Startup → Startup
-following told startup = if told then kept.Wanted else startup
+abbrev pub startup_behind : Bool → Startup → Startup
+startup_behind told startup = if told then kept.Wanted else startup

@@ -28,7 +28,7 @@ step_of_table now = record {
 -- A section of a component: its changes
 abbrev pub step_of_component : ℕ → List ℕ → State → Step
 step_of_component component section now = record {
-  state = record now { store = store.fed component section now.store };
+  state = record now { store = store.with_section component section now.store };
   text = flat_map (line_of_change component) (store.changes_by component section now.store);
 }
 

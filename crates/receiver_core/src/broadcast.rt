@@ -1,7 +1,7 @@
 //! The broadcast that is received: its tables, its modules, and its start document.
 
-ghost use Rattle.std.specs.Prelude.{◌≡◌, ◌≤◌, ◌++◌, ℕ, List, true, false, length, take, Some, IfOk, OnOk, OnErr};
-ghost use Rattle.psi_tables.specs.Components.{tag_in};
+ghost use Rattle.std.specs.Prelude.{◌≡◌, ◌≤◌, ◌++◌, ℕ, List, false, length, IfOk, OnOk};
+ghost use Rattle.std.specs.Io.{StartsWith};
 ghost use Rattle.psi_tables.specs.Service.{reads_table};
 ghost use Rattle.receiver_core.specs.Outputs.{display_of};
 ghost use Rattle.receiver_core.specs.Dispatches.{turn};
@@ -15,7 +15,7 @@ use crate::lines::{push_change_lines, push_gone_lines};
 use crate::startup::Startup;
 use bml_bytes::NoMemory;
 use module_store::Store;
-use psi_tables::{Selection, Services, law_of_component_map};
+use psi_tables::{Selection, Services, law_of_component_map, law_of_unread_sections};
 use std::alloc::Global;
 use std::marker::Model;
 use std::mem;
@@ -66,7 +66,7 @@ impl Broadcast {
     pub fn turn(&mut self, pid: u16, section: &[u8], out: &mut Vec<u8>) -> Result<(), NoMemory>
         requires { 12 ≤ length section.now }
         ensures turned { OnOk result (Turns self.old self.new out.old.items out.new.items (turn pid section.now)) }
-        ensures grows { take (length out.old.items) out.new.items ≡ out.old.items }
+        ensures grows { StartsWith out.new.items out.old.items }
     {
         if self.take(pid, section, out)? {
             self.dispatch(out)?;
@@ -77,7 +77,7 @@ impl Broadcast {
     // Makes the dispatches of a turn: loads the document that is wanted, where it can be loaded.
     fn dispatch(&mut self, out: &mut Vec<u8>) -> Result<(), NoMemory>
         ensures made { OnOk result (Dispatches self.old self.new out.old.items out.new.items) }
-        ensures grows { take (length out.old.items) out.new.items ≡ out.old.items }
+        ensures grows { StartsWith out.new.items out.old.items }
     {
         let startup = mem::replace(&mut self.startup, Startup::Wanted);
         self.startup = startup.dispatch(self.alloc, &self.store, out)?;
@@ -87,7 +87,7 @@ impl Broadcast {
     /// Appends the display list of the start document, or its first line alone.
     pub fn show(&self, out: &mut Vec<u8>) -> Result<(), NoMemory>
         ensures ok { OnOk result (out.new.items ≡ out.old.items ++ display_of (start_of self.now.startup)) }
-        ensures err { OnErr result (out.new.items ≡ out.old.items) }
+        ensures grows { StartsWith out.new.items out.old.items }
     {
         self.startup.show(out)
     }
@@ -98,8 +98,9 @@ impl Broadcast {
         requires { 12 ≤ length section.now }
         ensures taken { OnOk result (Takes self.old self.new out.old.items out.new.items (step_of_section pid section.now)) }
         ensures looks { IfOk result (λ changed. changed ≡ false → LeavesLooks self.old (step_of_section pid section.now)) }
-        ensures grows { take (length out.old.items) out.new.items ≡ out.old.items }
+        ensures grows { StartsWith out.new.items out.old.items }
     {
+        law_of_unread_sections();
         if self.services.reads_table(pid) {
             return self.take_table(pid, section, out);
         }
@@ -114,13 +115,15 @@ impl Broadcast {
         requires { 12 ≤ length section.now }
         ensures taken { OnOk result (Takes self.old self.new out.old.items out.new.items (λ s. step_of_table (with_handled pid section.now s))) }
         ensures looks { IfOk result (λ changed. changed ≡ false → LeavesLooks self.old (λ s. step_of_table (with_handled pid section.now s))) }
-        ensures grows { take (length out.old.items) out.new.items ≡ out.old.items }
+        ensures grows { StartsWith out.new.items out.old.items }
     {
-        self.services.feed(pid, section)?;
-        let gone = self.store.set_components(&self.services)?;
-        self.startup.follow_gone(gone.as_slice());
         law_of_current_documents();
         law_of_component_map();
+        if !self.services.feed(pid, section)? {
+            return Ok(false);
+        }
+        let gone = self.store.set_components(&self.services)?;
+        self.startup.follow_gone(gone.as_slice());
         push_gone_lines(gone.as_slice(), out)?;
         Ok(self.store.has_changed())
     }
@@ -135,17 +138,14 @@ impl Broadcast {
     ) -> Result<bool, NoMemory>
         requires section { 12 ≤ length section.now }
         requires unread { reads_table self.old.services.selection self.old.services.service pid ≡ false }
-        requires component { tag_in self.old.services.map pid ≡ Some component }
         ensures taken { OnOk result (Takes self.old self.new out.old.items out.new.items (λ s. step_of_component component section.now (with_handled pid section.now s))) }
         ensures looks { IfOk result (λ changed. changed ≡ false → LeavesLooks self.old (λ s. step_of_component component section.now (with_handled pid section.now s))) }
-        ensures grows { take (length out.old.items) out.new.items ≡ out.old.items }
+        ensures grows { StartsWith out.new.items out.old.items }
     {
-        if !self.store.has_component(component) {
-            return Ok(false);
-        }
+        law_of_unread_sections();
+        law_of_current_documents();
         let changes = self.store.feed(component, section)?;
         self.startup.follow(component, changes.as_slice());
-        law_of_current_documents();
         push_change_lines(component, changes.as_slice(), out)?;
         Ok(self.store.has_changed())
     }

@@ -1,55 +1,40 @@
-//! The lines that the turns of a receiver print.
+//! The lines that the turns of a receiver print. Each call stops in the middle of a line where it finds no memory.
 
-ghost use Rattle.std.specs.Prelude.{◌≡◌, ◌<◌, ◌^◌, ◌++◌, codes, length, take, Err, OnOk, OnErr};
+ghost use Rattle.std.specs.Prelude.{◌≡◌, ◌++◌, codes, Err, OnOk};
+ghost use Rattle.std.specs.Io.{StartsWith};
 ghost use Rattle.std.specs.List.{flat_map};
-ghost use Rattle.bml_bytes.specs.Numerals.{decimal_digits, hex_digits};
-ghost use Rattle.multipart_entities.specs.Paths.{printed};
-ghost use Rattle.receiver_core.specs.Lines.{cause_name, fault_name, line_of_change, line_with, load_line, module_fields};
+ghost use Rattle.multipart_entities.specs.Paths.{path_text};
+ghost use Rattle.receiver_core.specs.Lines.{cause_name, delivery_fields, fault_name, line_of_change, line_with, load_line, module_fields};
 
-use bml_bytes::{NoMemory, push_decimal, push_hex};
+use bml_bytes::{NoMemory, law_of_fronts, push_count, push_hex, push_line_end, push_word};
 use bml_reader::DocFault;
 use module_store::{Change, ChangeLine, SkipCause};
 use multipart_entities::Path;
 
-/// Appends the line of a change in a module of a component, where it has one: the module was delivered, went, or is
-/// skipped.
-pub fn push_change_line(component: u8, change: &Change, out: &mut Vec<u8>) -> Result<(), NoMemory>
-    ensures ok { OnOk result (out.new.items ≡ out.old.items ++ line_of_change component change.now) }
-    ensures err { OnErr result (out.new.items ≡ out.old.items) }
-{
-    let Some(line) = change.line else {
-        return Ok(());
-    };
-    let before = out.len();
-    match push_fields(component, change.module, line, out) {
-        Ok(()) => Ok(()),
-        Err(error) => {
-            out.truncate(before);
-            Err(error)
-        }
-    }
-}
-
-/// Appends the lines of changes in modules of a component, in their order. It stops where it finds no memory.
+/// Appends the lines of changes in modules of a component, in their order.
 pub fn push_change_lines(
     component: u8,
     changes: &[Change],
     out: &mut Vec<u8>,
 ) -> Result<(), NoMemory>
-    ensures ok { OnOk result (out.new.items ≡ out.old.items ++ flat_map (line_of_change component) changes.now) }
-    ensures grows { take (length out.old.items) out.new.items ≡ out.old.items }
+    ensures ok { OnOk result
+        (out.new.items ≡ out.old.items ++ flat_map (line_of_change component) changes.now) }
+    ensures grows { StartsWith out.new.items out.old.items }
 {
+    law_of_fronts();
     'lines: for change in changes {
         push_change_line(component, change, out)?;
     }
     Ok(())
 }
 
-/// Appends the lines of modules that went, each with its component, in their order. It stops where it finds no memory.
+/// Appends the lines of modules that are gone, each with its component, in their order.
 pub fn push_gone_lines(gone: &[(u8, Change)], out: &mut Vec<u8>) -> Result<(), NoMemory>
-    ensures ok { OnOk result (out.new.items ≡ out.old.items ++ flat_map (λ gone. line_of_change gone.0 gone.1) gone.now) }
-    ensures grows { take (length out.old.items) out.new.items ≡ out.old.items }
+    ensures ok { OnOk result
+        (out.new.items ≡ out.old.items ++ flat_map (λ gone. line_of_change gone.0 gone.1) gone.now) }
+    ensures grows { StartsWith out.new.items out.old.items }
 {
+    law_of_fronts();
     'lines: for (component, change) in gone {
         push_change_line(*component, change, out)?;
     }
@@ -58,172 +43,109 @@ pub fn push_gone_lines(gone: &[(u8, Change)], out: &mut Vec<u8>) -> Result<(), N
 
 /// Appends the line of the document at a path that was loaded.
 pub fn push_load_line(path: &Path, out: &mut Vec<u8>) -> Result<(), NoMemory>
-    ensures ok { OnOk result (out.new.items ≡ out.old.items ++ (codes "load " ++ (printed path.now ++ codes "\n"))) }
-    ensures err { OnErr result (out.new.items ≡ out.old.items) }
+    ensures ok { OnOk result
+        (out.new.items ≡ out.old.items ++ (codes "load " ++ (path_text path.now ++ codes "\n"))) }
+    ensures grows { StartsWith out.new.items out.old.items }
 {
-    let before = out.len();
-    match push_load_fields(path, out) {
-        Ok(()) => Ok(()),
-        Err(error) => {
-            out.truncate(before);
-            Err(error)
-        }
-    }
+    push_word("load ", out)?;
+    path.push(out)?;
+    push_line_end(out)
 }
 
 /// Appends the line of the document at a path that was refused.
 pub fn push_refuse_line(path: &Path, fault: DocFault, out: &mut Vec<u8>) -> Result<(), NoMemory>
     ensures ok { OnOk result (out.new.items ≡ out.old.items ++ load_line path.now (Err fault)) }
-    ensures err { OnErr result (out.new.items ≡ out.old.items) }
+    ensures grows { StartsWith out.new.items out.old.items }
 {
-    let before = out.len();
-    match push_refuse_fields(path, fault, out) {
-        Ok(()) => Ok(()),
-        Err(error) => {
-            out.truncate(before);
-            Err(error)
-        }
+    push_word("refuse ", out)?;
+    path.push(out)?;
+    push_word(" ", out)?;
+    push_word(name_of_fault(fault), out)?;
+    push_line_end(out)
+}
+
+// The line of a change, where it has one: the module was delivered, is gone, or is skipped.
+fn push_change_line(component: u8, change: &Change, out: &mut Vec<u8>) -> Result<(), NoMemory>
+    ensures ok { OnOk result
+        (out.new.items ≡ out.old.items ++ line_of_change component change.now) }
+    ensures grows { StartsWith out.new.items out.old.items }
+{
+    match change.line {
+        None => Ok(()),
+        Some(line) => push_line(component, change.module, line, out),
     }
 }
 
-// Each of the next stops in the middle of its line where it finds no memory.
-
-fn push_fields(
+fn push_line(
     component: u8,
     number: u16,
     line: ChangeLine,
     out: &mut Vec<u8>,
 ) -> Result<(), NoMemory>
     ensures ok { OnOk result (out.new.items ≡ out.old.items ++ line_with component number line) }
-    ensures grows { take (length out.old.items) out.new.items ≡ out.old.items }
+    ensures grows { StartsWith out.new.items out.old.items }
 {
     match line {
         ChangeLine::Delivered { version, size } => {
-            push_delivered_fields(component, number, version, size, out)
+            push_word("module", out)?;
+            push_module_fields(component, number, out)?;
+            push_delivery_fields(version, size, out)?;
         }
-        ChangeLine::Gone => push_gone_fields(component, number, out),
-        ChangeLine::Skipped(cause) => push_skipped_fields(component, number, cause, out),
+        ChangeLine::Gone => {
+            push_word("gone", out)?;
+            push_module_fields(component, number, out)?;
+        }
+        ChangeLine::Skipped(cause) => {
+            push_word("skip", out)?;
+            push_module_fields(component, number, out)?;
+            push_word(" ", out)?;
+            push_word(name_of_cause(cause), out)?;
+        }
     }
-}
-
-fn push_delivered_fields(
-    component: u8,
-    number: u16,
-    version: u8,
-    size: u32,
-    out: &mut Vec<u8>,
-) -> Result<(), NoMemory>
-    ensures ok { OnOk result (out.new.items ≡ out.old.items ++ line_with component number (ChangeLine.Delivered version size)) }
-    ensures grows { take (length out.old.items) out.new.items ≡ out.old.items }
-{
-    push_text(b"module", out)?;
-    push_module_fields(component, number, out)?;
-    push_delivery(version, size, out)
-}
-
-// The module's version and its size, and the line's end.
-fn push_delivery(version: u8, size: u32, out: &mut Vec<u8>) -> Result<(), NoMemory>
-    ensures ok { OnOk result (out.new.items ≡ out.old.items ++ (codes " " ++ (hex_digits 2 version ++ (codes " " ++ (decimal_digits size ++ codes "\n"))))) }
-    ensures grows { take (length out.old.items) out.new.items ≡ out.old.items }
-{
-    push_text(b" ", out)?;
-    push_hex(u32::from(version), 2, out)?;
-    push_text(b" ", out)?;
-    push_number(u64::from(size), out)?;
-    push_text(b"\n", out)
-}
-
-fn push_gone_fields(component: u8, number: u16, out: &mut Vec<u8>) -> Result<(), NoMemory>
-    ensures ok { OnOk result (out.new.items ≡ out.old.items ++ line_with component number ChangeLine.Gone) }
-    ensures grows { take (length out.old.items) out.new.items ≡ out.old.items }
-{
-    push_text(b"gone", out)?;
-    push_module_fields(component, number, out)?;
-    push_text(b"\n", out)
-}
-
-fn push_skipped_fields(
-    component: u8,
-    number: u16,
-    cause: SkipCause,
-    out: &mut Vec<u8>,
-) -> Result<(), NoMemory>
-    ensures ok { OnOk result (out.new.items ≡ out.old.items ++ line_with component number (ChangeLine.Skipped cause)) }
-    ensures grows { take (length out.old.items) out.new.items ≡ out.old.items }
-{
-    push_text(b"skip", out)?;
-    push_module_fields(component, number, out)?;
-    push_text(b" ", out)?;
-    push_text(name_of_cause(cause), out)?;
-    push_text(b"\n", out)
+    push_line_end(out)
 }
 
 // The module's component and its number.
 fn push_module_fields(component: u8, number: u16, out: &mut Vec<u8>) -> Result<(), NoMemory>
     ensures ok { OnOk result (out.new.items ≡ out.old.items ++ module_fields component number) }
-    ensures grows { take (length out.old.items) out.new.items ≡ out.old.items }
+    ensures grows { StartsWith out.new.items out.old.items }
 {
-    push_text(b" ", out)?;
+    push_word(" ", out)?;
     push_hex(u32::from(component), 2, out)?;
-    push_text(b" ", out)?;
+    push_word(" ", out)?;
     push_hex(u32::from(number), 4, out)
 }
 
-fn push_load_fields(path: &Path, out: &mut Vec<u8>) -> Result<(), NoMemory>
-    ensures ok { OnOk result (out.new.items ≡ out.old.items ++ (codes "load " ++ (printed path.now ++ codes "\n"))) }
-    ensures grows { take (length out.old.items) out.new.items ≡ out.old.items }
+// The version and the size of what was delivered.
+fn push_delivery_fields(version: u8, size: u32, out: &mut Vec<u8>) -> Result<(), NoMemory>
+    ensures ok { OnOk result (out.new.items ≡ out.old.items ++ delivery_fields version size) }
+    ensures grows { StartsWith out.new.items out.old.items }
 {
-    push_text(b"load ", out)?;
-    path.push(out)?;
-    push_text(b"\n", out)
+    push_word(" ", out)?;
+    push_hex(u32::from(version), 2, out)?;
+    push_word(" ", out)?;
+    push_count(u64::from(size), out)
 }
 
-fn push_refuse_fields(path: &Path, fault: DocFault, out: &mut Vec<u8>) -> Result<(), NoMemory>
-    ensures ok { OnOk result (out.new.items ≡ out.old.items ++ load_line path.now (Err fault)) }
-    ensures grows { take (length out.old.items) out.new.items ≡ out.old.items }
-{
-    push_text(b"refuse ", out)?;
-    path.push(out)?;
-    push_text(b" ", out)?;
-    push_text(name_of_fault(fault), out)?;
-    push_text(b"\n", out)
-}
-
-fn name_of_cause(cause: SkipCause) -> &'static [u8]
+fn name_of_cause(cause: SkipCause) -> &'static str
     ensures { result.now ≡ cause_name cause }
 {
     match cause {
-        SkipCause::Compressed => b"compressed",
-        SkipCause::Large => b"large",
+        SkipCause::Compressed => "compressed",
+        SkipCause::Large => "large",
     }
 }
 
-fn name_of_fault(fault: DocFault) -> &'static [u8]
+fn name_of_fault(fault: DocFault) -> &'static str
     ensures { result.now ≡ fault_name fault }
 {
     match fault {
-        DocFault::Malformed => b"Malformed",
-        DocFault::WrongRoot => b"WrongRoot",
-        DocFault::TooDeep => b"TooDeep",
-        DocFault::TooManyNodes => b"TooManyNodes",
-        DocFault::NoMemory => b"NoMemory",
+        DocFault::Malformed => "Malformed",
+        DocFault::WrongRoot => "WrongRoot",
+        DocFault::TooDeep => "TooDeep",
+        DocFault::TooManyNodes => "TooManyNodes",
+        DocFault::NoMemory => "NoMemory",
     }
-}
-
-fn push_text(text: &[u8], out: &mut Vec<u8>) -> Result<(), NoMemory>
-    ensures ok { OnOk result (out.new.items ≡ out.old.items ++ text.now) }
-    ensures err { OnErr result (out.new.items ≡ out.old.items) }
-{
-    out.extend_from_slice(text)?;
-    Ok(())
-}
-
-fn push_number(number: u64, out: &mut Vec<u8>) -> Result<(), NoMemory>
-    requires { number < 2 ^ 63 }
-    ensures ok { OnOk result (out.new.items ≡ out.old.items ++ decimal_digits number) }
-    ensures err { OnErr result (out.new.items ≡ out.old.items) }
-{
-    push_decimal(number as i64, out)
 }
 
 #[cfg(test)]

@@ -1,8 +1,9 @@
 //! The load of the start document.
 
-ghost use Rattle.std.specs.Prelude.{◌≡◌, IfOk, length, take};
+ghost use Rattle.std.specs.Io.{StartsWith};
+ghost use Rattle.std.specs.Prelude.{◌≡◌, IfOk, length};
 ghost use Rattle.receiver_core.specs.declared.startup.Startup.TheVariants as kept;
-ghost use Rattle.receiver_core.specs.Loading.{Loads};
+ghost use Rattle.receiver_core.specs.Loading.{KnowsItsPlace, Loads};
 
 use crate::lines::{push_load_line, push_refuse_line};
 use crate::pending::Pending;
@@ -16,8 +17,10 @@ use std::alloc::Global;
 /// Reads the start document, where it is found, and loads it, where nothing that it needs is waited for. Appends the line
 /// of a document that is loaded or refused.
 pub fn load(alloc: Global, store: &Store, out: &mut Vec<u8>) -> Result<Startup, NoMemory>
-    ensures loads { IfOk result (λ startup. Loads store.now kept.Wanted startup out.old.items out.new.items) }
-    ensures grows { take (length out.old.items) out.new.items ≡ out.old.items }
+    ensures loads { IfOk result
+        (λ startup. Loads store.now kept.Wanted startup out.old.items out.new.items) }
+    ensures knows { IfOk result (λ startup. KnowsItsPlace store.now startup) }
+    ensures grows { StartsWith out.new.items out.old.items }
 {
     let path = store.start_path()?;
     let Look::Found(bytes) = store.resource(&path) else {

@@ -1,11 +1,12 @@
 //! A document that was read, and the needs that it waits for.
 
-ghost use Rattle.std.specs.Prelude.{◌≡◌, true, None, IfOk, IfSome, length, take};
+ghost use Rattle.std.specs.Io.{StartsWith};
+ghost use Rattle.std.specs.Prelude.{◌≡◌, true, None, IfOk, IfSome, length};
 ghost use Rattle.module_store.specs.Store.{Stored};
 ghost use Rattle.module_store.specs.Standing.{StandsFor};
 ghost use Rattle.receiver_core.specs.Dispatches.{are_settled};
 ghost use Rattle.receiver_core.specs.declared.startup.Startup.TheVariants as kept;
-ghost use Rattle.receiver_core.specs.Loading.{Loads, WaitsAt};
+ghost use Rattle.receiver_core.specs.Loading.{KnowsItsPlace, Loads, WaitsAt};
 
 use crate::lines::push_load_line;
 use crate::startup::Startup;
@@ -31,7 +32,7 @@ impl Model for Pending {
 
     ghost Value = { PendingState };
 
-    ghost view = { λ p. record { path = p.path; draft = p.draft } };
+    ghost view = { λ p. record { path = p.path; draft = p.draft; place = p.place } };
 
     ghost invariant = { λ p. p.place ≤ length p.draft.needs };
 }
@@ -58,8 +59,10 @@ impl Pending {
 
     /// Loads the document, where nothing that it needs is waited for, and appends its line. Else it goes on waiting.
     pub fn load(self, store: &Store, out: &mut Vec<u8>) -> Result<Startup, NoMemory>
-        ensures loads { IfOk result (λ startup. Loads store.now (kept.Pending self) startup out.old.items out.new.items) }
-        ensures grows { take (length out.old.items) out.new.items ≡ out.old.items }
+        ensures loads { IfOk result
+            (λ startup. Loads store.now (kept.Pending self) startup out.old.items out.new.items) }
+        ensures knows { IfOk result (λ startup. KnowsItsPlace store.now startup) }
+        ensures grows { StartsWith out.new.items out.old.items }
     {
         let waited = self.waited_for(store);
         let Pending { path, draft, .. } = self;

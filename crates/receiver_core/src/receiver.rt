@@ -10,8 +10,8 @@ ghost use Rattle.receiver_core.specs.State.{Input, Packet as APacket};
 
 use crate::broadcast::Broadcast;
 use bml_bytes::{AreaBytes, NoMemory};
-use psi_tables::Selection;
-use section_demultiplexer::Demultiplexer;
+use psi_tables::{Selection, law_of_wanted_pids};
+use section_demultiplexer::{Demultiplexer, law_of_room, law_of_same_lists};
 use std::alloc::Global;
 use std::marker::Model;
 use ts_packets::Packet;
@@ -31,7 +31,7 @@ pub struct Receiver {
 }
 
 impl Model for Receiver {
-    ghost use Rattle.receiver_core.specs.Keeping.{AreWanted, waiting_in};
+    ghost use Rattle.receiver_core.specs.Keeping.{AreWanted};
     ghost use Rattle.receiver_core.specs.Receiving.{ReceiverState};
 
     ghost Value = { ReceiverState };
@@ -39,7 +39,7 @@ impl Model for Receiver {
     ghost view = { λ r. record {
       services = r.broadcast.services;
       pid = r.demultiplexer.pid;
-      waiting = waiting_in r.demultiplexer;
+      waiting = r.demultiplexer.waiting;
       area = r.area;
       spent = r.spent;
       kept = record { demultiplexer = r.demultiplexer; broadcast = r.broadcast };
@@ -72,6 +72,7 @@ impl Receiver {
         ensures passes { result ≡ false → IsIdle self.now
             → (packet : List ℕ) → pid_of packet ≡ pid → Takes (APacket packet) self.now self.now }
     {
+        law_of_same_lists();
         self.broadcast.services().wants(pid)
     }
 
@@ -99,6 +100,9 @@ impl Receiver {
         ensures spent { self.new.spent ≡ self.old.spent }
         ensures area { self.new.area ≡ self.old.area }
     {
+        law_of_wanted_pids();
+        law_of_room();
+        law_of_same_lists();
         if !self.spent {
             self.demultiplexer.push(packet);
         }
@@ -118,6 +122,7 @@ impl Receiver {
         ensures spent { OnErr result (IsSpent self.new) }
         ensures after_spent { IsSpent self.old → IsErr result }
     {
+        law_of_same_lists();
         if self.spent {
             return Err(NoMemory);
         }

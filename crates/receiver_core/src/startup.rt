@@ -1,11 +1,12 @@
 //! The start document: what is kept of it, and how it is shown.
 
-ghost use Rattle.std.specs.Prelude.{◌≡◌, ◌≢◌, ◌++◌, IfOk, OnOk, OnErr, length, take};
-ghost use Rattle.module_store.specs.Staying.{tells_of, went};
+ghost use Rattle.std.specs.Io.{StartsWith};
+ghost use Rattle.std.specs.Prelude.{◌≡◌, ◌≢◌, ◌++◌, IfOk, OnOk, OnErr, length};
+ghost use Rattle.module_store.specs.Staying.{tells_of, is_gone};
 ghost use Rattle.receiver_core.specs.Outputs.{display_of};
 ghost use Rattle.receiver_core.specs.Loading.{Loads};
 ghost use Rattle.receiver_core.specs.State.Start.{Wanted};
-ghost use Rattle.receiver_core.specs.Startups.{following, is_told_by, start_of, went_with};
+ghost use Rattle.receiver_core.specs.Startups.{startup_behind, is_told_by, start_of, is_gone_with};
 
 use crate::loading::load;
 use crate::pending::Pending;
@@ -41,7 +42,7 @@ impl Startup {
     ) -> Result<Startup, NoMemory>
         ensures wanted { IfOk result (λ startup. start_of self ≡ Wanted → Loads store.now self startup out.old.items out.new.items) }
         ensures other { IfOk result (λ startup. start_of self ≢ Wanted → (startup ≡ self) × (out.new.items ≡ out.old.items)) }
-        ensures grows { take (length out.old.items) out.new.items ≡ out.old.items }
+        ensures grows { StartsWith out.new.items out.old.items }
     {
         match self {
             Startup::Wanted => load(alloc, store, out),
@@ -52,18 +53,19 @@ impl Startup {
 
     /// Takes the changes in the modules of a component: a document that was read is wanted anew, where its module changed.
     pub fn follow(&mut self, component: u8, changes: &[Change])
-        ensures { self.new ≡ following (is_told_by component changes.now self.old) self.old }
+        ensures { self.new ≡ startup_behind (is_told_by component changes.now self.old) self.old }
     {
         if self.is_told_by(component, changes) {
             *self = Startup::Wanted;
         }
     }
 
-    /// Takes the modules that went with their components: a document that was read is wanted anew, where its module went.
+    /// Takes the modules that are gone with their components: a document that was read is wanted anew, where its
+    /// module is.
     pub fn follow_gone(&mut self, gone: &[(u8, Change)])
-        ensures { self.new ≡ following (went_with gone.now self.old) self.old }
+        ensures { self.new ≡ startup_behind (is_gone_with gone.now self.old) self.old }
     {
-        if self.went_with(gone) {
+        if self.is_gone_with(gone) {
             *self = Startup::Wanted;
         }
     }
@@ -71,7 +73,7 @@ impl Startup {
     /// Appends the display list: its first line, and the boxes and texts of the document, where one is loaded.
     pub fn show(&self, out: &mut Vec<u8>) -> Result<(), NoMemory>
         ensures ok { OnOk result (out.new.items ≡ out.old.items ++ display_of (start_of self.now)) }
-        ensures err { OnErr result (out.new.items ≡ out.old.items) }
+        ensures grows { StartsWith out.new.items out.old.items }
     {
         match self {
             Startup::Loaded(document) => show_places(&document.tree, CLOCK, out),
@@ -92,14 +94,14 @@ impl Startup {
         }
     }
 
-    // Whether a document was read whose module went.
-    fn went_with(&self, gone: &[(u8, Change)]) -> bool
-        ensures { result ≡ went_with gone.now self.now }
+    // Whether a document was read whose module is gone.
+    fn is_gone_with(&self, gone: &[(u8, Change)]) -> bool
+        ensures { result ≡ is_gone_with gone.now self.now }
     {
         match self {
             Startup::Pending(pending) => {
                 let path = pending.path();
-                went(path.component, path.module, gone)
+                is_gone(path.component, path.module, gone)
             }
             Startup::Wanted | Startup::Refused | Startup::Loaded(_) => false,
         }
@@ -113,9 +115,9 @@ fn tells_of(module: u16, changes: &[Change]) -> bool
     changes.iter().any(|change| change.module == module)
 }
 
-// Whether the module is one of those that went.
-fn went(component: u8, module: u16, gone: &[(u8, Change)]) -> bool
-    ensures { result ≡ went component «module» gone.now }
+// Whether the module is one of those that are gone.
+fn is_gone(component: u8, module: u16, gone: &[(u8, Change)]) -> bool
+    ensures { result ≡ is_gone component «module» gone.now }
 {
     gone.iter().any(|(tag, change)| *tag == component && change.module == module)
 }

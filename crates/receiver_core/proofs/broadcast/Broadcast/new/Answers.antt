@@ -3,5 +3,4 @@ use Rattle.receiver_core.proofs.broadcast.Broadcast.new.Goals as goal
 
 pub returns : goal.returns
 returns c =
-    let set = c.in_ok-set_components.ensures in
-    stands_first c.new-services.result c.new-store.result c.set_components.new.self c.args.selection c.new-services.ensures.selection c.new-services.ensures.stands c.new-store.ensures set.stands set.components
+    stands_first c.new-services.result c.new-store.result c.set_components.new.self c.args.selection c.new-services.ensures.selection c.new-services.ensures.stands c.new-store.ensures c.in_ok-set_components.ensures.stands
