@@ -13,6 +13,7 @@ const PACKET_LENGTH: usize = 188;
 
 /// The payload that a packet has room for: all but its header, and its pointer_field where a unit starts.
 const PAYLOAD_LENGTH: usize = 184;
+
 const UNIT_LENGTH: usize = 183;
 
 /// The size of the blocks that modules are cut into.
