@@ -133,7 +133,7 @@ returns-in-None-clause-ends g c = λ stream notes l n.
     let whole = next.end (ap Ok c.in-None.is) notes was.0 was.2 in
     ends_with_line laws c.write_end.result _ run _
     (outside (g.W.World.told c.next_item.new.world) (g.S.Sink.told c.write_end.new.out)) was.0
-    c.packets.ensures.packets c.write_end.ensures.whole c.write_end.ensures.stops whole
+    c.packets.ensures c.write_end.ensures.whole c.write_end.ensures.stops whole
     (between_within _ _ was.0 _ c.items.invariant.stream_within b) c.items.invariant.idle b
 
 pub returns-in_err-item-clause-reads : goal.returns-in_err-item-clause-reads
