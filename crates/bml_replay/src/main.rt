@@ -7,8 +7,6 @@
 
 mod command_line;
 mod ports;
-#[cfg(test)]
-mod rows;
 
 use crate::command_line::{Asked, HELP, SYNOPSIS, VERSION, read_words, request_of};
 use crate::ports::{AreaFile, FileWorld, StandardOutput};

@@ -1,11 +1,15 @@
 -- What words are a command, in both directions.
-use Rattle.std.proofs.Common.{◌≡◌, ℕ, ◌≤◌, Bool, true, false, cond, not, ◌&&◌, ◌==◌, nat_le, List, [], ◌∷◌, ◌++◌, codes, Option, Some, None, option_map, option_and_then, refl, sym, ap, ap₂, ◌∙◌, subst, true≢false, ne_eqb, leb-true, le-leb}
+use Rattle.std.proofs.Common.{◌≡◌, ℕ, ◌≤◌, Bool, true, false, cond, not, ◌&&◌, ◌==◌, nat_le, List}
+use Rattle.std.proofs.Common.{[], ◌∷◌, ◌++◌, codes, Option, Some, None, option_map, option_and_then}
+use Rattle.std.proofs.Common.{refl, sym, ap, ap₂, ◌∙◌, subst, true≢false, ne_eqb, leb-true, le-leb}
 use Rattle.std.proofs.lemmas.Option.{cond_some, none-some}
 use Rattle.std.specs.Cmp.Lexicographic.{bytes_decides}
+use Rattle.bml_bytes.specs.Words.{is_same}
 use Rattle.bml_bytes.specs.Numerals.{decimal_field}
 use Rattle.psi_tables.specs.declared.services.Selection.{Selection}
 use Rattle.psi_tables.specs.declared.services.Selection.TheVariants.{First, Service, Pid}
-use Rattle.replay_run.specs.Words.{CommandWords, is_same, is_file_name, service, data_pid, optional, replay_of, command, IsFileName, AskFor, IsReplay}
+use Rattle.replay_run.specs.Words.{CommandWords, is_file_name, service, data_pid}
+use Rattle.replay_run.specs.Words.{selection_of, replay_of, command, IsFileName, AskFor, IsReplay}
 
 both : (a b : Bool) → a ≡ true → b ≡ true → (a && b) ≡ true
 both a b e f = ap₂ (λ s t. s && t) e f
@@ -22,26 +26,32 @@ file_name_read : (name : List ℕ) → is_file_name name ≡ true → IsFileName
 file_name_read [] e = absurd (true≢false (sym e))
 file_name_read (first ∷ more) e = record {
   some = λ none. cc;
-  no_option = λ hyphen. let same : first ≡ 45 = cc in true≢false (sym e ∙ ap (λ code. not (code == 45)) same);
+  no_option = λ hyphen. let same : first ≡ 45 = cc in
+      true≢false (sym e ∙ ap (λ code. not (code == 45)) same);
 }
 
 file_name_written : (name : List ℕ) → IsFileName name → is_file_name name ≡ true
 file_name_written [] is_name = absurd (is_name.some refl)
-file_name_written (first ∷ more) is_name = ap not (ne_eqb first 45 (λ same. is_name.no_option (ap Some same)))
+file_name_written (first ∷ more) is_name =
+    ap not (ne_eqb first 45 (λ same. is_name.no_option (ap Some same)))
 
 -- ---- an option's number
 
 abbrev in_range : (ℕ → Selection) → ℕ → ℕ → ℕ → Option Selection
 in_range asked least most n = cond (nat_le least n && nat_le n most) (Some (asked n)) None
 
-record IsNumber (asked : ℕ → Selection) (least most : ℕ) (word : List ℕ) (selection : Selection) : Type 0 where
+record IsNumber (asked : ℕ → Selection) (least most : ℕ) (word : List ℕ) (selection : Selection) :
+    Type 0 where
   value : ℕ
   field : decimal_field word ≡ Some value
   least_is : least ≤ value
   most_is : value ≤ most
   same : asked value ≡ selection
 
-number_in : (asked : ℕ → Selection) (least most : ℕ) (word : List ℕ) (o : Option ℕ) (selection : Selection) → decimal_field word ≡ o → option_and_then (in_range asked least most) o ≡ Some selection → IsNumber asked least most word selection
+number_in : (asked : ℕ → Selection) (least most : ℕ) (word : List ℕ) (o : Option ℕ)
+    (selection : Selection) → decimal_field word ≡ o
+    → option_and_then (in_range asked least most) o ≡ Some selection
+    → IsNumber asked least most word selection
 number_in asked least most word None selection f e = absurd (none-some selection e)
 number_in asked least most word (Some n) selection f e =
     let h = cond_some (nat_le least n && nat_le n most) (asked n) selection e in
@@ -53,10 +63,13 @@ number_in asked least most word (Some n) selection f e =
       same = h.1;
     }
 
-number_written : (asked : ℕ → Selection) (least most value : ℕ) (word : List ℕ) → decimal_field word ≡ Some value → least ≤ value → value ≤ most → option_and_then (in_range asked least most) (decimal_field word) ≡ Some (asked value)
+number_written : (asked : ℕ → Selection) (least most value : ℕ) (word : List ℕ)
+    → decimal_field word ≡ Some value → least ≤ value → value ≤ most
+    → option_and_then (in_range asked least most) (decimal_field word) ≡ Some (asked value)
 number_written asked least most value word f l m =
     ap (option_and_then (in_range asked least most)) f
-    ∙ ap (λ b. cond b (Some (asked value)) None) (both (nat_le least value) (nat_le value most) (le-leb _ _ l) (le-leb _ _ m))
+    ∙ ap (λ b. cond b (Some (asked value)) None)
+    (both (nat_le least value) (nat_le value most) (le-leb _ _ l) (le-leb _ _ m))
 
 -- ---- the words around the option
 
@@ -66,38 +79,56 @@ same_word word = (bytes_decides word word).1 refl
 abbrev words_of : List ℕ → List ℕ → Selection → CommandWords
 words_of stream notes selection = record { selection = selection; stream = stream; notes = notes }
 
-replay_written : (stream notes : List ℕ) (o : Option Selection) (selection : Selection) → IsFileName stream → IsFileName notes → o ≡ Some selection → replay_of (codes "replay") o stream notes ≡ Some (words_of stream notes selection)
+replay_written : (stream notes : List ℕ) (o : Option Selection) (selection : Selection)
+    → IsFileName stream → IsFileName notes → o ≡ Some selection
+    → replay_of (codes "replay") o stream notes ≡ Some (words_of stream notes selection)
 replay_written stream notes o selection s n e =
-    let all : (is_same (codes "replay") (codes "replay") && (is_file_name stream && is_file_name notes)) ≡ true =
-    both _ _ (same_word (codes "replay")) (both _ _ (file_name_written stream s) (file_name_written notes n)) in
-    ap (λ b. cond b (option_map (words_of stream notes) o) None) all ∙ ap (option_map (words_of stream notes)) e
+    let all : (is_same (codes "replay") (codes "replay") &&
+    (is_file_name stream && is_file_name notes)) ≡ true =
+    both _ _ (same_word (codes "replay"))
+    (both _ _ (file_name_written stream s) (file_name_written notes n)) in
+    ap (λ b. cond b (option_map (words_of stream notes) o) None) all
+    ∙ ap (option_map (words_of stream notes)) e
 
-service_written : (number : List ℕ) (value : ℕ) → decimal_field number ≡ Some value → 1 ≤ value → value ≤ 65535 → optional (codes "--service") number ≡ Some (Service value)
+service_written : (number : List ℕ) (value : ℕ) → decimal_field number ≡ Some value → 1 ≤ value
+    → value ≤ 65535 → selection_of (codes "--service") number ≡ Some (Service value)
 service_written number value f l m =
-    ap (λ b. cond b (service number) (cond (is_same (codes "--service") (codes "--data-pid")) (data_pid number) None)) (same_word (codes "--service"))
+    ap (λ b. cond b (service number)
+    (cond (is_same (codes "--service") (codes "--data-pid")) (data_pid number) None))
+    (same_word (codes "--service"))
     ∙ number_written Service 1 65535 value number f l m
 
-data_pid_written : (number : List ℕ) (value : ℕ) → decimal_field number ≡ Some value → 16 ≤ value → value ≤ 8190 → optional (codes "--data-pid") number ≡ Some (Pid value)
+data_pid_written : (number : List ℕ) (value : ℕ) → decimal_field number ≡ Some value → 16 ≤ value
+    → value ≤ 8190 → selection_of (codes "--data-pid") number ≡ Some (Pid value)
 data_pid_written number value f l m =
     ap (λ b. cond b (data_pid number) None) (same_word (codes "--data-pid"))
     ∙ number_written Pid 16 8190 value number f l m
 
-written_for : (selection : Selection) (option : List (List ℕ)) (stream notes : List ℕ) → AskFor selection option → IsFileName stream → IsFileName notes → command (codes "replay" ∷ (option ++ stream ∷ notes ∷ [])) ≡ Some (words_of stream notes selection)
+written_for : (selection : Selection) (option : List (List ℕ)) (stream notes : List ℕ)
+    → AskFor selection option → IsFileName stream → IsFileName notes
+    → command (codes "replay" ∷ (option ++ stream ∷ notes ∷ []))
+    ≡ Some (words_of stream notes selection)
 written_for First option stream notes a s n =
-    ap (λ (o : List (List ℕ)). command (codes "replay" ∷ (o ++ stream ∷ notes ∷ []))) a ∙ replay_written stream notes (Some First) First s n refl
+    ap (λ (o : List (List ℕ)). command (codes "replay" ∷ (o ++ stream ∷ notes ∷ []))) a
+    ∙ replay_written stream notes (Some First) First s n refl
 written_for (Service value) option stream notes a s n =
     ap (λ (o : List (List ℕ)). command (codes "replay" ∷ (o ++ stream ∷ notes ∷ []))) a.written
-    ∙ replay_written stream notes (optional (codes "--service") a.number) (Service value) s n (service_written a.number value a.field a.least_is a.most_is)
+    ∙ replay_written stream notes (selection_of (codes "--service") a.number) (Service value) s n
+    (service_written a.number value a.field a.least_is a.most_is)
 written_for (Pid value) option stream notes a s n =
     ap (λ (o : List (List ℕ)). command (codes "replay" ∷ (o ++ stream ∷ notes ∷ []))) a.written
-    ∙ replay_written stream notes (optional (codes "--data-pid") a.number) (Pid value) s n (data_pid_written a.number value a.field a.least_is a.most_is)
+    ∙ replay_written stream notes (selection_of (codes "--data-pid") a.number) (Pid value) s n
+    (data_pid_written a.number value a.field a.least_is a.most_is)
 
-pub command_written : (words : List (List ℕ)) (asked : CommandWords) → IsReplay words asked → command words ≡ Some asked
-command_written words asked r = ap command r.written ∙ written_for asked.selection r.option asked.stream asked.notes r.asks r.stream r.notes
+pub command_written : (words : List (List ℕ)) (asked : CommandWords) → IsReplay words asked
+    → command words ≡ Some asked
+command_written words asked r = ap command r.written
+    ∙ written_for asked.selection r.option asked.stream asked.notes r.asks r.stream r.notes
 
 -- ---- back
 
-when_some : (b : Bool) (o : Option CommandWords) (x : CommandWords) → cond b o None ≡ Some x → (b ≡ true) × (o ≡ Some x)
+when_some : (b : Bool) (o : Option CommandWords) (x : CommandWords) → cond b o None ≡ Some x
+    → (b ≡ true) × (o ≡ Some x)
 when_some true o x e = (refl, e)
 when_some false o x e = absurd (none-some x e)
 
@@ -106,19 +137,24 @@ record MappedTo (stream notes : List ℕ) (o : Option Selection) (asked : Comman
   there : o ≡ Some selection
   same : words_of stream notes selection ≡ asked
 
-mapped : (stream notes : List ℕ) (o : Option Selection) (asked : CommandWords) → option_map (words_of stream notes) o ≡ Some asked → MappedTo stream notes o asked
+mapped : (stream notes : List ℕ) (o : Option Selection) (asked : CommandWords)
+    → option_map (words_of stream notes) o ≡ Some asked → MappedTo stream notes o asked
 mapped stream notes None asked e = absurd (none-some asked e)
-mapped stream notes (Some selection) asked e = record { selection = selection; there = refl; same = cc }
+mapped stream notes (Some selection) asked e =
+    record { selection = selection; there = refl; same = cc }
 
-record IsReplayOf (name : List ℕ) (o : Option Selection) (stream notes : List ℕ) (asked : CommandWords) : Type 0 where
+record IsReplayOf (name : List ℕ) (o : Option Selection) (stream notes : List ℕ)
+    (asked : CommandWords) : Type 0 where
   named : name ≡ codes "replay"
   stream_is : IsFileName stream
   notes_is : IsFileName notes
   mapped_to : MappedTo stream notes o asked
 
-replay_read : (name : List ℕ) (o : Option Selection) (stream notes : List ℕ) (asked : CommandWords) → replay_of name o stream notes ≡ Some asked → IsReplayOf name o stream notes asked
+replay_read : (name : List ℕ) (o : Option Selection) (stream notes : List ℕ) (asked : CommandWords)
+    → replay_of name o stream notes ≡ Some asked → IsReplayOf name o stream notes asked
 replay_read name o stream notes asked e =
-    let h = when_some (is_same name (codes "replay") && (is_file_name stream && is_file_name notes)) _ asked e in
+    let h = when_some (is_same name (codes "replay") &&
+    (is_file_name stream && is_file_name notes)) _ asked e in
     let names : (is_file_name stream && is_file_name notes) ≡ true = second_of_both _ _ (h.0) in
     record {
       named = (bytes_decides name (codes "replay")).0 (first_of_both _ _ (h.0));
@@ -128,31 +164,56 @@ replay_read name o stream notes asked e =
     }
 
 -- an option that asks for something
-asks_service : (option number : List ℕ) (selection : Selection) → option ≡ codes "--service" → IsNumber Service 1 65535 number selection → AskFor selection (option ∷ number ∷ [])
+asks_service : (option number : List ℕ) (selection : Selection) → option ≡ codes "--service"
+    → IsNumber Service 1 65535 number selection → AskFor selection (option ∷ number ∷ [])
 asks_service option number selection o n =
     subst (λ s. AskFor s (option ∷ number ∷ [])) n.same
-    (record { number = number; written = ap (λ w. w ∷ number ∷ []) o; field = n.field; least_is = n.least_is; most_is = n.most_is })
+    (record {
+      number = number;
+      written = ap (λ w. w ∷ number ∷ []) o;
+      field = n.field;
+      least_is = n.least_is;
+      most_is = n.most_is;
+    })
 
-asks_data : (option number : List ℕ) (selection : Selection) → option ≡ codes "--data-pid" → IsNumber Pid 16 8190 number selection → AskFor selection (option ∷ number ∷ [])
+asks_data : (option number : List ℕ) (selection : Selection) → option ≡ codes "--data-pid"
+    → IsNumber Pid 16 8190 number selection → AskFor selection (option ∷ number ∷ [])
 asks_data option number selection o n =
     subst (λ s. AskFor s (option ∷ number ∷ [])) n.same
-    (record { number = number; written = ap (λ w. w ∷ number ∷ []) o; field = n.field; least_is = n.least_is; most_is = n.most_is })
+    (record {
+      number = number;
+      written = ap (λ w. w ∷ number ∷ []) o;
+      field = n.field;
+      least_is = n.least_is;
+      most_is = n.most_is;
+    })
 
-asks_by : (is_service is_data : Bool) (option number : List ℕ) (selection : Selection) → (is_service ≡ true → option ≡ codes "--service") → (is_data ≡ true → option ≡ codes "--data-pid")
-    → cond is_service (service number) (cond is_data (data_pid number) None) ≡ Some selection → AskFor selection (option ∷ number ∷ [])
-asks_by true is_data option number selection s d e = asks_service option number selection (s refl) (number_in Service 1 65535 number (decimal_field number) selection refl e)
-asks_by false true option number selection s d e = asks_data option number selection (d refl) (number_in Pid 16 8190 number (decimal_field number) selection refl e)
+asks_by : (is_service is_data : Bool) (option number : List ℕ) (selection : Selection)
+    → (is_service ≡ true → option ≡ codes "--service")
+    → (is_data ≡ true → option ≡ codes "--data-pid")
+    → cond is_service (service number) (cond is_data (data_pid number) None) ≡ Some selection
+    → AskFor selection (option ∷ number ∷ [])
+asks_by true is_data option number selection s d e = asks_service option number selection (s refl)
+    (number_in Service 1 65535 number (decimal_field number) selection refl e)
+asks_by false true option number selection s d e = asks_data option number selection (d refl)
+    (number_in Pid 16 8190 number (decimal_field number) selection refl e)
 asks_by false false option number selection s d e = absurd (none-some selection e)
 
-asks : (option number : List ℕ) (selection : Selection) → optional option number ≡ Some selection → AskFor selection (option ∷ number ∷ [])
+asks : (option number : List ℕ) (selection : Selection) → selection_of option number
+    ≡ Some selection → AskFor selection (option ∷ number ∷ [])
 asks option number selection e =
-    asks_by (is_same option (codes "--service")) (is_same option (codes "--data-pid")) option number selection
+    asks_by (is_same option (codes "--service")) (is_same option (codes "--data-pid")) option
+    number selection
     ((bytes_decides option (codes "--service")).0) ((bytes_decides option (codes "--data-pid")).0) e
 
 first_asked : (selection : Selection) → Some First ≡ Some selection → AskFor selection []
 first_asked selection e = let same : First ≡ selection = cc in subst (λ s. AskFor s []) same refl
 
-is_replay : (option : List (List ℕ)) (name : List ℕ) (o : Option Selection) (stream notes : List ℕ) (asked : CommandWords) → ((selection : Selection) → o ≡ Some selection → AskFor selection option) → replay_of name o stream notes ≡ Some asked → IsReplay (name ∷ (option ++ stream ∷ notes ∷ [])) asked
+is_replay : (option : List (List ℕ)) (name : List ℕ) (o : Option Selection) (stream notes : List ℕ)
+    (asked : CommandWords)
+    → ((selection : Selection) → o ≡ Some selection → AskFor selection option)
+    → replay_of name o stream notes ≡ Some asked
+    → IsReplay (name ∷ (option ++ stream ∷ notes ∷ [])) asked
 is_replay option name o stream notes asked asks_for e =
     let r = replay_read name o stream notes asked e in
     let m = r.mapped_to in
@@ -164,11 +225,15 @@ is_replay option name o stream notes asked asks_for e =
       notes = r.notes_is;
     })
 
-pub command_read : (words : List (List ℕ)) (asked : CommandWords) → command words ≡ Some asked → IsReplay words asked
+pub command_read : (words : List (List ℕ)) (asked : CommandWords) → command words ≡ Some asked
+    → IsReplay words asked
 command_read [] asked e = absurd (none-some asked e)
 command_read (a ∷ []) asked e = absurd (none-some asked e)
 command_read (a ∷ b ∷ []) asked e = absurd (none-some asked e)
-command_read (name ∷ stream ∷ notes ∷ []) asked e = is_replay [] name (Some First) stream notes asked first_asked e
+command_read (name ∷ stream ∷ notes ∷ []) asked e =
+    is_replay [] name (Some First) stream notes asked first_asked e
 command_read (a ∷ b ∷ c ∷ d ∷ []) asked e = absurd (none-some asked e)
-command_read (name ∷ option ∷ number ∷ stream ∷ notes ∷ []) asked e = is_replay (option ∷ number ∷ []) name (optional option number) stream notes asked (asks option number) e
+command_read (name ∷ option ∷ number ∷ stream ∷ notes ∷ []) asked e =
+    is_replay (option ∷ number ∷ []) name (selection_of option number) stream notes asked
+    (asks option number) e
 command_read (a ∷ b ∷ c ∷ d ∷ f ∷ g ∷ more) asked e = absurd (none-some asked e)

@@ -6,7 +6,7 @@ pub mod FieldLaws
 pub mod FirstPlaces
 pub mod ItemLaws
 pub mod LineLaws
-pub mod NotingLaws
+pub mod RecordProgressLaws
 pub mod PlayLaws
 pub mod ProgressLaws
 pub mod RecordLaws

@@ -1,98 +1,132 @@
 -- The steps of a replay, over plain values.
-use Rattle.std.proofs.Common.{◌≡◌, ℕ, ◌+◌, true, false, List, [], ◌∷◌, ◌++◌, drop, refl, sym, ap, ◌∙◌, subst, append_assoc, append-nil, length, Option, Some, arith, length-append, drop-drop}
-use Rattle.std.specs.List.{concat}
+use Rattle.std.proofs.Common.{◌≡◌, ℕ, ◌+◌, true, false, List, [], ◌∷◌, ◌++◌, drop, refl, sym, ap}
+use Rattle.std.proofs.Common.{◌∙◌, subst, append_assoc, append-nil, length, Option, Some, arith}
+use Rattle.std.proofs.Common.{length-append, drop-drop}
 use Rattle.std.proofs.KnownBytes.{Appends-nil}
-use Rattle.std.proofs.lemmas.List.Folds.{concat-append}
 use Rattle.std.specs.Io.KnownBytes.{Appends}
 use Rattle.ts_packets.specs.Cutter.{CutterState, Gives}
 use Rattle.ts_packets.specs.Packets.{packets_of}
 use Rattle.psi_tables.specs.declared.services.Selection.{Selection}
+use Rattle.receiver_core.specs.Outputs.{Piece}
 use Rattle.receiver_core.specs.Receiving.{ReceiverState, StandsFor}
 use Rattle.receiver_core.specs.State.{Input, Packet}
-use Rattle.replay_run.specs.declared.record.Item.{Item}
-use Rattle.replay_run.specs.Midway.{taking}
-use Rattle.replay_run.specs.Play.{handed, left_by, inputs_of, packets_left, packets_in}
-use Rattle.replay_run.specs.Progress.{PlayerState, IsMidway, IsBetween}
-use Rattle.replay_run.proofs.PlayLaws.{inputs_of-push, packets_left-push, no_items, packets_in-packet, with_packets, with_none, with_more, Allows, took_all}
-use Rattle.replay_run.proofs.WritingLaws.{appends_more}
+use Rattle.replay_run.specs.declared.record.RecordItem.{RecordItem}
+use Rattle.replay_run.specs.Midway.{item_of_count}
+use Rattle.replay_run.specs.Play.{inputs_of_item, packets_behind, inputs_of, packets_left}
+use Rattle.replay_run.specs.Play.{packet_count}
+use Rattle.replay_run.specs.Output.{bytes_of}
+use Rattle.replay_run.specs.Progress.{Replay, Moment, IsMidway, IsBetween}
+use Rattle.replay_run.proofs.PlayLaws.{inputs_of-push, packets_left-push, no_items}
+use Rattle.replay_run.proofs.PlayLaws.{packet_count-packet, with_packets, with_none, with_more}
+use Rattle.replay_run.proofs.PlayLaws.{Allows, took_all}
+use Rattle.replay_run.proofs.WritingLaws.{appends_more, bytes-append}
 
 -- the cutter left bytes out in front of the next packet
-pub midway_seek : (selection : Selection) (stream : List ℕ) (first left written : Option (List ℕ)) (player : PlayerState) (inputs : List Input) (ahead : List (List ℕ)) (cutter : CutterState)
-    → Gives player.cutter [] cutter → cutter.ended ≡ player.cutter.ended
-    → IsMidway selection stream first left written player inputs ahead
-    → IsMidway selection stream first left written (record player { cutter = cutter }) inputs ahead
-midway_seek selection stream first left written player inputs ahead cutter gives ended m =
-    record {
-      rest = m.rest;
-      given = m.given;
-      left_is = m.left_is;
-      counted = m.counted;
-      ended = λ e. m.ended (sym ended ∙ e);
-      ahead_is = sym (gives m.rest m.ended) ∙ m.ahead_is;
-      packets = m.packets;
-      stands = m.stands;
-      wrote = m.wrote;
-    }
+pub midway_seek : (replay : Replay) (now : Moment) (inputs : List Input) (ahead : List (List ℕ))
+    (cutter : CutterState)
+    → Gives now.cutter [] cutter → cutter.ended ≡ now.cutter.ended
+    → IsMidway replay now inputs ahead
+    → IsMidway replay (record now { cutter = cutter }) inputs ahead
+midway_seek replay now inputs ahead cutter gives ended m = record {
+  taken = m.taken;
+  rest = m.rest;
+  given = m.given;
+  left_is = m.left_is;
+  whole = m.whole;
+  counted = m.counted;
+  ended = λ e. m.ended (sym ended ∙ e);
+  ahead_is = sym (gives m.rest m.ended) ∙ m.ahead_is;
+  packets = m.packets;
+  stands = m.stands;
+  wrote = m.wrote;
+}
+
+-- what a cut packet leaves of a moment
+abbrev pub behind_packet : Moment → CutterState → ReceiverState → Moment
+behind_packet now cutter receiver =
+    record now { cutter = cutter; receiver = receiver; packets = now.packets + 1 }
 
 -- a packet was cut, and the receiver stands for one more
-pub midway_packet : (selection : Selection) (stream : List ℕ) (first left written : Option (List ℕ)) (player : PlayerState) (inputs : List Input) (ahead : List (List ℕ)) (cutter : CutterState) (receiver : ReceiverState) (packet : List ℕ)
-    → Gives player.cutter (packet ∷ []) cutter → cutter.ended ≡ player.cutter.ended
-    → ((inputs : List Input) (given : List (List ℕ)) → StandsFor selection player.receiver inputs given → StandsFor selection receiver (inputs ++ Packet packet ∷ []) given)
-    → IsMidway selection stream first left written player inputs ahead
-    → IsMidway selection stream first left written (record { cutter = cutter; receiver = receiver; bytes = player.bytes; packets = player.packets + 1 }) (with_packets inputs 1 ahead) (drop 1 ahead)
-midway_packet selection stream first left written player inputs ahead cutter receiver packet gives ended pushed m =
+pub midway_packet : (replay : Replay) (now : Moment) (inputs : List Input) (ahead : List (List ℕ))
+    (cutter : CutterState) (receiver : ReceiverState) (packet : List ℕ)
+    → Gives now.cutter (packet ∷ []) cutter → cutter.ended ≡ now.cutter.ended
+    → ((inputs : List Input) (given : List Piece)
+    → StandsFor replay.selection replay.area now.receiver inputs given
+    → StandsFor replay.selection replay.area receiver (inputs ++ Packet packet ∷ []) given)
+    → IsMidway replay now inputs ahead
+    → IsMidway replay (behind_packet now cutter receiver) (with_packets inputs 1 ahead)
+    (drop 1 ahead)
+midway_packet replay now inputs ahead cutter receiver packet gives ended pushed m =
     let behind = packets_of (cutter.held ++ m.rest) in
     let are : packet ∷ behind ≡ ahead = sym (gives m.rest m.ended) ∙ m.ahead_is in
-    let after : PlayerState = record { cutter = cutter; receiver = receiver; bytes = player.bytes; packets = player.packets + 1 } in
-    let P : List (List ℕ) → Type 0 = λ l. IsMidway selection stream first left written after (with_packets inputs 1 l) (drop 1 l) in
+    let after : Moment = behind_packet now cutter receiver in
+    let P : List (List ℕ) → Type 0 = λ l. IsMidway replay after (with_packets inputs 1 l)
+    (drop 1 l) in
     subst P are (record {
+      taken = m.taken;
       rest = m.rest;
       given = m.given;
       left_is = m.left_is;
+      whole = m.whole;
       counted = m.counted;
       ended = λ e. m.ended (sym ended ∙ e);
       ahead_is = refl;
-      packets = ap (λ n. n + 1) m.packets ∙ sym (packets_in-packet inputs packet);
+      packets = ap (λ n. n + 1) m.packets ∙ sym (packet_count-packet inputs packet);
       stands = pushed inputs m.given m.stands;
       wrote = m.wrote;
     })
 
--- the receiver gave texts, which were written
-pub midway_texts : (selection : Selection) (stream : List ℕ) (first left old new : Option (List ℕ)) (player : PlayerState) (inputs more : List Input) (ahead : List (List ℕ)) (receiver : ReceiverState) (texts : List (List ℕ))
-    → ((given : List (List ℕ)) → StandsFor selection player.receiver inputs given → StandsFor selection receiver more (given ++ texts))
-    → packets_in more ≡ packets_in inputs
-    → ((start : List ℕ) → old ≡ Some start → new ≡ Some (start ++ concat texts))
-    → IsMidway selection stream first left old player inputs ahead
-    → IsMidway selection stream first left new (record player { receiver = receiver }) more ahead
-midway_texts selection stream first left old new player inputs more ahead receiver texts gave count appended m =
-    record {
-      rest = m.rest;
-      given = m.given ++ texts;
-      left_is = m.left_is;
-      counted = m.counted;
-      ended = m.ended;
-      ahead_is = m.ahead_is;
-      packets = m.packets ∙ sym count;
-      stands = gave m.given m.stands;
-      wrote = subst (λ l. Appends first new l) (sym (concat-append m.given texts)) (appends_more first old new (concat m.given) (concat texts) m.wrote appended);
-    }
+-- the receiver gave pieces, which were written
+pub midway_pieces : (replay : Replay) (now : Moment) (inputs more : List Input)
+    (ahead : List (List ℕ))
+    (receiver : ReceiverState) (pieces : List Piece) (written : Option (List ℕ))
+    → ((given : List Piece) → StandsFor replay.selection replay.area now.receiver inputs given
+    → StandsFor replay.selection replay.area receiver more (given ++ pieces))
+    → packet_count more ≡ packet_count inputs
+    → ((start : List ℕ) → now.written ≡ Some start → written ≡ Some (start ++ bytes_of pieces))
+    → IsMidway replay now inputs ahead
+    → IsMidway replay (record now { receiver = receiver; written = written }) more ahead
+midway_pieces replay now inputs more ahead receiver pieces written gave count appended m = record {
+  taken = m.taken;
+  rest = m.rest;
+  given = m.given ++ pieces;
+  left_is = m.left_is;
+  whole = m.whole;
+  counted = m.counted;
+  ended = m.ended;
+  ahead_is = m.ahead_is;
+  packets = m.packets ∙ sym count;
+  stands = gave m.given m.stands;
+  wrote = subst (λ l. Appends replay.first written l) (sym (bytes-append m.given pieces))
+      (appends_more replay.first now.written written (bytes_of m.given)
+      (bytes_of pieces) m.wrote appended);
+}
 
 -- the stream gave bytes, and the cutter took them
-pub midway_read : (selection : Selection) (stream : List ℕ) (first old new written : Option (List ℕ)) (player : PlayerState) (inputs : List Input) (ahead : List (List ℕ)) (cutter : CutterState) (bytes : List ℕ)
-    → ((rest : List ℕ) → old ≡ Some rest → (more : List ℕ) × (new ≡ Some more) × (rest ≡ bytes ++ more))
-    → player.cutter.ended ≡ false → cutter.held ≡ player.cutter.held ++ bytes → cutter.ended ≡ player.cutter.ended
-    → IsMidway selection stream first old written player inputs ahead
-    → IsMidway selection stream first new written (record { cutter = cutter; receiver = player.receiver; bytes = player.bytes + length bytes; packets = player.packets }) inputs ahead
-midway_read selection stream first old new written player inputs ahead cutter bytes gave open_end held ended m =
+pub midway_read : (replay : Replay) (now : Moment) (inputs : List Input) (ahead : List (List ℕ))
+    (cutter : CutterState) (left : Option (List ℕ)) (bytes : List ℕ)
+    → ((rest : List ℕ) → now.left ≡ Some rest → (more : List ℕ) × (left ≡ Some more)
+    × (rest ≡ bytes ++ more))
+    → now.cutter.ended ≡ false → cutter.held ≡ now.cutter.held ++ bytes → cutter.ended
+    ≡ now.cutter.ended
+    → IsMidway replay now inputs ahead
+    → IsMidway replay (record now {
+      cutter = cutter;
+      bytes = now.bytes + length bytes;
+      left = left;
+    }) inputs ahead
+midway_read replay now inputs ahead cutter left bytes gave open_end held ended m =
     let g = gave m.rest m.left_is in
-    let same : cutter.held ++ g.0 ≡ player.cutter.held ++ m.rest = ap (λ l. l ++ g.0) held ∙ append_assoc player.cutter.held bytes g.0 ∙ ap (λ l. player.cutter.held ++ l) (sym g.2) in
-    let size : length m.rest ≡ length bytes + length g.0 = ap length g.2 ∙ length-append bytes g.0 in
-    let whole = m.counted in
+    let same : cutter.held ++ g.0 ≡ now.cutter.held ++ m.rest =
+    ap (λ l. l ++ g.0) held ∙ append_assoc now.cutter.held bytes g.0
+    ∙ ap (λ l. now.cutter.held ++ l) (sym g.2) in
     record {
+      taken = m.taken ++ bytes;
       rest = g.0;
       given = m.given;
       left_is = g.1;
-      counted = omega arith;
+      whole = m.whole ∙ ap (λ l. m.taken ++ l) g.2 ∙ sym (append_assoc m.taken bytes g.0);
+      counted = ap (λ n. n + length bytes) m.counted ∙ sym (length-append m.taken bytes);
       ended = λ e. let clash : true ≡ false = sym e ∙ ended ∙ open_end in cc;
       ahead_is = ap packets_of same ∙ m.ahead_is;
       packets = m.packets;
@@ -101,80 +135,100 @@ midway_read selection stream first old new written player inputs ahead cutter by
     }
 
 -- the stream came to its end
-pub midway_end : (selection : Selection) (stream : List ℕ) (first old new written : Option (List ℕ)) (player : PlayerState) (inputs : List Input) (ahead : List (List ℕ)) (cutter : CutterState)
-    → ((rest : List ℕ) → old ≡ Some rest → (rest ≡ []) × (new ≡ Some []))
-    → cutter.held ≡ player.cutter.held
-    → IsMidway selection stream first old written player inputs ahead
-    → IsMidway selection stream first new written (record player { cutter = cutter }) inputs ahead
-midway_end selection stream first old new written player inputs ahead cutter gave held m =
+pub midway_end : (replay : Replay) (now : Moment) (inputs : List Input) (ahead : List (List ℕ))
+    (cutter : CutterState) (left : Option (List ℕ))
+    → ((rest : List ℕ) → now.left ≡ Some rest → (rest ≡ []) × (left ≡ Some []))
+    → cutter.held ≡ now.cutter.held
+    → IsMidway replay now inputs ahead
+    → IsMidway replay (record now { cutter = cutter; left = left }) inputs ahead
+midway_end replay now inputs ahead cutter left gave held m =
     let g = gave m.rest m.left_is in
     record {
+      taken = m.taken;
       rest = [];
       given = m.given;
       left_is = g.1;
-      counted = subst (λ l. player.bytes + length l ≡ length stream) g.0 m.counted;
+      whole = m.whole ∙ ap (λ l. m.taken ++ l) g.0;
+      counted = m.counted;
       ended = λ e. refl;
-      ahead_is = ap packets_of (ap (λ l. l ++ []) held ∙ ap (λ l. player.cutter.held ++ l) (sym g.0)) ∙ m.ahead_is;
+      ahead_is = ap packets_of (ap (λ l. l ++ []) held ∙ ap (λ l. now.cutter.held ++ l) (sym g.0))
+          ∙ m.ahead_is;
       packets = m.packets;
       stands = m.stands;
       wrote = m.wrote;
     }
 
 -- a replay begins
-pub between_start : (selection : Selection) (stream : List ℕ) (first left written : Option (List ℕ)) (player : PlayerState)
-    → left ≡ Some stream → written ≡ first
-    → player.cutter.held ≡ [] → player.cutter.ended ≡ false → player.bytes ≡ 0 → player.packets ≡ 0
-    → StandsFor selection player.receiver [] []
-    → IsBetween selection stream first left written player []
-between_start selection stream first left written player l w held open_end bytes packets stands =
-    let none = no_items (packets_of stream) in
-    let P : List Input → Type 0 = λ inputs. IsMidway selection stream first left written player inputs (packets_left (packets_of stream) []) in
+pub between_start : (replay : Replay) (now : Moment)
+    → now.left ≡ Some replay.stream → now.written ≡ replay.first
+    → now.cutter.held ≡ [] → now.cutter.ended ≡ false → now.bytes ≡ 0 → now.packets ≡ 0
+    → (zeros : List ℕ) → zeros ≡ replay.area → StandsFor replay.selection zeros now.receiver [] []
+    → IsBetween replay now []
+between_start replay now l w held open_end bytes packets zeros same stands =
+    let none = no_items (packets_of replay.stream) in
+    let P : List Input → Type 0 =
+    λ inputs. IsMidway replay now inputs (packets_left (packets_of replay.stream) []) in
     subst P (sym none.0) (record {
-      rest = stream;
+      taken = [];
+      rest = replay.stream;
       given = [];
       left_is = l;
-      counted = omega arith;
+      whole = refl;
+      counted = bytes;
       ended = λ e. let clash : true ≡ false = sym e ∙ open_end in cc;
-      ahead_is = ap (λ l. packets_of (l ++ stream)) held ∙ sym none.1;
+      ahead_is = ap (λ l. packets_of (l ++ replay.stream)) held ∙ sym none.1;
       packets = packets;
-      stands = stands;
-      wrote = subst (λ o. Appends first o []) (sym w) (Appends-nil first);
+      stands = subst (λ area. StandsFor replay.selection area now.receiver [] []) same stands;
+      wrote = subst (λ o. Appends replay.first o []) (sym w) (Appends-nil replay.first);
     })
 
 -- one more item was handled
-pub between_push : (selection : Selection) (stream : List ℕ) (first left written : Option (List ℕ)) (player : PlayerState) (items : List Item) (item : Item)
-    → IsMidway selection stream first left written player
-    (inputs_of (packets_of stream) items ++ handed item (packets_left (packets_of stream) items)) (left_by item (packets_left (packets_of stream) items))
-    → IsBetween selection stream first left written player (items ++ item ∷ [])
-between_push selection stream first left written player items item m =
-    let packets = packets_of stream in
-    subst (λ inputs. IsMidway selection stream first left written player inputs (packets_left packets (items ++ item ∷ []))) (sym (inputs_of-push packets items item))
-    (subst (λ l. IsMidway selection stream first left written player (inputs_of packets items ++ handed item (packets_left packets items)) l) (sym (packets_left-push packets items item)) m)
+pub between_push : (replay : Replay) (now : Moment) (items : List RecordItem) (item : RecordItem)
+    → IsMidway replay now
+    (inputs_of (packets_of replay.stream) items ++ inputs_of_item item
+    (packets_left (packets_of replay.stream) items))
+    (packets_behind item (packets_left (packets_of replay.stream) items))
+    → IsBetween replay now (items ++ item ∷ [])
+between_push replay now items item m =
+    let packets = packets_of replay.stream in
+    let ahead = packets_left packets items in
+    subst (λ inputs. IsMidway replay now inputs (packets_left packets (items ++ item ∷ [])))
+    (sym (inputs_of-push packets items item))
+    (subst (λ l. IsMidway replay now (inputs_of packets items ++ inputs_of_item item ahead) l)
+    (sym (packets_left-push packets items item)) m)
 
 -- ---- packets one by one
 
 -- none was taken yet
-pub midway_none : (selection : Selection) (stream : List ℕ) (first left written : Option (List ℕ)) (player : PlayerState) (inputs : List Input) (ahead : List (List ℕ))
-    → IsMidway selection stream first left written player inputs ahead
-    → IsMidway selection stream first left written player (with_packets inputs 0 ahead) (drop 0 ahead)
-midway_none selection stream first left written player inputs ahead m =
-    subst (λ l. IsMidway selection stream first left written player l ahead) (sym (with_none inputs ahead)) m
+pub midway_none : (replay : Replay) (now : Moment) (inputs : List Input) (ahead : List (List ℕ))
+    → IsMidway replay now inputs ahead
+    → IsMidway replay now (with_packets inputs 0 ahead) (drop 0 ahead)
+midway_none replay now inputs ahead m =
+    subst (λ l. IsMidway replay now l ahead) (sym (with_none inputs ahead)) m
 
 -- some were taken, and then one more
-pub midway_more : (selection : Selection) (stream : List ℕ) (first left written : Option (List ℕ)) (player : PlayerState) (inputs : List Input) (ahead : List (List ℕ)) (count : ℕ)
-    → IsMidway selection stream first left written player (with_packets (with_packets inputs count ahead) 1 (drop count ahead)) (drop 1 (drop count ahead))
-    → IsMidway selection stream first left written player (with_packets inputs (count + 1) ahead) (drop (count + 1) ahead)
-midway_more selection stream first left written player inputs ahead count m =
-    subst (λ l. IsMidway selection stream first left written player l (drop (count + 1) ahead)) (with_more inputs count 1 ahead)
-    (subst (λ l. IsMidway selection stream first left written player (with_packets (with_packets inputs count ahead) 1 (drop count ahead)) l) (drop-drop 1 count ahead) m)
+pub midway_more : (replay : Replay) (now : Moment) (inputs : List Input) (ahead : List (List ℕ))
+    (count : ℕ)
+    → IsMidway replay now (with_packets (with_packets inputs count ahead) 1 (drop count ahead))
+    (drop 1 (drop count ahead))
+    → IsMidway replay now (with_packets inputs (count + 1) ahead) (drop (count + 1) ahead)
+midway_more replay now inputs ahead count m =
+    subst (λ l. IsMidway replay now l (drop (count + 1) ahead)) (with_more inputs count 1 ahead)
+    (subst (λ l. IsMidway replay now
+    (with_packets (with_packets inputs count ahead) 1 (drop count ahead)) l)
+    (drop-drop 1 count ahead) m)
 
 -- no packet is left
-pub midway_over : (selection : Selection) (stream : List ℕ) (first left written : Option (List ℕ)) (player : PlayerState) (inputs : List Input) (ahead : List (List ℕ)) (most : Option ℕ) (count : ℕ)
-    → player.cutter.ended ≡ true → packets_of player.cutter.held ≡ [] → Allows most count
-    → IsMidway selection stream first left written player (with_packets inputs count ahead) (drop count ahead)
-    → IsMidway selection stream first left written player (inputs ++ handed (taking most) ahead) (left_by (taking most) ahead)
-midway_over selection stream first left written player inputs ahead most count ended none allows m =
-    let nothing : drop count ahead ≡ [] = sym m.ahead_is ∙ ap (λ l. packets_of (player.cutter.held ++ l)) (m.ended ended) ∙ ap packets_of (append-nil player.cutter.held) ∙ none in
+pub midway_over : (replay : Replay) (now : Moment) (inputs : List Input) (ahead : List (List ℕ))
+    (most : Option ℕ) (count : ℕ)
+    → now.cutter.ended ≡ true → packets_of now.cutter.held ≡ [] → Allows most count
+    → IsMidway replay now (with_packets inputs count ahead) (drop count ahead)
+    → IsMidway replay now (inputs ++ inputs_of_item (item_of_count most) ahead)
+    (packets_behind (item_of_count most) ahead)
+midway_over replay now inputs ahead most count ended none allows m =
+    let nothing : drop count ahead ≡ [] =
+    sym m.ahead_is ∙ ap (λ l. packets_of (now.cutter.held ++ l)) (m.ended ended)
+    ∙ ap packets_of (append-nil now.cutter.held) ∙ none in
     let all = took_all inputs most count ahead allows nothing in
-    subst (λ l. IsMidway selection stream first left written player l (left_by (taking most) ahead)) all.0
-    (subst (λ l. IsMidway selection stream first left written player (with_packets inputs count ahead) l) all.1 m)
+    subst (λ l. IsMidway replay now l (packets_behind (item_of_count most) ahead)) all.0
+    (subst (λ l. IsMidway replay now (with_packets inputs count ahead) l) all.1 m)

@@ -1,166 +1,285 @@
 -- What is written where a replay stops in the middle of an item, over plain values.
-use Rattle.std.proofs.Common.{◌≡◌, ℕ, ◌+◌, ◌<◌, ◌≤◌, List, [], ◌∷◌, ◌++◌, drop, refl, sym, ap, ◌∙◌, subst, append_assoc, length, Option, Some, None, Result, Ok, Err, OnErr, IfErr, arith, length-append}
-use Rattle.std.specs.List.{concat}
-use Rattle.std.specs.Io.KnownBytes.{Appends, Consumes, IsAtEnd, Keeps}
-use Rattle.std.proofs.lemmas.List.Folds.{concat-append}
+use Rattle.std.proofs.Common.{◌≡◌, ℕ, ◌+◌, ◌<◌, ◌≤◌, List, [], ◌∷◌, ◌++◌, take, drop, refl, sym, ap}
+use Rattle.std.proofs.Common.{◌∙◌, subst, append_assoc, length, Option, Some, None, Result, Ok, Err}
+use Rattle.std.proofs.Common.{OnErr, IfErr, arith, length-append}
+use Rattle.std.specs.Io.KnownBytes.{Appends, Consumes, IsAtEnd, Keeps, ReadConsumes}
+use Rattle.std.proofs.KnownBytes.{Consumes-nil, Consumes-trans, Consumes-kept}
 use Rattle.bml_ports.specs.declared.outside.Port.{Port}
-use Rattle.bml_ports.specs.Worlds.{WorldState}
+use Rattle.bml_ports.specs.Counters.{Counts}
+use Rattle.bml_ports.specs.Worlds.{WorldState, PortState, port_of}
 use Rattle.ts_packets.specs.Packets.{packets_of, packets_after}
 use Rattle.psi_tables.specs.declared.services.Selection.{Selection}
-use Rattle.receiver_core.specs.Fronts.{IsFront}
+use Rattle.receiver_core.specs.Fronts.{IsFront, front_of_self, front_of_front}
+use Rattle.receiver_core.specs.Outputs.{Piece}
 use Rattle.receiver_core.specs.Receiving.{ReceiverState, StandsFor}
 use Rattle.receiver_core.specs.State.{Input}
-use Rattle.receiver_core.proofs.FrontLaws.{front_of_self, front_of_front}
-use Rattle.replay_run.specs.declared.record.Item.{Item}
+use Rattle.replay_run.specs.declared.record.RecordItem.{RecordItem}
 use Rattle.replay_run.specs.declared.status.Status.{Status}
-use Rattle.replay_run.specs.declared.status.Status.TheVariants.{ReadFault, WriteFault, TooLong, NoMemory}
+use Rattle.replay_run.specs.declared.status.Status.TheVariants.{ReadFault, WriteFault, TooLong}
+use Rattle.replay_run.specs.declared.status.Status.TheVariants.{NoMemory}
 use Rattle.replay_run.specs.Midway.{StopsIn}
-use Rattle.replay_run.specs.Play.{handed, inputs_of, packets_left}
-use Rattle.replay_run.specs.Progress.{PlayerState, IsMidway}
-use Rattle.replay_run.specs.Output.{WritesPieces, WritesBytes}
-use Rattle.replay_run.specs.Limits.{GaveAtMost, stream_limit}
-use Rattle.replay_run.specs.Stopping.{OnlyReads}
+use Rattle.replay_run.specs.Play.{inputs_of_item, inputs_of, packets_left}
+use Rattle.replay_run.specs.Outside.{Outside}
+use Rattle.replay_run.specs.Progress.{Replay, Moment, IsMidway}
+use Rattle.replay_run.specs.Output.{WritesPieces, WritesBytes, bytes_of}
+use Rattle.replay_run.specs.Files.{file, GaveAtMost, stream_limit}
+use Rattle.replay_run.specs.Stopping.{IsReadOn, OnlyReads}
 use Rattle.replay_run.specs.Writing.{CutShort}
 use Rattle.replay_run.proofs.PlayLaws.{inputs_of-push, with_packets, with_more}
-use Rattle.replay_run.proofs.WritingLaws.{appends_from}
+use Rattle.replay_run.proofs.WritingLaws.{appends_from, bytes-append}
 
 -- what a read that gave these bytes left
 pub consumed_some : (bytes : List ℕ) (old new : Option (List ℕ)) → Consumes old new bytes
-    → (rest : List ℕ) → old ≡ Some rest → (more : List ℕ) × (new ≡ Some more) × (rest ≡ bytes ++ more)
+    → (rest : List ℕ) → old ≡ Some rest → (more : List ℕ) × (new ≡ Some more)
+    × (rest ≡ bytes ++ more)
 consumed_some bytes None new c rest e = let clash : None ≡ Some rest = e in cc
 consumed_some bytes (Some x) None c rest e = absurd c
 consumed_some bytes (Some x) (Some y) c rest e = let same : x ≡ rest = cc in (y, refl, sym same ∙ c)
 
-pub ended_some : (old new : Option (List ℕ)) → Consumes old new [] → IsAtEnd new → (rest : List ℕ) → old ≡ Some rest → (rest ≡ []) × (new ≡ Some [])
+pub ended_some : (old new : Option (List ℕ)) → Consumes old new [] → IsAtEnd new → (rest : List ℕ)
+    → old ≡ Some rest → (rest ≡ []) × (new ≡ Some [])
 ended_some None new c end rest e = let clash : None ≡ Some rest = e in cc
 ended_some (Some x) None c end rest e = absurd c
-ended_some (Some x) (Some y) c end rest e = let same : x ≡ rest = cc in (sym same ∙ c ∙ end, ap Some end)
+ended_some (Some x) (Some y) c end rest e = let same : x ≡ rest = cc in
+    (sym same ∙ c ∙ end, ap Some end)
 
 -- a replay that stops in some inputs stops in more
-pub stops_further : (status : Status) (selection : Selection) (stream : List ℕ) (left first written : Option (List ℕ)) (some all : List Input) → IsFront some all
-    → StopsIn status selection stream left first written some → StopsIn status selection stream left first written all
-stops_further status selection stream left first written some all front s =
-    record { inputs = s.inputs; front = front_of_front s.inputs some all s.front front; receiver = s.receiver; given = s.given; stands = s.stands; leaves = s.leaves }
-
--- in those of the items and one more
-pub stops_pushed : (status : Status) (selection : Selection) (stream : List ℕ) (left first written : Option (List ℕ)) (items : List Item) (item : Item)
-    → StopsIn status selection stream left first written (inputs_of (packets_of stream) items ++ handed item (packets_left (packets_of stream) items))
-    → StopsIn status selection stream left first written (inputs_of (packets_of stream) (items ++ item ∷ []))
-stops_pushed status selection stream left first written items item s =
-    subst (λ l. StopsIn status selection stream left first written l) (sym (inputs_of-push (packets_of stream) items item)) s
-
--- in those of some packets, and then one more
-pub stops_more : (status : Status) (selection : Selection) (stream : List ℕ) (left first written : Option (List ℕ)) (inputs : List Input) (ahead : List (List ℕ)) (count : ℕ)
-    → StopsIn status selection stream left first written (with_packets (with_packets inputs count ahead) 1 (drop count ahead))
-    → StopsIn status selection stream left first written (with_packets inputs (count + 1) ahead)
-stops_more status selection stream left first written inputs ahead count s =
-    subst (λ l. StopsIn status selection stream left first written l) (with_more inputs count 1 ahead) s
-
--- whole texts
-stops_whole : (selection : Selection) (stream : List ℕ) (first left written : Option (List ℕ)) (player : PlayerState) (inputs : List Input) (ahead : List (List ℕ))
-    → (m : IsMidway selection stream first left written player inputs ahead) → WritesPieces first written m.given
-stops_whole selection stream first left written player inputs ahead m =
-    record { written = m.given; front = front_of_self m.given; appended = m.wrote }
-
--- the stream gave no more than it may
-pub midway_within : (selection : Selection) (stream : List ℕ) (first left written : Option (List ℕ)) (player : PlayerState) (inputs : List Input) (ahead : List (List ℕ)) (limit : ℕ)
-    → player.bytes ≤ limit → IsMidway selection stream first left written player inputs ahead → GaveAtMost limit stream left
-midway_within selection stream first left written player inputs ahead limit within m =
-    let whole = m.counted in
-    record { rest = m.rest; left_is = m.left_is; most = omega arith }
-
--- memory was wanting
-pub stops_within : (selection : Selection) (stream : List ℕ) (first left written : Option (List ℕ)) (player : PlayerState) (inputs : List Input) (ahead : List (List ℕ))
-    → player.bytes ≤ stream_limit → IsMidway selection stream first left written player inputs ahead
-    → StopsIn NoMemory selection stream left first written inputs
-stops_within selection stream first left written player inputs ahead within m = record {
-  inputs = inputs;
-  front = front_of_self inputs;
-  receiver = player.receiver;
-  given = m.given;
-  stands = m.stands;
-  leaves = (midway_within selection stream first left written player inputs ahead stream_limit within m, stops_whole selection stream first left written player inputs ahead m);
+pub stops_further : (status : Status) (replay : Replay) (told : Outside) (some all : List Input)
+    → IsFront some all
+    → StopsIn status replay told some → StopsIn status replay told all
+stops_further status replay told some all front s = record {
+  inputs = s.inputs;
+  front = front_of_front s.inputs some all s.front front;
+  receiver = s.receiver;
+  given = s.given;
+  stands = s.stands;
+  leaves = s.leaves;
 }
 
--- a failed read took nothing
-pub within_kept : (limit : ℕ) (bytes : List ℕ) (old new : Option (List ℕ)) → Keeps old new → GaveAtMost limit bytes old → GaveAtMost limit bytes new
-within_kept limit bytes None new kept g = let clash : None ≡ Some g.rest = g.left_is in cc
-within_kept limit bytes (Some x) None kept g = absurd kept
-within_kept limit bytes (Some x) (Some y) kept g = record { rest = g.rest; left_is = ap Some kept ∙ g.left_is; most = g.most }
+-- in those of the items and one more
+pub stops_pushed : (status : Status) (replay : Replay) (told : Outside) (items : List RecordItem)
+    (item : RecordItem)
+    → StopsIn status replay told
+    (inputs_of (packets_of replay.stream) items ++ inputs_of_item item
+    (packets_left (packets_of replay.stream) items))
+    → StopsIn status replay told (inputs_of (packets_of replay.stream) (items ++ item ∷ []))
+stops_pushed status replay told items item s =
+    subst (λ l. StopsIn status replay told l)
+    (sym (inputs_of-push (packets_of replay.stream) items item)) s
 
-pub stops_unread : (selection : Selection) (stream : List ℕ) (first old new written : Option (List ℕ)) (player : PlayerState) (inputs : List Input) (ahead : List (List ℕ))
-    → player.bytes ≤ stream_limit → Keeps old new → IsMidway selection stream first old written player inputs ahead
-    → StopsIn ReadFault selection stream new first written inputs
-stops_unread selection stream first old new written player inputs ahead within kept m = record {
+-- in those of some packets, and then one more
+pub stops_more : (status : Status) (replay : Replay) (told : Outside) (inputs : List Input)
+    (ahead : List (List ℕ)) (count : ℕ)
+    → StopsIn status replay told
+    (with_packets (with_packets inputs count ahead) 1 (drop count ahead))
+    → StopsIn status replay told (with_packets inputs (count + 1) ahead)
+stops_more status replay told inputs ahead count s =
+    subst (λ l. StopsIn status replay told l) (with_more inputs count 1 ahead) s
+
+-- whole pieces
+pub stops_whole : (replay : Replay) (now : Moment) (inputs : List Input) (ahead : List (List ℕ))
+    → (m : IsMidway replay now inputs ahead) → WritesPieces replay.first now.written m.given
+stops_whole replay now inputs ahead m =
+    record { whole = m.given; front = front_of_self m.given; appended = m.wrote }
+
+-- the stream gave no more than it may
+pub midway_within : (replay : Replay) (now : Moment) (inputs : List Input) (ahead : List (List ℕ))
+    (limit : ℕ)
+    → now.bytes ≤ limit → IsMidway replay now inputs ahead
+    → GaveAtMost limit (file replay.stream now.left)
+midway_within replay now inputs ahead limit within m = record {
+  gave = record { given = m.taken; rest = m.rest; left_is = m.left_is; whole = m.whole };
+  most = omega (arith, m.counted);
+}
+
+-- memory was wanting
+pub stops_within : (replay : Replay) (now : Moment) (told : Outside) (inputs : List Input)
+    (ahead : List (List ℕ))
+    → told.world.stream.left ≡ now.left → told.sink.written ≡ now.written
+    → now.bytes ≤ stream_limit → IsMidway replay now inputs ahead
+    → StopsIn NoMemory replay told inputs
+stops_within replay now told inputs ahead left written within m = record {
   inputs = inputs;
   front = front_of_self inputs;
-  receiver = player.receiver;
+  receiver = now.receiver;
   given = m.given;
   stands = m.stands;
   leaves = (
-    within_kept stream_limit stream old new kept (midway_within selection stream first old written player inputs ahead stream_limit within m),
-    stops_whole selection stream first old written player inputs ahead m,
+    subst (λ l. GaveAtMost stream_limit (file replay.stream l)) (sym left)
+        (midway_within replay now inputs ahead stream_limit within m),
+    subst (λ l. WritesPieces replay.first l m.given) (sym written)
+        (stops_whole replay now inputs ahead m),
+  );
+}
+
+-- a failed read took nothing
+pub within_kept : (limit : ℕ) (bytes : List ℕ) (old new : Option (List ℕ)) → Keeps old new
+    → GaveAtMost limit (file bytes old) → GaveAtMost limit (file bytes new)
+within_kept limit bytes None new kept g = let clash : None ≡ Some g.gave.rest = g.gave.left_is in cc
+within_kept limit bytes (Some x) None kept g = absurd kept
+within_kept limit bytes (Some x) (Some y) kept g = record {
+  gave = record {
+    given = g.gave.given;
+    rest = g.gave.rest;
+    left_is = ap Some kept ∙ g.gave.left_is;
+    whole = g.gave.whole;
+  };
+  most = g.most;
+}
+
+pub stops_unread : (replay : Replay) (now : Moment) (told : Outside) (inputs : List Input)
+    (ahead : List (List ℕ))
+    → now.bytes ≤ stream_limit → Keeps now.left told.world.stream.left → told.sink.written
+    ≡ now.written
+    → IsMidway replay now inputs ahead
+    → StopsIn ReadFault replay told inputs
+stops_unread replay now told inputs ahead within kept written m = record {
+  inputs = inputs;
+  front = front_of_self inputs;
+  receiver = now.receiver;
+  given = m.given;
+  stands = m.stands;
+  leaves = (
+    within_kept stream_limit replay.stream now.left told.world.stream.left kept
+        (midway_within replay now inputs ahead stream_limit within m),
+    subst (λ l. WritesPieces replay.first l m.given) (sym written)
+        (stops_whole replay now inputs ahead m),
   );
 }
 
 -- the stream gave too much
-pub stops_long : (selection : Selection) (stream : List ℕ) (first old new written : Option (List ℕ)) (player : PlayerState) (inputs : List Input) (ahead : List (List ℕ)) (bytes : List ℕ) (count : ℕ)
-    → length bytes ≡ count → stream_limit < player.bytes + count → Consumes old new bytes
-    → IsMidway selection stream first old written player inputs ahead
-    → StopsIn TooLong selection stream new first written inputs
-stops_long selection stream first old new written player inputs ahead bytes count size above consumed m =
-    let g = consumed_some bytes old new consumed m.rest m.left_is in
-    let split : length m.rest ≡ length bytes + length g.0 = ap length g.2 ∙ length-append bytes g.0 in
-    let whole = m.counted in
+pub stops_long : (replay : Replay) (now : Moment) (told : Outside) (inputs : List Input)
+    (ahead : List (List ℕ))
+    (bytes : List ℕ) (count : ℕ)
+    → length bytes ≡ count → stream_limit < now.bytes + count
+    → Consumes now.left told.world.stream.left bytes
+    → told.sink.written ≡ now.written
+    → IsMidway replay now inputs ahead
+    → StopsIn TooLong replay told inputs
+stops_long replay now told inputs ahead bytes count size above consumed written m =
+    let g = consumed_some bytes now.left told.world.stream.left consumed m.rest m.left_is in
     record {
       inputs = inputs;
       front = front_of_self inputs;
-      receiver = player.receiver;
+      receiver = now.receiver;
       given = m.given;
       stands = m.stands;
-      leaves = (record { rest = g.0; left_is = g.1; more = omega arith }, stops_whole selection stream first old written player inputs ahead m);
+      leaves = (
+        record {
+          gave = record {
+            given = m.taken ++ bytes;
+            rest = g.0;
+            left_is = g.1;
+            whole = m.whole ∙ ap (λ l. m.taken ++ l) g.2 ∙ sym (append_assoc m.taken bytes g.0);
+          };
+          more = omega (arith, length-append m.taken bytes, m.counted, size);
+        },
+        subst (λ l. WritesPieces replay.first l m.given) (sym written)
+            (stops_whole replay now inputs ahead m),
+      );
     }
 
--- the bytes of texts, of which the last ones were cut short
-short_bytes : (first old new : Option (List ℕ)) (given texts : List (List ℕ)) → ((start : List ℕ) → old ≡ Some start → CutShort start new (concat texts))
-    → Appends first old (concat given) → WritesBytes first new (given ++ texts)
-short_bytes None old new given texts cut a = record { written = []; front = record { rest = concat (given ++ texts); joined = refl }; appended = tt }
-short_bytes (Some start) None new given texts cut a = absurd a
-short_bytes (Some start) (Some told) new given texts cut a =
+-- the bytes of pieces, of which the last ones were cut short
+short_bytes : (first old new : Option (List ℕ)) (given pieces : List Piece)
+    → ((start : List ℕ) → old ≡ Some start → CutShort start new (bytes_of pieces))
+    → Appends first old (bytes_of given) → WritesBytes first new (given ++ pieces)
+short_bytes None old new given pieces cut a =
+    record {
+      bytes = [];
+      front = record { rest = bytes_of (given ++ pieces); joined = refl };
+      appended = tt;
+    }
+short_bytes (Some start) None new given pieces cut a = absurd a
+short_bytes (Some start) (Some told) new given pieces cut a =
     let short = cut told refl in
     record {
-      written = concat given ++ short.front;
-      front = record { rest = short.rest; joined = concat-append given texts ∙ ap (λ l. concat given ++ l) short.whole ∙ sym (append_assoc (concat given) short.front short.rest) };
-      appended = appends_from start (concat given ++ short.front) new (short.written ∙ ap Some (ap (λ l. l ++ short.front) a ∙ append_assoc start (concat given) short.front));
+      bytes = bytes_of given ++ short.front;
+      front = record {
+        rest = short.rest;
+        joined = bytes-append given pieces ∙ ap (λ l. bytes_of given ++ l) short.whole
+            ∙ sym (append_assoc (bytes_of given) short.front short.rest);
+      };
+      appended = appends_from start (bytes_of given ++ short.front) new
+          (short.written ∙ ap Some
+          (ap (λ l. l ++ short.front) a ∙ append_assoc start (bytes_of given) short.front));
     }
 
--- texts were cut short that the receiver gave
-pub stops_short : (selection : Selection) (stream : List ℕ) (first left old new : Option (List ℕ)) (player : PlayerState) (inputs more : List Input) (ahead : List (List ℕ)) (receiver : ReceiverState) (texts : List (List ℕ))
-    → ((given : List (List ℕ)) → StandsFor selection player.receiver inputs given → StandsFor selection receiver more (given ++ texts))
-    → ((start : List ℕ) → old ≡ Some start → CutShort start new (concat texts))
-    → player.bytes ≤ stream_limit
-    → IsMidway selection stream first left old player inputs ahead
-    → StopsIn WriteFault selection stream left first new more
-stops_short selection stream first left old new player inputs more ahead receiver texts gave cut within m = record {
+-- pieces were cut short that the receiver gave
+pub stops_short : (replay : Replay) (now : Moment) (told : Outside) (inputs more : List Input)
+    (ahead : List (List ℕ))
+    (receiver : ReceiverState) (pieces : List Piece)
+    → ((given : List Piece) → StandsFor replay.selection replay.area now.receiver inputs given
+    → StandsFor replay.selection replay.area receiver more (given ++ pieces))
+    → told.world.stream.left ≡ now.left
+    → ((start : List ℕ) → now.written ≡ Some start → CutShort start told.sink.written
+    (bytes_of pieces))
+    → now.bytes ≤ stream_limit
+    → IsMidway replay now inputs ahead
+    → StopsIn WriteFault replay told more
+stops_short replay now told inputs more ahead receiver pieces gave left cut within m = record {
   inputs = more;
   front = front_of_self more;
   receiver = receiver;
-  given = m.given ++ texts;
+  given = m.given ++ pieces;
   stands = gave m.given m.stands;
-  leaves = (midway_within selection stream first left old player inputs ahead stream_limit within m, short_bytes first old new m.given texts cut m.wrote);
+  leaves = (
+    subst (λ l. GaveAtMost stream_limit (file replay.stream l)) (sym left)
+        (midway_within replay now inputs ahead stream_limit within m),
+    short_bytes replay.first now.written told.sink.written m.given pieces cut m.wrote,
+  );
 }
 
 -- a piece that wasn't written whole
-pub piece_stops : (result : Result (Unit {0}) Status) (P : Status → Type 0) (Q : Type 0) → OnErr result Q → IfErr result (λ status. status ≡ WriteFault) → (Q → P WriteFault) → IfErr result P
+pub piece_stops : (result : Result (Unit {0}) Status) (P : Status → Type 0) (Q : Type 0)
+    → OnErr result Q → IfErr result (λ status. status ≡ WriteFault) → (Q → P WriteFault)
+    → IfErr result P
 piece_stops (Ok u) P Q short fault stops = tt
 piece_stops (Err status) P Q short fault stops = subst P (sym fault) (stops short)
 
-pub only_reads_more : (port : Port) (a b c : WorldState) → OnlyReads port a b → OnlyReads port b c → OnlyReads port a c
-only_reads_more port a b c x y =
-    record { files = y.files ∙ x.files; openings = y.openings ∙ x.openings; other = y.other ∙ x.other; asked = y.asked ∙ x.asked; later = omega (arith, x.later, y.later) }
+-- ---- reads one after the other
+
+pub read_on_none : (port : PortState) → IsReadOn port port
+read_on_none port = record {
+  asked = refl;
+  later = omega arith;
+  given = [];
+  consumed = Consumes-nil port.left;
+}
+
+pub read_on_more : (a b c : PortState) → IsReadOn a b → IsReadOn b c → IsReadOn a c
+read_on_more a b c x y = record {
+  asked = y.asked ∙ x.asked;
+  later = omega (arith, x.later, y.later);
+  given = x.given ++ y.given;
+  consumed = Consumes-trans a.left b.left c.left x.given y.given x.consumed y.consumed;
+}
+
+-- what one read does to its port
+pub read_on_once : {E : Type 0} (old new : PortState) (result : Result ℕ E) (bytes : List ℕ)
+    → new.asked ≡ old.asked → Counts old.reads new.reads result
+    → ReadConsumes old.left new.left result bytes
+    → IsReadOn old new
+read_on_once old new (Ok count) bytes asked counts consumes =
+    record { asked = asked; later = counts.later; given = take count bytes; consumed = consumes.0 }
+read_on_once old new (Err e) bytes asked counts keeps = record {
+  asked = asked;
+  later = counts.later;
+  given = [];
+  consumed = Consumes-kept old.left old.left new.left [] (Consumes-nil old.left) keeps;
+}
+
+pub only_reads_more : (port : Port) (a b c : WorldState) → OnlyReads port a b → OnlyReads port b c
+    → OnlyReads port a c
+only_reads_more port a b c x y = record {
+  files = y.files ∙ x.files;
+  openings = y.openings ∙ x.openings;
+  other = y.other ∙ x.other;
+  on = read_on_more (port_of a port) (port_of b port) (port_of c port) x.on y.on;
+}
 
 pub only_reads_none : (port : Port) (a : WorldState) → OnlyReads port a a
-only_reads_none port a = record { files = refl; openings = refl; other = refl; asked = refl; later = omega arith }
+only_reads_none port a =
+    record { files = refl; openings = refl; other = refl; on = read_on_none (port_of a port) }
 
 pub no_packets : packets_of [] ≡ []
 unfolding packets_of packets_after

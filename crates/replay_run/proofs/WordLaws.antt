@@ -1,26 +1,10 @@
--- Laws of words as lists of codes.
-use Rattle.std.proofs.Common.{◌≡◌, ℕ, ◌<◌, ◌&&◌, Bool, true, false, cond, List, length, get_or, Some, None, nat_le, refl, sym, ap, arith, ext_get_or}
-use Rattle.std.specs.Cmp.Lexicographic.{bytes_decides}
+-- Laws of the digits of numbers.
+use Rattle.std.proofs.Common.{◌≡◌, ℕ, ◌<◌, ◌&&◌, Bool, true, false, cond, List, length, get_or}
+use Rattle.std.proofs.Common.{Some, None, nat_le, refl, sym, ap, arith, ext_get_or}
 use Rattle.std.specs.List.{list_all}
 use Rattle.std.proofs.lemmas.List.Folds.{list_all_at}
 use Rattle.std.proofs.lemmas.Bool.Decides.{nat_tests}
 use Rattle.bml_bytes.specs.Numerals.{decimal_field, decimal_number, is_decimal_digit}
-use Rattle.replay_run.specs.Words.{is_same}
-
--- words that agree at each place are the same
-pub same_at_each : (word expected : List ℕ) → length word ≡ length expected → ((k : ℕ) → k < length word → get_or word k 0 ≡ get_or expected k 0) → true ≡ is_same word expected
-same_at_each word expected long each = sym ((bytes_decides word expected).1 (ext_get_or 0 word expected long each))
-
-is_false : (b : Bool) → (b ≡ true → ⊥) → false ≡ b
-is_false true f = absurd (f refl)
-is_false false f = refl
-
--- words that differ in length or at a place aren't
-pub longer_differ : (word expected : List ℕ) → (length word ≡ length expected → ⊥) → false ≡ is_same word expected
-longer_differ word expected other = is_false _ (λ e. other (ap length ((bytes_decides word expected).0 e)))
-
-pub one_differs : (word expected : List ℕ) (k : ℕ) → (get_or word k 0 ≡ get_or expected k 0 → ⊥) → false ≡ is_same word expected
-one_differs word expected k other = is_false _ (λ e. other (ap (λ xs. get_or xs k 0) ((bytes_decides word expected).0 e)))
 
 third_false : (a b c d : Bool) → c ≡ false → (a && (b && (c && d))) ≡ false
 third_false true true c d e = ap (λ t. t && d) e
@@ -35,15 +19,21 @@ pub decimal_field_long : (word : List ℕ) → 10 < length word → decimal_fiel
 unfolding decimal_field
 decimal_field_long word long =
     let no : nat_le (length word) 10 ≡ false = grind (arith, nat_tests) in
-    ap (λ b. cond b (Some (decimal_number word)) None) (third_false (list_all is_decimal_digit word) (nat_le 1 (length word)) (nat_le (length word) 10) (nat_le (decimal_number word) 4294967295) no)
+    ap (λ b. cond b (Some (decimal_number word)) None)
+    (third_false (list_all is_decimal_digit word) (nat_le 1 (length word))
+    (nat_le (length word) 10) (nat_le (decimal_number word) 4294967295) no)
 
 -- and a code past 255 is no digit
-pub decimal_field_wide : (word : List ℕ) (k : ℕ) → k < length word → 255 < get_or word k 0 → decimal_field word ≡ None
+pub decimal_field_wide : (word : List ℕ) (k : ℕ) → k < length word → 255 < get_or word k 0
+    → decimal_field word ≡ None
 unfolding decimal_field
 decimal_field_wide word k l wide =
     let high : nat_le (get_or word k 0) 57 ≡ false = grind (arith, nat_tests) in
-    let none : list_all is_decimal_digit word ≡ false = list_all_at is_decimal_digit word k 0 l (second_false (nat_le 48 (get_or word k 0)) (nat_le (get_or word k 0) 57) high) in
-    ap (λ b. cond b (Some (decimal_number word)) None) (first_false (list_all is_decimal_digit word) _ none)
+    let none : list_all is_decimal_digit word ≡ false =
+    list_all_at is_decimal_digit word k 0 l
+    (second_false (nat_le 48 (get_or word k 0)) (nat_le (get_or word k 0) 57) high) in
+    ap (λ b. cond b (Some (decimal_number word)) None)
+    (first_false (list_all is_decimal_digit word) _ none)
   where
     second_false : (a b : Bool) → b ≡ false → (a && b) ≡ false
     second_false true b e = e

@@ -1,22 +1,33 @@
--- What a status says of the ports: each fault was counted in this run, in the last call under its count. (Own
--- definitions.)
+-- What a status says of the ports: each fault was counted in this run, in the last call under its
+-- count. This project's own.
 use Rattle.std.specs.Prelude.{◌≡◌, ◌⊎◌}
 use Rattle.bml_ports.specs.Counters.{FaultedSince}
-use Rattle.bml_ports.specs.Sinks.{SinkState}
-use Rattle.bml_ports.specs.Worlds.{WorldState}
 use Rattle.replay_run.specs.declared.status.Status.{Status}
-use Rattle.replay_run.specs.declared.status.Status.TheVariants.{Done, Usage, BadRecord, OpenFault, ReadFault, WriteFault, KeepFault, BadArea, TooLong, NoMemory}
+use Rattle.replay_run.specs.declared.status.Status.TheVariants.{Done, Usage, BadRecord, OpenFault}
+use Rattle.replay_run.specs.declared.status.Status.TheVariants.{ReadFault, WriteFault, KeepFault}
+use Rattle.replay_run.specs.declared.status.Status.TheVariants.{BadArea, TooLong, NoMemory}
+use Rattle.replay_run.specs.Outside.{Outside}
+
+-- the last read of the stream, or of the record, failed
+abbrev pub ReadFaulted : Outside → Outside → Type 0
+ReadFaulted before behind =
+    FaultedSince before.world.stream.reads behind.world.stream.reads
+    ⊎ FaultedSince before.world.notes.reads behind.world.notes.reads
+
+-- the last write failed
+abbrev pub WriteFaulted : Outside → Outside → Type 0
+WriteFaulted before behind = FaultedSince before.sink.writes behind.sink.writes
 
 -- the causes of each status
-abbrev pub IsCaused : Status → WorldState → WorldState → SinkState → SinkState → Type 0
-IsCaused OpenFault world_old world_new sink_old sink_new = FaultedSince world_old.openings world_new.openings × (sink_new ≡ sink_old)
-IsCaused ReadFault world_old world_new sink_old sink_new =
-    FaultedSince world_old.stream.reads world_new.stream.reads ⊎ FaultedSince world_old.notes.reads world_new.notes.reads
-IsCaused WriteFault world_old world_new sink_old sink_new = FaultedSince sink_old.writes sink_new.writes
-IsCaused Done world_old world_new sink_old sink_new = Unit {0}
-IsCaused (BadRecord line) world_old world_new sink_old sink_new = Unit {0}
-IsCaused TooLong world_old world_new sink_old sink_new = Unit {0}
-IsCaused NoMemory world_old world_new sink_old sink_new = Unit {0}
-IsCaused Usage world_old world_new sink_old sink_new = (world_new ≡ world_old) × (sink_new ≡ sink_old)
-IsCaused KeepFault world_old world_new sink_old sink_new = ⊥
-IsCaused (BadArea length) world_old world_new sink_old sink_new = ⊥
+abbrev pub IsCaused : Status → Outside → Outside → Type 0
+IsCaused OpenFault before behind =
+    FaultedSince before.world.openings behind.world.openings × (behind.sink ≡ before.sink)
+IsCaused ReadFault before behind = ReadFaulted before behind
+IsCaused WriteFault before behind = WriteFaulted before behind
+IsCaused Done before behind = Unit {0}
+IsCaused (BadRecord line) before behind = Unit {0}
+IsCaused TooLong before behind = Unit {0}
+IsCaused NoMemory before behind = Unit {0}
+IsCaused Usage before behind = behind ≡ before
+IsCaused KeepFault before behind = ⊥
+IsCaused (BadArea length) before behind = ⊥

@@ -1,10 +1,10 @@
--- What a run asks of the world, and why it can't open a file. (Own definitions.)
-use Rattle.bml_ports.specs.Counters.{FaultedSince}
-use Rattle.std.specs.Prelude.{◌≡◌, ℕ, ◌≤◌, List, Option, Some, None, ◌⊎◌}
-use Rattle.bml_ports.specs.declared.outside.Port.{Port}
-use Rattle.bml_ports.specs.Worlds.{WorldState, PortState, port_of, other_port}
+-- What a run asks of the world, in which order, and what it finds there. This project's own.
+use Rattle.std.specs.Prelude.{◌≡◌, ℕ, List, Option, Some, None, IsSome, IsTrue, ◌⊎◌}
+use Rattle.bml_ports.specs.Sinks.{SinkState}
+use Rattle.bml_ports.specs.Worlds.{WorldState, PortState}
 use Rattle.replay_run.specs.declared.status.Status.{Status}
-use Rattle.replay_run.specs.declared.status.Status.TheVariants.{Done, Usage, BadRecord, OpenFault, ReadFault, WriteFault, KeepFault, BadArea, TooLong, NoMemory}
+use Rattle.replay_run.specs.declared.status.Status.TheVariants.{OpenFault, NoMemory}
+use Rattle.replay_run.specs.Files.{Gave, file}
 use Rattle.replay_run.specs.Words.{CommandWords}
 
 -- no name was asked for at either port
@@ -19,7 +19,14 @@ AsksAtMost port name = (port.asked ≡ None) ⊎ (port.asked ≡ Some name)
 -- no name but the command's two was asked for, each at its own port
 abbrev pub AsksOnly : Option CommandWords → WorldState → Type 0
 AsksOnly None world = IsUnasked world
-AsksOnly (Some request) world = AsksAtMost world.stream request.stream × AsksAtMost world.notes request.notes
+AsksOnly (Some request) world =
+    AsksAtMost world.stream request.stream × AsksAtMost world.notes request.notes
+
+-- The record was asked for only once the stream was opened: not before the stream was asked for,
+-- and not where the run ended because the stream couldn't be opened, which may be read otherwise.
+pub record AsksInOrder (status : Status) (world : WorldState) : Type 0 where
+  pub behind : (world.notes.asked ≡ None) ⊎ IsSome world.stream.asked
+  pub opened : status ≡ OpenFault → (world.notes.asked ≡ None) ⊎ IsTrue world.stream.readable
 
 -- the bytes that the world has under a name, where it tells them
 abbrev pub bytes_under : WorldState → List ℕ → Option (List ℕ)
@@ -29,28 +36,43 @@ bytes_under world name = under world.files
     under None = None
     under (Some bytes_of) = bytes_of name
 
--- between the two a name was asked for at this port, and nothing else happened
-pub record OnlyOpens (port : Port) (name : List ℕ) (old new : WorldState) : Type 0 where
-  pub files : new.files ≡ old.files
-  pub other : port_of new (other_port port) ≡ port_of old (other_port port)
-  pub reads : (port_of new port).reads ≡ (port_of old port).reads
-  pub asked : ((port_of new port).asked ≡ (port_of old port).asked) ⊎ ((port_of new port).asked ≡ Some name)
-  pub later : old.openings.faults ≤ new.openings.faults
-
--- Opening a file stops for these causes.
-abbrev pub StopsOpening : Status → WorldState → WorldState → Type 0
-StopsOpening OpenFault old new = FaultedSince old.openings new.openings
-StopsOpening NoMemory old new = Unit {0}
-StopsOpening Done old new = ⊥
-StopsOpening Usage old new = ⊥
-StopsOpening (BadRecord line) old new = ⊥
-StopsOpening ReadFault old new = ⊥
-StopsOpening WriteFault old new = ⊥
-StopsOpening KeepFault old new = ⊥
-StopsOpening (BadArea size) old new = ⊥
-StopsOpening TooLong old new = ⊥
-
 -- the world tells these bytes under the command's two names; where there is no command, any will do
 abbrev pub HasFiles : Option CommandWords → WorldState → List ℕ → List ℕ → Type 0
 HasFiles None world stream notes = Unit {0}
-HasFiles (Some request) world stream notes = (bytes_under world request.stream ≡ Some stream) × (bytes_under world request.notes ≡ Some notes)
+HasFiles (Some request) world stream notes =
+    (bytes_under world request.stream ≡ Some stream)
+    × (bytes_under world request.notes ≡ Some notes)
+
+-- the world tells its files, and has none under one of two names
+pub record LacksFile (world : WorldState) (stream_name notes_name : List ℕ) : Type 0 where
+  pub bytes_of : List ℕ → Option (List ℕ)
+  pub files : world.files ≡ Some bytes_of
+  pub lacking : (bytes_of stream_name ≡ None) ⊎ (bytes_of notes_name ≡ None)
+
+-- one of the command's two names
+abbrev pub LacksItsFile : Option CommandWords → WorldState → Type 0
+LacksItsFile None world = ⊥
+LacksItsFile (Some request) world = LacksFile world request.stream request.notes
+
+-- the run ended at an opening, with nothing written
+pub record StopsAtOpening (status : Status) (before behind : SinkState) : Type 0 where
+  pub status_is : (status ≡ OpenFault) ⊎ (status ≡ NoMemory)
+  pub unwritten : behind ≡ before
+
+-- A port that wasn't opened has what it had; from one that was, what was given and what is left are
+-- the file. The record wasn't opened before the stream.
+abbrev pub LeavesRest : List ℕ → List ℕ → WorldState → WorldState → Type 0
+LeavesRest stream notes before behind =
+    (stays before.stream behind.stream × stays before.notes behind.notes)
+    ⊎ (Gave (file stream behind.stream.left)
+    × (stays before.notes behind.notes ⊎ Gave (file notes behind.notes.left)))
+  where
+    stays : PortState → PortState → Type 0
+    stays old new = new.left ≡ old.left
+
+-- the same of a command's two files
+abbrev pub LeavesFiles : Option CommandWords → WorldState → WorldState → Type 0
+LeavesFiles None before behind = behind ≡ before
+LeavesFiles (Some request) before behind =
+    (stream notes : List ℕ) → HasFiles (Some request) before stream notes
+    → LeavesRest stream notes before behind

@@ -1,39 +1,68 @@
--- How far a replay has come: the stream, the inputs, the texts and what was written hang together.
--- (Definitions of the proof of `run`; what a run means is in `Meaning`.)
-use Rattle.std.specs.Prelude.{◌≡◌, ℕ, ◌+◌, true, List, [], ◌++◌, length, Option, Some}
-use Rattle.std.specs.List.{concat}
+-- A device of the proofs: how far a replay has come; the stream, the inputs, the pieces and what was
+-- written hang together. (What a run means is in `Meaning`.)
+use Rattle.std.specs.Prelude.{◌≡◌, ℕ, true, List, [], ◌++◌, length, Option, Some}
 use Rattle.std.specs.Io.KnownBytes.{Appends}
 use Rattle.ts_packets.specs.Cutter.{CutterState}
 use Rattle.ts_packets.specs.Packets.{packets_of}
 use Rattle.psi_tables.specs.declared.services.Selection.{Selection}
+use Rattle.receiver_core.specs.Outputs.{Piece}
 use Rattle.receiver_core.specs.Receiving.{ReceiverState, StandsFor}
 use Rattle.receiver_core.specs.State.{Input}
-use Rattle.replay_run.specs.declared.record.Item.{Item}
-use Rattle.replay_run.specs.Play.{inputs_of, packets_left, packets_in}
+use Rattle.replay_run.specs.declared.record.RecordItem.{RecordItem}
+use Rattle.replay_run.specs.Output.{bytes_of}
+use Rattle.replay_run.specs.Outside.{Outside}
+use Rattle.replay_run.specs.Play.{inputs_of, packets_left, packet_count}
 
--- What a replay holds between two of its steps.
-pub record PlayerState : Type 0 where
+-- what a replay is of: the service or data that is asked for, the area at the start, the stream, and
+-- what the sink told at the start
+pub record Replay : Type 0 where
+  pub selection : Selection
+  pub area : List ℕ
+  pub stream : List ℕ
+  pub first : Option (List ℕ)
+
+-- What a replay holds between two of its steps, and what the outside tells then.
+pub record Moment : Type 0 where
   -- the bytes of the stream that aren't cut yet, and whether the stream's end came
   pub cutter : CutterState
   pub receiver : ReceiverState
   -- bytes that the stream gave, and packets that were cut
   pub bytes : ℕ
   pub packets : ℕ
+  -- what is left of the stream, and what was written
+  pub left : Option (List ℕ)
+  pub written : Option (List ℕ)
 
--- These inputs came to the receiver, all texts that it gave for them so far are written, and these packets are ahead.
--- The stream has `left` to give, and the sink told `first` when the run began, if it tells anything.
-pub record IsMidway (selection : Selection) (stream : List ℕ) (first left written : Option (List ℕ)) (player : PlayerState) (inputs : List Input) (ahead : List (List ℕ)) : Type 0 where
+-- These inputs came to the receiver, all pieces that it gave for them so far are written, and these
+-- packets are ahead.
+pub record IsMidway (replay : Replay) (now : Moment) (inputs : List Input)
+    (ahead : List (List ℕ)) : Type 0 where
+  pub taken : List ℕ
   pub rest : List ℕ
-  pub given : List (List ℕ)
-  pub left_is : left ≡ Some rest
-  pub counted : player.bytes + length rest ≡ length stream
-  pub ended : player.cutter.ended ≡ true → rest ≡ []
-  pub ahead_is : packets_of (player.cutter.held ++ rest) ≡ ahead
-  pub packets : player.packets ≡ packets_in inputs
-  pub stands : StandsFor selection player.receiver inputs given
-  pub wrote : Appends first written (concat given)
+  pub given : List Piece
+  pub left_is : now.left ≡ Some rest
+  pub whole : replay.stream ≡ taken ++ rest
+  pub counted : now.bytes ≡ length taken
+  pub ended : now.cutter.ended ≡ true → rest ≡ []
+  pub ahead_is : packets_of (now.cutter.held ++ rest) ≡ ahead
+  pub packets : now.packets ≡ packet_count inputs
+  pub stands : StandsFor replay.selection replay.area now.receiver inputs given
+  pub wrote : Appends replay.first now.written (bytes_of given)
 
 -- Between two items: the inputs and the packets ahead are those of the items so far.
-abbrev pub IsBetween : Selection → List ℕ → Option (List ℕ) → Option (List ℕ) → Option (List ℕ) → PlayerState → List Item → Type 0
-IsBetween selection stream first left written player items =
-    IsMidway selection stream first left written player (inputs_of (packets_of stream) items) (packets_left (packets_of stream) items)
+abbrev pub IsBetween : Replay → Moment → List RecordItem → Type 0
+IsBetween replay now items =
+    IsMidway replay now (inputs_of (packets_of replay.stream) items)
+    (packets_left (packets_of replay.stream) items)
+
+-- A replay begins with an area: where the stream is told, nothing came yet, and nothing is written
+-- but what the sink tells.
+abbrev pub StartsReplay : Selection → List ℕ → Outside → Moment → Type 0
+StartsReplay selection area told now =
+    (stream : List ℕ) → told.world.stream.left ≡ Some stream
+    → IsBetween (record {
+      selection = selection;
+      area = area;
+      stream = stream;
+      first = told.sink.written;
+    }) now []

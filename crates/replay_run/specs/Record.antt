@@ -1,17 +1,40 @@
--- The record: a file that says line by line what is done with the stream. Its form is this project's own.
-use Rattle.std.specs.Prelude.{◌≡◌, ℕ, ◌+◌, ◌<◌, Bool, true, false, ◌||◌, ◌==◌, ◌⊎◌, nat_eq, nat_le, if◌then◌else◌, List, [], ◌∷◌, map, length, filter, position, codes, Option, Some, None, option_map, option_and_then}
+-- The record: a file that says line by line what is done with the stream. Its form is this
+-- project's own.
+use Rattle.std.specs.Prelude.{◌≡◌, ℕ, ◌+◌, ◌<◌, Bool, true, false, ◌||◌, ◌==◌, ◌⊎◌, nat_eq, nat_le}
+use Rattle.std.specs.Prelude.{if◌then◌else◌, List, [], ◌∷◌, map, length, filter, position, codes}
+use Rattle.std.specs.Prelude.{Option, Some, None, option_map, option_and_then}
 use Rattle.std.specs.List.{slice_split}
 use Rattle.std.specs.Str.Lines.{lines}
-use Rattle.std.specs.Cmp.Lexicographic.{pointwise}
 use Rattle.bml_bytes.specs.Numerals.{decimal_field}
-use Rattle.replay_run.specs.declared.record.Item.{Item}
-use Rattle.replay_run.specs.declared.record.Item.TheVariants.{All, Packets, Show}
+use Rattle.bml_bytes.specs.Words.{is_same}
+use Rattle.replay_run.specs.declared.record.RecordItem.{RecordItem}
+use Rattle.replay_run.specs.declared.record.RecordItem.TheVariants.{All, Packets, Show}
 use Rattle.replay_run.specs.declared.record.Line.{Line}
 use Rattle.replay_run.specs.declared.record.Line.TheVariants.{Item as Read, Nothing, Bad}
 
+-- the codes of ASCII that shape a record
+abbrev pub line_feed : ℕ
+line_feed = 10
+
+abbrev pub carriage_return : ℕ
+carriage_return = 13
+
+abbrev pub number_sign : ℕ
+number_sign = 35
+
+abbrev pub space : ℕ
+space = 32
+
+abbrev pub tab : ℕ
+tab = 9
+
+-- the most bytes of a line without its end
+abbrev pub line_limit : ℕ
+line_limit = 128
+
 -- a blank is a space or a tab
 abbrev pub is_blank : ℕ → Bool
-is_blank byte = (byte == 32) || (byte == 9)
+is_blank byte = (byte == space) || (byte == tab)
 
 -- a piece between blanks that isn't empty
 abbrev pub is_field : List ℕ → Bool
@@ -22,47 +45,50 @@ is_field (_ ∷ _) = true
 unfoldable pub fields : List ℕ → List (List ℕ)
 fields line = filter is_field (slice_split is_blank line)
 
--- the field is this word
-abbrev pub is_word : List ℕ → List ℕ → Bool
-is_word field word = pointwise nat_eq field word
-
 -- `all` or `show`
-abbrev pub plain_item : List ℕ → Option Item
-plain_item name = if is_word name (codes "all") then Some All else if is_word name (codes "show") then Some Show else None
+abbrev pub plain_item : List ℕ → Option RecordItem
+plain_item name =
+    if is_same name (codes "all") then Some All
+    else if is_same name (codes "show") then Some Show
+    else None
 
 -- so many packets, and at least one
-abbrev pub packets_item : ℕ → Option Item
+abbrev pub packets_item : ℕ → Option RecordItem
 packets_item count = if count == 0 then None else Some (Packets count)
 
 -- the item that the fields are: `all`, `show`, or `packets` and a number
-abbrev pub item_of : List (List ℕ) → Option Item
+abbrev pub item_of : List (List ℕ) → Option RecordItem
 item_of (name ∷ []) = plain_item name
-item_of (name ∷ number ∷ []) = if is_word name (codes "packets") then option_and_then packets_item (decimal_field number) else None
+item_of (name ∷ number ∷ []) =
+    if is_same name (codes "packets") then option_and_then packets_item (decimal_field number)
+    else None
 item_of _ = None
 
 -- a line with the item that its fields are, and a bad one where they are none
-abbrev pub item_line : Option Item → Line
+abbrev pub item_line : Option RecordItem → Line
 item_line (Some item) = Read item
 item_line None = Bad
 
 -- the field begins with `#`
 abbrev pub is_comment : List ℕ → Bool
 is_comment [] = false
-is_comment (byte ∷ _) = byte == 35
+is_comment (byte ∷ _) = byte == number_sign
 
--- what a line with these fields is: nothing where there are none and where the first begins a comment
+-- what a line with these fields is: nothing where there are none and where the first begins a
+-- comment
 abbrev pub line_with : List (List ℕ) → Line
 line_with [] = Nothing
 line_with (name ∷ more) = if is_comment name then Nothing else item_line (item_of (name ∷ more))
 
--- what a line is, which is given without its end. One of more than 128 bytes is bad
+-- what a line is, which is given without its end. One that is too long is bad
 unfoldable pub line_of : List ℕ → Line
-line_of bytes = if nat_le (length bytes) 128 then line_with (fields bytes) else Bad
+line_of bytes = if nat_le (length bytes) line_limit then line_with (fields bytes) else Bad
 
--- what the lines of a record are, in order. Its lines are those of std: each is ended by a line feed, and one
--- carriage return before that belongs to the end; the last may lack its end, and then keeps a carriage return
-unfoldable pub readings : List ℕ → List Line
-readings bytes = map line_of (lines bytes)
+-- what the lines of a record are, in order. Its lines are those of std: each is ended by a line
+-- feed, and one carriage return before that belongs to the end; the last may lack its end, and then
+-- keeps a carriage return
+unfoldable pub lines_of : List ℕ → List Line
+lines_of bytes = map line_of (lines bytes)
 
 -- whether a line is bad
 abbrev pub is_bad : Line → Bool
@@ -71,35 +97,38 @@ is_bad Nothing = false
 is_bad Bad = true
 
 -- the items of the lines up to the first bad one
-abbrev pub items_until_bad : List Line → List Item
+abbrev pub items_until_bad : List Line → List RecordItem
 items_until_bad [] = []
 items_until_bad (Read item ∷ more) = item ∷ items_until_bad more
 items_until_bad (Nothing ∷ more) = items_until_bad more
 items_until_bad (Bad ∷ _) = []
 
 -- the items of a record before its first bad line
-abbrev pub items_before_bad : List ℕ → List Item
-items_before_bad bytes = items_until_bad (readings bytes)
+abbrev pub items_before_bad : List ℕ → List RecordItem
+items_before_bad bytes = items_until_bad (lines_of bytes)
 
 -- the number of a record's first bad line, counted from 1, where it has one. All lines count
 abbrev pub first_bad : List ℕ → Option ℕ
-first_bad bytes = option_map (λ place. place + 1) (position is_bad (readings bytes))
+first_bad bytes = option_map (λ place. place + 1) (position is_bad (lines_of bytes))
 
 -- ---- how lines are written
 
 -- the fields of an item
-abbrev pub IsWritten : Item → List (List ℕ) → Type 0
+abbrev pub IsWritten : RecordItem → List (List ℕ) → Type 0
 IsWritten All words = words ≡ codes "all" ∷ []
 IsWritten (Packets count) words =
-    (number : List ℕ) × (words ≡ codes "packets" ∷ number ∷ []) × (decimal_field number ≡ Some count) × (0 < count)
+    (number : List ℕ) × (words ≡ codes "packets" ∷ number ∷ [])
+    × (decimal_field number ≡ Some count) × (0 < count)
 IsWritten Show words = words ≡ codes "show" ∷ []
 
 -- the fields of a line that asks for nothing: there are none, or the first begins with `#`
 abbrev pub AsksNothing : List (List ℕ) → Type 0
-AsksNothing words = (words ≡ []) ⊎ ((name : List ℕ) × (more : List (List ℕ)) × (words ≡ (35 ∷ name) ∷ more))
+AsksNothing words =
+    (words ≡ [])
+    ⊎ ((name : List ℕ) × (more : List (List ℕ)) × (words ≡ (number_sign ∷ name) ∷ more))
 
 -- the item of a line that has one
-abbrev pub item_in : Line → Option Item
+abbrev pub item_in : Line → Option RecordItem
 item_in (Read item) = Some item
 item_in Nothing = None
 item_in Bad = None

@@ -1,15 +1,53 @@
--- How a replay of two open files may end. (Definitions of the proof of `run`.)
+-- A device of the proofs: how opening two files, and a replay of them, may end.
+use Rattle.std.specs.Prelude.{◌≡◌, ℕ, ◌≤◌, List, [], Option, Some, None, Result, Ok, Err, ◌⊎◌}
+use Rattle.bml_ports.specs.declared.outside.Port.{Port}
 use Rattle.bml_ports.specs.Counters.{FaultedSince}
-use Rattle.std.specs.Prelude.{◌≡◌, ℕ, ◌≤◌, List, [], Option, Some, Result, Ok, Err, ◌⊎◌}
-use Rattle.bml_ports.specs.Sinks.{SinkState}
-use Rattle.bml_ports.specs.Worlds.{WorldState}
+use Rattle.bml_ports.specs.Worlds.{WorldState, port_of, other_port}
 use Rattle.psi_tables.specs.declared.services.Selection.{Selection}
 use Rattle.replay_run.specs.declared.status.Status.{Status}
-use Rattle.replay_run.specs.declared.status.Status.TheVariants.{Done, Usage, BadRecord, OpenFault, ReadFault, WriteFault, KeepFault, BadArea, TooLong, NoMemory}
+use Rattle.replay_run.specs.declared.status.Status.TheVariants.{Done, Usage, BadRecord, OpenFault}
+use Rattle.replay_run.specs.declared.status.Status.TheVariants.{ReadFault, WriteFault, KeepFault}
+use Rattle.replay_run.specs.declared.status.Status.TheVariants.{BadArea, TooLong, NoMemory}
+use Rattle.replay_run.specs.Causes.{ReadFaulted, WriteFaulted}
 use Rattle.replay_run.specs.Ending.{EndsAs}
-use Rattle.replay_run.specs.Meaning.{replay_meaning}
+use Rattle.replay_run.specs.Meaning.{empty_area, replay_meaning}
 use Rattle.replay_run.specs.Opening.{bytes_under}
+use Rattle.replay_run.specs.Outside.{Outside, account}
+use Rattle.replay_run.specs.Stopping.{IsReadOn}
 use Rattle.replay_run.specs.Writing.{WritesOn, WritesShort}
+
+-- between the two a name was asked for at this port, and nothing else happened
+pub record OnlyOpens (port : Port) (name : List ℕ) (old new : WorldState) : Type 0 where
+  pub files : new.files ≡ old.files
+  pub other : port_of new (other_port port) ≡ port_of old (other_port port)
+  pub reads : (port_of new port).reads ≡ (port_of old port).reads
+  pub asked : ((port_of new port).asked ≡ (port_of old port).asked)
+      ⊎ ((port_of new port).asked ≡ Some name)
+  pub later : old.openings.faults ≤ new.openings.faults
+
+-- the opening failed, and was counted
+pub record OpeningFails (port : Port) (old new : WorldState) : Type 0 where
+  pub cause : FaultedSince old.openings new.openings
+  pub left : (port_of new port).left ≡ (port_of old port).left
+
+-- Opening a file stops for these causes, and the port has what it had.
+abbrev pub StopsOpening : Status → Port → WorldState → WorldState → Type 0
+StopsOpening OpenFault port old new = OpeningFails port old new
+StopsOpening NoMemory port old new = new ≡ old
+StopsOpening Done port old new = ⊥
+StopsOpening Usage port old new = ⊥
+StopsOpening (BadRecord line) port old new = ⊥
+StopsOpening ReadFault port old new = ⊥
+StopsOpening WriteFault port old new = ⊥
+StopsOpening KeepFault port old new = ⊥
+StopsOpening (BadArea size) port old new = ⊥
+StopsOpening TooLong port old new = ⊥
+
+-- the world tells its files, and has none under this name
+pub record LacksName (world : WorldState) (name : List ℕ) : Type 0 where
+  pub bytes_of : List ℕ → Option (List ℕ)
+  pub files : world.files ≡ Some bytes_of
+  pub lacking : bytes_of name ≡ None
 
 -- the status that an answer stands for
 abbrev pub outcome_of : {A : Type 0} → Result A Status → Status
@@ -20,24 +58,21 @@ outcome_of (Err status) = status
 pub record OnlyReadsBoth (old new : WorldState) : Type 0 where
   pub files : new.files ≡ old.files
   pub openings : new.openings ≡ old.openings
-  pub stream_asked : new.stream.asked ≡ old.stream.asked
-  pub notes_asked : new.notes.asked ≡ old.notes.asked
-  pub stream_later : old.stream.reads.faults ≤ new.stream.reads.faults
-  pub notes_later : old.notes.reads.faults ≤ new.notes.reads.faults
+  pub stream : IsReadOn old.stream new.stream
+  pub notes : IsReadOn old.notes new.notes
 
 -- A replay stops for these causes.
-abbrev pub StopsReplay : Status → WorldState → WorldState → SinkState → SinkState → Type 0
-StopsReplay ReadFault world_old world_new sink_old sink_new =
-    FaultedSince world_old.stream.reads world_new.stream.reads ⊎ FaultedSince world_old.notes.reads world_new.notes.reads
-StopsReplay WriteFault world_old world_new sink_old sink_new = FaultedSince sink_old.writes sink_new.writes
-StopsReplay (BadRecord line) world_old world_new sink_old sink_new = Unit {0}
-StopsReplay TooLong world_old world_new sink_old sink_new = Unit {0}
-StopsReplay NoMemory world_old world_new sink_old sink_new = Unit {0}
-StopsReplay Done world_old world_new sink_old sink_new = ⊥
-StopsReplay Usage world_old world_new sink_old sink_new = ⊥
-StopsReplay OpenFault world_old world_new sink_old sink_new = ⊥
-StopsReplay KeepFault world_old world_new sink_old sink_new = ⊥
-StopsReplay (BadArea length) world_old world_new sink_old sink_new = ⊥
+abbrev pub StopsReplay : Status → Outside → Outside → Type 0
+StopsReplay ReadFault old new = ReadFaulted old new
+StopsReplay WriteFault old new = WriteFaulted old new
+StopsReplay (BadRecord line) old new = Unit {0}
+StopsReplay TooLong old new = Unit {0}
+StopsReplay NoMemory old new = Unit {0}
+StopsReplay Done old new = ⊥
+StopsReplay Usage old new = ⊥
+StopsReplay OpenFault old new = ⊥
+StopsReplay KeepFault old new = ⊥
+StopsReplay (BadArea length) old new = ⊥
 
 -- What is left of a line where writing it stops.
 abbrev pub StopsLine : Status → Option (List ℕ) → Option (List ℕ) → List ℕ → Type 0
@@ -53,17 +88,16 @@ StopsLine (BadArea length) old new line = ⊥
 StopsLine TooLong old new line = ⊥
 
 -- Where the files are told, the replay ends as its meaning says.
-abbrev pub ReplayEnds : Selection → WorldState → WorldState → Option (List ℕ) → Option (List ℕ) → Status → Type 0
-ReplayEnds selection world_old world_new old new status =
-    (stream notes : List ℕ) → world_old.stream.left ≡ Some stream → world_old.notes.left ≡ Some notes
-    → EndsAs (replay_meaning selection stream notes)
-    (record { stream = stream; notes = notes; stream_left = world_new.stream.left; notes_left = world_new.notes.left })
-    old new status
+abbrev pub ReplayEnds : Selection → List ℕ → Outside → Outside → Status → Type 0
+ReplayEnds selection area before behind status =
+    (stream notes : List ℕ)
+    → before.world.stream.left ≡ Some stream → before.world.notes.left ≡ Some notes
+    → EndsAs (replay_meaning selection area stream notes) (account stream notes before behind) status
 
 -- The same of a replay of two files under their names.
-abbrev pub RunEnds : Selection → List ℕ → List ℕ → WorldState → WorldState → Option (List ℕ) → Option (List ℕ) → Status → Type 0
-RunEnds selection stream_name notes_name world_old world_new old new status =
-    (stream notes : List ℕ) → bytes_under world_old stream_name ≡ Some stream → bytes_under world_old notes_name ≡ Some notes
-    → EndsAs (replay_meaning selection stream notes)
-    (record { stream = stream; notes = notes; stream_left = world_new.stream.left; notes_left = world_new.notes.left })
-    old new status
+abbrev pub RunEnds : Selection → List ℕ → List ℕ → Outside → Outside → Status → Type 0
+RunEnds selection stream_name notes_name before behind status =
+    (stream notes : List ℕ)
+    → bytes_under before.world stream_name ≡ Some stream
+    → bytes_under before.world notes_name ≡ Some notes
+    → EndsAs (replay_meaning selection empty_area stream notes) (account stream notes before behind) status

@@ -1,38 +1,64 @@
--- The words of the command line, behind the program's name. Each is a list of codes. The commands are this
--- project's own.
-use Rattle.std.specs.Prelude.{◌≡◌, ◌≢◌, ℕ, ◌≤◌, Bool, false, ◌&&◌, not, ◌==◌, nat_eq, nat_le, if◌then◌else◌, List, [], ◌∷◌, ◌++◌, slice_get, codes, Option, Some, None, option_map, option_and_then}
-use Rattle.std.specs.Cmp.Lexicographic.{pointwise}
+-- The words of the command line, behind the program's name. Each is a list of codes. The commands
+-- are this project's own.
+use Rattle.std.specs.Prelude.{◌≡◌, ◌≢◌, ℕ, ◌≤◌, Bool, false, ◌&&◌, not, ◌==◌, nat_eq, nat_le}
+use Rattle.std.specs.Prelude.{if◌then◌else◌, List, [], ◌∷◌, ◌++◌, slice_get, codes, Option, Some}
+use Rattle.std.specs.Prelude.{None, option_map, option_and_then}
 use Rattle.bml_bytes.specs.Numerals.{decimal_field}
+use Rattle.bml_bytes.specs.Words.{is_same}
 use Rattle.psi_tables.specs.declared.services.Selection.{Selection}
 use Rattle.psi_tables.specs.declared.services.Selection.TheVariants.{First, Service, Pid}
 
--- what words can ask for, a replay: which service or data is received, and the names of the stream's file and of the
--- record's
+-- what words can ask for, a replay: which service or data is received, and the names of the
+-- stream's file and of the record's
 pub record CommandWords : Type 0 where
   pub selection : Selection
   pub stream : List ℕ
   pub notes : List ℕ
 
--- the two words are the same
-abbrev pub is_same : List ℕ → List ℕ → Bool
-is_same = pointwise nat_eq
+-- the code of a hyphen (ASCII)
+abbrev pub hyphen : ℕ
+hyphen = 45
+
+-- the numbers that a program can have (ISO/IEC 13818-1, 2.4.4.5; 0 is the network's)
+abbrev pub first_program : ℕ
+first_program = 1
+
+abbrev pub last_program : ℕ
+last_program = 65535
+
+-- the PIDs that data can be on (ISO/IEC 13818-1, table 2-3, without the null packets)
+abbrev pub first_data_pid : ℕ
+first_data_pid = 16
+
+abbrev pub last_data_pid : ℕ
+last_data_pid = 8190
 
 -- the name of a file: it isn't empty and doesn't begin with a hyphen
 abbrev pub is_file_name : List ℕ → Bool
 is_file_name [] = false
-is_file_name (first ∷ _) = not (first == 45)
+is_file_name (first ∷ _) = not (first == hyphen)
 
--- a number, 1 to 65,535, that a program can have (ISO/IEC 13818-1, 2.4.4.5; 0 is the network's)
+-- a number of this range
+abbrev pub is_between : ℕ → ℕ → ℕ → Bool
+is_between least most number = nat_le least number && nat_le number most
+
+-- the service with a program's number
 abbrev pub service : List ℕ → Option Selection
-service word = option_and_then (λ number. if nat_le 1 number && nat_le number 65535 then Some (Service number) else None) (decimal_field word)
+service word =
+    option_and_then
+    (λ number. if is_between first_program last_program number then Some (Service number) else None)
+    (decimal_field word)
 
--- the number of a PID that data can be on, 16 to 8,190 (ISO/IEC 13818-1, table 2-3, without the null packets)
+-- the data on a PID that data can be on
 abbrev pub data_pid : List ℕ → Option Selection
-data_pid word = option_and_then (λ pid. if nat_le 16 pid && nat_le pid 8190 then Some (Pid pid) else None) (decimal_field word)
+data_pid word =
+    option_and_then
+    (λ pid. if is_between first_data_pid last_data_pid pid then Some (Pid pid) else None)
+    (decimal_field word)
 
 -- what an option and its number ask for
-abbrev pub optional : List ℕ → List ℕ → Option Selection
-optional option number =
+abbrev pub selection_of : List ℕ → List ℕ → Option Selection
+selection_of option number =
     if is_same option (codes "--service") then service number
     else if is_same option (codes "--data-pid") then data_pid number
     else None
@@ -41,19 +67,22 @@ optional option number =
 abbrev pub replay_of : List ℕ → Option Selection → List ℕ → List ℕ → Option CommandWords
 replay_of name selection stream notes =
     if is_same name (codes "replay") && (is_file_name stream && is_file_name notes)
-    then option_map (λ asked. record { selection = asked; stream = stream; notes = notes }) selection
+    then option_map (λ asked. record { selection = asked; stream = stream; notes = notes })
+    selection
     else None
 
--- `replay STREAM RECORD`, with at most one option in front of the names, is a command, and no other list of words is one
+-- `replay STREAM RECORD`, with at most one option in front of the names, is a command, and no other
+-- list of words is one
 abbrev pub command : List (List ℕ) → Option CommandWords
 command (name ∷ stream ∷ notes ∷ []) = replay_of name (Some First) stream notes
-command (name ∷ option ∷ number ∷ stream ∷ notes ∷ []) = replay_of name (optional option number) stream notes
+command (name ∷ option ∷ number ∷ stream ∷ notes ∷ []) =
+    replay_of name (selection_of option number) stream notes
 command _ = None
 
 -- a name that a file can have on the command line
 pub record IsFileName (name : List ℕ) : Type 0 where
   pub some : name ≢ []
-  pub no_option : slice_get name 0 ≢ Some 45
+  pub no_option : slice_get name 0 ≢ Some hyphen
 
 -- an option with a number of this range
 pub record IsOption (name : List ℕ) (least most value : ℕ) (words : List (List ℕ)) : Type 0 where
@@ -66,8 +95,8 @@ pub record IsOption (name : List ℕ) (least most value : ℕ) (words : List (Li
 -- the words in front of the names that ask for it: none for the first service
 abbrev pub AskFor : Selection → List (List ℕ) → Type 0
 AskFor First words = words ≡ []
-AskFor (Service number) words = IsOption (codes "--service") 1 65535 number words
-AskFor (Pid pid) words = IsOption (codes "--data-pid") 16 8190 pid words
+AskFor (Service number) words = IsOption (codes "--service") first_program last_program number words
+AskFor (Pid pid) words = IsOption (codes "--data-pid") first_data_pid last_data_pid pid words
 
 -- the words of a replay, as they are written
 pub record IsReplay (words : List (List ℕ)) (asked : CommandWords) : Type 0 where

@@ -1,4 +1,4 @@
--- What writes leave of a piece, where a sink tells what was written.
+-- A device of the proofs: what writes leave of a piece, where a sink tells what was written.
 use Rattle.std.specs.Prelude.{◌≡◌, ◌≢◌, ℕ, List, [], ◌++◌, Option, Some}
 
 -- bytes were written behind those that the sink tells

@@ -9,8 +9,10 @@ use bml_ports::Sink;
 
 /// Writes a piece whole, by as many writes as it takes. An empty piece takes none.
 pub fn write_piece<S: Sink>(out: &mut S, piece: &[u8]) -> Result<(), Status>
-    ensures whole { OnOk result (WritesOn (S.told out.old).written (S.told out.new).written piece.now) }
-    ensures short { OnErr result (WritesShort (S.told out.old).written (S.told out.new).written piece.now) }
+    ensures whole { OnOk result
+        (WritesOn (S.told out.old).written (S.told out.new).written piece.now) }
+    ensures short { OnErr result
+        (WritesShort (S.told out.old).written (S.told out.new).written piece.now) }
     ensures fault { IfErr result (λ status. status ≡ Status.WriteFault) }
     ensures cause { OnErr result (FaultedSince (S.told out.old).writes (S.told out.new).writes) }
     ensures writes { (S.told out.old).writes.faults ≤ (S.told out.new).writes.faults }

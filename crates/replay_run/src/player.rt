@@ -1,11 +1,14 @@
 //! Handles the items of a record over the packets of a stream.
 
-ghost use Rattle.std.specs.Prelude.{◌≡◌, ℕ, ◌+◌, ◌*◌, ◌^◌, ◌<◌, ◌≤◌, ◌++◌, ◌∷◌, [], List, length, true, false, IsTrue, OnOk, OnErr, IfOk, IfErr, Option, Some, option_map};
+ghost use Rattle.std.specs.Prelude.{◌≡◌, ℕ, ◌+◌, ◌*◌, ◌^◌, ◌<◌, ◌≤◌, List, length, false, IsTrue};
+ghost use Rattle.std.specs.Prelude.{OnOk, IfOk, IfErr, Option, option_map};
+ghost use Rattle.bml_ports.specs.Sinks.{SinkState};
 ghost use Rattle.bml_ports.specs.Worlds.{WorldState};
 ghost use Rattle.ts_packets.specs.Cutter.{IsCertainAt};
+ghost use Rattle.replay_run.specs.Files.{packet_length, read_length, stream_limit};
 
 use crate::output::write_piece;
-use crate::record::Item;
+use crate::record::RecordItem;
 use crate::status::Status;
 use bml_bytes::{AreaBytes, NoMemory};
 use bml_ports::{Port, Sink, World};
@@ -17,8 +20,8 @@ use ts_packets::{Ahead, Cutter};
 /// The most bytes that a stream may give.
 const STREAM_LIMIT: u64 = 1 << 36;
 
-/// The bytes that one read of the stream asks for: with the 188 that a cutter holds at most when it waits, they
-/// fit the cutter.
+/// The bytes that one read of the stream asks for: with the packet that a cutter holds at most when
+/// it waits, they fit the cutter.
 const READ_LENGTH: usize = 3904;
 
 /// What a replay keeps from item to item.
@@ -32,21 +35,23 @@ pub struct Player {
     bytes: u64,
     /// The packets that were taken.
     packets: u64,
-    ghost cut: { 188 * packets + length cutter.held ≤ bytes },
-    ghost limited: { bytes ≤ 2 ^ 36 + 3904 },
+    ghost cut: { packet_length * packets + length cutter.held ≤ bytes },
+    ghost limited: { bytes ≤ stream_limit + read_length },
 }
 
 impl Player {
-    ghost use Rattle.replay_run.specs.Midway.{state_of, taking, Goes, Stops, Handles, StopsHandling, IsReadable, work_left};
-    ghost use Rattle.replay_run.specs.Progress.{IsBetween};
+    ghost use Rattle.replay_run.specs.Midway.{moment, item_of_count, Goes, Stops, Handles};
+    ghost use Rattle.replay_run.specs.Midway.{StopsHandling, IsReadable, work_left};
+    ghost use Rattle.replay_run.specs.Meaning.{empty_area};
+    ghost use Rattle.replay_run.specs.Outside.{Outside, outside};
+    ghost use Rattle.replay_run.specs.Progress.{StartsReplay};
     ghost use Rattle.receiver_core.specs.Receiving.{IsIdle};
-    ghost use Rattle.replay_run.specs.Limits.{stream_limit};
     ghost use Rattle.replay_run.specs.Stopping.{OnlyReads, StopsPackets, StopsTurns, StopsReading};
 
     /// A replay at the start of its stream, with an area of zeros.
     pub fn new(alloc: Global, selection: Selection) -> Result<Player, NoMemory>
-        ensures start { IfOk result (λ player. (stream : List ℕ) (first : Option (List ℕ))
-            → IsBetween selection stream first (Some stream) first (state_of player) []) }
+        ensures start { IfOk result (λ player. (told : Outside)
+            → StartsReplay selection empty_area told (moment player told)) }
         ensures idle { IfOk result (λ player. IsIdle player.receiver) }
         ensures within { IfOk result (λ player. player.bytes ≤ stream_limit) }
         ensures readable { IfOk result (λ player. (world : WorldState)
@@ -63,17 +68,16 @@ impl Player {
 
     /// The packets that were taken.
     pub fn packets(&self) -> u64
-        ensures packets { result ≡ self.now.packets }
-        ensures few { result < 2 ^ 63 }
+        ensures { result ≡ self.now.packets }
     {
         self.packets
     }
 
-    /// Handles an item: takes the packets that it asks for, or shows the display list. It writes what each of the
-    /// packets' turns prints, and the display list.
+    /// Handles an item: takes the packets that it asks for, or shows the display list. It writes
+    /// what each of the packets' turns prints, and the display list.
     pub fn handle<W: World, S: Sink>(
         &mut self,
-        item: Item,
+        item: RecordItem,
         world: &mut W,
         out: &mut S,
     ) -> Result<(), Status>
@@ -87,24 +91,26 @@ impl Player {
         ensures reads { OnlyReads Port.Stream (W.told world.old) (W.told world.new) }
         ensures writes { (S.told out.old).writes.faults ≤ (S.told out.new).writes.faults }
         ensures cause { IfErr result (λ status. StopsPackets status
-            (W.told world.old).stream.reads (W.told world.new).stream.reads
-            (S.told out.old).writes (S.told out.new).writes self.new.bytes) }
+            (outside (W.told world.old) (S.told out.old))
+            (outside (W.told world.new) (S.told out.new))
+            self.new.bytes) }
 
         ensures handled { OnOk result (Handles item
-            (W.told world.old).stream.left (W.told world.new).stream.left
-            (S.told out.old).written (S.told out.new).written (state_of self.old) (state_of self.new)) }
+            (moment self.old (outside (W.told world.old) (S.told out.old)))
+            (moment self.new (outside (W.told world.new) (S.told out.new)))) }
         ensures stopped { IfErr result (λ status. StopsHandling item status
-            (W.told world.old).stream.left (W.told world.new).stream.left
-            (S.told out.old).written (S.told out.new).written (state_of self.old)) }
+            (moment self.old (outside (W.told world.old) (S.told out.old)))
+            (outside (W.told world.new) (S.told out.new))) }
     {
         match item {
-            Item::All => self.take(None, world, out),
-            Item::Packets(count) => self.take(Some(count), world, out),
-            Item::Show => self.show(out),
+            RecordItem::All => self.take(None, world, out),
+            RecordItem::Packets(count) => self.take(Some(count), world, out),
+            RecordItem::Show => self.show(out),
         }
     }
 
-    // Takes the packets that are left, or no more than so many, and writes what each of their turns prints.
+    // Takes the packets that are left, or no more than so many, and writes what each of their turns
+    // prints.
     fn take<W: World, S: Sink>(
         &mut self,
         most: Option<u32>,
@@ -121,15 +127,16 @@ impl Player {
         ensures reads { OnlyReads Port.Stream (W.told world.old) (W.told world.new) }
         ensures writes { (S.told out.old).writes.faults ≤ (S.told out.new).writes.faults }
         ensures cause { IfErr result (λ status. StopsPackets status
-            (W.told world.old).stream.reads (W.told world.new).stream.reads
-            (S.told out.old).writes (S.told out.new).writes self.new.bytes) }
+            (outside (W.told world.old) (S.told out.old))
+            (outside (W.told world.new) (S.told out.new))
+            self.new.bytes) }
 
-        ensures handled { OnOk result (Handles (taking most)
-            (W.told world.old).stream.left (W.told world.new).stream.left
-            (S.told out.old).written (S.told out.new).written (state_of self.old) (state_of self.new)) }
-        ensures stopped { IfErr result (λ status. StopsHandling (taking most) status
-            (W.told world.old).stream.left (W.told world.new).stream.left
-            (S.told out.old).written (S.told out.new).written (state_of self.old)) }
+        ensures handled { OnOk result (Handles (item_of_count most)
+            (moment self.old (outside (W.told world.old) (S.told out.old)))
+            (moment self.new (outside (W.told world.new) (S.told out.new)))) }
+        ensures stopped { IfErr result (λ status. StopsHandling (item_of_count most) status
+            (moment self.old (outside (W.told world.old) (S.told out.old)))
+            (outside (W.told world.new) (S.told out.new))) }
     {
         let last = self.last_packet(most);
         'packets: while last != Some(self.packets) {
@@ -142,7 +149,8 @@ impl Player {
         Ok(())
     }
 
-    // The number of the last packet to take, counted from 1 at the start of the run, if there is a bound.
+    // The number of the last packet to take, counted from 1 at the start of the run, if there is a
+    // bound.
     fn last_packet(&self, most: Option<u32>) -> Option<u64>
         ensures { result ≡ option_map (λ count. self.now.packets + count) most }
     {
@@ -158,11 +166,14 @@ impl Player {
         ensures bytes { self.new.bytes ≡ self.old.bytes }
         ensures cutter { self.new.cutter ≡ self.old.cutter }
         ensures writes { (S.told out.old).writes.faults ≤ (S.told out.new).writes.faults }
-        ensures cause { IfErr result (λ status. StopsTurns status (S.told out.old).writes (S.told out.new).writes) }
-        ensures handled { OnOk result ((left : Option (List ℕ)) → Handles Item.Show left left
-            (S.told out.old).written (S.told out.new).written (state_of self.old) (state_of self.new)) }
-        ensures stopped { IfErr result (λ status. (left : Option (List ℕ)) → StopsHandling Item.Show status left left
-            (S.told out.old).written (S.told out.new).written (state_of self.old)) }
+        ensures cause { IfErr result (λ status. StopsTurns status
+            (S.told out.old).writes (S.told out.new).writes) }
+        ensures handled { OnOk result ((world : WorldState) → Handles RecordItem.Show
+            (moment self.old (outside world (S.told out.old)))
+            (moment self.new (outside world (S.told out.new)))) }
+        ensures stopped { IfErr result
+            (λ status. (world : WorldState) → StopsHandling RecordItem.Show status
+            (moment self.old (outside world (S.told out.old))) (outside world (S.told out.new))) }
     {
         self.piece.clear();
         self.receiver.show(&mut self.piece)?;
@@ -181,11 +192,14 @@ impl Player {
         ensures shorter { length self.new.cutter.held < length self.old.cutter.held }
         ensures ended { self.new.cutter.ended ≡ self.old.cutter.ended }
         ensures writes { (S.told out.old).writes.faults ≤ (S.told out.new).writes.faults }
-        ensures cause { IfErr result (λ status. StopsTurns status (S.told out.old).writes (S.told out.new).writes) }
-        ensures handled { OnOk result ((left : Option (List ℕ)) → Handles (Item.Packets 1) left left
-            (S.told out.old).written (S.told out.new).written (state_of self.old) (state_of self.new)) }
-        ensures stopped { IfErr result (λ status. (left : Option (List ℕ)) → StopsHandling (Item.Packets 1) status left left
-            (S.told out.old).written (S.told out.new).written (state_of self.old)) }
+        ensures cause { IfErr result (λ status. StopsTurns status
+            (S.told out.old).writes (S.told out.new).writes) }
+        ensures handled { OnOk result ((world : WorldState) → Handles (RecordItem.Packets 1)
+            (moment self.old (outside world (S.told out.old)))
+            (moment self.new (outside world (S.told out.new)))) }
+        ensures stopped { IfErr result
+            (λ status. (world : WorldState) → StopsHandling (RecordItem.Packets 1) status
+            (moment self.old (outside world (S.told out.old))) (outside world (S.told out.new))) }
     {
         self.packets += 1;
         if !self.receiver.wants(self.cutter.front_pid()) {
@@ -193,7 +207,7 @@ impl Player {
             return Ok(());
         }
         let packet = self.cutter.take_packet();
-        self.receiver.packet(&packet);
+        self.receiver.wanted_packet(&packet);
         self.turns(out)
     }
 
@@ -205,11 +219,13 @@ impl Player {
         ensures packets { self.new.packets ≡ self.old.packets }
         ensures cutter { self.new.cutter ≡ self.old.cutter }
         ensures writes { (S.told out.old).writes.faults ≤ (S.told out.new).writes.faults }
-        ensures cause { IfErr result (λ status. StopsTurns status (S.told out.old).writes (S.told out.new).writes) }
-        ensures goes { OnOk result ((left : Option (List ℕ)) → Goes left left
-            (S.told out.old).written (S.told out.new).written (state_of self.old) (state_of self.new)) }
-        ensures stops { IfErr result (λ status. (left : Option (List ℕ)) → Stops status left left
-            (S.told out.old).written (S.told out.new).written (state_of self.old)) }
+        ensures cause { IfErr result (λ status. StopsTurns status
+            (S.told out.old).writes (S.told out.new).writes) }
+        ensures goes { OnOk result ((world : WorldState) → Goes
+            (moment self.old (outside world (S.told out.old)))
+            (moment self.new (outside world (S.told out.new)))) }
+        ensures stops { IfErr result (λ status. (world : WorldState) → Stops status
+            (moment self.old (outside world (S.told out.old))) (outside world (S.told out.new))) }
     {
         'turns: loop {
             self.piece.clear();
@@ -223,7 +239,7 @@ impl Player {
     // Reads a piece of the stream, or comes to its end.
     fn read_stream<W: World>(&mut self, world: &mut W) -> Result<(), Status>
         requires open_end { self.old.cutter.ended ≡ false }
-        requires waiting { length self.old.cutter.held ≤ 188 }
+        requires waiting { length self.old.cutter.held ≤ packet_length }
         requires within { self.old.bytes ≤ stream_limit }
         requires readable { IsTrue (W.told world.old).stream.readable }
 
@@ -236,12 +252,11 @@ impl Player {
             (W.told world.old).stream.reads (W.told world.new).stream.reads self.new.bytes) }
         ensures ahead { OnOk result
             (work_left self.new.cutter self.new.bytes < work_left self.old.cutter self.old.bytes) }
-        ensures goes { OnOk result ((written : Option (List ℕ)) → Goes
-            (W.told world.old).stream.left (W.told world.new).stream.left written written
-            (state_of self.old) (state_of self.new)) }
-        ensures stops { IfErr result (λ status. (written : Option (List ℕ)) → Stops status
-            (W.told world.old).stream.left (W.told world.new).stream.left written written
-            (state_of self.old)) }
+        ensures goes { OnOk result ((sink : SinkState) → Goes
+            (moment self.old (outside (W.told world.old) sink))
+            (moment self.new (outside (W.told world.new) sink))) }
+        ensures stops { IfErr result (λ status. (sink : SinkState) → Stops status
+            (moment self.old (outside (W.told world.old) sink)) (outside (W.told world.new) sink)) }
     {
         let mut buffer = [0; READ_LENGTH];
         match world.read_port(Port::Stream, &mut buffer) {

@@ -1,10 +1,16 @@
 //! The lines of the record, read from pieces.
 
-ghost use Rattle.std.specs.Prelude.{◌≡◌, ◌≢◌, ℕ, ◌+◌, ◌-◌, ◌<◌, ◌≤◌, ◌↔◌, ◌⊎◌, true, false, [], ◌∷◌, ◌++◌, All, length, take, drop, min, not, position, slice_index, ◌==◌, MatchOption};
+ghost use Rattle.std.specs.Prelude.{◌≡◌, ◌≢◌, ℕ, ◌+◌, ◌-◌, ◌<◌, ◌≤◌, ◌↔◌, ◌⊎◌, true, false, []};
+ghost use Rattle.std.specs.Prelude.{◌∷◌, ◌++◌, All, length, take, drop, min, not, position};
+ghost use Rattle.std.specs.Prelude.{slice_index, ◌==◌, MatchOption};
 ghost use Rattle.std.specs.Str.Lines.{strip_carriage_return};
 ghost use Rattle.replay_run.specs.Reading.{IsFirstCut};
-ghost use Rattle.replay_run.specs.RecordReader.{capacity, Gives, BeginsBad, IsUnfinished, IsOver, DropsFront};
-ghost use Rattle.replay_run.specs.Record.{is_blank as is_blank_of, fields, is_comment as is_comment_of, item_of, line_of as line_of_bytes, line_with, plain_item as plain_item_of};
+ghost use Rattle.replay_run.specs.RecordReader.{capacity, longest_line, Gives, BeginsBad};
+ghost use Rattle.replay_run.specs.RecordReader.{IsUnfinished, IsOver, DropsFront};
+ghost use Rattle.replay_run.specs.Record.{line_feed, is_blank as is_blank_of, fields};
+ghost use Rattle.replay_run.specs.Record.{is_comment as is_comment_of, item_of};
+ghost use Rattle.replay_run.specs.Record.{line_of as line_of_bytes, line_with};
+ghost use Rattle.replay_run.specs.Record.{plain_item as plain_item_of};
 
 use arrayvec::ArrayVec;
 use bml_bytes::read_decimal;
@@ -21,7 +27,7 @@ const LONGEST_LINE: usize = LINE_LIMIT + 2;
 
 /// What a line of the record asks for.
 #[derive(Clone, Copy, Debug, PartialEq, Eq)]
-pub enum Item {
+pub enum RecordItem {
     /// Take all packets that are left.
     All,
     /// Take so many packets, 1 to 4,294,967,295, or all that are left.
@@ -34,7 +40,7 @@ pub enum Item {
 #[derive(Clone, Copy, Debug, PartialEq, Eq)]
 pub enum Line {
     /// It is an item.
-    Item(Item),
+    Item(RecordItem),
     /// It asks for nothing: it is empty or blank, or a comment.
     Nothing,
     /// It is none of these, or too long.
@@ -43,7 +49,7 @@ pub enum Line {
 
 /// What [`RecordReader::next`] answers.
 #[derive(Clone, Copy, Debug, PartialEq, Eq)]
-pub enum Noted {
+pub enum NextLine {
     /// The record's next line.
     Line(Line),
     /// More bytes are needed to tell what the next line is.
@@ -54,9 +60,9 @@ pub enum Noted {
 
 /// Reads the lines of a record that comes in pieces. It holds up to 4,096 bytes in itself.
 ///
-/// A line is ended by a line feed, and one carriage return before that belongs to its end. The last line may
-/// lack its end, and then keeps a carriage return. A line of more than 128 bytes without its end is bad, and is
-/// known to be so before its end comes.
+/// A line is ended by a line feed, and one carriage return before that belongs to its end. The last
+/// line may lack its end, and then keeps a carriage return. A line of more than 128 bytes without
+/// its end is bad, and is known to be so before its end comes.
 #[derive(Drop)]
 pub struct RecordReader {
     bytes: ArrayVec<u8, CAPACITY>,
@@ -66,13 +72,13 @@ pub struct RecordReader {
 
 impl Model for RecordReader {
     ghost use Rattle.std.specs.Prelude.{◌≤◌, drop, length};
-    ghost use Rattle.replay_run.specs.RecordReader.{ReaderState};
+    ghost use Rattle.replay_run.specs.RecordReader.{ReaderState, capacity};
 
     ghost Value = { ReaderState };
 
     ghost view = { λ r. record { held = drop r.start r.bytes.items; ended = r.ended } };
 
-    ghost invariant = { λ r. (r.start ≤ length r.bytes.items) × (length r.bytes.items ≤ 4096) };
+    ghost invariant = { λ r. (r.start ≤ length r.bytes.items) × (length r.bytes.items ≤ capacity) };
 }
 
 impl RecordReader {
@@ -128,18 +134,20 @@ impl RecordReader {
         self.ended = true;
     }
 
-    /// The next line of the record, if what is held tells it. An item and a line that asks for nothing are taken
-    /// away. A bad line is left, so each later call answers it again.
-    pub fn next(&mut self) -> Noted
-        ensures good { (line : Line) → line ≢ Line.Bad → result ≡ Noted.Line line → Gives self.old line self.new }
-        ensures bad { result ≡ Noted.Line Line.Bad → BeginsBad self.old }
-        ensures need_more { (result ≡ Noted.NeedMore) ↔ IsUnfinished self.old }
-        ensures end { (result ≡ Noted.End) ↔ IsOver self.old }
+    /// The next line of the record, if what is held tells it. An item and a line that asks for
+    /// nothing are taken away. A bad line is left, so each later call answers it again.
+    pub fn next(&mut self) -> NextLine
+        ensures good { (line : Line) → line ≢ Line.Bad → result ≡ NextLine.Line line
+            → Gives self.old line self.new }
+        ensures bad { result ≡ NextLine.Line Line.Bad → BeginsBad self.old }
+        ensures need_more { (result ≡ NextLine.NeedMore) ↔ IsUnfinished self.old }
+        ensures end { (result ≡ NextLine.End) ↔ IsOver self.old }
 
         ensures drops { DropsFront self.old self.new }
-        ensures takes { (line : Line) → line ≢ Line.Bad → result ≡ Noted.Line line
+        ensures takes { (line : Line) → line ≢ Line.Bad → result ≡ NextLine.Line line
             → length self.new.held < length self.old.held }
-        ensures stays { ((line : Line) → line ≢ Line.Bad → result ≢ Noted.Line line) → self.new ≡ self.old }
+        ensures stays { ((line : Line) → line ≢ Line.Bad → result ≢ NextLine.Line line)
+            → self.new ≡ self.old }
     {
         let cut = cut_line(&self.bytes.as_slice()[self.start..], self.ended);
         self.start += cut.length;
@@ -150,12 +158,12 @@ impl RecordReader {
 // What a reader's first line comes to: the answer, and the bytes that are taken with it.
 #[derive(Drop)]
 struct LineCut {
-    noted: Noted,
+    noted: NextLine,
     length: usize,
 }
 
 impl LineCut {
-    fn leaving(noted: Noted) -> LineCut
+    fn leaving(noted: NextLine) -> LineCut
         ensures noted { result.noted ≡ noted }
         ensures length { result.length ≡ 0 }
     {
@@ -164,7 +172,7 @@ impl LineCut {
 
     // A good line is taken with its end, and a bad one is left.
     fn of_line(line: Line, length: usize) -> LineCut
-        ensures noted { result.noted ≡ Noted.Line line }
+        ensures noted { result.noted ≡ NextLine.Line line }
         ensures good { line ≢ Line.Bad → result.length ≡ length }
         ensures bad { line ≡ Line.Bad → result.length ≡ 0 }
     {
@@ -173,7 +181,7 @@ impl LineCut {
             Line::Bad => 0,
         };
         LineCut {
-            noted: Noted::Line(line),
+            noted: NextLine::Line(line),
             length,
         }
     }
@@ -191,24 +199,24 @@ fn cut_line(held: &[u8], ended: bool) -> LineCut
 
 // The first line where no line feed is among the bytes that a good line can have.
 fn cut_open(held: &[u8], ended: bool) -> LineCut
-    requires { All (λ byte. (byte == 10) ≡ false) (take 130 held.now) }
+    requires { All (λ byte. (byte == line_feed) ≡ false) (take longest_line held.now) }
     ensures { IsFirstCut held.now ended result.noted result.length }
 {
     if held.len() >= LONGEST_LINE {
-        return LineCut::leaving(Noted::Line(Line::Bad));
+        return LineCut::leaving(NextLine::Line(Line::Bad));
     }
     if !ended {
-        return LineCut::leaving(Noted::NeedMore);
+        return LineCut::leaving(NextLine::NeedMore);
     }
     if held.is_empty() {
-        return LineCut::leaving(Noted::End);
+        return LineCut::leaving(NextLine::End);
     }
     LineCut::of_line(line_of(held), held.len())
 }
 
 // The place of the first line feed.
 fn find_line_feed(bytes: &[u8]) -> Option<usize>
-    ensures { result ≡ position (λ byte. byte == 10) bytes.now }
+    ensures { result ≡ position (λ byte. byte == line_feed) bytes.now }
 {
     bytes.iter().position(|byte| *byte == b'\n')
 }
@@ -261,7 +269,7 @@ fn is_comment(name: &[u8]) -> bool
 }
 
 // The item with this name, and these bytes behind that.
-fn read_item(name: &[u8], rest: &[u8]) -> Option<Item>
+fn read_item(name: &[u8], rest: &[u8]) -> Option<RecordItem>
     ensures { result ≡ item_of (name.now ∷ fields rest.now) }
 {
     let Some((number, behind)) = next_field(rest) else {
@@ -274,22 +282,22 @@ fn read_item(name: &[u8], rest: &[u8]) -> Option<Item>
 }
 
 // The item that is its name alone.
-fn plain_item(name: &[u8]) -> Option<Item>
+fn plain_item(name: &[u8]) -> Option<RecordItem>
     ensures { result ≡ plain_item_of name.now }
 {
     let all: &[u8] = b"all";
     let show: &[u8] = b"show";
     if name == all {
-        Some(Item::All)
+        Some(RecordItem::All)
     } else if name == show {
-        Some(Item::Show)
+        Some(RecordItem::Show)
     } else {
         None
     }
 }
 
 // The item that is its name and a number.
-fn numbered_item(name: &[u8], number: &[u8]) -> Option<Item>
+fn numbered_item(name: &[u8], number: &[u8]) -> Option<RecordItem>
     ensures { result ≡ item_of (name.now ∷ number.now ∷ []) }
 {
     let packets: &[u8] = b"packets";
@@ -298,13 +306,14 @@ fn numbered_item(name: &[u8], number: &[u8]) -> Option<Item>
     }
     match read_decimal(number)? {
         0 => None,
-        count => Some(Item::Packets(count)),
+        count => Some(RecordItem::Packets(count)),
     }
 }
 
 // The first field of a line, and the bytes behind it.
 fn next_field(line: &[u8]) -> Option<(&[u8], &[u8])>
-    ensures { MatchOption result (fields line.now ≡ []) (λ found. fields line.now ≡ found.0.now ∷ fields found.1.now) }
+    ensures { MatchOption result (fields line.now ≡ [])
+        (λ found. fields line.now ≡ found.0.now ∷ fields found.1.now) }
 {
     match find_field(line) {
         None => None,
@@ -352,7 +361,7 @@ fn drop_front(bytes: &mut ArrayVec<u8, CAPACITY>, count: usize)
 }
 
 fn append(bytes: &mut ArrayVec<u8, CAPACITY>, more: &[u8])
-    requires { length bytes.old.items + length more.now ≤ 4096 }
+    requires { length bytes.old.items + length more.now ≤ capacity }
     ensures { bytes.new.items ≡ bytes.old.items ++ more.now }
 {
     let _ = bytes.try_extend_from_slice(more);
@@ -363,19 +372,19 @@ mod tests {
     use super::*;
     use std::test::Fail;
 
-    // The number of items before the end or the first bad line, and whether a bad line was met, where the record
-    // comes in pieces of this length.
+    // The number of items before the end or the first bad line, and whether a bad line was met,
+    // where the record comes in pieces of this length.
     fn read(bytes: &[u8], piece: usize) -> Option<(u64, bool)> {
         let mut reader = RecordReader::new();
         let mut left = bytes;
         let mut items: u64 = 0;
         for _ in 0..u64::MAX {
             match reader.next() {
-                Noted::Line(Line::Item(_)) => items = items.saturating_add(1),
-                Noted::Line(Line::Nothing) => {}
-                Noted::Line(Line::Bad) => return Some((items, true)),
-                Noted::End => return Some((items, false)),
-                Noted::NeedMore => {
+                NextLine::Line(Line::Item(_)) => items = items.saturating_add(1),
+                NextLine::Line(Line::Nothing) => {}
+                NextLine::Line(Line::Bad) => return Some((items, true)),
+                NextLine::End => return Some((items, false)),
+                NextLine::NeedMore => {
                     let count = reader.feed(&left[..piece.min(left.len())]);
                     if count == 0 {
                         reader.finish();
@@ -388,7 +397,7 @@ mod tests {
     }
 
     // What the one line of a record is.
-    fn only_line(bytes: &[u8]) -> Noted {
+    fn only_line(bytes: &[u8]) -> NextLine {
         let mut reader = RecordReader::new();
         reader.feed(bytes);
         reader.finish();
@@ -398,12 +407,15 @@ mod tests {
     #[test]
     fn lines(rt: HostRuntime) {
         let table: [(&[u8], Line); 30] = [
-            (b"all", Line::Item(Item::All)),
-            (b"show", Line::Item(Item::Show)),
-            (b"packets 1", Line::Item(Item::Packets(1))),
-            (b" packets\t 42\t", Line::Item(Item::Packets(42))),
-            (b"packets 0000000007", Line::Item(Item::Packets(7))),
-            (b"packets 4294967295", Line::Item(Item::Packets(u32::MAX))),
+            (b"all", Line::Item(RecordItem::All)),
+            (b"show", Line::Item(RecordItem::Show)),
+            (b"packets 1", Line::Item(RecordItem::Packets(1))),
+            (b" packets\t 42\t", Line::Item(RecordItem::Packets(42))),
+            (b"packets 0000000007", Line::Item(RecordItem::Packets(7))),
+            (
+                b"packets 4294967295",
+                Line::Item(RecordItem::Packets(u32::MAX)),
+            ),
             (b"packets 4294967296", Line::Bad),
             (b"packets 00000000007", Line::Bad),
             (b"packets 0", Line::Bad),
@@ -430,7 +442,7 @@ mod tests {
             (b"\x0b#", Line::Bad),
         ];
         for (bytes, line) in table {
-            assert_eq!(rt; only_line(bytes), Noted::Line(line), "{bytes:?}");
+            assert_eq!(rt; only_line(bytes), NextLine::Line(line), "{bytes:?}");
         }
     }
 

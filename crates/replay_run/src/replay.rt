@@ -1,18 +1,25 @@
 //! A replay of a record over a stream.
 
-ghost use Rattle.std.specs.Prelude.{◌≡◌, ◌≢◌, ℕ, ◌^◌, ◌<◌, ◌≤◌, List, OnOk, IfErr, IsTrue, Some, None};
+ghost use Rattle.std.specs.Prelude.{◌≡◌, ◌≢◌, ℕ, ◌^◌, ◌<◌, ◌≤◌, List, OnOk, IfErr, IsErr, IsTrue};
+ghost use Rattle.std.specs.Prelude.{Some, None};
 ghost use Rattle.bml_ports.specs.Worlds.{port_of};
 ghost use Rattle.replay_run.specs.Causes.{IsCaused};
 ghost use Rattle.replay_run.specs.Lines.{end_line};
-ghost use Rattle.replay_run.specs.Opening.{AsksAtMost, IsUnasked, OnlyOpens, StopsOpening, bytes_under};
-ghost use Rattle.replay_run.specs.Replaying.{outcome_of, OnlyReadsBoth, ReplayEnds, RunEnds, StopsLine, StopsReplay};
+ghost use Rattle.replay_run.specs.Meaning.{empty_area};
+ghost use Rattle.replay_run.specs.Opening.{AsksAtMost, AsksInOrder, IsUnasked, LacksFile};
+ghost use Rattle.replay_run.specs.Meaning.{empty_area};
+ghost use Rattle.replay_run.specs.Opening.{LeavesRest, StopsAtOpening, bytes_under};
+ghost use Rattle.replay_run.specs.Outside.{outside};
+ghost use Rattle.replay_run.specs.Replaying.{outcome_of, LacksName, OnlyOpens, OnlyReadsBoth};
+ghost use Rattle.replay_run.specs.Replaying.{ReplayEnds, RunEnds, StopsLine, StopsOpening};
+ghost use Rattle.replay_run.specs.Replaying.{StopsReplay};
 ghost use Rattle.replay_run.specs.Stopping.{StopsTurns};
 ghost use Rattle.replay_run.specs.Writing.{WritesOn};
 
 use crate::lines::push_end_line;
-use crate::notes::Notes;
 use crate::output::write_piece;
 use crate::player::Player;
+use crate::record_items::RecordItems;
 use crate::status::Status;
 use bml_ports::{Port, Sink, Text, World};
 use psi_tables::Selection;
@@ -23,10 +30,14 @@ use std::alloc::Global;
 pub fn open<W: World>(world: &mut W, port: Port, name: &Text) -> Result<(), Status>
     requires unasked { (port_of (W.told world.old) port).asked ≡ None }
     ensures opens { OnlyOpens port name.now (W.told world.old) (W.told world.new) }
-    ensures cause { IfErr result (λ status. StopsOpening status (W.told world.old) (W.told world.new)) }
+    ensures asked { OnOk result ((port_of (W.told world.new) port).asked ≡ Some name.now) }
+    ensures cause { IfErr result
+        (λ status. StopsOpening status port (W.told world.old) (W.told world.new)) }
     ensures readable { OnOk result (IsTrue (port_of (W.told world.new) port).readable) }
-    ensures bytes { OnOk result ((bytes : List ℕ) → bytes_under (W.told world.old) name.now ≡ Some bytes
+    ensures bytes { OnOk result ((bytes : List ℕ)
+        → bytes_under (W.told world.old) name.now ≡ Some bytes
         → (port_of (W.told world.new) port).left ≡ Some bytes) }
+    ensures lacking { LacksName (W.told world.old) name.now → IsErr result }
 {
     let name = name.share()?;
     match world.open_port(port, name) {
@@ -46,16 +57,18 @@ pub fn play_record<W: World, S: Sink>(
     requires notes { IsTrue (W.told world.old).notes.readable }
     ensures reads { OnlyReadsBoth (W.told world.old) (W.told world.new) }
     ensures cause { IfErr result (λ status. StopsReplay status
-        (W.told world.old) (W.told world.new) (S.told out.old) (S.told out.new)) }
-    ensures ends { ReplayEnds selection (W.told world.old) (W.told world.new)
-        (S.told out.old).written (S.told out.new).written (outcome_of result) }
+        (outside (W.told world.old) (S.told out.old))
+        (outside (W.told world.new) (S.told out.new))) }
+    ensures ends { ReplayEnds selection empty_area
+        (outside (W.told world.old) (S.told out.old)) (outside (W.told world.new) (S.told out.new))
+        (outcome_of result) }
 {
     law_of_outputs();
     law_of_receivers();
     let mut player = Player::new(alloc, selection)?;
-    let mut notes = Notes::new();
+    let mut items = RecordItems::new();
     'items: loop {
-        match notes.next_item(world)? {
+        match items.next_item(world)? {
             Some(item) => player.handle(item, world, out)?,
             None => return write_end(alloc, player.packets(), out),
         }
@@ -64,7 +77,6 @@ pub fn play_record<W: World, S: Sink>(
 
 // Writes the last line.
 fn write_end<S: Sink>(alloc: Global, packets: u64, out: &mut S) -> Result<(), Status>
-    requires few { packets < 2 ^ 63 }
     ensures whole { OnOk result
         (WritesOn (S.told out.old).written (S.told out.new).written (end_line packets)) }
     ensures cause { IfErr result
@@ -91,11 +103,20 @@ pub fn replay<W: World, S: Sink>(
     ensures files { (W.told world.new).files ≡ (W.told world.old).files }
     ensures asked_stream { AsksAtMost (W.told world.new).stream stream.now }
     ensures asked_notes { AsksAtMost (W.told world.new).notes notes.now }
+    ensures order { AsksInOrder (outcome_of result) (W.told world.new) }
     ensures cause { IfErr result (λ status. IsCaused status
-        (W.told world.old) (W.told world.new) (S.told out.old) (S.told out.new)) }
+        (outside (W.told world.old) (S.told out.old))
+        (outside (W.told world.new) (S.told out.new))) }
     ensures obeyed { IfErr result (λ status. status ≢ Status.Usage) }
-    ensures ends { RunEnds selection stream.now notes.now (W.told world.old) (W.told world.new)
-        (S.told out.old).written (S.told out.new).written (outcome_of result) }
+    ensures ends { RunEnds selection stream.now notes.now
+        (outside (W.told world.old) (S.told out.old)) (outside (W.told world.new) (S.told out.new))
+        (outcome_of result) }
+    ensures left { (stream_bytes notes_bytes : List ℕ)
+        → bytes_under (W.told world.old) stream.now ≡ Some stream_bytes
+        → bytes_under (W.told world.old) notes.now ≡ Some notes_bytes
+        → LeavesRest stream_bytes notes_bytes (W.told world.old) (W.told world.new) }
+    ensures lacking { LacksFile (W.told world.old) stream.now notes.now
+        → StopsAtOpening (outcome_of result) (S.told out.old) (S.told out.new) }
 {
     open(world, Port::Stream, stream)?;
     open(world, Port::Notes, notes)?;

@@ -50,8 +50,8 @@ impl Status {
         }
     }
 
-    /// The line for standard error, without a line feed: the variant's name in words, and behind it the
-    /// number of a bad record's line or the length of a bad area in bytes.
+    /// The line for standard error, without a line feed: the variant's name in words, and behind it
+    /// the number of a bad record's line or the length of a bad area in bytes.
     pub fn line(&self) -> ArrayString<48>
         ensures { result.bytes ≡ status_line self.now }
     {

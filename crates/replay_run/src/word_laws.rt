@@ -1,11 +1,13 @@
-//! What the definition of a command says. The function is a law: its contract is what it is for, and it does
-//! nothing when it runs.
+//! What the definition of a command says. The function is a law: its contract is what it is for,
+//! and it does nothing when it runs.
 
 ghost use Rattle.std.specs.Prelude.{◌≡◌, ℕ, List, Some};
 ghost use Rattle.replay_run.specs.Words.{CommandWords, IsReplay, command};
 
 /// Words are the command of a replay exactly where they are written as one.
 pub fn law_of_commands()
-    ensures written { (words : List (List ℕ)) (asked : CommandWords) → IsReplay words asked → command words ≡ Some asked }
-    ensures read { (words : List (List ℕ)) (asked : CommandWords) → command words ≡ Some asked → IsReplay words asked }
+    ensures written { (words : List (List ℕ)) (asked : CommandWords) → IsReplay words asked
+        → command words ≡ Some asked }
+    ensures read { (words : List (List ℕ)) (asked : CommandWords) → command words ≡ Some asked
+        → IsReplay words asked }
 {}

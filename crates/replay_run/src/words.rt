@@ -1,7 +1,9 @@
 //! The words of the command line.
 
 ghost use Rattle.std.specs.Prelude.{◌≡◌, None, option_map, MatchOption};
-ghost use Rattle.replay_run.specs.Words.{command, data_pid, is_file_name as is_file_name_of, is_same, optional as optional_of, replay_of as replay_by, service};
+ghost use Rattle.replay_run.specs.Words.{command, data_pid, is_file_name as is_file_name_of};
+ghost use Rattle.replay_run.specs.Words.{selection_of as selected_by};
+ghost use Rattle.replay_run.specs.Words.{replay_of as replay_by, service};
 ghost use Rattle.bml_bytes.specs.Numerals.{decimal_field};
 ghost use Rattle.replay_run.specs.CommandSeen.{command_seen};
 
@@ -23,15 +25,15 @@ pub struct Command<'a> {
     pub notes: &'a Text,
 }
 
-/// The command that the words behind the program's name are, and None where they are none. It takes no
-/// memory.
+/// The command that the words behind the program's name are, and None where they are none. It takes
+/// no memory.
 pub fn read_command(words: &[Text]) -> Option<Command<'_>>
     ensures { option_map command_seen result ≡ command words.now }
 {
     match words {
         [name, stream, notes] => replay_of(name, Some(Selection::First), stream, notes),
         [name, option, number, stream, notes] => {
-            replay_of(name, optional(option, number), stream, notes)
+            replay_of(name, selection_of(option, number), stream, notes)
         }
         _ => None,
     }
@@ -46,7 +48,7 @@ fn replay_of<'a>(
 ) -> Option<Command<'a>>
     ensures { option_map command_seen result ≡ replay_by name.now selection stream.now notes.now }
 {
-    if !is_word(name.codes(), b"replay") {
+    if !name.is_word("replay") {
         return None;
     }
     if !is_file_name(stream) {
@@ -63,30 +65,16 @@ fn replay_of<'a>(
 }
 
 // What an option and its number ask for.
-fn optional(option: &Text, number: &Text) -> Option<Selection>
-    ensures { result ≡ optional_of option.now number.now }
+fn selection_of(option: &Text, number: &Text) -> Option<Selection>
+    ensures { result ≡ selected_by option.now number.now }
 {
-    if is_word(option.codes(), b"--service") {
+    if option.is_word("--service") {
         return read_service(number);
     }
-    if is_word(option.codes(), b"--data-pid") {
+    if option.is_word("--data-pid") {
         return read_data_pid(number);
     }
     None
-}
-
-fn is_word(codes: &[u16], expected: &[u8]) -> bool
-    ensures { result ≡ is_same codes.now expected.now }
-{
-    if codes.len() != expected.len() {
-        return false;
-    }
-    for (code, byte) in codes.iter().zip(expected) {
-        if *code != u16::from(*byte) {
-            return false;
-        }
-    }
-    true
 }
 
 fn is_file_name(word: &Text) -> bool
@@ -128,7 +116,8 @@ fn read_number(word: &Text) -> Option<u32>
 
 // The codes as bytes, where they can be the digits of a number.
 fn digits_of(codes: &[u16]) -> Option<ArrayVec<u8, MOST_DIGITS>>
-    ensures { MatchOption result (decimal_field codes.now ≡ None) (λ digits. digits.items ≡ codes.now) }
+    ensures { MatchOption result (decimal_field codes.now ≡ None)
+        (λ digits. digits.items ≡ codes.now) }
 {
     if codes.len() > MOST_DIGITS {
         return None;

@@ -6,7 +6,8 @@ pub returns-clause-blank : goal.returns-clause-blank
 returns-clause-blank c = fields-blank
 
 pub returns-clause-field : goal.returns-clause-field
-returns-clause-field c = λ field line byte clear some blank. fields_first field byte line clear some blank ∙ ap (λ fs. field ∷ fs) (fields-blank byte line blank)
+returns-clause-field c = λ field line byte clear some blank. fields_first field byte line clear
+    some blank ∙ ap (λ fs. field ∷ fs) (fields-blank byte line blank)
 
 pub returns-clause-last : goal.returns-clause-last
 returns-clause-last c = fields_last

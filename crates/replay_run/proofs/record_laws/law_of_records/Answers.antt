@@ -8,7 +8,9 @@ pub returns-clause-none_bad : goal.returns-clause-none_bad
 returns-clause-none_bad c = λ bytes good. whole_bad bytes (record { each = good })
 
 pub returns-clause-before_bad : goal.returns-clause-before_bad
-returns-clause-before_bad c = λ bytes before rest e good. bad_items bytes before rest e (record { each = good })
+returns-clause-before_bad c = λ bytes before rest e good. bad_items bytes before rest e
+    (record { each = good })
 
 pub returns-clause-number : goal.returns-clause-number
-returns-clause-number c = λ bytes before rest e good. bad_number bytes before rest e (record { each = good })
+returns-clause-number c = λ bytes before rest e good. bad_number bytes before rest e
+    (record { each = good })

@@ -1,8 +1,14 @@
-use Rattle.std.proofs.Common.{refl, [], ◌∷◌, ◌++◌, Ok, sym, ap, subst, IsTrue, arith}
+use Rattle.std.proofs.Common.{refl, ℕ, List, [], ◌∷◌, ◌++◌, Ok, sym, ap, subst, IsTrue, arith}
 use Rattle.std.proofs.lemmas.Result.{err_from_is_err_and}
 use Rattle.bml_ports.specs.Worlds.{PortState}
-use Rattle.replay_run.proofs.EndingLaws.{ReceiverLaws, between_told, at_told, between_same, at_same, between_within, ends_in_items, ends_in_item, ends_with_line, reads_none, reads_notes, reads_stream}
-use Rattle.replay_run.proofs.NotingLaws.{at_front, at_within}
+use Rattle.replay_run.specs.Meaning.{empty_area}
+use Rattle.replay_run.specs.Midway.{moment}
+use Rattle.replay_run.specs.Outside.{outside}
+use Rattle.replay_run.specs.RecordProgress.{record_state}
+use Rattle.replay_run.proofs.EndingLaws.{Course, ReceiverLaws, left_same, between_same, at_same}
+use Rattle.replay_run.proofs.EndingLaws.{between_within, ends_in_items, ends_in_item}
+use Rattle.replay_run.proofs.EndingLaws.{ends_with_line, reads_none, reads_notes, reads_stream}
+use Rattle.replay_run.proofs.RecordProgressLaws.{at_front, at_within}
 use Rattle.replay_run.proofs.ProgressLaws.{between_push}
 use Rattle.replay_run.proofs.StoppingLaws.{stops_pushed}
 use Rattle.replay_run.proofs.replay.play_record.Goals as goal
@@ -11,25 +17,46 @@ pub items-init : goal.items-init
 items-init g c = record {
   idle = c.in_ok-player.ensures.idle;
   stream_within = c.in_ok-player.ensures.within;
-  stream_readable = c.in_ok-player.ensures.readable (g.W.World.told c.args.world.now) c.requires.stream;
-  notes_within = c.new-notes.ensures.within;
-  notes_readable = c.new-notes.ensures.readable (g.W.World.told c.args.world.now) c.requires.notes;
+  stream_readable = c.in_ok-player.ensures.readable (g.W.World.told c.args.world.now)
+      c.requires.stream;
+  notes_within = c.new-items.ensures.within;
+  notes_readable = c.new-items.ensures.readable (g.W.World.told c.args.world.now) c.requires.notes;
   reads = reads_none (g.W.World.told c.args.world.now);
   later = omega arith;
-  goes = λ stream notes l n. let first = (g.S.Sink.told c.args.out.now).written in
-      ([], between_told c.args.selection stream first _ _ _ [] l refl (c.in_ok-player.ensures.start stream first), at_told notes _ _ [] n (c.new-notes.ensures.start notes));
+  goes = λ stream notes l n. (
+    [],
+    c.in_ok-player.ensures.start
+        (outside (g.W.World.told c.args.world.now) (g.S.Sink.told c.args.out.now)) stream l,
+    c.new-items.ensures.start (g.W.World.told c.args.world.now) notes n,
+  );
 }
 
 pub returns-in_err-item-clause-ends : goal.returns-in_err-item-clause-ends
 returns-in_err-item-clause-ends g c =
-    let p = err_from_is_err_and c.from_residual-in_err-item.result c.from_residual-in_err-item.ensures.1 in
+    let p = err_from_is_err_and c.from_residual-in_err-item.result
+    c.from_residual-in_err-item.ensures.1 in
     let stopped = c.in_err-item.ensures in
-    let laws : ReceiverLaws = record { more = c.law_of_outputs.ensures.more; given = c.law_of_receivers.ensures } in
-    rw (p.1, p.2) (λ stream notes l n. let first = (g.S.Sink.told c.args.out.now).written in
+    let laws : ReceiverLaws =
+    record {
+      more = c.law_of_outputs.ensures.more;
+      front = c.law_of_receivers.ensures.front;
+      all = c.law_of_receivers.ensures.all;
+    } in
+    rw (p.1, p.2) (λ stream notes l n.
+    let run : Course = record {
+      selection = c.args.selection;
+      area = empty_area;
+      stream = stream;
+      notes = notes;
+      before = outside (g.W.World.told c.args.world.now) (g.S.Sink.told c.args.out.now);
+    } in
     let before = c.items.invariant.goes stream notes l n in
-    let b = between_same c.args.selection stream first _ _ _ _ before.0 stopped.reads.other before.1 in
-    ends_in_items laws _ c.args.selection stream notes first _ _ _ _ before.0 (at_front notes _ _ before.0 before.2)
-    (between_within c.args.selection stream first _ _ _ before.0 _ c.items.invariant.stream_within b) c.items.invariant.idle b (stopped.stopped notes before.0 before.2))
+    let b = between_same _ _ _ before.0 (left_same _ _ stopped.reads.other) before.1 in
+    ends_in_items laws _ run _
+    (outside (g.W.World.told c.next_item.new.world) (g.S.Sink.told c.items.out)) before.0
+    (at_front notes _ before.0 before.2) (record { left = refl; written = refl })
+    (between_within _ _ before.0 _ c.items.invariant.stream_within b) c.items.invariant.idle b
+    (stopped.stopped notes before.0 before.2))
 
 pub items-preserved : goal.items-preserved
 items-preserved g c =
@@ -41,38 +68,83 @@ items-preserved g c =
       stream_within = done.within;
       stream_readable = done.readable;
       notes_within = next.within;
-      notes_readable = λ e. subst (λ (port : PortState). IsTrue port.readable) (sym done.reads.other) (next.readable e);
+      notes_readable = λ e. subst (λ (port : PortState). IsTrue port.readable)
+          (sym done.reads.other) (next.readable e);
       reads = reads_stream _ _ _ (reads_notes _ _ _ before.reads next.reads) done.reads;
       later = omega (arith, before.later, done.writes);
-      goes = λ stream notes l n. let first = (g.S.Sink.told c.args.out.now).written in
+      goes = λ stream notes l n.
           let item = c.in-Some.item in
           let was = before.goes stream notes l n in
-          let b = between_same c.args.selection stream first _ _ _ _ was.0 next.reads.other was.1 in
-          let a = next.item item (ap Ok c.in-Some.is) notes was.0 was.2 in
-          (was.0 ++ item ∷ [], between_push c.args.selection stream first _ _ _ was.0 item (done.handled c.args.selection stream first _ _ b), at_same notes _ _ _ (was.0 ++ item ∷ []) done.reads.other a);
+          let b = between_same _ _ _ was.0 (left_same _ _ next.reads.other) was.1 in
+          let a = next.item item (ap Ok c.in-Some.is) notes was.0 was.2 in (
+            was.0 ++ item ∷ [],
+            between_push _ _ was.0 item (done.handled _ _ _ b),
+            at_same notes _ _ (was.0 ++ item ∷ []) (left_same _ _ done.reads.other) a,
+          );
     }
 
 pub returns-in_err-handle-in-Some-clause-ends : goal.returns-in_err-handle-in-Some-clause-ends
 returns-in_err-handle-in-Some-clause-ends g c =
-    let p = err_from_is_err_and c.from_residual-in_err-handle-in-Some.result c.from_residual-in_err-handle-in-Some.ensures.1 in
+    let p = err_from_is_err_and c.from_residual-in_err-handle-in-Some.result
+    c.from_residual-in_err-handle-in-Some.ensures.1 in
     let next = c.in_ok-item.ensures in
     let stopped = c.in_err-handle-in-Some.ensures in
-    let laws : ReceiverLaws = record { more = c.law_of_outputs.ensures.more; given = c.law_of_receivers.ensures } in
-    rw (p.1, p.2) (λ stream notes l n. let first = (g.S.Sink.told c.args.out.now).written in
+    let laws : ReceiverLaws =
+    record {
+      more = c.law_of_outputs.ensures.more;
+      front = c.law_of_receivers.ensures.front;
+      all = c.law_of_receivers.ensures.all;
+    } in
+    rw (p.1, p.2) (λ stream notes l n.
+    let run : Course = record {
+      selection = c.args.selection;
+      area = empty_area;
+      stream = stream;
+      notes = notes;
+      before = outside (g.W.World.told c.args.world.now) (g.S.Sink.told c.args.out.now);
+    } in
     let item = c.in-Some.item in
     let was = c.items.invariant.goes stream notes l n in
-    let b = between_same c.args.selection stream first _ _ _ _ was.0 next.reads.other was.1 in
-    let after = at_same notes _ _ _ (was.0 ++ item ∷ []) stopped.reads.other (next.item item (ap Ok c.in-Some.is) notes was.0 was.2) in
-    ends_in_item laws _ c.args.selection stream notes first _ _ _ (was.0 ++ item ∷ []) (at_front notes _ _ (was.0 ++ item ∷ []) after)
-    (at_within notes _ _ (was.0 ++ item ∷ []) _ next.within after)
-    (stops_pushed _ c.args.selection stream _ first _ was.0 item (stopped.stopped c.args.selection stream first _ _ b)))
+    let b = between_same _ _ _ was.0 (left_same _ _ next.reads.other) was.1 in
+    let after = at_same notes _ _ (was.0 ++ item ∷ []) (left_same _ _ stopped.reads.other)
+    (next.item item (ap Ok c.in-Some.is) notes was.0 was.2) in
+    ends_in_item laws _ run _ (was.0 ++ item ∷ []) (at_front notes _ (was.0 ++ item ∷ []) after)
+    (at_within notes _ (was.0 ++ item ∷ []) _ next.within after)
+    (stops_pushed _ _ _ was.0 item (stopped.stopped _ _ _ b)))
 
 pub returns-in-None-clause-ends : goal.returns-in-None-clause-ends
-returns-in-None-clause-ends g c = λ stream notes l n. let first = (g.S.Sink.told c.args.out.now).written in
+returns-in-None-clause-ends g c = λ stream notes l n.
     let next = c.in_ok-item.ensures in
-    let laws : ReceiverLaws = record { more = c.law_of_outputs.ensures.more; given = c.law_of_receivers.ensures } in
+    let laws : ReceiverLaws =
+    record {
+      more = c.law_of_outputs.ensures.more;
+      front = c.law_of_receivers.ensures.front;
+      all = c.law_of_receivers.ensures.all;
+    } in
+    let run : Course = record {
+      selection = c.args.selection;
+      area = empty_area;
+      stream = stream;
+      notes = notes;
+      before = outside (g.W.World.told c.args.world.now) (g.S.Sink.told c.args.out.now);
+    } in
     let was = c.items.invariant.goes stream notes l n in
-    let b = between_same c.args.selection stream first _ _ _ _ was.0 next.reads.other was.1 in
+    let b = between_same _ _ _ was.0 (left_same _ _ next.reads.other) was.1 in
     let whole = next.end (ap Ok c.in-None.is) notes was.0 was.2 in
-    ends_with_line laws c.write_end.result _ c.args.selection stream notes first _ _ _ _ _ was.0 c.packets.ensures.packets c.write_end.ensures.whole c.write_end.ensures.stops whole
-    (between_within c.args.selection stream first _ _ _ was.0 _ c.items.invariant.stream_within b) whole.within c.items.invariant.idle b
+    ends_with_line laws c.write_end.result _ run _
+    (outside (g.W.World.told c.next_item.new.world) (g.S.Sink.told c.write_end.new.out)) was.0
+    c.packets.ensures c.write_end.ensures.whole c.write_end.ensures.stops whole
+    (between_within _ _ was.0 _ c.items.invariant.stream_within b) c.items.invariant.idle b
+
+pub returns-in_err-item-clause-reads : goal.returns-in_err-item-clause-reads
+returns-in_err-item-clause-reads g c =
+    reads_notes _ _ _ c.items.invariant.reads c.in_err-item.ensures.reads
+
+pub returns-in_err-handle-in-Some-clause-reads : goal.returns-in_err-handle-in-Some-clause-reads
+returns-in_err-handle-in-Some-clause-reads g c =
+    reads_stream _ _ _ (reads_notes _ _ _ c.items.invariant.reads c.in_ok-item.ensures.reads)
+    c.in_err-handle-in-Some.ensures.reads
+
+pub returns-in-None-clause-reads : goal.returns-in-None-clause-reads
+returns-in-None-clause-reads g c =
+    reads_notes _ _ _ c.items.invariant.reads c.in_ok-item.ensures.reads

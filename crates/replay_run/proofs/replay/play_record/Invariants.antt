@@ -1,11 +1,13 @@
-use Rattle.std.proofs.Common.{◌≡◌, ◌≤◌, ℕ, ◌-◌, ◌^◌, List, Some}
+use Rattle.std.proofs.Common.{◌≡◌, ◌≤◌, ℕ, ◌-◌, ◌*◌, List, Some}
 use Rattle.receiver_core.specs.Receiving.{IsIdle}
-use Rattle.replay_run.specs.declared.record.Item.{Item}
+use Rattle.replay_run.specs.declared.record.RecordItem.{RecordItem}
+use Rattle.replay_run.specs.Files.{stream_limit, record_limit}
+use Rattle.replay_run.specs.Meaning.{empty_area}
 use Rattle.replay_run.specs.Midway as midway
-use Rattle.replay_run.specs.Noting as noting
+use Rattle.replay_run.specs.Outside.{outside}
 use Rattle.replay_run.specs.Progress.{IsBetween}
+use Rattle.replay_run.specs.RecordProgress as progress
 use Rattle.replay_run.specs.Replaying.{OnlyReadsBoth}
-use Rattle.replay_run.specs.Limits.{stream_limit, record_limit}
 use Rattle.replay_run.proofs.replay.play_record.Given as goal
 
 -- the items so far were handled
@@ -14,17 +16,23 @@ invariant-items g l = record {
   idle : IsIdle l.player.receiver;
   stream_within : l.player.bytes ≤ stream_limit;
   stream_readable : midway.IsReadable l.player.cutter (g.W.World.told l.world);
-  notes_within : l.notes.bytes ≤ record_limit;
-  notes_readable : noting.IsReadable l.notes.reader (g.W.World.told l.world);
+  notes_within : l.items.bytes ≤ record_limit;
+  notes_readable : progress.IsReadable l.items.reader (g.W.World.told l.world);
   reads : OnlyReadsBoth (g.W.World.told l.initial.world) (g.W.World.told l.world);
   later : (g.S.Sink.told l.initial.out).writes.faults ≤ (g.S.Sink.told l.out).writes.faults;
   goes : (stream notes : List ℕ)
       → (g.W.World.told l.initial.world).stream.left ≡ Some stream
       → (g.W.World.told l.initial.world).notes.left ≡ Some notes
-      → (items : List Item)
-      × IsBetween l.fn.selection stream (g.S.Sink.told l.initial.out).written (g.W.World.told l.world).stream.left (g.S.Sink.told l.out).written (midway.state_of l.player) items
-      × noting.IsAt notes (g.W.World.told l.world).notes.left (noting.state_of l.notes) items;
+      → (items : List RecordItem)
+      × IsBetween (record {
+        selection = l.fn.selection;
+        area = empty_area;
+        stream = stream;
+        first = (g.S.Sink.told l.initial.out).written;
+      })
+      (midway.moment l.player (outside (g.W.World.told l.world) (g.S.Sink.told l.out))) items
+      × progress.IsAt notes (progress.record_state l.items (g.W.World.told l.world)) items;
 }
 
 abbrev pub decreases-items : goal.decreases-items
-decreases-items g l = 2 ^ 31 - l.notes.lines
+decreases-items g l = 2 * record_limit - l.items.lines

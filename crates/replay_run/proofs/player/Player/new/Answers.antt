@@ -1,6 +1,13 @@
 use Rattle.std.proofs.Common.{refl}
+use Rattle.replay_run.specs.Meaning.{empty_area}
 use Rattle.replay_run.proofs.ProgressLaws.{between_start}
 use Rattle.replay_run.proofs.player.Player.new.Goals as goal
 
 pub returns-clause-start : goal.returns-clause-start
-returns-clause-start c = λ stream first. between_start c.args.selection stream first _ _ _ refl refl c.new.ensures.held c.new.ensures.ended refl refl c.in_ok-new.ensures.stands
+returns-clause-start c = λ told stream left. between_start (record {
+  selection = c.args.selection;
+  area = empty_area;
+  stream = stream;
+  first = told.sink.written;
+}) _ left refl c.new.ensures.held c.new.ensures.ended refl refl
+    _ c.zeros.ensures c.in_ok-new.ensures.stands

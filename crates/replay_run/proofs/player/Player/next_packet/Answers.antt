@@ -4,16 +4,22 @@ use Rattle.replay_run.proofs.ProgressLaws.{midway_packet}
 use Rattle.replay_run.proofs.player.Player.next_packet.Goals as goal
 
 pub returns-then-not-wants-clause-handled : goal.returns-then-not-wants-clause-handled
-returns-then-not-wants-clause-handled g c = λ left selection stream first inputs ahead m. midway_packet selection stream first left _ _ inputs ahead _ _ _ c.skip_packet.ensures.gives c.skip_packet.ensures.ended
-    (λ before given s. c.wants.ensures.passes (search rules) c.requires.idle.drained selection before given _ (sym c.front_pid.ensures) s) m
+returns-then-not-wants-clause-handled g c = λ world replay inputs ahead m.
+    midway_packet replay _ inputs ahead _ _ _ c.skip_packet.ensures.gives c.skip_packet.ensures.ended
+    (c.wants.ensures.passes (search rules) c.requires.idle _ (sym c.front_pid.ensures)
+    replay.selection replay.area) m
 
 pub returns-clause-handled : goal.returns-clause-handled
 returns-clause-handled g c = on_ok_weaker c.turns.result
-    (λ goes left selection stream first inputs ahead m. goes left selection stream first _ _
-    (midway_packet selection stream first left _ _ inputs ahead _ _ _ c.take_packet-packet.ensures.gives c.take_packet-packet.ensures.ended (c.packet.ensures.pushed selection) m))
+    (λ goes world replay inputs ahead m. goes world replay _ _
+    (midway_packet replay _ inputs ahead _ _ _
+    c.take_packet-packet.ensures.gives c.take_packet-packet.ensures.ended
+    (c.wanted_packet.ensures.taken replay.selection replay.area) m))
     c.turns.ensures.goes
 
 pub returns-clause-stopped : goal.returns-clause-stopped
 returns-clause-stopped g c = MatchResult-weaker c.turns.result c.turns.ensures.stops (λ x p. p)
-    (λ status stops left selection stream first inputs ahead m. stops left selection stream first _ _
-    (midway_packet selection stream first left _ _ inputs ahead _ _ _ c.take_packet-packet.ensures.gives c.take_packet-packet.ensures.ended (c.packet.ensures.pushed selection) m))
+    (λ status stops world replay inputs ahead m. stops world replay _ _
+    (midway_packet replay _ inputs ahead _ _ _
+    c.take_packet-packet.ensures.gives c.take_packet-packet.ensures.ended
+    (c.wanted_packet.ensures.taken replay.selection replay.area) m))

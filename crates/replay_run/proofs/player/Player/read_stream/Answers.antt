@@ -1,27 +1,41 @@
-use Rattle.std.proofs.Common.{◌≡◌, ◌+◌, ◌++◌, ◌∙◌, sym, ap, subst, length, take, arith}
+use Rattle.std.proofs.Common.{◌≡◌, ◌+◌, ◌++◌, ◌∙◌, sym, ap, refl, subst, length, take, arith}
 use Rattle.std.proofs.lemmas.List.{take_all}
-use Rattle.replay_run.specs.Progress.{IsMidway}
+use Rattle.replay_run.specs.Outside.{outside}
+use Rattle.replay_run.specs.Progress.{Moment, IsMidway}
 use Rattle.replay_run.proofs.ProgressLaws.{midway_read}
 use Rattle.replay_run.proofs.StoppingLaws.{stops_unread, stops_long, consumed_some}
 use Rattle.replay_run.proofs.player.Player.read_stream.Goals as goal
 
 pub returns-then-self-gt-STREAM_LIMIT-clause-stops :
     goal.returns-then-self-gt-STREAM_LIMIT-clause-stops
-returns-then-self-gt-STREAM_LIMIT-clause-stops g c =
-    λ written selection stream first inputs ahead m. stops_long selection stream first _ _ written _ inputs ahead _ c.in-Ok.count (sym c.in-Ok.ensures.count.1) c.if-self-gt-STREAM_LIMIT.true c.in-Ok.ensures.bytes.0 m
+returns-then-self-gt-STREAM_LIMIT-clause-stops g c = λ sink replay inputs ahead m.
+    stops_long replay _ (outside (g.W.World.told c.read_port.new.self) sink) inputs ahead _
+    c.in-Ok.count
+    (sym c.in-Ok.ensures.count.1) c.if-self-gt-STREAM_LIMIT.true c.in-Ok.ensures.bytes.0 refl m
 
 pub returns-in-Err-clause-stops : goal.returns-in-Err-clause-stops
-returns-in-Err-clause-stops g c = λ written selection stream first inputs ahead m.
-    stops_unread selection stream first _ _ written _ inputs ahead c.requires.within c.in-Err.ensures.bytes m
+returns-in-Err-clause-stops g c = λ sink replay inputs ahead m.
+    stops_unread replay _ (outside (g.W.World.told c.read_port.new.self) sink) inputs ahead
+    c.requires.within c.in-Err.ensures.bytes refl m
 
 pub returns-else-self-gt-STREAM_LIMIT-clause-goes :
     goal.returns-else-self-gt-STREAM_LIMIT-clause-goes
 returns-else-self-gt-STREAM_LIMIT-clause-goes g c =
     let bytes = take c.in-Ok.count c.read_port.new.buf in
     let size : length bytes ≡ c.in-Ok.count = sym c.in-Ok.ensures.count.1 in
-    let room : c.feed.result ≡ length bytes = omega (arith, c.feed.ensures.count, c.requires.waiting, size, c.in-Ok.ensures.count.0) in
+    let room : c.feed.result ≡ length bytes =
+    omega (arith, c.feed.ensures.count, c.requires.waiting, size, c.in-Ok.ensures.count.0) in
     let held : c.feed.new.self.held ≡ c.args.self.now.cutter.held ++ bytes =
-    c.feed.ensures.held ∙ ap (λ n. c.args.self.now.cutter.held ++ take n bytes) room ∙ ap (λ l. c.args.self.now.cutter.held ++ l) (take_all (length bytes) bytes (omega arith)) in
-    λ written selection stream first inputs ahead m.
-    subst (λ n. IsMidway selection stream first (g.W.World.told c.read_port.new.self).stream.left written (record { cutter = c.feed.new.self; receiver = c.args.self.now.receiver; bytes = c.args.self.now.bytes + n; packets = c.args.self.now.packets }) inputs ahead) size
-    (midway_read selection stream first _ _ written _ inputs ahead _ bytes (consumed_some bytes _ _ c.in-Ok.ensures.bytes.0) c.requires.open_end held c.feed.ensures.ended m)
+    c.feed.ensures.held ∙ ap (λ n. c.args.self.now.cutter.held ++ take n bytes) room
+    ∙ ap (λ l. c.args.self.now.cutter.held ++ l) (take_all (length bytes) bytes (omega arith)) in
+    λ sink replay inputs ahead m.
+    subst (λ n. IsMidway replay (record {
+      cutter = c.feed.new.self;
+      receiver = c.args.self.now.receiver;
+      bytes = c.args.self.now.bytes + n;
+      packets = c.args.self.now.packets;
+      left = (g.W.World.told c.read_port.new.self).stream.left;
+      written = sink.written;
+    }) inputs ahead) size
+    (midway_read replay _ inputs ahead _ _ bytes (consumed_some bytes _ _ c.in-Ok.ensures.bytes.0)
+    c.requires.open_end held c.feed.ensures.ended m)

@@ -1,27 +1,46 @@
-use Rattle.std.proofs.Common.{◌≡◌, ◌∙◌, ap, ◌++◌, ◌∷◌, [], subst, Some}
-use Rattle.std.specs.List.{concat}
-use Rattle.std.proofs.lemmas.Result.{on_ok_weaker}
+use Rattle.std.proofs.Common.{◌≡◌, ◌∙◌, ap, ◌++◌, ◌∷◌, [], List, append-nil, sym, refl, subst, Some}
+use Rattle.std.proofs.lemmas.Result.{err_from_is_err_and, on_ok_weaker}
+use Rattle.receiver_core.specs.Outputs.{Piece}
 use Rattle.receiver_core.specs.State.{Show as Display}
+use Rattle.replay_run.specs.Output.{bytes_of}
+use Rattle.replay_run.specs.Outside.{outside}
 use Rattle.replay_run.specs.Writing.{CutShort}
-use Rattle.replay_run.proofs.PlayLaws.{packets_in-show}
-use Rattle.replay_run.proofs.ProgressLaws.{midway_texts}
-use Rattle.replay_run.proofs.StoppingLaws.{piece_stops, stops_short}
-use Rattle.replay_run.proofs.WritingLaws.{piece_of_text}
+use Rattle.replay_run.proofs.PlayLaws.{packet_count-show}
+use Rattle.replay_run.proofs.ProgressLaws.{midway_pieces}
+use Rattle.replay_run.proofs.StoppingLaws.{piece_stops, stops_further, stops_short, stops_within}
+use Rattle.replay_run.proofs.WritingLaws.{made_alone}
 use Rattle.replay_run.proofs.player.Player.show.Goals as goal
 
 pub returns-clause-handled : goal.returns-clause-handled
 returns-clause-handled g c =
     let shown = c.in_ok-show.ensures.shown in
-    let same : c.deref.result.now ≡ concat (shown.0 ∷ []) = piece_of_text _ _ _ shown.0 c.deref.ensures.value shown.1 c.clear.ensures.items in
+    let pieces : List Piece = record { text = shown.0; area = c.show.new.self.area } ∷ [] in
+    let same : c.deref.result.now ≡ bytes_of pieces =
+    made_alone _ _ _ _ c.deref.ensures.value shown.1 c.clear.ensures.items ∙ sym (append-nil shown.0) in
     on_ok_weaker c.write_piece.result
-    (λ whole left selection stream first inputs ahead m. midway_texts selection stream first left _ _ _ inputs (inputs ++ Display ∷ []) ahead _ (shown.0 ∷ [])
-    (shown.2 selection inputs) (packets_in-show inputs) (λ start e. whole start e ∙ ap (λ l. Some (start ++ l)) same) m)
+    (λ whole world replay inputs ahead m.
+    midway_pieces replay _ inputs (inputs ++ Display ∷ []) ahead _ pieces _
+    (shown.3 c.requires.idle replay.selection replay.area inputs) (packet_count-show inputs)
+    (λ start e. whole start e ∙ ap (λ l. Some (start ++ l)) same) m)
     c.write_piece.ensures.whole
 
 pub returns-clause-stopped : goal.returns-clause-stopped
 returns-clause-stopped g c =
     let shown = c.in_ok-show.ensures.shown in
-    let same : c.deref.result.now ≡ concat (shown.0 ∷ []) = piece_of_text _ _ _ shown.0 c.deref.ensures.value shown.1 c.clear.ensures.items in
+    let pieces : List Piece = record { text = shown.0; area = c.show.new.self.area } ∷ [] in
+    let same : c.deref.result.now ≡ bytes_of pieces =
+    made_alone _ _ _ _ c.deref.ensures.value shown.1 c.clear.ensures.items ∙ sym (append-nil shown.0) in
     piece_stops c.write_piece.result _ _ c.write_piece.ensures.short c.write_piece.ensures.fault
-    (λ short left selection stream first inputs ahead m. stops_short selection stream first left _ _ _ inputs (inputs ++ Display ∷ []) ahead _ (shown.0 ∷ [])
-    (shown.2 selection inputs) (λ start e. subst (λ l. CutShort start (g.S.Sink.told c.write_piece.new.out).written l) same (short start e)) c.requires.within m)
+    (λ short world replay inputs ahead m.
+    stops_short replay _ (outside world (g.S.Sink.told c.write_piece.new.out)) inputs
+    (inputs ++ Display ∷ []) ahead _ pieces
+    (shown.3 c.requires.idle replay.selection replay.area inputs) refl
+    (λ start e. subst (λ l. CutShort start (g.S.Sink.told c.write_piece.new.out).written l) same (short start e))
+    c.requires.within m)
+
+pub returns-in_err-show-clause-stopped : goal.returns-in_err-show-clause-stopped
+returns-in_err-show-clause-stopped g c =
+    let p = err_from_is_err_and c.from_residual.result c.from_residual.ensures.1 in
+    rw (p.1, p.2) (λ world replay inputs ahead m.
+    stops_further _ replay _ _ _ (record { rest = Display ∷ []; joined = refl })
+    (stops_within replay _ (outside world (g.S.Sink.told c.args.out.now)) inputs ahead refl refl c.requires.within m))

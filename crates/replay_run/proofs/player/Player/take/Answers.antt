@@ -3,7 +3,8 @@ use Rattle.std.proofs.lemmas.Result.{err_from_is_err_and}
 use Rattle.ts_packets.specs.Packets.{packets_of}
 use Rattle.replay_run.proofs.PlayLaws.{Allows, front_of_taken, told_apart, took_less}
 use Rattle.replay_run.proofs.ProgressLaws.{midway_seek, midway_none, midway_more, midway_over}
-use Rattle.replay_run.proofs.StoppingLaws.{only_reads_none, only_reads_more, no_packets, stops_further, stops_more}
+use Rattle.replay_run.proofs.StoppingLaws.{only_reads_none, only_reads_more, no_packets}
+use Rattle.replay_run.proofs.StoppingLaws.{stops_further, stops_more}
 use Rattle.replay_run.proofs.player.Player.take.Goals as goal
 
 pub packets-init : goal.packets-init
@@ -14,7 +15,13 @@ packets-init g c = record {
   reads = only_reads_none _ _;
   later = omega arith;
   until = c.last_packet-last.ensures;
-  taken = (0, omega arith, record { bound = λ n e. omega arith }, λ selection stream first inputs ahead m. midway_none selection stream first _ _ _ inputs ahead m);
+  taken = (
+    0,
+    omega arith,
+    record { bound = λ n e. omega arith },
+    λ replay inputs ahead m.
+        midway_none replay _ inputs ahead m,
+  );
 }
 
 pub packets-preserved-in-Continue-1 : goal.packets-preserved-in-Continue-1
@@ -22,7 +29,8 @@ packets-preserved-in-Continue-1 g c =
     let before = c.packets.invariant in
     let taken = c.in_ok-next_packet-in-Packet.ensures in
     let fewer : Allows c.args.most (before.taken.0 + 1) =
-    took_less c.args.most _ _ _ before.taken.0 before.until before.taken.1 (told_apart _ _ _ c.ne.ensures c.packets-test.true) before.taken.2 in
+    took_less c.args.most _ _ _ before.taken.0 before.until before.taken.1
+    (told_apart _ _ _ c.ne.ensures c.packets-test.true) before.taken.2 in
     record {
       within = rw taken.bytes before.within;
       idle = taken.idle;
@@ -34,21 +42,28 @@ packets-preserved-in-Continue-1 g c =
         before.taken.0 + 1,
         omega (arith, taken.packets, before.taken.1),
         fewer,
-        λ selection stream first inputs ahead m.
-            midway_more selection stream first _ _ _ inputs ahead before.taken.0 (taken.handled _ selection stream first _ _
-            (midway_seek selection stream first _ _ _ _ _ _ c.seek.ensures.gives c.seek.ensures.drops.ended (before.taken.3 selection stream first inputs ahead m))),
+        λ replay inputs ahead m. midway_more replay _ inputs ahead before.taken.0
+            (taken.handled (g.W.World.told c.packets.world) replay _ _
+            (midway_seek replay _ _ _ _ c.seek.ensures.gives c.seek.ensures.drops.ended
+            (before.taken.3 replay inputs ahead m))),
       );
     }
 
-pub returns-in_err-next_packet-in-Packet-clause-stopped : goal.returns-in_err-next_packet-in-Packet-clause-stopped
+pub returns-in_err-next_packet-in-Packet-clause-stopped :
+    goal.returns-in_err-next_packet-in-Packet-clause-stopped
 returns-in_err-next_packet-in-Packet-clause-stopped g c =
     let before = c.packets.invariant in
     let fewer : Allows c.args.most (before.taken.0 + 1) =
-    took_less c.args.most _ _ _ before.taken.0 before.until before.taken.1 (told_apart _ _ _ c.ne.ensures c.packets-test.true) before.taken.2 in
+    took_less c.args.most _ _ _ before.taken.0 before.until before.taken.1
+    (told_apart _ _ _ c.ne.ensures c.packets-test.true) before.taken.2 in
     let p = err_from_is_err_and c.from_residual.result c.from_residual.ensures.1 in
-    rw (p.1, p.2) (λ selection stream first inputs ahead m. stops_further _ selection stream _ _ _ _ _ (front_of_taken inputs c.args.most (before.taken.0 + 1) ahead fewer)
-    (stops_more _ selection stream _ _ _ inputs ahead before.taken.0 (c.in_err-next_packet-in-Packet.ensures.stopped _ selection stream first _ _
-    (midway_seek selection stream first _ _ _ _ _ _ c.seek.ensures.gives c.seek.ensures.drops.ended (before.taken.3 selection stream first inputs ahead m)))))
+    rw (p.1, p.2) (λ replay inputs ahead m.
+    stops_further _ replay _ _ _
+    (front_of_taken inputs c.args.most (before.taken.0 + 1) ahead fewer)
+    (stops_more _ replay _ inputs ahead before.taken.0
+    (c.in_err-next_packet-in-Packet.ensures.stopped (g.W.World.told c.packets.world) replay _ _
+    (midway_seek replay _ _ _ _ c.seek.ensures.gives c.seek.ensures.drops.ended
+    (before.taken.3 replay inputs ahead m)))))
 
 pub packets-preserved : goal.packets-preserved
 packets-preserved g c =
@@ -65,22 +80,36 @@ packets-preserved g c =
         before.taken.0,
         read.packets ∙ before.taken.1,
         before.taken.2,
-        λ selection stream first inputs ahead m. read.goes _ selection stream first _ _
-            (midway_seek selection stream first _ _ _ _ _ _ c.seek.ensures.gives c.seek.ensures.drops.ended (before.taken.3 selection stream first inputs ahead m)),
+        λ replay inputs ahead m. read.goes (g.S.Sink.told c.packets.out) replay _ _
+            (midway_seek replay _ _ _ _ c.seek.ensures.gives c.seek.ensures.drops.ended
+            (before.taken.3 replay inputs ahead m)),
       );
     }
 
-pub returns-in_err-read_stream-in-NeedMore-clause-stopped : goal.returns-in_err-read_stream-in-NeedMore-clause-stopped
+pub returns-in_err-read_stream-in-NeedMore-clause-stopped :
+    goal.returns-in_err-read_stream-in-NeedMore-clause-stopped
 returns-in_err-read_stream-in-NeedMore-clause-stopped g c =
     let before = c.packets.invariant in
-    let p = err_from_is_err_and c.from_residual-in_err-read_stream-in-NeedMore.result c.from_residual-in_err-read_stream-in-NeedMore.ensures.1 in
-    rw (p.1, p.2) (λ selection stream first inputs ahead m. stops_further _ selection stream _ _ _ _ _ (front_of_taken inputs c.args.most before.taken.0 ahead before.taken.2)
-    (c.in_err-read_stream-in-NeedMore.ensures.stops _ selection stream first _ _
-    (midway_seek selection stream first _ _ _ _ _ _ c.seek.ensures.gives c.seek.ensures.drops.ended (before.taken.3 selection stream first inputs ahead m))))
+    let p = err_from_is_err_and c.from_residual-in_err-read_stream-in-NeedMore.result
+    c.from_residual-in_err-read_stream-in-NeedMore.ensures.1 in
+    rw (p.1, p.2) (λ replay inputs ahead m.
+    stops_further _ replay _ _ _
+    (front_of_taken inputs c.args.most before.taken.0 ahead before.taken.2)
+    (c.in_err-read_stream-in-NeedMore.ensures.stops (g.S.Sink.told c.packets.out) replay _ _
+    (midway_seek replay _ _ _ _ c.seek.ensures.gives c.seek.ensures.drops.ended
+    (before.taken.3 replay inputs ahead m))))
 
 pub returns-in-End-clause-handled : goal.returns-in-End-clause-handled
-returns-in-End-clause-handled g c = λ selection stream first inputs ahead m.
+returns-in-End-clause-handled g c = λ replay inputs ahead m.
     let before = c.packets.invariant in
     let over = c.seek.ensures.end.0 c.in-End.is in
-    midway_over selection stream first _ _ _ inputs ahead c.args.most before.taken.0 (c.seek.ensures.drops.ended ∙ over.ended) (ap packets_of (c.seek.ensures.empty c.in-End.is) ∙ no_packets) before.taken.2
-    (midway_seek selection stream first _ _ _ _ _ _ c.seek.ensures.gives c.seek.ensures.drops.ended (before.taken.3 selection stream first inputs ahead m))
+    midway_over replay _ inputs ahead c.args.most before.taken.0
+    (c.seek.ensures.drops.ended ∙ over.ended)
+    (ap packets_of (c.seek.ensures.empty c.in-End.is) ∙ no_packets) before.taken.2
+    (midway_seek replay _ _ _ _ c.seek.ensures.gives c.seek.ensures.drops.ended
+    (before.taken.3 replay inputs ahead m))
+
+pub returns-in_err-read_stream-in-NeedMore-clause-reads :
+    goal.returns-in_err-read_stream-in-NeedMore-clause-reads
+returns-in_err-read_stream-in-NeedMore-clause-reads g c =
+    only_reads_more _ _ _ _ c.packets.invariant.reads c.in_err-read_stream-in-NeedMore.ensures.reads

@@ -1,9 +1,10 @@
 use Rattle.std.proofs.Common.{◌≡◌, ◌≤◌, ◌+◌, ℕ, option_map}
 use Rattle.bml_ports.specs.declared.outside.Port.TheVariants.{Stream}
 use Rattle.receiver_core.specs.Receiving.{IsIdle}
-use Rattle.replay_run.specs.declared.record.Item.TheVariants.{Packets}
-use Rattle.replay_run.specs.Midway.{state_of, Handles, IsReadable, work_left}
-use Rattle.replay_run.specs.Limits.{stream_limit}
+use Rattle.replay_run.specs.declared.record.RecordItem.TheVariants.{Packets}
+use Rattle.replay_run.specs.Files.{stream_limit}
+use Rattle.replay_run.specs.Midway.{moment, Handles, IsReadable, work_left}
+use Rattle.replay_run.specs.Outside.{outside}
 use Rattle.replay_run.specs.Stopping.{OnlyReads}
 use Rattle.replay_run.proofs.PlayLaws.{Allows}
 use Rattle.replay_run.proofs.player.Player.take.Given as goal
@@ -18,8 +19,10 @@ invariant-packets g l = record {
   later : (g.S.Sink.told l.initial.out).writes.faults ≤ (g.S.Sink.told l.out).writes.faults;
   until : l.last ≡ option_map (λ n. l.initial.self.packets + n) l.fn.most;
   taken : (count : ℕ) × (l.self.packets ≡ l.initial.self.packets + count) × Allows l.fn.most count
-      × Handles (Packets count) (g.W.World.told l.initial.world).stream.left (g.W.World.told l.world).stream.left
-      (g.S.Sink.told l.initial.out).written (g.S.Sink.told l.out).written (state_of l.initial.self) (state_of l.self);
+      × Handles (Packets count)
+      (moment l.initial.self
+      (outside (g.W.World.told l.initial.world) (g.S.Sink.told l.initial.out)))
+      (moment l.self (outside (g.W.World.told l.world) (g.S.Sink.told l.out)));
 }
 
 abbrev pub decreases-packets : goal.decreases-packets

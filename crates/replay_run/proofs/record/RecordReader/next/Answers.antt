@@ -3,5 +3,7 @@ use Rattle.replay_run.proofs.record.RecordReader.next.Goals as goal
 
 pub returns-clause-good : goal.returns-clause-good
 returns-clause-good c =
-    gives_good (c.self.inside.bytes.items) (c.as_slice.result.now) (c.self.inside.start) (c.cut_line-cut.result.length) (c.self.inside.ended)
-    (c.cut_line-cut.result.noted) (c.args.self.now) (c.as_slice.ensures.value) (c.self.view_is) (c.cut_line-cut.ensures)
+    gives_good (c.self.inside.bytes.items) (c.as_slice.result.now) (c.self.inside.start)
+    (c.cut_line-cut.result.length) (c.self.inside.ended)
+    (c.cut_line-cut.result.noted) (c.args.self.now) (c.as_slice.ensures.value) (c.self.view_is)
+    (c.cut_line-cut.ensures)

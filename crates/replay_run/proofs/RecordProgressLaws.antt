@@ -1,0 +1,223 @@
+-- The steps of reading a record, over plain values.
+use Rattle.std.proofs.Common.{◌≡◌, ◌≢◌, ℕ, ◌+◌, ◌<◌, ◌≤◌, true, false, List, [], ◌∷◌, ◌++◌, All}
+use Rattle.std.proofs.Common.{refl, sym, ap, ◌∙◌, subst, append_assoc, append-nil, length, Option}
+use Rattle.std.proofs.Common.{Some, None, arith, length-append, slice_get}
+use Rattle.std.specs.List.{filter_map}
+use Rattle.std.proofs.lemmas.List.Elements.{All-push, filter_map-append}
+use Rattle.receiver_core.specs.Fronts.{IsFront}
+use Rattle.replay_run.specs.declared.record.RecordItem.{RecordItem}
+use Rattle.replay_run.specs.declared.record.Line.{Line}
+use Rattle.replay_run.specs.declared.record.Line.TheVariants.{Item as Read, Nothing, Bad}
+use Rattle.replay_run.specs.RecordProgress.{RecordState, IsAt, IsWhole, IsBadBehind}
+use Rattle.replay_run.specs.Record.{lines_of, item_in, items_until_bad, items_before_bad, first_bad}
+use Rattle.replay_run.specs.RecordReader.{ReaderState, Gives, BeginsBad}
+use Rattle.replay_run.specs.Files.{file, GaveMore, GaveAtMost, record_limit}
+use Rattle.replay_run.proofs.RecordLaws.{AreGood, items-good, whole_items, whole_bad, bad_items}
+use Rattle.replay_run.proofs.RecordLaws.{bad_number}
+
+-- a list whose first element is known
+first_known : (lines : List Line) (line : Line) → slice_get lines 0 ≡ Some line
+    → (more : List Line) × (lines ≡ line ∷ more)
+first_known [] line e = let clash : None ≡ Some line = e in cc
+first_known (x ∷ more) line e = let same : x ≡ line = cc in (more, ap (λ l. l ∷ more) same)
+
+no_lines_of : lines_of [] ≡ []
+unfolding lines_of
+no_lines_of = refl
+
+no_lines : All (λ (line : Line). line ≢ Bad) []
+no_lines = λ k d l. absurd (omega arith)
+
+-- a record begins
+pub at_start : (notes : List ℕ) (now : RecordState)
+    → now.left ≡ Some notes → now.reader.held ≡ [] → now.reader.ended ≡ false → now.bytes ≡ 0
+    → now.lines ≡ 0
+    → IsAt notes now []
+at_start notes now l held open_end bytes lines = record {
+  taken = [];
+  rest = notes;
+  lines = [];
+  left_is = l;
+  whole = refl;
+  counted = bytes;
+  ended = λ e. let clash : true ≡ false = sym e ∙ open_end in cc;
+  ahead = ap (λ l. lines_of (l ++ notes)) (sym held);
+  good = no_lines;
+  items_are = refl;
+  numbered = lines;
+}
+
+-- what one more line leaves
+abbrev pub behind_line : RecordState → ReaderState → RecordState
+behind_line now reader = record now { reader = reader; lines = now.lines + 1 }
+
+-- one more line was read that isn't bad
+at_line : (notes : List ℕ) (now : RecordState) (items : List RecordItem) (reader : ReaderState)
+    (line : Line)
+    → line ≢ Bad → Gives now.reader line reader → reader.ended ≡ now.reader.ended
+    → IsAt notes now items
+    → IsAt notes (behind_line now reader) (items ++ filter_map item_in (line ∷ []))
+at_line notes now items reader line is_good gives ended a = record {
+  taken = a.taken;
+  rest = a.rest;
+  lines = a.lines ++ line ∷ [];
+  left_is = a.left_is;
+  whole = a.whole;
+  counted = a.counted;
+  ended = λ e. a.ended (sym ended ∙ e);
+  ahead = a.ahead ∙ ap (λ l. a.lines ++ l) (gives a.rest a.ended)
+      ∙ sym (append_assoc a.lines (line ∷ []) (lines_of (reader.held ++ a.rest)));
+  good = All-push (λ l. l ≢ Bad) a.lines line a.good is_good;
+  items_are = filter_map-append item_in a.lines (line ∷ [])
+      ∙ ap (λ l. l ++ filter_map item_in (line ∷ [])) a.items_are;
+  numbered = ap (λ n. n + 1) a.numbered ∙ sym (length-append a.lines (line ∷ []));
+}
+
+pub at_item : (notes : List ℕ) (now : RecordState) (items : List RecordItem) (reader : ReaderState)
+    (item : RecordItem)
+    → Gives now.reader (Read item) reader → reader.ended ≡ now.reader.ended
+    → IsAt notes now items
+    → IsAt notes (behind_line now reader) (items ++ item ∷ [])
+at_item notes now items reader item gives ended a = at_line notes now items reader (Read item)
+    (λ e. cc) gives ended a
+
+pub at_nothing : (notes : List ℕ) (now : RecordState) (items : List RecordItem)
+    (reader : ReaderState)
+    → Gives now.reader Nothing reader → reader.ended ≡ now.reader.ended
+    → IsAt notes now items
+    → IsAt notes (behind_line now reader) items
+at_nothing notes now items reader gives ended a =
+    subst (λ l. IsAt notes (behind_line now reader) l) (append-nil items)
+    (at_line notes now items reader Nothing (λ e. cc) gives ended a)
+
+-- the record gave bytes, and the reader took them
+pub at_read : (notes : List ℕ) (now : RecordState) (items : List RecordItem) (reader : ReaderState)
+    (left : Option (List ℕ)) (bytes : List ℕ)
+    → ((rest : List ℕ) → now.left ≡ Some rest → (more : List ℕ) × (left ≡ Some more)
+    × (rest ≡ bytes ++ more))
+    → now.reader.ended ≡ false → reader.held ≡ now.reader.held ++ bytes → reader.ended
+    ≡ now.reader.ended
+    → IsAt notes now items
+    → IsAt notes (record now { reader = reader; bytes = now.bytes + length bytes; left = left })
+    items
+at_read notes now items reader left bytes gave open_end held ended a =
+    let g = gave a.rest a.left_is in
+    let same : reader.held ++ g.0 ≡ now.reader.held ++ a.rest =
+    ap (λ l. l ++ g.0) held ∙ append_assoc now.reader.held bytes g.0
+    ∙ ap (λ l. now.reader.held ++ l) (sym g.2) in
+    record {
+      taken = a.taken ++ bytes;
+      rest = g.0;
+      lines = a.lines;
+      left_is = g.1;
+      whole = a.whole ∙ ap (λ l. a.taken ++ l) g.2 ∙ sym (append_assoc a.taken bytes g.0);
+      counted = ap (λ n. n + length bytes) a.counted ∙ sym (length-append a.taken bytes);
+      ended = λ e. let clash : true ≡ false = sym e ∙ ended ∙ open_end in cc;
+      ahead = a.ahead ∙ ap (λ l. a.lines ++ lines_of l) (sym same);
+      good = a.good;
+      items_are = a.items_are;
+      numbered = a.numbered;
+    }
+
+-- the record came to its end
+pub at_end : (notes : List ℕ) (now : RecordState) (items : List RecordItem) (reader : ReaderState)
+    (left : Option (List ℕ))
+    → ((rest : List ℕ) → now.left ≡ Some rest → (rest ≡ []) × (left ≡ Some []))
+    → reader.held ≡ now.reader.held
+    → IsAt notes now items
+    → IsAt notes (record now { reader = reader; left = left }) items
+at_end notes now items reader left gave held a =
+    let g = gave a.rest a.left_is in
+    record {
+      taken = a.taken;
+      rest = [];
+      lines = a.lines;
+      left_is = g.1;
+      whole = a.whole ∙ ap (λ l. a.taken ++ l) g.0;
+      counted = a.counted;
+      ended = λ e. refl;
+      ahead = a.ahead
+          ∙ ap (λ l. a.lines ++ lines_of l)
+          (ap (λ l. now.reader.held ++ l) g.0 ∙ ap (λ l. l ++ []) (sym held));
+      good = a.good;
+      items_are = a.items_are;
+      numbered = a.numbered;
+    }
+
+-- the record gave too much
+pub at_limit : (notes : List ℕ) (now : RecordState) (items : List RecordItem)
+    (left : Option (List ℕ)) (bytes : List ℕ) (count limit : ℕ)
+    → length bytes ≡ count → limit < now.bytes + count
+    → ((rest : List ℕ) → now.left ≡ Some rest → (more : List ℕ) × (left ≡ Some more)
+    × (rest ≡ bytes ++ more))
+    → IsAt notes now items
+    → GaveMore limit (file notes left)
+at_limit notes now items left bytes count limit size above gave a =
+    let g = gave a.rest a.left_is in
+    record {
+      gave = record {
+        given = a.taken ++ bytes;
+        rest = g.0;
+        left_is = g.1;
+        whole = a.whole ∙ ap (λ l. a.taken ++ l) g.2 ∙ sym (append_assoc a.taken bytes g.0);
+      };
+      more = omega (arith, length-append a.taken bytes, a.counted, size);
+    }
+
+-- the record gave no more than it may
+pub at_within : (notes : List ℕ) (now : RecordState) (items : List RecordItem) (limit : ℕ)
+    → now.bytes ≤ limit → IsAt notes now items → GaveAtMost limit (file notes now.left)
+at_within notes now items limit within a = record {
+  gave = record { given = a.taken; rest = a.rest; left_is = a.left_is; whole = a.whole };
+  most = omega (arith, a.counted);
+}
+
+-- no line is left
+pub at_whole : (notes : List ℕ) (now : RecordState) (items : List RecordItem)
+    → now.reader.ended ≡ true → now.reader.held ≡ [] → now.bytes ≤ record_limit
+    → IsAt notes now items → IsWhole (file notes now.left) items
+at_whole notes now items ended none within a =
+    let nothing : now.reader.held ++ a.rest ≡ [] = ap (λ l. l ++ a.rest) none ∙ a.ended ended in
+    let all : lines_of notes ≡ a.lines =
+    a.ahead ∙ ap (λ l. a.lines ++ lines_of l) nothing ∙ ap (λ l. a.lines ++ l) no_lines_of
+    ∙ append-nil a.lines in
+    record {
+      within = at_within notes now items record_limit within a;
+      good = subst (λ lines. All (λ line. line ≢ Bad) lines) (sym all) a.good;
+      items_are = ap (filter_map item_in) all ∙ a.items_are;
+    }
+
+-- a bad line comes next
+pub at_bad : (notes : List ℕ) (now : RecordState) (items : List RecordItem)
+    → BeginsBad now.reader → now.bytes ≤ record_limit → IsAt notes now items
+    → IsBadBehind (now.lines + 1) (file notes now.left) items
+at_bad notes now items bad within a =
+    let f = first_known (lines_of (now.reader.held ++ a.rest)) Bad (bad a.rest a.ended) in
+    let lines : lines_of notes ≡ a.lines ++ Bad ∷ f.0 = a.ahead ∙ ap (λ l. a.lines ++ l) f.1 in
+    let good : AreGood a.lines = record { each = a.good } in
+    record {
+      within = at_within notes now items record_limit within a;
+      number = bad_number notes a.lines f.0 lines good ∙ ap (λ n. Some (n + 1)) (sym a.numbered);
+      items_are = bad_items notes a.lines f.0 lines good ∙ a.items_are;
+    }
+
+-- a whole record
+pub items_of_whole : (notes : List ℕ) (left : Option (List ℕ)) (items : List RecordItem)
+    → IsWhole (file notes left) items
+    → (first_bad notes ≡ None) × (items_before_bad notes ≡ items)
+items_of_whole notes left items w = (
+  whole_bad notes (record { each = w.good }),
+  whole_items notes (record { each = w.good })
+      ∙ w.items_are,
+)
+
+-- the items read so far stand in front of all
+pub at_front : (notes : List ℕ) (now : RecordState) (items : List RecordItem) → IsAt notes now items
+    → IsFront items (items_before_bad notes)
+at_front notes now items a =
+    let behind = lines_of (now.reader.held ++ a.rest) in
+    record {
+      rest = items_until_bad behind;
+      joined = ap items_until_bad a.ahead ∙ items-good a.lines behind (record { each = a.good })
+          ∙ ap (λ l. l ++ items_until_bad behind) a.items_are;
+    }

@@ -1,0 +1,68 @@
+use Rattle.std.proofs.Common.{◌≡◌, ◌+◌, ◌∙◌, sym, subst, ◌++◌, ◌∷◌, [], arith}
+use Rattle.replay_run.specs.declared.record.Line.TheVariants.{Item as Read, Nothing}
+use Rattle.replay_run.specs.RecordProgress.{IsAt}
+use Rattle.replay_run.proofs.RecordProgressLaws.{at_item, at_nothing, at_bad, at_whole}
+use Rattle.replay_run.proofs.StoppingLaws.{only_reads_more}
+use Rattle.replay_run.proofs.record_items.RecordItems.next_item.Goals as goal
+
+pub returns-in-Line-Item-clause-item : goal.returns-in-Line-Item-clause-item
+returns-in-Line-Item-clause-item g c = λ item e notes items a.
+    let same : c.in-Line-Item.item ≡ item = cc in
+    subst (λ i. IsAt notes (record {
+      reader = c.next.new.self;
+      bytes = c.lines.self.bytes;
+      lines = c.lines.self.lines + 1;
+      left = (g.W.World.told c.lines.world).notes.left;
+    }) (items ++ i ∷ [])) same
+    (at_item notes _ items _ c.in-Line-Item.item
+    (c.next.ensures.good (Read c.in-Line-Item.item) (λ clash. cc)
+    (rw c.in-Line-Item.field-0-is at c.in-Line-Item.is))
+    c.next.ensures.drops.ended (c.lines.invariant.goes notes items a))
+
+pub returns-in-Line-Bad-clause-stopped : goal.returns-in-Line-Bad-clause-stopped
+returns-in-Line-Bad-clause-stopped g c = λ notes items a.
+    at_bad notes _ items (c.next.ensures.bad (rw c.in-Line-Bad.field-0-is at c.in-Line-Bad.is))
+    c.lines.invariant.within (c.lines.invariant.goes notes items a)
+
+pub returns-in-End-clause-end : goal.returns-in-End-clause-end
+returns-in-End-clause-end g c = λ e notes items a.
+    let over = c.next.ensures.end.0 c.in-End.is in
+    at_whole notes _ items over.ended over.none c.lines.invariant.within
+    (c.lines.invariant.goes notes items a)
+
+pub lines-preserved-in-Line-Nothing : goal.lines-preserved-in-Line-Nothing
+lines-preserved-in-Line-Nothing g c =
+    let before = c.lines.invariant in
+    let is_nothing = rw c.in-Line-Nothing.field-0-is at c.in-Line-Nothing.is in
+    record {
+      within = before.within;
+      further = omega (arith, before.further);
+      readable = λ e. before.readable (sym c.next.ensures.drops.ended ∙ e);
+      reads = before.reads;
+      goes = λ notes items a. at_nothing notes _ items _
+          (c.next.ensures.good Nothing (λ clash. cc) is_nothing)
+          c.next.ensures.drops.ended (before.goes notes items a);
+    }
+
+pub lines-preserved : goal.lines-preserved
+lines-preserved g c =
+    let before = c.lines.invariant in
+    let read = c.in_ok-read_record-in-NeedMore.ensures in
+    let same : c.next.new.self ≡ c.lines.self.reader = c.next.ensures.stays (λ line good e. cc) in
+    record {
+      within = read.within;
+      further = omega (arith, before.further, read.lines);
+      readable = read.readable;
+      reads = only_reads_more _ _ _ _ before.reads read.reads;
+      goes = λ notes items a. read.goes notes items (subst (λ reader. IsAt notes (record {
+        reader = reader;
+        bytes = c.lines.self.bytes;
+        lines = c.lines.self.lines;
+        left = (g.W.World.told c.lines.world).notes.left;
+      }) items) (sym same) (before.goes notes items a));
+    }
+
+pub returns-in_err-read_record-in-NeedMore-clause-reads :
+    goal.returns-in_err-read_record-in-NeedMore-clause-reads
+returns-in_err-read_record-in-NeedMore-clause-reads g c =
+    only_reads_more _ _ _ _ c.lines.invariant.reads c.in_err-read_record-in-NeedMore.ensures.reads

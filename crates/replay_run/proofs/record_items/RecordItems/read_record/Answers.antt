@@ -1,0 +1,39 @@
+use Rattle.std.proofs.Common.{◌≡◌, ◌+◌, ◌++◌, ◌∙◌, sym, ap, subst, length, take, arith}
+use Rattle.std.proofs.lemmas.List.{take_all}
+use Rattle.replay_run.specs.Files.{record_limit}
+use Rattle.replay_run.specs.RecordProgress.{IsAt}
+use Rattle.replay_run.proofs.RecordProgressLaws.{at_limit, at_read, at_within}
+use Rattle.replay_run.proofs.StoppingLaws.{consumed_some, within_kept}
+use Rattle.replay_run.proofs.record_items.RecordItems.read_record.Goals as goal
+
+pub returns-then-self-gt-RECORD_LIMIT-clause-stopped :
+    goal.returns-then-self-gt-RECORD_LIMIT-clause-stopped
+returns-then-self-gt-RECORD_LIMIT-clause-stopped g c = λ notes items a.
+    at_limit notes _ items _ (take c.in-Ok.count c.read_port.new.buf) c.in-Ok.count record_limit
+    (sym c.in-Ok.ensures.count.1) c.if-self-gt-RECORD_LIMIT.true
+    (consumed_some _ _ _ c.in-Ok.ensures.bytes.0) a
+
+pub returns-in-Err-clause-stopped : goal.returns-in-Err-clause-stopped
+returns-in-Err-clause-stopped g c = λ notes items a.
+    within_kept record_limit notes _ _ c.in-Err.ensures.bytes
+    (at_within notes _ items record_limit c.requires.within a)
+
+pub returns-else-self-gt-RECORD_LIMIT-clause-goes :
+    goal.returns-else-self-gt-RECORD_LIMIT-clause-goes
+returns-else-self-gt-RECORD_LIMIT-clause-goes g c =
+    let bytes = take c.in-Ok.count c.read_port.new.buf in
+    let size : length bytes ≡ c.in-Ok.count = sym c.in-Ok.ensures.count.1 in
+    let room : c.feed.result ≡ length bytes =
+    omega (arith, c.feed.ensures.count, c.requires.waiting, size, c.in-Ok.ensures.count.0) in
+    let held : c.feed.new.self.held ≡ c.args.self.now.reader.held ++ bytes =
+    c.feed.ensures.held ∙ ap (λ n. c.args.self.now.reader.held ++ take n bytes) room
+    ∙ ap (λ l. c.args.self.now.reader.held ++ l) (take_all (length bytes) bytes (omega arith)) in
+    λ notes items a.
+    subst (λ n. IsAt notes (record {
+      reader = c.feed.new.self;
+      bytes = c.args.self.now.bytes + n;
+      lines = c.args.self.now.lines;
+      left = (g.W.World.told c.read_port.new.self).notes.left;
+    }) items) size
+    (at_read notes _ items _ _ bytes (consumed_some bytes _ _ c.in-Ok.ensures.bytes.0)
+    c.requires.open_end held c.feed.ensures.ended a)

@@ -1,0 +1,98 @@
+-- A device of the proofs: how far the record has been read. (What a run means is in `Meaning`.)
+use Rattle.std.specs.Prelude.{◌≡◌, ◌≢◌, ℕ, ◌+◌, ◌-◌, ◌*◌, ◌<◌, true, false, IsTrue, List, [], ◌++◌}
+use Rattle.std.specs.Prelude.{All, length, Option, Some}
+use Rattle.std.specs.List.{filter_map}
+use Rattle.bml_ports.specs.Counters.{Counter, FaultedSince}
+use Rattle.bml_ports.specs.Worlds.{WorldState}
+use Rattle.replay_run.specs.declared.record_items.RecordItems.{RecordItems}
+use Rattle.replay_run.specs.declared.record.RecordItem.{RecordItem}
+use Rattle.replay_run.specs.declared.record.Line.{Line}
+use Rattle.replay_run.specs.declared.record.Line.TheVariants.{Bad}
+use Rattle.replay_run.specs.declared.status.Status.{Status}
+use Rattle.replay_run.specs.declared.status.Status.TheVariants.{Done, Usage, BadRecord, OpenFault}
+use Rattle.replay_run.specs.declared.status.Status.TheVariants.{ReadFault, WriteFault, KeepFault}
+use Rattle.replay_run.specs.declared.status.Status.TheVariants.{BadArea, TooLong, NoMemory}
+use Rattle.replay_run.specs.Files.{File, file, GaveMore, GaveAtMost, record_limit}
+use Rattle.replay_run.specs.Midway.{ends_to_come}
+use Rattle.replay_run.specs.Record.{lines_of, items_before_bad, first_bad, item_in}
+use Rattle.replay_run.specs.RecordReader.{ReaderState}
+
+-- what is kept of the record: the bytes that belong to no line given so far, and how many bytes and
+-- lines came; and what is left of it
+pub record RecordState : Type 0 where
+  pub reader : ReaderState
+  pub bytes : ℕ
+  pub lines : ℕ
+  pub left : Option (List ℕ)
+
+abbrev pub record_state : RecordItems → WorldState → RecordState
+record_state items world =
+    record {
+      reader = items.reader;
+      bytes = items.bytes;
+      lines = items.lines;
+      left = world.notes.left;
+    }
+
+-- These items were read from the front of the record, in lines of which none is bad.
+pub record IsAt (notes : List ℕ) (now : RecordState) (items : List RecordItem) : Type 0 where
+  pub taken : List ℕ
+  pub rest : List ℕ
+  pub lines : List Line
+  pub left_is : now.left ≡ Some rest
+  pub whole : notes ≡ taken ++ rest
+  pub counted : now.bytes ≡ length taken
+  pub ended : now.reader.ended ≡ true → rest ≡ []
+  pub ahead : lines_of notes ≡ lines ++ lines_of (now.reader.held ++ rest)
+  pub good : All (λ line. line ≢ Bad) lines
+  pub items_are : filter_map item_in lines ≡ items
+  pub numbered : now.lines ≡ length lines
+
+-- until the reader knows of the record's end, the record may be read
+abbrev pub IsReadable : ReaderState → WorldState → Type 0
+IsReadable reader world = reader.ended ≡ false → IsTrue world.notes.readable
+
+-- the items were all: no line is left, and none was bad
+pub record IsWhole (notes : File) (items : List RecordItem) : Type 0 where
+  pub within : GaveAtMost record_limit notes
+  pub good : All (λ line. line ≢ Bad) (lines_of notes.bytes)
+  pub items_are : filter_map item_in (lines_of notes.bytes) ≡ items
+
+-- Reading items stops for these causes: `reads` counts the reads of the record, `bytes` are those
+-- that it gave.
+abbrev pub StopsItems : Status → Counter → Counter → ℕ → Type 0
+StopsItems ReadFault old new bytes = FaultedSince old new
+StopsItems TooLong old new bytes = record_limit < bytes
+StopsItems (BadRecord line) old new bytes = Unit {0}
+StopsItems Done old new bytes = ⊥
+StopsItems Usage old new bytes = ⊥
+StopsItems OpenFault old new bytes = ⊥
+StopsItems WriteFault old new bytes = ⊥
+StopsItems KeepFault old new bytes = ⊥
+StopsItems (BadArea size) old new bytes = ⊥
+StopsItems NoMemory old new bytes = ⊥
+
+-- a bad line comes behind these items
+pub record IsBadBehind (line : ℕ) (notes : File) (items : List RecordItem) : Type 0 where
+  pub within : GaveAtMost record_limit notes
+  pub number : first_bad notes.bytes ≡ Some line
+  pub items_are : items_before_bad notes.bytes ≡ items
+
+-- What is known of the record where reading items stops behind these.
+abbrev pub LeavesItems : Status → File → List RecordItem → Type 0
+LeavesItems ReadFault notes items = GaveAtMost record_limit notes
+LeavesItems TooLong notes items = GaveMore record_limit notes
+LeavesItems (BadRecord line) notes items = IsBadBehind line notes items
+LeavesItems Done notes items = ⊥
+LeavesItems Usage notes items = ⊥
+LeavesItems OpenFault notes items = ⊥
+LeavesItems WriteFault notes items = ⊥
+LeavesItems KeepFault notes items = ⊥
+LeavesItems (BadArea size) notes items = ⊥
+LeavesItems NoMemory notes items = ⊥
+
+-- a number that each step of the loop over lines makes smaller: bytes that may still come, held
+-- bytes, and the end
+abbrev pub work_left : ReaderState → ℕ → ℕ
+work_left reader bytes =
+    2 * (2 * record_limit - bytes) + length reader.held + ends_to_come reader.ended

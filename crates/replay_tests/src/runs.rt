@@ -1,0 +1,94 @@
+//! Runs over ports in memory.
+
+ghost use Rattle.std.specs.Prelude.{IfOk};
+ghost use Rattle.bml_ports.specs.MemoryWorlds.{told_by_world};
+ghost use Rattle.replay_run.specs.Opening.{IsUnasked};
+
+use bml_ports::{MemoryKeeper, MemorySink, MemorySource, MemoryWorld, NoMemory, Text};
+use replay_run::{Status, run};
+use std::alloc::Global;
+
+/// How the ports of a run behave: the most bytes of the stream that a read gives, the room for lines, and
+/// the numbers of the opening, of the reads of the stream and of the record, and of the write that fail, or 0.
+#[derive(Clone, Copy)]
+pub struct Ports {
+    pub piece: usize,
+    pub room: usize,
+    pub opening: u64,
+    pub stream_read: u64,
+    pub record_read: u64,
+    pub write: u64,
+}
+
+/// Nothing fails.
+pub const SOUND: Ports = Ports {
+    piece: 4096,
+    room: 4096,
+    opening: 0,
+    stream_read: 0,
+    record_read: 0,
+    write: 0,
+};
+
+/// The replay of the data on PID 256.
+pub const REPLAY: &[&str] = &["replay", "--data-pid", "256", "s", "r"];
+
+/// The replay of the first service.
+pub const FIRST: &[&str] = &["replay", "s", "r"];
+
+/// A run that ended, with its ports.
+#[derive(Drop)]
+pub struct Ended {
+    pub status: Status,
+    pub world: MemoryWorld,
+    pub keeper: MemoryKeeper,
+    pub sink: MemorySink,
+}
+
+/// Runs words over the files `s` and `r`.
+pub fn replayed(
+    alloc: Global,
+    words: &[&str],
+    stream: &[u8],
+    record: &[u8],
+    ports: Ports,
+) -> Result<Ended, NoMemory> {
+    let words = texts_of(alloc, words)?;
+    let mut sink = MemorySink::new(alloc, ports.room, vec![in alloc; ports.write]?)?;
+    let mut keeper = MemoryKeeper::new(Vec::new(alloc), Vec::new(alloc));
+    let mut world = world_of(alloc, stream, record, ports)?;
+    let status = run(alloc, words.as_slice(), &mut world, &mut keeper, &mut sink);
+    Ok(Ended {
+        status,
+        world,
+        keeper,
+        sink,
+    })
+}
+
+fn world_of(
+    alloc: Global,
+    stream: &[u8],
+    record: &[u8],
+    ports: Ports,
+) -> Result<MemoryWorld, NoMemory>
+    ensures { IfOk result (λ world. IsUnasked (told_by_world world)) }
+{
+    let mut world = MemoryWorld::new(alloc, vec![in alloc; ports.opening]?);
+    let reads = vec![in alloc; ports.stream_read]?;
+    let stream = MemorySource::new(Vec::from_slice(alloc, stream)?, ports.piece.max(1), reads);
+    world.add(Text::of_bytes(alloc, b"s")?, stream)?;
+    let reads = vec![in alloc; ports.record_read]?;
+    let record = MemorySource::new(Vec::from_slice(alloc, record)?, 4096, reads);
+    world.add(Text::of_bytes(alloc, b"r")?, record)?;
+    Ok(world)
+}
+
+/// Words as the command line gives them.
+pub fn texts_of(alloc: Global, words: &[&str]) -> Result<Vec<Text>, NoMemory> {
+    let mut texts = Vec::new(alloc);
+    for word in words {
+        texts.push(Text::of_bytes(alloc, word.as_bytes())?)?;
+    }
+    Ok(texts)
+}
