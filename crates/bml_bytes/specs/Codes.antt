@@ -1,5 +1,5 @@
 -- The codes of a text. A text of this project is a list of codes: one for each character of EUC-JP that
--- takes two bytes, and one for each other byte.
+-- takes two bytes, and one for each other byte (EUC-JP, as ARIB STD-B24 volume 2 has it).
 use Rattle.std.specs.Prelude.{ℕ, ◌+◌, ◌*◌, ◌/◌, ◌%◌, ◌<◌, nat_le, nat_lt, ◌==◌, Bool, ◌&&◌, ◌||◌, if◌then◌else◌, List, [], ◌∷◌, All}
 use Rattle.std.specs.List.{flat_map}
 

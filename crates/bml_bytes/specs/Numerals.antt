@@ -1,4 +1,4 @@
--- Numbers as they are printed in ASCII.
+-- Numbers as they are printed in ASCII. (This project's own.)
 use Rattle.std.specs.Prelude.{ℕ, zero, suc, ◌+◌, ◌-◌, ◌/◌, ◌%◌, nat_lt, nat_le, Bool, ◌&&◌, if◌then◌else◌, ℤ, pos, negsuc, List, [], ◌∷◌, ◌++◌, length, map, Option, Some, None}
 use Rattle.std.specs.List.{list_all}
 use Rattle.bml_bytes.specs.Numbers.{number_in, digits_in}

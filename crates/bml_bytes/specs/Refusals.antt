@@ -1,4 +1,4 @@
--- The one value of `NoMemory`.
+-- The one value of `NoMemory`. (This project's own.)
 use Rattle.bml_bytes.specs.declared.refusals.NoMemory.{NoMemory}
 
 -- want of memory

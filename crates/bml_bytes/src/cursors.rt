@@ -97,9 +97,11 @@ impl<'a> Cursor<'a> {
 
     /// The next bytes, which stay a part of those that the cursor was made of.
     pub fn take(&mut self, count: usize) -> Option<&'a [u8]>
-        ensures enough { MatchOption result (length self.old < count) (λ _. count ≤ length self.old) }
+        ensures enough { MatchOption result (length self.old < count)
+            (λ _. count ≤ length self.old) }
         ensures part { IfSome result (λ part. part.now ≡ take count self.old) }
-        ensures left { MatchOption result (self.new ≡ self.old) (λ _. self.new ≡ drop count self.old) }
+        ensures left { MatchOption result (self.new ≡ self.old)
+            (λ _. self.new ≡ drop count self.old) }
         ensures read { IfSome result (λ part. self.old ≡ part.now ++ self.new) }
         ensures field { with_left (λ part. part.now) result self.new ≡ bytes_at count self.old }
         ensures bytes { IfSome result (λ part. AreBytes part.now) }

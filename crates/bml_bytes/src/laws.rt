@@ -43,11 +43,13 @@ pub fn law_of_big_numbers()
 
 /// What is read as a field stands in front of the bytes behind it, and what was written there is read again.
 pub fn law_of_fields()
-    ensures number { (width : ℕ) (bytes : List ℕ) (read : ℕ × List ℕ) → number_at width bytes ≡ Some read →
+    ensures number { (width : ℕ) (bytes : List ℕ) (read : ℕ × List ℕ)
+        → number_at width bytes ≡ Some read →
         (bytes ≡ big_bytes width read.0 ++ read.1) × (read.0 < 256 ^ width) }
     ensures number_again { (width number : ℕ) (rest : List ℕ) → number < 256 ^ width →
         number_at width (big_bytes width number ++ rest) ≡ Some (number, rest) }
-    ensures bytes { (count : ℕ) (bytes : List ℕ) (read : List ℕ × List ℕ) → bytes_at count bytes ≡ Some read →
+    ensures bytes { (count : ℕ) (bytes : List ℕ) (read : List ℕ × List ℕ)
+        → bytes_at count bytes ≡ Some read →
         (bytes ≡ read.0 ++ read.1) × (length read.0 ≡ count) }
     ensures bytes_again { (text rest : List ℕ) →
         bytes_at (length text) (text ++ rest) ≡ Some (text, rest) }
@@ -61,7 +63,8 @@ pub fn law_of_decimals()
     ensures number { (number : ℕ) → decimal_number (decimal_digits number) ≡ number }
     ensures first { (number : ℕ) → 10 ≤ number → slice_get (decimal_digits number) 0 ≢ Some 48 }
     ensures one { (number : ℕ) → number < 10 → decimal_digits number ≡ (48 + number) ∷ [] }
-    ensures field { (number : ℕ) → number < 2 ^ 32 → decimal_field (decimal_digits number) ≡ Some number }
+    ensures field { (number : ℕ) → number < 2 ^ 32
+        → decimal_field (decimal_digits number) ≡ Some number }
     ensures more { (digits : List ℕ) (digit : ℕ) →
         decimal_number (digits ++ digit ∷ []) ≡ decimal_number digits * 10 + (digit - 48) }
 {}

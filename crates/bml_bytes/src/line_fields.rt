@@ -53,7 +53,8 @@ impl Escapes {
     /// Appends the bytes of a text, those that are escaped as a percent sign and two hexadecimal digits in
     /// upper case.
     pub fn push(self, text: &Text, out: &mut Vec<u8>) -> Result<(), NoMemory>
-        ensures ok { OnOk result (out.new.items ≡ out.old.items ++ escaped self (bytes_of text.now)) }
+        ensures ok { OnOk result (out.new.items ≡ out.old.items
+            ++ escaped self (bytes_of text.now)) }
         ensures grows { StartsWith out.new.items out.old.items }
     {
         'codes: for code in text.codes() {

@@ -159,7 +159,8 @@ fn push_code(code: u16, out: &mut Vec<u8>) -> Result<(), NoMemory>
 // The first code of some bytes and the bytes behind it, and None where there are no bytes.
 #[tactic(auto, unfolding(crate::specs::Codes::codes))]
 fn next_code(bytes: &[u8]) -> Option<(u16, &[u8])>
-    ensures first { MatchOption result (codes bytes.now ≡ []) (λ found. codes bytes.now ≡ found.0 ∷ codes found.1.now) }
+    ensures first { MatchOption result (codes bytes.now ≡ [])
+        (λ found. codes bytes.now ≡ found.0 ∷ codes found.1.now) }
     ensures shorter { IfSome result (λ found. length found.1.now < length bytes.now) }
 {
     let (first, rest) = bytes.split_first()?;

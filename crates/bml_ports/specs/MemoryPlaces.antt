@@ -1,4 +1,4 @@
--- What contracts see of a port of a world in memory, whose file goes by its place.
+-- What contracts see of a port of a world in memory, whose file goes by its place. (This project's own.)
 use Rattle.std.specs.Prelude.{◌≡◌, ℕ, ◌<◌, ◌≤◌, List, Option, IsSome, IfSome, IsTrue, length, slice_get, option_map, option_and_then}
 use Rattle.bml_ports.specs.declared.memory_worlds.MemoryFile.{MemoryFile}
 use Rattle.bml_ports.specs.declared.memory_worlds.MemoryPort.{MemoryPort}

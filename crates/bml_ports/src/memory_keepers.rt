@@ -28,7 +28,12 @@ impl Model for MemoryKeeper {
 
     ghost Value = { MemoryKeeperState };
 
-    ghost view = { λ keeper. record { kept = (if keeper.has_stored then keeper.area else keeper.first.items); failing = keeper.failing.items; calls = keeper.calls } };
+    ghost view = { λ keeper. record {
+      kept = (if keeper.has_stored then keeper.area
+          else keeper.first.items);
+      failing = keeper.failing.items;
+      calls = keeper.calls;
+    } };
 }
 
 impl MemoryKeeper {
@@ -73,11 +78,15 @@ impl Keeper for MemoryKeeper {
         ensures loaded { IfOk result (λ size. Loads (told_by_keeper self.old).kept size into.new) }
         ensures kept { Keeps (told_by_keeper self.old).kept (told_by_keeper self.new).kept }
         ensures calls { (told_by_keeper self.new).calls ≡ counted (told_by_keeper self.old).calls }
-        ensures counted { Counts (told_by_keeper self.old).faults (told_by_keeper self.new).faults result }
+        ensures counted { Counts (told_by_keeper self.old).faults
+            (told_by_keeper self.new).faults result }
 
         ensures fails { IsErr result ↔ FailsNext self.old.failing self.old.calls }
         ensures area { OnErr result (into.new ≡ into.old) }
-        ensures after { self.new ≡ record self.old { calls = after_call self.old.calls (is_err result) } }
+        ensures after { self.new ≡ record self.old {
+          calls = after_call self.old.calls
+              (is_err result);
+        } }
     {
         let failed = self.fails_next();
         self.calls.count(failed);
@@ -91,9 +100,11 @@ impl Keeper for MemoryKeeper {
 
     /// Fails exactly where the number of the call is listed, and keeps then what was kept.
     fn store(&mut self, from: &AreaBytes) -> Result<(), Failed>
-        ensures stored { Stores (told_by_keeper self.old).kept (told_by_keeper self.new).kept result from.now }
+        ensures stored { Stores (told_by_keeper self.old).kept
+            (told_by_keeper self.new).kept result from.now }
         ensures calls { (told_by_keeper self.new).calls ≡ counted (told_by_keeper self.old).calls }
-        ensures counted { Counts (told_by_keeper self.old).faults (told_by_keeper self.new).faults result }
+        ensures counted { Counts (told_by_keeper self.old).faults
+            (told_by_keeper self.new).faults result }
 
         ensures fails { IsErr result ↔ FailsNext self.old.failing self.old.calls }
         ensures kept { OnErr result (self.new.kept ≡ self.old.kept) }

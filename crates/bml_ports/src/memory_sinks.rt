@@ -27,7 +27,12 @@ impl Model for MemorySink {
 
     ghost Value = { MemorySinkState };
 
-    ghost view = { λ sink. record { written = sink.written.items; room = sink.room; failing = sink.failing.items; calls = sink.calls } };
+    ghost view = { λ sink. record {
+      written = sink.written.items;
+      room = sink.room;
+      failing = sink.failing.items;
+      calls = sink.calls;
+    } };
 
     ghost invariant = { λ sink. vec_len sink.written + sink.room ≤ vec_capacity sink.written };
 }
@@ -36,7 +41,12 @@ impl MemorySink {
     /// An empty sink with room for so many bytes, whose writes of the given numbers fail. Writes are
     /// numbered from 1. It takes the memory for all of its room at once.
     pub fn new(alloc: Global, room: usize, failing: Vec<u64>) -> Result<MemorySink, NoMemory>
-        ensures { IfOk result (λ sink. sink ≡ record { written = []; room = room; failing = failing.items; calls = no_calls }) }
+        ensures { IfOk result (λ sink. sink ≡ record {
+          written = [];
+          room = room;
+          failing = failing.items;
+          calls = no_calls;
+        }) }
     {
         let written = Vec::with_capacity(alloc, room)?;
         Ok(MemorySink {
@@ -70,12 +80,15 @@ impl Sink for MemorySink {
     fn write(&mut self, bytes: &[u8]) -> Result<usize, Failed>
         requires some { 0 < length bytes.now }
         ensures count { IfOk result (λ n. (0 < n) × (n ≤ length bytes.now)) }
-        ensures bytes { WriteAppends (told_by_sink self.old).written (told_by_sink self.new).written result bytes.now }
-        ensures counted { Counts (told_by_sink self.old).writes (told_by_sink self.new).writes result }
+        ensures bytes { WriteAppends (told_by_sink self.old).written
+            (told_by_sink self.new).written result bytes.now }
+        ensures counted { Counts (told_by_sink self.old).writes
+            (told_by_sink self.new).writes result }
 
         ensures fails { IsErr result ↔ WriteFails self.old }
         ensures takes { IfOk result (λ n. n ≡ min (length bytes.now) self.old.room) }
-        ensures room { MatchResult result (λ n. self.new.room + n ≡ self.old.room) (λ _. self.new.room ≡ self.old.room) }
+        ensures room { MatchResult result (λ n. self.new.room + n ≡ self.old.room)
+            (λ _. self.new.room ≡ self.old.room) }
         ensures failing { self.new.failing ≡ self.old.failing }
         ensures calls { self.new.calls ≡ after_call self.old.calls (is_err result) }
     {

@@ -32,7 +32,11 @@ impl Model for MemorySource {
 
     ghost Value = { SourceState };
 
-    ghost view = { λ source. record { bytes = source.bytes.items; piece = source.piece; failing = source.failing.items } };
+    ghost view = { λ source. record {
+      bytes = source.bytes.items;
+      piece = source.piece;
+      failing = source.failing.items;
+    } };
 
     ghost invariant = { λ source. 1 ≤ source.piece };
 }
@@ -87,15 +91,28 @@ impl Model for MemoryWorld {
 
     ghost use Rattle.bml_ports.specs.MemoryPlaces.{port_seen, IsPlaced};
 
-    ghost view = { λ world. record { files = world.files.items; failing = world.failing.items; calls = world.calls; stream = port_seen world.files.items world.stream; notes = port_seen world.files.items world.notes } };
+    ghost view = { λ world. record {
+      files = world.files.items;
+      failing = world.failing.items;
+      calls = world.calls;
+      stream = port_seen world.files.items world.stream;
+      notes = port_seen world.files.items world.notes;
+    } };
 
-    ghost invariant = { λ world. IsPlaced world.files.items world.stream × IsPlaced world.files.items world.notes };
+    ghost invariant = { λ world. IsPlaced world.files.items world.stream
+        × IsPlaced world.files.items world.notes };
 }
 
 impl MemoryWorld {
     /// A world without files, whose openings of the given numbers fail. Openings are numbered from 1.
     pub fn new(alloc: Global, failing: Vec<u64>) -> MemoryWorld
-        ensures { result ≡ record { files = []; failing = failing.items; calls = no_calls; stream = unopened; notes = unopened } }
+        ensures { result ≡ record {
+          files = [];
+          failing = failing.items;
+          calls = no_calls;
+          stream = unopened;
+          notes = unopened;
+        } }
     {
         MemoryWorld {
             files: Vec::new(alloc),
@@ -109,7 +126,13 @@ impl MemoryWorld {
     /// Adds a file. Of two files with one name the first one is found and the second one never, so what
     /// was told of a name stays.
     pub fn add(&mut self, name: Text, source: MemorySource) -> Result<(), NoMemory>
-        ensures ok { OnOk result (self.new ≡ record self.old { files = self.old.files ++ record { name = name; source = source } ∷ [] }) }
+        ensures ok { OnOk result (self.new
+            ≡ record self.old {
+              files = self.old.files ++ record {
+                name = name;
+                source = source;
+              } ∷ [];
+            }) }
         ensures err { OnErr result (self.new ≡ self.old) }
     {
         self.files.push(MemoryFile { name, source })?;
@@ -146,19 +169,28 @@ impl World for MemoryWorld {
         requires unasked { (port_of (told_by_world self.old) port).asked ≡ None }
         ensures asked { (port_of (told_by_world self.new) port).asked ≡ Some name }
         ensures readable { (port_of (told_by_world self.new) port).readable ≡ is_ok result }
-        ensures bytes { Opens (told_by_world self.old).files name (port_of (told_by_world self.old) port).left (port_of (told_by_world self.new) port).left result }
-        ensures stays_told { IsSome (port_of (told_by_world self.old) port).left → IsSome (port_of (told_by_world self.new) port).left }
-        ensures counted { Counts (told_by_world self.old).openings (told_by_world self.new).openings result }
-        ensures reads { (port_of (told_by_world self.new) port).reads ≡ (port_of (told_by_world self.old) port).reads }
+        ensures bytes { Opens (told_by_world self.old).files name
+            (port_of (told_by_world self.old) port).left
+            (port_of (told_by_world self.new) port).left result }
+        ensures stays_told { IsSome (port_of (told_by_world self.old) port).left
+            → IsSome (port_of (told_by_world self.new) port).left }
+        ensures counted { Counts (told_by_world self.old).openings
+            (told_by_world self.new).openings result }
+        ensures reads { (port_of (told_by_world self.new) port).reads
+            ≡ (port_of (told_by_world self.old) port).reads }
         ensures files { (told_by_world self.new).files ≡ (told_by_world self.old).files }
-        ensures other { port_of (told_by_world self.new) (other_port port) ≡ port_of (told_by_world self.old) (other_port port) }
+        ensures other { port_of (told_by_world self.new) (other_port port)
+            ≡ port_of (told_by_world self.old) (other_port port) }
 
         // The exact call.
         ensures fails { IsErr result ↔ OpeningFails self.old name }
-        ensures opened { memory_port_of self.new port ≡ after_opening (memory_port_of self.old port) name (source_named self.old.files name) (is_ok result) }
+        ensures opened { memory_port_of self.new port
+            ≡ after_opening (memory_port_of self.old port) name
+            (source_named self.old.files name) (is_ok result) }
         ensures calls { self.new.calls ≡ after_call self.old.calls (is_err result) }
         ensures same { (self.new.files ≡ self.old.files) × (self.new.failing ≡ self.old.failing) }
-        ensures other_port { memory_port_of self.new (other_port port) ≡ memory_port_of self.old (other_port port) }
+        ensures other_port { memory_port_of self.new (other_port port)
+            ≡ memory_port_of self.old (other_port port) }
     {
         let place = self.place_to_open(&name);
         self.calls.count(place.is_none());
@@ -178,21 +210,29 @@ impl World for MemoryWorld {
         requires readable { IsTrue (port_of (told_by_world self.old) port).readable }
         requires room { 0 < length buf.old }
         ensures count { ReadsAtMost result buf.new }
-        ensures bytes { ReadConsumes (port_of (told_by_world self.old) port).left (port_of (told_by_world self.new) port).left result buf.new }
+        ensures bytes { ReadConsumes (port_of (told_by_world self.old) port).left
+            (port_of (told_by_world self.new) port).left result buf.new }
         ensures end { EndsAtLast (port_of (told_by_world self.old) port).left result }
         ensures readable { (port_of (told_by_world self.new) port).readable ≡ gave_bytes result }
-        ensures counted { Counts (port_of (told_by_world self.old) port).reads (port_of (told_by_world self.new) port).reads result }
-        ensures asked { (port_of (told_by_world self.new) port).asked ≡ (port_of (told_by_world self.old) port).asked }
+        ensures counted { Counts (port_of (told_by_world self.old) port).reads
+            (port_of (told_by_world self.new) port).reads result }
+        ensures asked { (port_of (told_by_world self.new) port).asked
+            ≡ (port_of (told_by_world self.old) port).asked }
         ensures openings { (told_by_world self.new).openings ≡ (told_by_world self.old).openings }
         ensures files { (told_by_world self.new).files ≡ (told_by_world self.old).files }
-        ensures other { port_of (told_by_world self.new) (other_port port) ≡ port_of (told_by_world self.old) (other_port port) }
+        ensures other { port_of (told_by_world self.new) (other_port port)
+            ≡ port_of (told_by_world self.old) (other_port port) }
 
         // The exact call.
         ensures fails { IsErr result ↔ ReadFails (memory_port_of self.old port) }
-        ensures gives { IfOk result (λ n. GivesPiece (memory_port_of self.old port) (length buf.old) n) }
-        ensures read { memory_port_of self.new port ≡ after_reading (memory_port_of self.old port) result }
-        ensures same { (self.new.files ≡ self.old.files) × (self.new.failing ≡ self.old.failing) × (self.new.calls ≡ self.old.calls) }
-        ensures other_port { memory_port_of self.new (other_port port) ≡ memory_port_of self.old (other_port port) }
+        ensures gives { IfOk result
+            (λ n. GivesPiece (memory_port_of self.old port) (length buf.old) n) }
+        ensures read { memory_port_of self.new port
+            ≡ after_reading (memory_port_of self.old port) result }
+        ensures same { (self.new.files ≡ self.old.files) × (self.new.failing ≡ self.old.failing)
+            × (self.new.calls ≡ self.old.calls) }
+        ensures other_port { memory_port_of self.new (other_port port)
+            ≡ memory_port_of self.old (other_port port) }
     {
         match port {
             Port::Stream => read_at(self.files.as_slice(), &mut self.stream, buf),
@@ -231,7 +271,8 @@ impl MemoryWorld {
 
 impl MemoryPort {
     fn unopened() -> MemoryPort
-        ensures { (result.asked ≡ None) × (result.readable ≡ false) × (result.calls ≡ no_calls) × (result.place ≡ None) × (result.taken ≡ 0) }
+        ensures { (result.asked ≡ None) × (result.readable ≡ false) × (result.calls ≡ no_calls)
+            × (result.place ≡ None) × (result.taken ≡ 0) }
     {
         MemoryPort {
             asked: None,
@@ -261,7 +302,8 @@ impl MemoryPort {
 
 // The place of the first file of this name.
 fn place_of(files: &[MemoryFile], name: &Text) -> Option<usize>
-    ensures { MatchOption result (IsNone (source_named files.now name.now)) (λ place. IsFound files.now name.now place) }
+    ensures { MatchOption result (IsNone (source_named files.now name.now))
+        (λ place. IsFound files.now name.now place) }
 {
     position_of(files, name)
 }
@@ -313,12 +355,15 @@ fn read_at(files: &[MemoryFile], port: &mut MemoryPort, buf: &mut [u8]) -> Resul
     ensures placed { IsPlaced files.now port.new }
     ensures place { port.new.place ≡ port.old.place }
     ensures count { ReadsAtMost result buf.new }
-    ensures bytes { ReadConsumes (left_at (port_seen files.now port.old)) (left_at (port_seen files.now port.new)) result buf.new }
+    ensures bytes { ReadConsumes (left_at (port_seen files.now port.old))
+        (left_at (port_seen files.now port.new)) result buf.new }
     ensures end { EndsAtLast (left_at (port_seen files.now port.old)) result }
     ensures counted { Counts (counter_of port.old.calls) (counter_of port.new.calls) result }
     ensures fails { IsErr result ↔ ReadFails (port_seen files.now port.old) }
-    ensures gives { IfOk result (λ n. GivesPiece (port_seen files.now port.old) (length buf.old) n) }
-    ensures read { port_seen files.now port.new ≡ after_reading (port_seen files.now port.old) result }
+    ensures gives { IfOk result
+        (λ n. GivesPiece (port_seen files.now port.old) (length buf.old) n) }
+    ensures read { port_seen files.now port.new
+        ≡ after_reading (port_seen files.now port.old) result }
 {
     let place = port.place.unwrap();
     source_of(files, place).read(port, buf)
@@ -331,12 +376,19 @@ impl MemorySource {
         requires room { 0 < length buf.old }
         ensures taken { port.new.taken ≤ length self.now.bytes }
         ensures count { ReadsAtMost result buf.new }
-        ensures bytes { ReadConsumes (Some (drop port.old.taken self.now.bytes)) (Some (drop port.new.taken self.now.bytes)) result buf.new }
+        ensures bytes { ReadConsumes (Some (drop port.old.taken self.now.bytes))
+            (Some (drop port.new.taken self.now.bytes)) result buf.new }
         ensures end { EndsAtLast (Some (drop port.old.taken self.now.bytes)) result }
         ensures counted { Counts (counter_of port.old.calls) (counter_of port.new.calls) result }
         ensures fails { IsErr result ↔ FailsNext self.now.failing port.old.calls }
-        ensures gives { IfOk result (λ n. n ≡ min (min self.now.piece (length buf.old)) (length self.now.bytes - port.old.taken)) }
-        ensures port { port.new ≡ record port.old { readable = gave_bytes result; calls = after_call port.old.calls (is_err result); taken = port.old.taken + result_unwrap_or result 0 } }
+        ensures gives { IfOk result
+            (λ n. n ≡ min (min self.now.piece (length buf.old))
+            (length self.now.bytes - port.old.taken)) }
+        ensures port { port.new ≡ record port.old {
+          readable = gave_bytes result;
+          calls = after_call port.old.calls (is_err result);
+          taken = port.old.taken + result_unwrap_or result 0;
+        } }
     {
         let failed = is_listed(self.failing.as_slice(), port.calls.next_number());
         port.calls.count(failed);
@@ -354,7 +406,8 @@ impl MemorySource {
     fn copy_from(&self, taken: usize, buf: &mut [u8]) -> usize
         requires taken { taken ≤ length self.now.bytes }
         requires room { 0 < length buf.old }
-        ensures given { result ≡ min (min self.now.piece (length buf.old)) (length self.now.bytes - taken) }
+        ensures given { result ≡ min (min self.now.piece (length buf.old))
+            (length self.now.bytes - taken) }
         ensures within { taken + result ≤ length self.now.bytes }
         ensures fits { taken + result < 2 ^ 64 }
         ensures some { taken < length self.now.bytes → 0 < result }

@@ -32,7 +32,8 @@ pub trait Sink {
     fn write(&mut self, bytes: &[u8]) -> Result<usize, Failed>
         requires some { 0 < length bytes.now }
         ensures count { IfOk result (λ n. (0 < n) × (n ≤ length bytes.now)) }
-        ensures bytes { WriteAppends (told self.old).written (told self.new).written result bytes.now }
+        ensures bytes { WriteAppends (told self.old).written
+            (told self.new).written result bytes.now }
         ensures counted { Counts (told self.old).writes (told self.new).writes result };
 }
 
@@ -69,14 +70,18 @@ pub trait World {
         requires unasked { (port_of (told self.old) port).asked ≡ None }
         ensures asked { (port_of (told self.new) port).asked ≡ Some name }
         ensures readable { (port_of (told self.new) port).readable ≡ is_ok result }
-        ensures bytes { Opens (told self.old).files name (port_of (told self.old) port).left (port_of (told self.new) port).left result }
-        ensures stays_told { IsSome (port_of (told self.old) port).left → IsSome (port_of (told self.new) port).left }
+        ensures bytes { Opens (told self.old).files name (port_of (told self.old) port).left
+            (port_of (told self.new) port).left result }
+        ensures stays_told { IsSome (port_of (told self.old) port).left
+            → IsSome (port_of (told self.new) port).left }
         ensures counted { Counts (told self.old).openings (told self.new).openings result }
 
         // The rest stays.
-        ensures reads { (port_of (told self.new) port).reads ≡ (port_of (told self.old) port).reads }
+        ensures reads { (port_of (told self.new) port).reads
+            ≡ (port_of (told self.old) port).reads }
         ensures files { (told self.new).files ≡ (told self.old).files }
-        ensures other { port_of (told self.new) (other_port port) ≡ port_of (told self.old) (other_port port) };
+        ensures other { port_of (told self.new) (other_port port)
+            ≡ port_of (told self.old) (other_port port) };
 
     /// Fills the front of the buffer with the next bytes of a port and answers how many: at least one, and
     /// 0 exactly at the end. A failed read takes nothing; the buffer may then hold anything.
@@ -84,14 +89,18 @@ pub trait World {
         requires readable { IsTrue (port_of (told self.old) port).readable }
         requires room { 0 < length buf.old }
         ensures count { ReadsAtMost result buf.new }
-        ensures bytes { ReadConsumes (port_of (told self.old) port).left (port_of (told self.new) port).left result buf.new }
+        ensures bytes { ReadConsumes (port_of (told self.old) port).left
+            (port_of (told self.new) port).left result buf.new }
         ensures end { EndsAtLast (port_of (told self.old) port).left result }
         ensures readable { (port_of (told self.new) port).readable ≡ gave_bytes result }
-        ensures counted { Counts (port_of (told self.old) port).reads (port_of (told self.new) port).reads result }
+        ensures counted { Counts (port_of (told self.old) port).reads
+            (port_of (told self.new) port).reads result }
 
         // The rest stays.
-        ensures asked { (port_of (told self.new) port).asked ≡ (port_of (told self.old) port).asked }
+        ensures asked { (port_of (told self.new) port).asked
+            ≡ (port_of (told self.old) port).asked }
         ensures openings { (told self.new).openings ≡ (told self.old).openings }
         ensures files { (told self.new).files ≡ (told self.old).files }
-        ensures other { port_of (told self.new) (other_port port) ≡ port_of (told self.old) (other_port port) };
+        ensures other { port_of (told self.new) (other_port port)
+            ≡ port_of (told self.old) (other_port port) };
 }

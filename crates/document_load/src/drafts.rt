@@ -36,7 +36,11 @@ impl Model for Draft {
 
     ghost Value = { DraftState };
 
-    ghost view = { λ draft. record { items = draft.tree; needs = draft.needs.items; given = draft.given.items } };
+    ghost view = { λ draft. record {
+      items = draft.tree;
+      needs = draft.needs.items;
+      given = draft.given.items;
+    } };
 
     ghost invariant = { λ draft. length draft.given.items ≡ length draft.needs.items };
 }

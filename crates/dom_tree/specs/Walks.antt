@@ -1,5 +1,5 @@
 -- Where one node stands to the others: children, siblings, the path to the root, and the node of an
--- id (DOM level 1: Node and Document).
+-- id (DOM level 1: Node and Document, in this project's own form).
 use Rattle.std.specs.Prelude.{◌≡◌, ℕ, zero, suc, ◌+◌, ◌-◌, ◌<◌, ◌≤◌, ◌↔◌, List, [], ◌∷◌, Option, Some, None, Bool, if◌then◌else◌, ◌==◌, length, take, nat_eq, Contains, IsSomeAnd}
 use Rattle.std.specs.Option.{option_map_or, option_eq}
 use Rattle.dom_tree.specs.Items.{Item, parent_of, tag_of, IsElement, has_id}

@@ -1,5 +1,6 @@
 -- The same messages read from the front to the back: for each relation between bytes and fields the one
 -- value that the bytes have, if any. `law_of_dii` and `law_of_ddb` say that both agree.
+-- (ISO/IEC 13818-6, 7.2 and 7.3.)
 use Rattle.std.specs.Prelude.{◌≡◌, ℕ, zero, suc, ◌==◌, Bool, ◌&&◌, if◌then◌else◌, List, [], ◌∷◌, length, slice_index, Option, Some, None, Result, Ok, Err, option_map}
 use Rattle.std.specs.List.{zip, list_all}
 use Rattle.std.specs.Option.{ok_or}

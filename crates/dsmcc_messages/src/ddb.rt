@@ -30,9 +30,11 @@ pub struct Ddb<'a> {
 pub fn read_ddb(section: &[u8]) -> Result<Ddb<'_>, TableFault>
     requires { 12 ≤ length section.now }
     ensures found { IfOk result (λ ddb. IsDdb section.now (fields_of ddb)) }
-    ensures only { (ddb : DataBlock) → IsDdb section.now ddb → IsOkAnd result (λ found. fields_of found ≡ ddb) }
+    ensures only { (ddb : DataBlock) → IsDdb section.now ddb
+        → IsOkAnd result (λ found. fields_of found ≡ ddb) }
     ensures kind { (result ≡ Err TableFault.Kind) ↔ ¬ IsOfKind data_block section.now }
-    ensures short { result ≡ Err TableFault.Short → IsOfKind data_block section.now × ((ddb : DataBlock) → ¬ IsDdb section.now ddb) }
+    ensures short { result ≡ Err TableFault.Short → IsOfKind data_block section.now
+        × ((ddb : DataBlock) → ¬ IsDdb section.now ddb) }
     ensures reading { seen fields_of result ≡ ddb_in section.now }
 {
     law_of_ddb();
@@ -54,7 +56,8 @@ const DATA_BLOCK: MessageKind = MessageKind {
 
 #[tactic(auto, unfolding(crate::specs::Reading::data_block_at))]
 fn fields(message: Message<'_>) -> Option<Ddb<'_>>
-    ensures { option_map fields_of result ≡ data_block_at (message.entry.identifier, message.entry.payload.now) }
+    ensures { option_map fields_of result
+        ≡ data_block_at (message.entry.identifier, message.entry.payload.now) }
 {
     let mut cursor = Cursor::new(message.payload);
     let module = cursor.u16()?;

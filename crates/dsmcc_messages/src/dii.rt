@@ -45,9 +45,12 @@ impl Dii {
 pub fn read_dii(alloc: Global, section: &[u8]) -> Result<Dii, TableRefusal>
     requires { 12 ≤ length section.now }
     ensures found { IfOk result (IsDii section.now) }
-    ensures only { (dii : Dii) → IsDii section.now dii → MatchResult result (λ found. found ≡ dii) (λ refusal. refusal ≡ TableRefusal.NoMemory) }
-    ensures kind { (result ≡ Err (TableRefusal.Fault TableFault.Kind)) ↔ ¬ IsOfKind indication section.now }
-    ensures short { result ≡ Err (TableRefusal.Fault TableFault.Short) → IsOfKind indication section.now × ((dii : Dii) → ¬ IsDii section.now dii) }
+    ensures only { (dii : Dii) → IsDii section.now dii
+        → MatchResult result (λ found. found ≡ dii) (λ refusal. refusal ≡ TableRefusal.NoMemory) }
+    ensures kind { (result ≡ Err (TableRefusal.Fault TableFault.Kind))
+        ↔ ¬ IsOfKind indication section.now }
+    ensures short { result ≡ Err (TableRefusal.Fault TableFault.Short)
+        → IsOfKind indication section.now × ((dii : Dii) → ¬ IsDii section.now dii) }
     ensures reading { IsRead result (dii_in section.now) }
 {
     law_of_dii();
@@ -71,7 +74,8 @@ const INDICATION: MessageKind = MessageKind {
 
 #[tactic(auto, unfolding(crate::specs::Reading::indication_at))]
 fn fields(alloc: Global, message: Message<'_>) -> Result<Dii, TableRefusal>
-    ensures { IsRead result (ok_or (indication_at (message.entry.identifier, message.entry.payload.now)) TableFault.Short) }
+    ensures { IsRead result (ok_or
+        (indication_at (message.entry.identifier, message.entry.payload.now)) TableFault.Short) }
 {
     let mut cursor = Cursor::new(message.payload);
     let (download, block_size) = sizes(&mut cursor).ok_or(TableFault::Short)?;
@@ -151,7 +155,12 @@ struct EntryFields<'a> {
 
 #[tactic(auto, unfolding(crate::specs::Reading::entry_at, crate::specs::Reading::short_bytes_at))]
 fn entry_fields<'a>(cursor: &mut Cursor<'a>) -> Option<EntryFields<'a>>
-    ensures { with_left (λ e. record { id = e.id; size = e.size; version = e.version; info = e.info.now }) result cursor.new ≡ entry_at cursor.old }
+    ensures { with_left (λ e. record {
+      id = e.id;
+      size = e.size;
+      version = e.version;
+      info = e.info.now;
+    }) result cursor.new ≡ entry_at cursor.old }
 {
     let id = cursor.u16()?;
     let size = cursor.u32()?;

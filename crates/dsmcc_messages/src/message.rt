@@ -26,7 +26,8 @@ pub struct Message<'a> {
 #[tactic(auto, unfolding(crate::specs::Reading::fields_in))]
 pub fn message_in(kind: MessageKind, section: &[u8]) -> Result<Message<'_>, TableFault>
     requires { 12 ≤ length section.now }
-    ensures { seen (λ message. (message.identifier, message.payload.now)) result ≡ fields_in kind Some section.now }
+    ensures { seen (λ message. (message.identifier, message.payload.now)) result
+        ≡ fields_in kind Some section.now }
 {
     if !is_of_kind(kind, section) {
         return Err(TableFault::Kind);
@@ -53,7 +54,8 @@ fn agree(wanted: &[u8], bytes: &[u8]) -> bool
 
 #[tactic(auto, unfolding(crate::specs::Reading::message_at))]
 fn read_message(body: &[u8]) -> Option<Message<'_>>
-    ensures { option_map (λ message. (message.identifier, message.payload.now)) result ≡ message_at body.now }
+    ensures { option_map (λ message. (message.identifier, message.payload.now)) result
+        ≡ message_at body.now }
 {
     let mut cursor = Cursor::new(body);
     let _kind = cursor.take(4)?;

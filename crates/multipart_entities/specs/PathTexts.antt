@@ -1,5 +1,5 @@
 -- The texts that are paths, as a writer of documents spells them. (The law of paths says that these
--- and no others resolve.)
+-- and no others resolve. After ARIB STD-B24, volume 2; the forms are this project's own.)
 use Rattle.std.specs.Prelude.{◌≡◌, ◌≢◌, ℕ, ◌≤◌, ◌<◌, false, List, [], ◌++◌, length, map, Option, Some, None, All, codes as ascii}
 use Rattle.std.specs.List.{AllPass}
 use Rattle.bml_bytes.specs.Codes.{bytes_of, codes}

@@ -1,4 +1,5 @@
--- The components of a program, as a map between component_tags and PIDs.
+-- The components of a program, as a map between component_tags and PIDs. (ISO/IEC 13818-1, 2.4.4.8; the choice of
+-- streams is this project's own.)
 use Rattle.std.specs.Prelude.{◌≡◌, ◌≢◌, ◌==◌, ℕ, Bool, ◌||◌, if◌then◌else◌, List, [], ◌∷◌, ◌++◌, take, find, Option, None, option_map}
 use Rattle.std.specs.List.{filter_map, list_any}
 use Rattle.psi_tables.specs.declared.components.Component.{Component}

@@ -1,4 +1,4 @@
--- What the descriptors of a stream say of its component.
+-- What the descriptors of a stream say of its component. (ETSI EN 300 468; ARIB STD-B10, part 2.)
 use Rattle.std.specs.Prelude.{◌==◌, Bool, ◌&&◌, ℕ, List, length, slice_index, find, option_map, Option}
 use Rattle.table_fields.specs.Descriptors.{Descriptor}
 

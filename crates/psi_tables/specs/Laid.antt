@@ -1,4 +1,4 @@
--- Items laid end to end, as the loops of a table are.
+-- Items laid end to end, as the loops of a table are (ISO/IEC 13818-1, 2.4.4).
 use Rattle.std.specs.Prelude.{◌≡◌, ℕ, List, [], ◌∷◌, ◌++◌}
 
 -- The bytes are these items, one behind the other, and nothing else. `Is item text` says that the text is the item.

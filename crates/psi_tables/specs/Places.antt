@@ -1,5 +1,5 @@
 -- The same in terms of places: of sections in the history, and of streams in a PMT. `law_of_component_map` and
--- `law_of_components` say that both agree.
+-- `law_of_components` say that both agree. (This project's own.)
 use Rattle.std.specs.Prelude.{◌≡◌, ◌<◌, ℕ, List, length, take, slice_get, Some, All}
 use Rattle.psi_tables.specs.declared.pat.PatEntry.{PatEntry}
 use Rattle.psi_tables.specs.declared.pmt.Pmt.{Pmt}

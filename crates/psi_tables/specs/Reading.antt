@@ -1,5 +1,6 @@
 -- The same tables read from the front to the back: for each relation between bytes and fields the one value that
 -- the bytes have, if any. `law_of_pat` and `law_of_pmt` say that both agree.
+-- (ISO/IEC 13818-1, 2.4.4.)
 use Rattle.std.specs.Prelude.{◌≡◌, ℕ, zero, suc, ◌%◌, ◌^◌, ◌==◌, Bool, ◌&&◌, if◌then◌else◌, List, [], ◌∷◌, length, drop, slice_index, Option, Some, None, Result, Ok, Err, option_map}
 use Rattle.std.specs.Option.{ok_or}
 use Rattle.bml_bytes.specs.Fields.{◌>>=◌, byte_at, number_at, bytes_at}

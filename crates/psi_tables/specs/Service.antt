@@ -1,4 +1,4 @@
--- What `Services` keeps, and for which history it stands.
+-- What `Services` keeps, and for which history it stands. (This project's own.)
 use Rattle.std.specs.Prelude.{◌≡◌, ◌==◌, ℕ, Bool, false, ◌||◌, List, [], ◌∷◌, ◌++◌, map as each, Option, None, Some, is_some}
 use Rattle.psi_tables.specs.declared.pat.PatEntry.{PatEntry}
 use Rattle.psi_tables.specs.declared.components.Component.{Component}

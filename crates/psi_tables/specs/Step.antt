@@ -1,4 +1,4 @@
--- What the private functions of this crate do, one step each. Nothing public stands on these.
+-- A device of the proofs: what the private functions of this crate do, one step each. Nothing public stands on these.
 use Rattle.std.specs.Prelude.{ℕ, ◌==◌, nat_lt, Bool, true, false, not, ◌&&◌, if◌then◌else◌, List, [], ◌∷◌, ◌++◌, length, slice_index, Option, Some, None, option_map, unwrap_or}
 use Rattle.std.specs.List.{list_all}
 use Rattle.std.specs.Option.{option_or}

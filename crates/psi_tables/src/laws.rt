@@ -30,7 +30,8 @@ pub fn law_of_pat()
     ensures kind { (section : List ℕ) →
         IsOfTable association_table section ↔ (pat_in section ≢ Err TableFault.Kind) }
     ensures short { (section : List ℕ) → pat_in section ≡ Err TableFault.Short →
-        IsOfTable association_table section × ((entries : List PatEntry) → ¬ IsPat section entries) }
+        IsOfTable association_table section
+        × ((entries : List PatEntry) → ¬ IsPat section entries) }
 {
     law_of_fields();
     law_of_descriptors();
@@ -56,12 +57,22 @@ pub fn law_of_pmt()
 /// map is the components of the PMT at the last place where one counts. With a data PID no PMT counts. Its components
 /// have distinct tags and distinct PIDs.
 pub fn law_of_component_map()
-    ensures service { (selection : Selection) (history : List Handled) (place : ℕ) (service : PatEntry) → IsLast (NamesAt selection history) place service → service_of selection history ≡ Some service }
-    ensures no_service { (selection : Selection) (history : List Handled) → ((place : ℕ) (service : PatEntry) → ¬ NamesAt selection history place service) → service_of selection history ≡ None }
-    ensures map { (selection : Selection) (history : List Handled) (place : ℕ) (pmt : Pmt) → IsLast (CountsAt selection history) place pmt → map_of selection history ≡ components_of pmt.streams }
-    ensures no_map { (selection : Selection) (history : List Handled) → ((place : ℕ) (pmt : Pmt) → ¬ CountsAt selection history place pmt) → map_of selection history ≡ map_at_first selection }
-    ensures data_pid { (pid : ℕ) (history : List Handled) → map_of (Selection.Pid pid) history ≡ record { tag = 0x40; pid = pid } ∷ [] }
-    ensures apart { (selection : Selection) (history : List Handled) → AllPairs AreApart (map_of selection history) }
+    ensures service { (selection : Selection) (history : List Handled) (place : ℕ)
+        (service : PatEntry) → IsLast (NamesAt selection history) place service
+        → service_of selection history ≡ Some service }
+    ensures no_service { (selection : Selection) (history : List Handled)
+        → ((place : ℕ) (service : PatEntry) → ¬ NamesAt selection history place service)
+        → service_of selection history ≡ None }
+    ensures map { (selection : Selection) (history : List Handled) (place : ℕ) (pmt : Pmt)
+        → IsLast (CountsAt selection history) place pmt
+        → map_of selection history ≡ components_of pmt.streams }
+    ensures no_map { (selection : Selection) (history : List Handled)
+        → ((place : ℕ) (pmt : Pmt) → ¬ CountsAt selection history place pmt)
+        → map_of selection history ≡ map_at_first selection }
+    ensures data_pid { (pid : ℕ) (history : List Handled)
+        → map_of (Selection.Pid pid) history ≡ record { tag = 0x40; pid = pid } ∷ [] }
+    ensures apart { (selection : Selection) (history : List Handled)
+        → AllPairs AreApart (map_of selection history) }
 {}
 
 /// The components of some streams have distinct tags and distinct PIDs, and there are at most 16. They are those that
@@ -73,7 +84,8 @@ pub fn law_of_components()
         Contains (components_of streams) component → (place : ℕ) × TakenAt streams place component }
     ensures order { (streams : List PmtStream) (place : ℕ) (component : Component) →
         TakenAt streams place component →
-        slice_get (components_of streams) (length (components_of (take place streams))) ≡ Some component }
+        slice_get (components_of streams) (length (components_of (take place streams)))
+        ≡ Some component }
 {}
 
 /// A section on a PID on which no table is read changes neither the service nor the component map, so what
@@ -96,7 +108,8 @@ pub fn law_of_wanted_pids()
         wants state pid ≡ list_any (λ wanted. wanted == pid) (wanted_pids state) }
     ensures components { (selection : Selection) (history : List Handled) →
         length (map_of selection history) ≤ 16 }
-    ensures few { (state : ServicesState) → length state.map ≤ 16 → length (wanted_pids state) ≤ 18 }
+    ensures few { (state : ServicesState) → length state.map ≤ 16
+        → length (wanted_pids state) ≤ 18 }
     ensures always { (state : ServicesState) (history : List Handled) → StandsFor state history →
         length (wanted_pids state) ≤ 18 }
 {}

@@ -31,9 +31,14 @@ pub struct PatEntry {
 pub fn read_pat(alloc: Global, section: &[u8]) -> Result<Vec<PatEntry>, TableRefusal>
     requires { 12 ≤ length section.now }
     ensures found { IfOk result (λ found. IsPat section.now found.items) }
-    ensures only { (entries : List PatEntry) → IsPat section.now entries → MatchResult result (λ found. found.items ≡ entries) (λ refusal. refusal ≡ TableRefusal.NoMemory) }
-    ensures kind { (result ≡ Err (TableRefusal.Fault TableFault.Kind)) ↔ ¬ IsOfTable association_table section.now }
-    ensures short { result ≡ Err (TableRefusal.Fault TableFault.Short) → IsOfTable association_table section.now × ((entries : List PatEntry) → ¬ IsPat section.now entries) }
+    ensures only { (entries : List PatEntry) → IsPat section.now entries
+        → MatchResult result (λ found. found.items ≡ entries)
+        (λ refusal. refusal ≡ TableRefusal.NoMemory) }
+    ensures kind { (result ≡ Err (TableRefusal.Fault TableFault.Kind))
+        ↔ ¬ IsOfTable association_table section.now }
+    ensures short { result ≡ Err (TableRefusal.Fault TableFault.Short)
+        → IsOfTable association_table section.now
+        × ((entries : List PatEntry) → ¬ IsPat section.now entries) }
     ensures reading { IsRead (λ found. found.items) result (pat_in section.now) }
 {
     law_of_pat();
@@ -45,7 +50,8 @@ fn pat_of(alloc: Global, section: &[u8]) -> Result<Vec<PatEntry>, TableRefusal>
     requires { 12 ≤ length section.now }
     ensures reading { IsRead (λ found. found.items) result (pat_in section.now) }
     // The kind is tested before any memory is taken.
-    ensures kind { result ≡ Err TableRefusal.NoMemory → has_table association_table section.now ≡ true }
+    ensures kind { result ≡ Err TableRefusal.NoMemory
+        → has_table association_table section.now ≡ true }
 {
     if !is_of_table(ASSOCIATION_TABLE, section) {
         return Err(TableRefusal::Fault(TableFault::Kind));
@@ -56,7 +62,8 @@ fn pat_of(alloc: Global, section: &[u8]) -> Result<Vec<PatEntry>, TableRefusal>
 const ASSOCIATION_TABLE: u8 = 0x00;
 
 fn entries(alloc: Global, bytes: &[u8]) -> Result<Vec<PatEntry>, TableRefusal>
-    ensures { IsRead (λ found. found.items) result (ok_or (items_in entry_at bytes.now) TableFault.Short) }
+    ensures { IsRead (λ found. found.items) result
+        (ok_or (items_in entry_at bytes.now) TableFault.Short) }
 {
     let mut entries = Vec::new(alloc);
     let mut rest = bytes;

@@ -41,9 +41,12 @@ pub struct Pmt {
 pub fn read_pmt(alloc: Global, section: &[u8]) -> Result<Pmt, TableRefusal>
     requires { 12 ≤ length section.now }
     ensures found { IfOk result (IsPmt section.now) }
-    ensures only { (pmt : Pmt) → IsPmt section.now pmt → MatchResult result (λ found. found ≡ pmt) (λ refusal. refusal ≡ TableRefusal.NoMemory) }
-    ensures kind { (result ≡ Err (TableRefusal.Fault TableFault.Kind)) ↔ ¬ IsOfTable map_table section.now }
-    ensures short { result ≡ Err (TableRefusal.Fault TableFault.Short) → IsOfTable map_table section.now × ((pmt : Pmt) → ¬ IsPmt section.now pmt) }
+    ensures only { (pmt : Pmt) → IsPmt section.now pmt
+        → MatchResult result (λ found. found ≡ pmt) (λ refusal. refusal ≡ TableRefusal.NoMemory) }
+    ensures kind { (result ≡ Err (TableRefusal.Fault TableFault.Kind))
+        ↔ ¬ IsOfTable map_table section.now }
+    ensures short { result ≡ Err (TableRefusal.Fault TableFault.Short)
+        → IsOfTable map_table section.now × ((pmt : Pmt) → ¬ IsPmt section.now pmt) }
     ensures reading { IsRead (λ found. found) result (pmt_in section.now) }
 {
     law_of_pmt();
@@ -68,7 +71,8 @@ const MAP_TABLE: u8 = 0x02;
 // The PMT of that program with the streams in a body.
 #[tactic(auto, unfolding(crate::specs::Reading::program_map))]
 fn program_map_of(alloc: Global, program: u16, body: &[u8]) -> Result<Pmt, TableRefusal>
-    ensures { IsRead (λ found. found) result (ok_or (program_map program body.now) TableFault.Short) }
+    ensures { IsRead (λ found. found) result
+        (ok_or (program_map program body.now) TableFault.Short) }
 {
     let streams = program_streams(alloc, body)?;
     Ok(Pmt { program, streams })
@@ -84,7 +88,8 @@ fn program_streams(alloc: Global, body: &[u8]) -> Result<Sequence<PmtStream>, Ta
 // What stands behind PCR_PID and the program's descriptors.
 #[tactic(auto, unfolding(crate::specs::Reading::streams_in))]
 fn behind_program_info(body: &[u8]) -> Option<&[u8]>
-    ensures { MatchOption result (streams_in body.now ≡ None) (λ rest. streams_in body.now ≡ items_in stream_at rest.now) }
+    ensures { MatchOption result (streams_in body.now ≡ None)
+        (λ rest. streams_in body.now ≡ items_in stream_at rest.now) }
 {
     let mut cursor = Cursor::new(body);
     let _pcr_pid = pid(&mut cursor)?;
@@ -94,7 +99,8 @@ fn behind_program_info(body: &[u8]) -> Option<&[u8]>
 }
 
 fn stream_loop(alloc: Global, bytes: &[u8]) -> Result<Sequence<PmtStream>, TableRefusal>
-    ensures { IsRead (λ found. found) result (ok_or (items_in stream_at bytes.now) TableFault.Short) }
+    ensures { IsRead (λ found. found) result
+        (ok_or (items_in stream_at bytes.now) TableFault.Short) }
 {
     let mut streams = Vec::new(alloc);
     let mut rest = bytes;

@@ -42,7 +42,11 @@ impl Model for Services {
 
     ghost Value = { ServicesState };
 
-    ghost view = { λ s. record { selection = s.selection; service = s.service; map = s.map.items } };
+    ghost view = { λ s. record {
+      selection = s.selection;
+      service = s.service;
+      map = s.map.items;
+    } };
 
     ghost invariant = { λ s. AllPairs AreApart s.map.items };
 }
@@ -116,8 +120,11 @@ impl Services {
     /// map from tags to PIDs, changed.
     pub fn feed(&mut self, pid: u16, section: &[u8]) -> Result<bool, NoMemory>
         requires { 12 ≤ length section.now }
-        ensures stands { OnOk result ((history : List Handled) → StandsFor self.old history → StandsFor self.new (history ++ record { pid = pid; section = section.now } ∷ [])) }
-        ensures changed { IfOk result (λ changed. MatchBool changed (¬ AreSameMap self.old.map self.new.map) (AreSameMap self.old.map self.new.map)) }
+        ensures stands { OnOk result ((history : List Handled) → StandsFor self.old history
+            → StandsFor self.new (history ++ record { pid = pid; section = section.now } ∷ [])) }
+        ensures changed { IfOk result
+            (λ changed. MatchBool changed (¬ AreSameMap self.old.map self.new.map)
+            (AreSameMap self.old.map self.new.map)) }
         ensures selection { self.new.selection ≡ self.old.selection }
         ensures no_memory { OnErr result (self.new ≡ self.old) }
     {
@@ -146,7 +153,9 @@ impl Services {
     fn feed_pmt(&mut self, section: &[u8]) -> Result<bool, NoMemory>
         requires { 12 ≤ length section.now }
         ensures ok { OnOk result (self.new ≡ after_pmt self.old section.now) }
-        ensures changed { IfOk result (λ changed. MatchBool changed (¬ AreSameMap self.old.map self.new.map) (AreSameMap self.old.map self.new.map)) }
+        ensures changed { IfOk result
+            (λ changed. MatchBool changed (¬ AreSameMap self.old.map self.new.map)
+            (AreSameMap self.old.map self.new.map)) }
         ensures no_memory { OnErr result (self.new ≡ self.old) }
     {
         let Some(service) = self.service else {
@@ -217,7 +226,9 @@ fn components_in(
     section: &[u8],
 ) -> Result<Option<ArrayVec<Component, COMPONENT_LIMIT>>, NoMemory>
     requires { 12 ≤ length section.now }
-    ensures map { IfOk result (λ map. option_map (λ map. map.items) map ≡ components_by (pmt_of_program program section.now)) }
+    ensures map { IfOk result
+        (λ map. option_map (λ map. map.items) map
+        ≡ components_by (pmt_of_program program section.now)) }
     ensures apart { IfOk result (λ map. IfSome map (λ map. AllPairs AreApart map.items)) }
 {
     match read_pmt(alloc, section) {

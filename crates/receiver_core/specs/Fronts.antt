@@ -1,4 +1,4 @@
--- Fronts of lists, and their laws.
+-- Fronts of lists, and their laws. (This project's own.)
 use Rattle.std.proofs.Common.{◌≡◌, ℕ, List, [], ◌++◌, refl, sym, ap, ◌∙◌, append_assoc, append-nil, length, drop}
 use Rattle.std.specs.List.{concat}
 use Rattle.std.specs.Prelude.{map}

@@ -1,4 +1,4 @@
--- Descriptors that borrow their bytes.
+-- A device of the proofs: descriptors that borrow their bytes.
 use Rattle.table_fields.specs.declared.descriptors.Descriptor as borrowed
 use Rattle.table_fields.specs.Descriptors.{Descriptor}
 

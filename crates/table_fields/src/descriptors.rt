@@ -48,7 +48,8 @@ impl<'a> Descriptors<'a> {
 
     /// The next descriptor; None where none is left.
     pub fn next(&mut self) -> Option<Descriptor<'a>>
-        ensures next { MatchOption result (self.old ≡ []) (λ next. self.old ≡ descriptor_of next ∷ self.new) }
+        ensures next { MatchOption result (self.old ≡ [])
+            (λ next. self.old ≡ descriptor_of next ∷ self.new) }
         ensures none { MatchOption result (self.new ≡ []) (λ _. Unit {0}) }
     {
         law_of_fields();
@@ -61,7 +62,8 @@ impl<'a> Descriptors<'a> {
 // The descriptor in front, and the bytes behind it.
 #[tactic(auto, unfolding(crate::specs::Descriptors::descriptor_at))]
 fn first_descriptor(bytes: &[u8]) -> Option<(Descriptor<'_>, &[u8])>
-    ensures { option_map (λ found. (descriptor_of found.0, found.1.now)) result ≡ descriptor_at bytes.now }
+    ensures { option_map (λ found. (descriptor_of found.0, found.1.now)) result
+        ≡ descriptor_at bytes.now }
 {
     let mut cursor = Cursor::new(bytes);
     let tag = cursor.u8()?;

@@ -32,7 +32,11 @@ impl Model for FileWorld {
 
     ghost Value = { FilesState };
 
-    ghost view = { λ world. record { openings = world.openings; stream = world.stream; notes = world.notes } };
+    ghost view = { λ world. record {
+      openings = world.openings;
+      stream = world.stream;
+      notes = world.notes;
+    } };
 }
 
 impl FileWorld {

@@ -28,7 +28,12 @@ impl<R: Read + Drop> Model for ReadPort<R> {
 
     ghost Value = { PortState };
 
-    ghost view = { λ port. record { asked = port.asked; readable = port.readable; reads = port.reads; left = option_and_then R.remaining port.reader } };
+    ghost view = { λ port. record {
+      asked = port.asked;
+      readable = port.readable;
+      reads = port.reads;
+      left = option_and_then R.remaining port.reader;
+    } };
 
     ghost invariant = { λ port. IsTrue port.readable → IsSome port.reader };
 }
@@ -52,7 +57,8 @@ impl<R: Read + Drop> ReadPort<R> {
         ensures asked { self.new.asked ≡ Some name }
         ensures readable { self.new.readable ≡ is_ok opened }
         ensures reads { self.new.reads ≡ self.old.reads }
-        ensures left { MatchResult opened (λ reader. self.new.left ≡ R.remaining reader) (λ _. self.new.left ≡ self.old.left) }
+        ensures left { MatchResult opened (λ reader. self.new.left ≡ R.remaining reader)
+            (λ _. self.new.left ≡ self.old.left) }
         ensures answered { is_ok result ≡ is_ok opened }
     {
         self.asked = Some(name);
