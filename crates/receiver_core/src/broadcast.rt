@@ -145,7 +145,8 @@ impl Broadcast {
         out: &mut Vec<u8>,
     ) -> Result<bool, NoMemory>
         requires section { 12 ≤ length section.now }
-        requires unread { reads_table self.old.services.selection self.old.services.service pid ≡ false }
+        requires unread { reads_table self.old.services.selection
+            self.old.services.service pid ≡ false }
         ensures taken { OnOk result (Takes self.old self.new out.old.items out.new.items
             (λ s. step_of_component component section.now (with_handled pid section.now s))) }
         ensures looks { IfOk result (λ changed. changed ≡ false → LeavesLooks self.old
