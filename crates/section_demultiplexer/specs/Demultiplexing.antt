@@ -12,7 +12,7 @@ pub record DemultiplexerState : Type 0 where
   pub pid : ℕ
   -- the sections that this packet completed and that aren't given yet, in their order
   pub waiting : List (List ℕ)
-  -- what it keeps for the packets to come, of which no promise speaks
+  -- what it keeps of each PID for the packets to come (a device of the proofs)
   pub kept : List Channel
 
 -- no section is waiting, so the next packet may come

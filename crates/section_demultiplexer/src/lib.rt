@@ -10,7 +10,7 @@
 mod demultiplexer;
 mod laws;
 
-pub use crate::demultiplexer::{CHANNEL_LIMIT, Demultiplexer};
+pub use crate::demultiplexer::Demultiplexer;
 pub use crate::laws::{law_of_room, law_of_same_lists};
 
 #[cfg(test)]

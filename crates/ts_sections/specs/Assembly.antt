@@ -8,7 +8,7 @@ use Rattle.ts_sections.specs.Ahead.{Kept, sections_ahead}
 pub record AssemblerState : Type 0 where
   -- the sections that are whole and not given yet, in their order
   pub waiting : List (List ℕ)
-  -- what it keeps for the packets to come, of which no promise speaks
+  -- what it keeps for the packets to come (a device of the proofs)
   pub kept : Kept
 
 -- nothing is waiting, so the next packet may come

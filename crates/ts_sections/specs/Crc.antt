@@ -21,8 +21,8 @@ abbrev pub bit_sum : Bool → Bool → Bool
 bit_sum true b = not b
 bit_sum false b = b
 
--- two polynomials added modulo 2: written one below the other from the front on, each coefficient
--- to the one above it. Where one is longer, its rest stays
+-- two polynomials added modulo 2, the shorter one times the power of x that makes both begin with the
+-- same power: written one below the other from the front on, each coefficient to the one above it
 unfoldable pub add_at_front : List Bool → List Bool → List Bool
 add_at_front [] b = b
 add_at_front (x ∷ a) [] = x ∷ a

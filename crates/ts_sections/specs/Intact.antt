@@ -10,9 +10,9 @@ section_syntax_indicator section = bit_at (slice_index section 1) 7
 -- section_length: 12 bits, the low four of the second byte and the third byte. It counts the bytes
 -- behind itself
 abbrev pub section_length : List ℕ → ℕ
-section_length section = slice_index section 1 % 16 * 256 + slice_index section 2
+section_length section = (slice_index section 1 % 16) * 256 + slice_index section 2
 
--- a whole section in the long form, with nothing damaged
+-- a whole section that follows the generic section syntax (section_syntax_indicator 1), undamaged
 pub record IsIntact (section : List ℕ) : Type 0 where
   -- eight bytes of header and four of CRC_32
   pub long_form : 12 ≤ length section

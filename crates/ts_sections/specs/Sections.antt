@@ -9,7 +9,8 @@ use Rattle.ts_packets.specs.Packet.{is_readable, payload_of, starts_unit, counte
 
 -- ---- the packets that count
 
--- those that are read: no error, not scrambled, and with a payload
+-- those that are read: transport_error_indicator 0, transport_scrambling_control 0, and a payload of at
+-- least one byte, by adaptation_field_control and the field's length (2.4.3.2, 2.4.3.3)
 abbrev pub readable_packets : List (List ℕ) → List (List ℕ)
 readable_packets packets = filter is_readable packets
 
@@ -20,8 +21,10 @@ unrepeated before [] = []
 unrepeated before (packet ∷ rest) =
     if bytes_eq before packet then unrepeated before rest else packet ∷ unrepeated packet rest
 
--- a packet may be sent twice in a row and counts once (2.4.3.3, continuity_counter); that it counts
--- once however often it is sent is this project's own rule
+-- a packet may be sent twice in a row and counts once (2.4.3.3, continuity_counter). That it counts
+-- once however often it is sent, that a repeat is one byte for byte, and that a packet whose pointer
+-- passes its payload may be repeated too, are this project's own rules; discontinuity_indicator isn't
+-- looked at.
 abbrev pub without_repeats : List (List ℕ) → List (List ℕ)
 without_repeats [] = []
 without_repeats (packet ∷ rest) = packet ∷ unrepeated packet rest
@@ -53,7 +56,8 @@ marked (pointer ∷ bytes) =
     then map Byte (take pointer bytes) ++ Mark ∷ map Byte (drop pointer bytes)
     else []
 
--- what one packet carries: where a unit starts in it, its payload begins with a pointer field
+-- what one packet carries: where a unit starts in it (payload_unit_start_indicator 1), its payload begins with a
+-- pointer field
 abbrev pub tokens_of_packet : List ℕ → List Token
 tokens_of_packet packet =
     if starts_unit packet then marked (payload packet) else map Byte (payload packet)
@@ -108,7 +112,7 @@ pieces_of_run run = pieces (flat_map tokens_of_packet run)
 -- the size of the section that begins these bytes: three bytes, and section_length more,
 -- which is the low 12 bits of the second and third of them (2.4.4.11)
 abbrev pub section_size : List ℕ → ℕ
-section_size bytes = 3 + (slice_index bytes 1 % 16 * 256 + slice_index bytes 2)
+section_size bytes = 3 + ((slice_index bytes 1 % 16) * 256 + slice_index bytes 2)
 
 -- a whole section begins these bytes. 0xFF where one should begin is stuffing, up to the next mark
 -- (2.4.4); what ends before its last byte is no section.
