@@ -18,12 +18,23 @@ fn faults_in_the_middle(rt: HostRuntime) -> Result<(), Fail> {
     let line = "module 40 0001 01 0\n";
     for (ports, record, status, lines) in [
         (
-            Ports { stream_read: 3, ..packets },
+            Ports {
+                stream_read: 3,
+                ..packets
+            },
             "all\n",
             Status::ReadFault,
             line,
         ),
-        (Ports { stream_read: 2, ..packets }, "all\n", Status::ReadFault, ""),
+        (
+            Ports {
+                stream_read: 2,
+                ..packets
+            },
+            "all\n",
+            Status::ReadFault,
+            "",
+        ),
         (
             Ports {
                 record_read: 1,
