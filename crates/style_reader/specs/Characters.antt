@@ -8,18 +8,18 @@ use Rattle.std.specs.Str.{byte, str_eq_ignore_ascii_case}
 use Rattle.bml_bytes.specs.Numerals.{is_decimal_digit}
 
 -- space, tab, line feed, carriage return
-abbrev pub is_white : ℕ → Bool
+unfoldable pub is_white : ℕ → Bool
 is_white code = (code == 0x20) || ((code == 0x09) || ((code == 0x0A) || (code == 0x0D)))
 
-abbrev pub is_letter : ℕ → Bool
+unfoldable pub is_letter : ℕ → Bool
 is_letter code = (nat_le (byte "A") code && nat_le code (byte "Z")) || (nat_le (byte "a") code && nat_le code (byte "z"))
 
 -- what a name begins with: a letter or `_`
-abbrev pub is_name_start : ℕ → Bool
+unfoldable pub is_name_start : ℕ → Bool
 is_name_start code = is_letter code || (code == byte "_")
 
 -- what a name goes on with: also a digit or `-`
-abbrev pub is_name_code : ℕ → Bool
+unfoldable pub is_name_code : ℕ → Bool
 is_name_code code = is_name_start code || (is_decimal_digit code || (code == byte "-"))
 
 -- a name in a selector

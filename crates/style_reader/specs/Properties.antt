@@ -24,9 +24,12 @@ pub record Row : Type 0 where
   pub initial : StyleValue
   pub is_inherited : Bool
 
-abbrev row : List ℕ → List ℕ → Values → StyleValue → Bool → Row
-row name script_name values initial is_inherited =
-    record { name = name; script_name = script_name; values = values; initial = initial; is_inherited = is_inherited }
+abbrev pub row : List ℕ → List ℕ → Values → StyleValue → Row
+row name script_name values initial =
+    record { name = name; script_name = script_name; values = values; initial = initial; is_inherited = false }
+
+abbrev pub inherited : Row → Row
+inherited row = record row { is_inherited = true }
 
 -- the ranges: 16 bits with a sign, 15 bits, 8 bits
 abbrev signed : (ℤ → ℤ → Values) → Values
@@ -44,23 +47,23 @@ basic_and_data_button = Keys 3
 
 -- the table
 abbrev pub row_of : Property → Row
-row_of Left = row (codes "left") (codes "left") (signed Pixels) (Whole (pos 0)) false
-row_of Top = row (codes "top") (codes "top") (signed Pixels) (Whole (pos 0)) false
-row_of Width = row (codes "width") (codes "width") (unsigned Pixels) (Whole (pos 0)) false
-row_of Height = row (codes "height") (codes "height") (unsigned Pixels) (Whole (pos 0)) false
-row_of Visibility = row (codes "visibility") (codes "visibility") VisibleOrHidden Visible true
-row_of ZIndex = row (codes "z-index") (codes "zIndex") (signed Numbers) (Whole (pos 0)) false
-row_of NavIndex = row (codes "nav-index") (codes "navIndex") (unsigned NumbersOrNone) NoValue false
-row_of NavUp = row (codes "nav-up") (codes "navUp") (unsigned NumbersOrNone) NoValue false
-row_of NavDown = row (codes "nav-down") (codes "navDown") (unsigned NumbersOrNone) NoValue false
-row_of NavLeft = row (codes "nav-left") (codes "navLeft") (unsigned NumbersOrNone) NoValue false
-row_of NavRight = row (codes "nav-right") (codes "navRight") (unsigned NumbersOrNone) NoValue false
-row_of UsedKeyList = row (codes "used-key-list") (codes "usedKeyList") KeyGroups basic_and_data_button false
-row_of ColorIndex = row (codes "color-index") (codes "colorIndex") colours (Whole (pos 7)) true
-row_of BackgroundColorIndex = row (codes "background-color-index") (codes "backgroundColorIndex") colours (Whole (pos 8)) false
-row_of BorderWidth = row (codes "border-width") (codes "borderWidth") (unsigned Pixels) (Whole (pos 0)) false
-row_of BorderColorIndex = row (codes "border-color-index") (codes "borderColorIndex") colours (Whole (pos 7)) false
-row_of FontSize = row (codes "font-size") (codes "fontSize") (unsigned Pixels) (Whole (pos 24)) true
+row_of Left = row (codes "left") (codes "left") (signed Pixels) (Whole (pos 0))
+row_of Top = row (codes "top") (codes "top") (signed Pixels) (Whole (pos 0))
+row_of Width = row (codes "width") (codes "width") (unsigned Pixels) (Whole (pos 0))
+row_of Height = row (codes "height") (codes "height") (unsigned Pixels) (Whole (pos 0))
+row_of Visibility = inherited (row (codes "visibility") (codes "visibility") VisibleOrHidden Visible)
+row_of ZIndex = row (codes "z-index") (codes "zIndex") (signed Numbers) (Whole (pos 0))
+row_of NavIndex = row (codes "nav-index") (codes "navIndex") (unsigned NumbersOrNone) NoValue
+row_of NavUp = row (codes "nav-up") (codes "navUp") (unsigned NumbersOrNone) NoValue
+row_of NavDown = row (codes "nav-down") (codes "navDown") (unsigned NumbersOrNone) NoValue
+row_of NavLeft = row (codes "nav-left") (codes "navLeft") (unsigned NumbersOrNone) NoValue
+row_of NavRight = row (codes "nav-right") (codes "navRight") (unsigned NumbersOrNone) NoValue
+row_of UsedKeyList = row (codes "used-key-list") (codes "usedKeyList") KeyGroups basic_and_data_button
+row_of ColorIndex = inherited (row (codes "color-index") (codes "colorIndex") colours (Whole (pos 7)))
+row_of BackgroundColorIndex = row (codes "background-color-index") (codes "backgroundColorIndex") colours (Whole (pos 8))
+row_of BorderWidth = row (codes "border-width") (codes "borderWidth") (unsigned Pixels) (Whole (pos 0))
+row_of BorderColorIndex = row (codes "border-color-index") (codes "borderColorIndex") colours (Whole (pos 7))
+row_of FontSize = inherited (row (codes "font-size") (codes "fontSize") (unsigned Pixels) (Whole (pos 24)))
 
 -- what the table says of a property
 abbrev pub name_of : Property → List ℕ

@@ -1,10 +1,15 @@
 //! Style texts: sheets and inline texts in, rules out.
 #![tactic(auto)]
 
+mod characters;
+mod comments;
 mod laws;
+mod numbers;
+mod pieces;
 mod properties;
 mod rules;
 mod selectors;
+mod words;
 
 pub use crate::properties::{Property, StyleValue};
 pub use crate::rules::{Declaration, Rule, Rules};

@@ -1,0 +1,3 @@
+pub mod CommentSteps
+pub mod PieceLemmas
+pub mod NumberLemmas

@@ -1,0 +1,9 @@
+use Rattle.std.proofs.Common.{◌≡◌, [], false, ap, sym, ◌∙◌}
+use Rattle.style_reader.specs.Readings.{plain_from}
+use Rattle.style_reader.proofs.CommentSteps.{plain-end}
+use Rattle.style_reader.proofs.comments.has_comment.Goals as goal
+
+pub returns : goal.returns
+returns c = λ _.
+    let nothing : c.codes.rest.now ≡ [] = (c.in_default.ensures {u = tt}).cases in
+    c.codes.invariant (ap (plain_from false) nothing ∙ plain-end false ∙ sym nothing)
