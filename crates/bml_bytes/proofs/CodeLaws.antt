@@ -3,7 +3,7 @@ use Rattle.std.proofs.Common.{◌≡◌, ℕ, ◌+◌, ◌*◌, ◌<◌, Bool, t
 use Rattle.std.proofs.lemmas.Bool.Decides.{nat_tests}
 use Rattle.std.specs.List.{All}
 use Rattle.bml_bytes.specs.Codes.{AreBytes, code_bytes, is_pair, codes, bytes_of}
-use Rattle.bml_bytes.proofs.Elements.{All-first, All-rest}
+use Rattle.std.proofs.lemmas.List.Elements.{All-head, All-tail}
 
 -- a byte that stands for itself
 code_bytes-single : (byte : ℕ) → byte < 256 → code_bytes byte ≡ byte ∷ []
@@ -16,12 +16,12 @@ code_bytes-pair first second h pair = grind (arith, nat_tests)
 pub bytes_of-codes : (bytes : List ℕ) → AreBytes bytes → bytes_of (codes bytes) ≡ bytes
 unfolding codes
 bytes_of-codes [] h = refl
-bytes_of-codes (a ∷ []) h = rw (code_bytes-single a (All-first (λ b. b < 256) a [] h)) refl
+bytes_of-codes (a ∷ []) h = rw (code_bytes-single a (All-head (λ b. b < 256) a [] h)) refl
 bytes_of-codes (a ∷ b ∷ rest) h =
-    let first = All-first (λ b. b < 256) a (b ∷ rest) h in
-    let behind = All-rest (λ b. b < 256) a (b ∷ rest) h in
-    let second = All-first (λ b. b < 256) b rest behind in
-    let last = All-rest (λ b. b < 256) b rest behind in
+    let first = All-head (λ b. b < 256) a (b ∷ rest) h in
+    let behind = All-tail (λ b. b < 256) a (b ∷ rest) h in
+    let second = All-head (λ b. b < 256) b rest behind in
+    let last = All-tail (λ b. b < 256) b rest behind in
     by_pair (is_pair a b) refl first second (bytes_of-codes rest last) (bytes_of-codes (b ∷ rest) behind)
   where
     by_pair : {a b : ℕ} {rest : List ℕ} (pair : Bool) → is_pair a b ≡ pair → a < 256 → b < 256 → bytes_of (codes rest) ≡ rest → bytes_of (codes (b ∷ rest)) ≡ b ∷ rest → bytes_of (cond pair ((a * 256 + b) ∷ codes rest) (a ∷ codes (b ∷ rest))) ≡ a ∷ b ∷ rest
@@ -37,6 +37,6 @@ unfolding codes
 codes-ascii [] h = refl
 codes-ascii (a ∷ []) h = refl
 codes-ascii (a ∷ b ∷ rest) h =
-    let first = All-first (λ byte. byte < 128) a (b ∷ rest) h in
-    let behind = All-rest (λ byte. byte < 128) a (b ∷ rest) h in
+    let first = All-head (λ byte. byte < 128) a (b ∷ rest) h in
+    let behind = All-tail (λ byte. byte < 128) a (b ∷ rest) h in
     rw (is_pair-ascii a b first, codes-ascii (b ∷ rest) behind) refl

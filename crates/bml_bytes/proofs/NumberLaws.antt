@@ -3,13 +3,13 @@ use Rattle.std.proofs.Common.{◌≡◌, ℕ, zero, suc, ◌+◌, ◌*◌, ◌/�
 use Rattle.std.proofs.Math.Arith.{mod-mul}
 use Rattle.std.proofs.Math.Nat.{one-le-pow, pow-zero, pow-suc, pow-succ', mod-eq_of_lt, mod-lt, add-mul-div_right, add-mul-mod_self_right}
 use Rattle.std.proofs.lemmas.Nat.{div-mul-add, mul-add-lt}
-use Rattle.std.proofs.lemmas.List.Elements.{All-cons}
+use Rattle.std.proofs.lemmas.List.Elements.{All-cons, All-head, All-tail, All-take}
 use Rattle.std.proofs.Math.Seq.{take-length}
 use Rattle.std.specs.List.{All}
 use Rattle.byteorder.specs.Endian.{big_from}
 use Rattle.byteorder.specs.Numbers.{big_from-cons}
 use Rattle.bml_bytes.specs.Numbers.{number_in, digits_in}
-use Rattle.bml_bytes.proofs.Elements.{All-first, All-rest, All-take, take-front, length-take-le}
+use Rattle.bml_bytes.proofs.Elements.{take-front, length-take-le}
 
 -- a power of a base
 pub pow-positive : (base count : ℕ) → 0 < base → 0 < base ^ count
@@ -44,8 +44,8 @@ pub number_in-fits : (base : ℕ) (digits : List ℕ) → All (λ digit. digit <
 unfolding number_in
 number_in-fits base [] h = rw (pow-zero base) (omega arith)
 number_in-fits base (digit ∷ digits) h =
-    let first = All-first (λ d. d < base) digit digits h in
-    let rest = number_in-fits base digits (All-rest (λ d. d < base) digit digits h) in
+    let first = All-head (λ d. d < base) digit digits h in
+    let rest = number_in-fits base digits (All-tail (λ d. d < base) digit digits h) in
     rw (pow-suc base (length digits)) (mul-add-lt digit (base ^ length digits) (number_in base digits) base first rest)
 
 -- what stands above the last digits
@@ -68,8 +68,8 @@ pub digits_in-number_in : (base : ℕ) (digits : List ℕ) → All (λ digit. di
 unfolding digits_in number_in
 digits_in-number_in base [] h = refl
 digits_in-number_in base (digit ∷ digits) h =
-    let first = All-first (λ d. d < base) digit digits h in
-    let below = All-rest (λ d. d < base) digit digits h in
+    let first = All-head (λ d. d < base) digit digits h in
+    let below = All-tail (λ d. d < base) digit digits h in
     let fits = number_in-fits base digits below in
     let place : (digit * base ^ length digits + number_in base digits) / base ^ length digits % base ≡ digit =
     ap (λ (n : ℕ). n % base) (div-mul-add digit (base ^ length digits) (number_in base digits) fits) ∙ mod-eq_of_lt first in

@@ -1,4 +1,6 @@
 pub mod Codes
+pub mod Escapes
 pub mod Numbers
 pub mod Numerals
 pub mod Refusals
+pub mod Words

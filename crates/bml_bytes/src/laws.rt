@@ -1,10 +1,11 @@
 //! What the definitions of this crate say together. Each function is a law: its contract is what it is
 //! for, and it does nothing when it runs.
 
-ghost use Rattle.std.specs.Prelude.{◌≡◌, ◌≢◌, ◌<◌, ◌≤◌, ◌^◌, ◌+◌, ℕ, List, [], ◌∷◌, ◌++◌, length, take, drop, slice_get, All, Some};
+ghost use Rattle.std.specs.Prelude.{◌≡◌, ◌≢◌, ◌<◌, ◌≤◌, ◌^◌, ◌+◌, ◌-◌, ◌*◌, ℕ, List, [], ◌∷◌, ◌++◌, length, take, drop, slice_get, All, Some};
+ghost use Rattle.std.specs.Io.{StartsWith};
 ghost use Rattle.std.specs.List.{AllPass};
 ghost use Rattle.bml_bytes.specs.Codes.{AreBytes, bytes_of, codes};
-ghost use Rattle.bml_bytes.specs.Numbers.{big_bytes, big_number};
+ghost use Rattle.bml_bytes.specs.Numbers.{big_bytes, big_number, digits_in, number_in};
 ghost use Rattle.bml_bytes.specs.Numerals.{decimal_digits, decimal_field, decimal_number, is_decimal_digit};
 
 /// A text that was read from bytes is written back as those bytes, and ASCII bytes are their own codes.
@@ -15,10 +16,24 @@ pub fn law_of_codes()
     ensures ascii { (bytes : List ℕ) → All (λ byte. byte < 128) bytes → codes bytes ≡ bytes }
 {}
 
+/// A number has as many digits in a base as are asked for, each below the base. They are read back as the
+/// number where it fits them, and a digit more makes it the base times itself and the digit.
+pub fn law_of_digits()
+    ensures read_back { (base count number : ℕ) → 0 < base → number < base ^ count →
+        number_in base (digits_in base count number) ≡ number }
+    ensures below { (base count number : ℕ) → 0 < base →
+        All (λ digit. digit < base) (digits_in base count number) }
+    ensures count { (base count number : ℕ) → length (digits_in base count number) ≡ count }
+    ensures more { (base : ℕ) (digits : List ℕ) (digit : ℕ) →
+        number_in base (digits ++ digit ∷ []) ≡ number_in base digits * base + digit }
+{}
+
 /// Writing a number in bytes and reading bytes as a number undo each other.
 pub fn law_of_big_numbers()
-    ensures read_back { (count number : ℕ) → number < 256 ^ count → big_number (big_bytes count number) ≡ number }
-    ensures written_back { (bytes : List ℕ) → AreBytes bytes → big_bytes (length bytes) (big_number bytes) ≡ bytes }
+    ensures read_back { (count number : ℕ) → number < 256 ^ count →
+        big_number (big_bytes count number) ≡ number }
+    ensures written_back { (bytes : List ℕ) → AreBytes bytes →
+        big_bytes (length bytes) (big_number bytes) ≡ bytes }
     ensures fits { (bytes : List ℕ) → AreBytes bytes → big_number bytes < 256 ^ length bytes }
     ensures bytes { (count number : ℕ) → AreBytes (big_bytes count number) }
     ensures byte { (byte : ℕ) → byte < 256 → big_bytes 1 byte ≡ byte ∷ [] }
@@ -27,17 +42,29 @@ pub fn law_of_big_numbers()
 
 /// A number in front of other bytes is read from there, and what is read is what stands there.
 pub fn law_of_fields()
-    ensures number { (count number : ℕ) (rest : List ℕ) → number < 256 ^ count → big_number (take count (big_bytes count number ++ rest)) ≡ number }
+    ensures number { (count number : ℕ) (rest : List ℕ) → number < 256 ^ count →
+        big_number (take count (big_bytes count number ++ rest)) ≡ number }
     ensures rest { (count number : ℕ) (rest : List ℕ) → drop count (big_bytes count number ++ rest) ≡ rest }
-    ensures field { (count : ℕ) (bytes : List ℕ) → AreBytes bytes → count ≤ length bytes → big_bytes count (big_number (take count bytes)) ++ drop count bytes ≡ bytes }
+    ensures field { (count : ℕ) (bytes : List ℕ) → AreBytes bytes → count ≤ length bytes →
+        big_bytes count (big_number (take count bytes)) ++ drop count bytes ≡ bytes }
 {}
 
 /// A number is printed in base ten as the one numeral that it has: digits, whose number it is, with no
-/// zero in front of another digit. A field of these digits is read back.
+/// zero in front of another digit. A field of these digits is read back, and a digit more makes a number
+/// ten times itself and the digit.
 pub fn law_of_decimals()
     ensures digits { (number : ℕ) → AllPass is_decimal_digit (decimal_digits number) }
     ensures number { (number : ℕ) → decimal_number (decimal_digits number) ≡ number }
     ensures first { (number : ℕ) → 10 ≤ number → slice_get (decimal_digits number) 0 ≢ Some 48 }
     ensures one { (number : ℕ) → number < 10 → decimal_digits number ≡ (48 + number) ∷ [] }
     ensures field { (number : ℕ) → number < 2 ^ 32 → decimal_field (decimal_digits number) ≡ Some number }
+    ensures more { (digits : List ℕ) (digit : ℕ) →
+        decimal_number (digits ++ digit ∷ []) ≡ decimal_number digits * 10 + (digit - 48) }
+{}
+
+/// What begins with a list begins with each front of that list: so a call that appends to what another
+/// call left keeps what stood before both.
+pub fn law_of_fronts()
+    ensures { (front more whole longer : List ℕ) → whole ≡ front ++ more → StartsWith longer whole →
+        StartsWith longer front }
 {}

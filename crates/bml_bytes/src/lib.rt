@@ -1,23 +1,32 @@
 //! Texts, numbers in bytes and printed numbers: what every other crate of the receiver stands on.
 //!
 //! A [`Text`] is a list of codes that copies share; it is made of any bytes and gives them back. A
-//! [`Cursor`] reads the numbers of a table from the front of its bytes, or takes nothing. Numbers are
-//! printed in base ten and sixteen, and a field of decimal digits is read back. What the definitions
-//! say together stands in the `law_of_..` functions.
+//! [`Cursor`] reads the numbers of a table from the front of its bytes, or takes nothing. The `push_..`
+//! functions append the fields of an output line: words, numbers in base ten and sixteen, and texts with
+//! bytes that are escaped; a field of decimal digits is read back. What the definitions say together stands
+//! in the `law_of_..` functions.
 #![tactic(auto)]
 
-mod area_bytes_type;
+mod area;
 mod cursors;
 mod laws;
+mod line_fields;
 mod numerals;
 mod refusals;
+mod sequence;
 #[cfg(test)]
 mod tests;
 mod texts;
+mod words;
 
-pub use crate::area_bytes_type::AreaBytes;
+pub use crate::area::AreaBytes;
 pub use crate::cursors::Cursor;
-pub use crate::laws::{law_of_big_numbers, law_of_codes, law_of_decimals, law_of_fields};
+pub use crate::laws::{
+    law_of_big_numbers, law_of_codes, law_of_decimals, law_of_digits, law_of_fields, law_of_fronts,
+};
+pub use crate::line_fields::{Escapes, push_count, push_line_end, push_word};
 pub use crate::numerals::{push_decimal, push_hex, read_decimal};
 pub use crate::refusals::{NoMemory, TableFault, TableRefusal};
+pub use crate::sequence::Sequence;
 pub use crate::texts::Text;
+pub use crate::words::{is_word, is_word_in_any_case};

@@ -1,6 +1,7 @@
 //! Numbers printed in ASCII, and read back.
 
-ghost use Rattle.std.specs.Prelude.{◌≡◌, ◌<◌, ◌≤◌, ◌^◌, ◌++◌, ◌-◌, ◌/◌, ◌%◌, length, is_some, IfSome, OnOk, OnErr};
+ghost use Rattle.std.specs.Prelude.{◌≡◌, ◌<◌, ◌≤◌, ◌^◌, ◌++◌, ◌-◌, ◌/◌, ◌%◌, length, is_some, IfSome, OnOk};
+ghost use Rattle.std.specs.Io.{StartsWith};
 ghost use Rattle.std.specs.List.{list_all};
 ghost use Rattle.bml_bytes.specs.Numerals.{decimal_field, decimal_number, digit_character, is_decimal_digit, hex_digits, signed_decimal_digits};
 
@@ -12,7 +13,7 @@ const MOST_DIGITS: usize = 10;
 /// Appends a number in base ten, with a minus sign before a negative one and no zero in front.
 pub fn push_decimal(value: i64, out: &mut Vec<u8>) -> Result<(), NoMemory>
     ensures ok { OnOk result (out.new.items ≡ out.old.items ++ signed_decimal_digits value) }
-    ensures err { OnErr result (out.new.items ≡ out.old.items) }
+    ensures grows { StartsWith out.new.items out.old.items }
 {
     let mut buffer = itoa::Buffer::new();
     out.extend_from_slice(buffer.format(value).as_bytes())?;
@@ -26,7 +27,7 @@ pub fn push_hex(value: u32, digits: u8, out: &mut Vec<u8>) -> Result<(), NoMemor
     requires most { digits ≤ 8 }
     requires fits { value < 16 ^ digits }
     ensures ok { OnOk result (out.new.items ≡ out.old.items ++ hex_digits digits value) }
-    ensures err { OnErr result (out.new.items ≡ out.old.items) }
+    ensures grows { StartsWith out.new.items out.old.items }
 {
     let all = eight_hex_digits(value);
     out.extend_from_slice(&all[8 - usize::from(digits)..])?;

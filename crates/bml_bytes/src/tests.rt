@@ -71,6 +71,53 @@ fn numerals(rt: HostRuntime) -> Result<(), Fail> {
 }
 
 #[test]
+fn words(rt: HostRuntime) -> Result<(), Fail> {
+    let cases: [(&[u8], &str, bool, bool); 8] = [
+        (b"body", "body", true, true),
+        (b"Body", "body", false, true),
+        (b"[@z`{", "[@Z`{", false, true),
+        (b"bod", "body", false, false),
+        (b"body2", "body", false, false),
+        (b"bodz", "body", false, false),
+        (b"", "", true, true),
+        (b"\xA4\xC1", "A", false, false),
+    ];
+    for (bytes, word, is_same, is_same_in_any_case) in cases {
+        let text = Text::of_bytes(rt.alloc(), bytes)?;
+        assert_eq!(rt; text.is_word(word), is_same);
+        assert_eq!(rt; text.is_word_in_any_case(word), is_same_in_any_case);
+    }
+    Ok(())
+}
+
+#[test]
+fn line_fields(rt: HostRuntime) -> Result<(), Fail> {
+    let mut out = Vec::new(rt.alloc());
+    let text = Text::of_bytes(rt.alloc(), b"\x00\x1F !~\x7F\x80%\xA4\xA2\n")?;
+    push_word("text ", &mut out)?;
+    Escapes::Controls.push(&text, &mut out)?;
+    push_line_end(&mut out)?;
+    Escapes::ControlsAndSpace.push(&text, &mut out)?;
+    push_word(" ", &mut out)?;
+    push_count(0, &mut out)?;
+    push_word(" ", &mut out)?;
+    push_count(u64::MAX, &mut out)?;
+    push_line_end(&mut out)?;
+    let expected: &[u8] = b"text %00%1F !~%7F\x80%25\xA4\xA2%0A\n\
+        %00%1F%20!~%7F\x80%25\xA4\xA2%0A 0 18446744073709551615\n";
+    assert_eq!(rt; out.as_slice(), expected);
+    Ok(())
+}
+
+#[test]
+fn sequences(rt: HostRuntime) -> Result<(), Fail> {
+    let sequence: Sequence<u16> = Sequence::from(Vec::from_slice(rt.alloc(), &[7, 3, 7])?);
+    assert_eq!(rt; sequence.as_slice(), [7, 3, 7].as_slice());
+    assert_eq!(rt; sequence.into_vec().as_slice(), [7, 3, 7].as_slice());
+    Ok(())
+}
+
+#[test]
 fn cursors(rt: HostRuntime) {
     let mut cursor = Cursor::new(b"\x47\x01\xFF\x00\x10\x20\x80\x00\x00\x01\xAB\xCD");
     assert_eq!(rt; cursor.u8(), Some(0x47));

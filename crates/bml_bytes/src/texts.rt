@@ -1,9 +1,12 @@
 //! A text as a list of codes.
 
-ghost use Rattle.std.specs.Prelude.{◌≡◌, ◌<◌, [], ◌∷◌, length, slice_get, IfOk, IfSome, MatchOption, OnErr, OnOk, ◌++◌};
+ghost use Rattle.std.specs.Prelude.{◌≡◌, ◌<◌, [], ◌∷◌, length, slice_get, IfOk, IfSome, MatchOption, OnOk, ◌++◌};
+ghost use Rattle.std.specs.Io.{StartsWith};
 ghost use Rattle.bml_bytes.specs.Codes.{bytes_of, code_bytes, codes, is_high as spec_is_high, is_pair as spec_is_pair};
+ghost use Rattle.bml_bytes.specs.Words.{is_same, is_same_in_any_case};
 
 use crate::refusals::NoMemory;
+use crate::words::{is_word, is_word_in_any_case};
 use std::alloc::Global;
 use std::hash::{Hash, Hasher};
 use std::marker::Model;
@@ -63,6 +66,20 @@ impl Text {
         self.codes.as_slice().get(place).copied()
     }
 
+    /// Whether it is this word of ASCII.
+    pub fn is_word(&self, word: &str) -> bool
+        ensures { result ≡ is_same self.now word.now }
+    {
+        is_word(self.codes(), word)
+    }
+
+    /// Whether it is this word of ASCII, where `A` to `Z` count as `a` to `z`.
+    pub fn is_word_in_any_case(&self, word: &str) -> bool
+        ensures { result ≡ is_same_in_any_case self.now word.now }
+    {
+        is_word_in_any_case(self.codes(), word)
+    }
+
     /// All of its codes.
     pub fn codes(&self) -> &[u16]
         ensures { result.now ≡ self.now }
@@ -70,17 +87,14 @@ impl Text {
         self.codes.as_slice()
     }
 
-    /// Appends the bytes of the text: two for a code above 255, and one for every other.
+    /// Appends the bytes of the text: two for a code above 255, and one for every other. Where it finds no
+    /// memory, `out` begins with what it held, and what may stand behind that isn't to be written.
     pub fn push_bytes(&self, out: &mut Vec<u8>) -> Result<(), NoMemory>
         ensures ok { OnOk result (out.new.items ≡ out.old.items ++ bytes_of self.now) }
-        ensures err { OnErr result (out.new.items ≡ out.old.items) }
+        ensures grows { StartsWith out.new.items out.old.items }
     {
-        let before = out.len();
         for code in self.codes() {
-            if let Err(error) = push_code(*code, out) {
-                out.truncate(before);
-                return Err(error);
-            }
+            push_code(*code, out)?;
         }
         Ok(())
     }
@@ -133,7 +147,7 @@ impl Hash for Text {
 // Appends the bytes of one code.
 fn push_code(code: u16, out: &mut Vec<u8>) -> Result<(), NoMemory>
     ensures ok { OnOk result (out.new.items ≡ out.old.items ++ code_bytes code) }
-    ensures err { OnErr result (out.new.items ≡ out.old.items) }
+    ensures grows { StartsWith out.new.items out.old.items }
 {
     match u8::try_from(code) {
         Ok(byte) => out.push(byte)?,

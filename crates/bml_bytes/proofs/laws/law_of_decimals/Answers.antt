@@ -1,4 +1,4 @@
-use Rattle.bml_bytes.proofs.NumeralLaws.{begins-decimal_digits, decimal_digits-one, list_all-decimal_digits, decimal_number-decimal_digits, decimal_field-decimal_digits}
+use Rattle.bml_bytes.proofs.NumeralLaws.{begins-decimal_digits, decimal_digits-one, list_all-decimal_digits, decimal_number-decimal_digits, decimal_number-more, decimal_field-decimal_digits}
 use Rattle.std.proofs.Common.{arith}
 use Rattle.std.proofs.lemmas.List.Sums.{AllPass-from_list_all}
 use Rattle.bml_bytes.specs.Numerals.{is_decimal_digit, decimal_digits}
@@ -18,3 +18,6 @@ returns-clause-first c = λ number h. (begins-decimal_digits number).first (omeg
 
 pub returns-clause-one : goal.returns-clause-one
 returns-clause-one c = decimal_digits-one
+
+pub returns-clause-more : goal.returns-clause-more
+returns-clause-more c = decimal_number-more
