@@ -3,9 +3,9 @@
 -- project's own profile).
 use Rattle.std.specs.Prelude.{ℕ, ◌-◌, ◌==◌, nat_eq, nat_le, Bool, true, false, ◌&&◌, ◌||◌, List, [], ◌∷◌, length, take, drop}
 use Rattle.std.specs.List.{list_all, prefix_len, starts_with, suffix_len}
-use Rattle.std.specs.Cmp.Lexicographic.{pointwise}
-use Rattle.std.specs.Str.{byte, str_eq_ignore_ascii_case}
+use Rattle.std.specs.Str.{byte}
 use Rattle.bml_bytes.specs.Numerals.{is_decimal_digit}
+use Rattle.bml_bytes.specs.Words.{is_same_in_any_case}
 
 -- space, tab, line feed, carriage return
 unfoldable pub is_white : ℕ → Bool
@@ -37,12 +37,9 @@ without_white_end text = take (length text - suffix_len is_white text) text
 abbrev pub trimmed : List ℕ → List ℕ
 trimmed text = without_white_end (without_white_front text)
 
--- the two texts are the same, by case and without it
-abbrev pub is_same : List ℕ → List ℕ → Bool
-is_same text other = pointwise nat_eq text other
-
+-- the text is the word, without ASCII case
 abbrev pub is_word : List ℕ → List ℕ → Bool
-is_word word text = str_eq_ignore_ascii_case text word
+is_word word text = is_same_in_any_case text word
 
 -- the text begins with these codes
 abbrev pub begins_with : List ℕ → List ℕ → Bool

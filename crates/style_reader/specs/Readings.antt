@@ -5,7 +5,8 @@ use Rattle.std.specs.Prelude.{ℕ, zero, suc, ◌==◌, Bool, true, false, ◌&&
 use Rattle.std.specs.Option.{option_to_list}
 use Rattle.std.specs.List.{after_first, before_first, list_any, position_or_len, slice_split}
 use Rattle.std.specs.Str.{byte}
-use Rattle.style_reader.specs.Characters.{is_name, is_same, is_white, is_word, trimmed, without_white_front}
+use Rattle.bml_bytes.specs.Words.{is_same}
+use Rattle.style_reader.specs.Characters.{is_name, is_white, is_word, trimmed, without_white_front}
 use Rattle.style_reader.specs.Declarations.{declarations_in, is_colon, is_semicolon}
 use Rattle.style_reader.specs.Rules.{StyleRule, any_element, is_comma}
 use Rattle.style_reader.specs.Sheets.{Sheet, is_at, is_open, is_close}

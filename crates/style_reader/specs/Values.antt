@@ -4,7 +4,8 @@
 use Rattle.std.specs.Prelude.{◌≡◌, ℕ, ◌+◌, ◌-◌, ◌/◌, ◌%◌, ◌==◌, nat_le, nat_lt, Bool, false, true, not, ◌&&◌, if◌then◌else◌, ℤ, pos, neg_ℤ, int_le, List, [], ◌∷◌, ◌++◌, length, take, drop, filter, Option, Some, None, option_map, option_and_then, codes}
 use Rattle.std.specs.List.{list_all, list_any, join_with_byte, slice_split}
 use Rattle.bml_bytes.specs.Numerals.{is_decimal_digit, decimal_number, signed_decimal_digits}
-use Rattle.style_reader.specs.Characters.{begins_with, is_same, is_white, is_word, trimmed}
+use Rattle.bml_bytes.specs.Words.{is_same}
+use Rattle.style_reader.specs.Characters.{begins_with, is_white, is_word, trimmed}
 use Rattle.style_reader.specs.Properties.{Values, values_of}
 use Rattle.style_reader.specs.Properties.Values.{Pixels, Numbers, NumbersOrNone, VisibleOrHidden, KeyGroups}
 use Rattle.style_reader.specs.declared.properties.Property.{Property}

@@ -9,7 +9,6 @@ mod pieces;
 mod properties;
 mod rules;
 mod selectors;
-mod words;
 
 pub use crate::properties::{Property, StyleValue};
 pub use crate::rules::{Declaration, Rule, Rules};

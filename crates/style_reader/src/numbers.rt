@@ -6,7 +6,7 @@ ghost use Rattle.style_reader.specs.Values.{numeral as spec_numeral, pixel_count
 ghost use Rattle.style_reader.specs.Views.{capped, count_in, before_unit, digits_number};
 
 use crate::properties::StyleValue;
-use crate::words::{is_text, is_word_in_any_case};
+use bml_bytes::{is_word, is_word_in_any_case, law_of_decimals};
 
 /// What is counted, and so what stands behind the digits.
 #[derive(Clone, Copy, Debug)]
@@ -67,7 +67,7 @@ fn pixel_count(text: &[u16]) -> Option<u64>
     ensures count { result ≡ option_map capped (spec_pixel_count text.now) }
     ensures small { IfSome result (λ number. number ≤ 4294967296) }
 {
-    if is_text(text, "0") {
+    if is_word(text, "0") {
         return Some(0);
     }
     let digits = without_unit(text)?;
@@ -102,6 +102,7 @@ fn number_of(digits: &[u16]) -> Option<u64>
     ensures number { result ≡ option_map capped (digits_number digits.now) }
     ensures small { IfSome result (λ number. number ≤ 4294967296) }
 {
+    law_of_decimals();
     let mut number: u64 = 0;
     'digits: for digit in digits {
         number = (number * 10 + decimal_digit(*digit)?).min(TOO_MANY);
