@@ -1,3 +1,4 @@
 pub mod CommentSteps
-pub mod PieceLemmas
 pub mod NumberLemmas
+pub mod PieceLemmas
+pub mod WordLemmas

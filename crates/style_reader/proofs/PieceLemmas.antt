@@ -3,8 +3,10 @@ use Rattle.std.proofs.Common.{◌≡◌, ℕ, suc, ◌+◌, ◌-◌, ◌<◌, �
 use Rattle.std.proofs.lemmas.Bool.Decides.{nat_tests}
 use Rattle.std.proofs.lemmas.List.{length-drop}
 use Rattle.std.proofs.Math.Seq.{take-length}
-use Rattle.std.specs.Prelude.{nat_lt, not, ◌||◌, position}
-use Rattle.std.specs.List.{before_first, after_first, list_any, position_or_len}
+use Rattle.std.proofs.lemmas.List.Splits.{slice_split_none, slice_split_first}
+use Rattle.std.proofs.lemmas.List.Sums.{fails_before_first}
+use Rattle.std.specs.Prelude.{All, nat_lt, not, ◌||◌, position}
+use Rattle.std.specs.List.{before_first, after_first, list_any, position_or_len, slice_split}
 use Rattle.style_reader.specs.Views.{Pieces, pieces_at}
 
 nat_lt-step : (m n : ℕ) → nat_lt (1 + m) (suc n) ≡ nat_lt m n
@@ -31,7 +33,7 @@ lost-by true n text e = absurd (cc e)
 lost-by false n text e = refl
 
 -- the part of a list from a place on
-rest_whole : (n : ℕ) (xs : List ℕ) → take (length xs - n) (drop n xs) ≡ drop n xs
+pub rest_whole : (n : ℕ) (xs : List ℕ) → take (length xs - n) (drop n xs) ≡ drop n xs
 rest_whole n xs = rw (← length-drop n xs) (take-length (drop n xs))
 
 pub pieces_at-found : (p : ℕ → Bool) (text : List ℕ) (k : ℕ) → Some k ≡ position p text → ◌≡◌ {A = Option Pieces} (Some (take k text, take (length text - (k + 1)) (drop (k + 1) text))) (pieces_at p text)
@@ -41,3 +43,34 @@ pieces_at-found p text k e = rw (rest_whole (k + 1) text, list_any-is p text) (f
 pub pieces_at-lost : (p : ℕ → Bool) (text : List ℕ) → None ≡ position p text → None ≡ pieces_at p text
 unfolding pieces
 pieces_at-lost p text e = rw (list_any-is p text) (lost-by (nat_lt (position_or_len p text) (length text)) (position_or_len p text) text e)
+
+-- the pieces of a text are the one before the first code that passes, and those behind it
+none_before : (p : ℕ → Bool) (text : List ℕ) → length text ≤ position_or_len p text → All (λ code. p code ≡ false) text
+none_before p text h = λ k d below. fails_before_first p text k d (omega arith)
+
+pub slice_split-none : (p : ℕ → Bool) (text : List ℕ) → list_any p text ≡ false → slice_split p text ≡ text ∷ []
+slice_split-none p text e =
+    let same = list_any-is p text in
+    let past : length text ≤ position_or_len p text = grind (arith, nat_tests) in
+    slice_split_none p text (none_before p text past)
+
+pub slice_split-some : (p : ℕ → Bool) (text : List ℕ) → list_any p text ≡ true → slice_split p text ≡ before_first p text ∷ slice_split p (after_first p text)
+slice_split-some p text e =
+    let same = list_any-is p text in
+    let within : position_or_len p text < length text = grind (arith, nat_tests) in
+    slice_split_first p text 0 within
+
+-- a code that passes is found
+pub position-some : (p : ℕ → Bool) (text : List ℕ) (k : ℕ) → Some k ≡ position p text → (list_any p text ≡ true) × (k ≡ position_or_len p text)
+position-some p text k e = rw (list_any-is p text) (by (nat_lt (position_or_len p text) (length text)) e)
+  where
+    by : (b : Bool) → Some k ≡ cond b (Some (position_or_len p text)) None → (b ≡ true) × (k ≡ position_or_len p text)
+    by true e = (refl, cc e)
+    by false e = absurd (cc e)
+
+pub position-none : (p : ℕ → Bool) (text : List ℕ) → None ≡ position p text → list_any p text ≡ false
+position-none p text e = rw (list_any-is p text) (by (nat_lt (position_or_len p text) (length text)) e)
+  where
+    by : (b : Bool) → None ≡ cond b (Some (position_or_len p text)) None → b ≡ false
+    by true e = absurd (cc e)
+    by false e = refl

@@ -3,13 +3,16 @@
 
 mod characters;
 mod comments;
+mod keys;
 mod laws;
 mod numbers;
 mod pieces;
 mod properties;
 mod rules;
 mod selectors;
+mod values;
 
 pub use crate::properties::{Property, StyleValue};
 pub use crate::rules::{Declaration, Rule, Rules};
 pub use crate::selectors::{Mark, PseudoClass, Selector};
+pub use crate::values::{fits, push_value, value_of};
