@@ -7,7 +7,7 @@ use Rattle.std.proofs.lemmas.List.Splits.{slice_split_none, slice_split_first}
 use Rattle.std.proofs.lemmas.List.Sums.{fails_before_first}
 use Rattle.std.specs.Prelude.{All, nat_lt, not, ◌||◌, position}
 use Rattle.std.specs.List.{before_first, after_first, list_any, position_or_len, slice_split}
-use Rattle.style_reader.specs.Views.{Pieces, pieces_at}
+use Rattle.style_reader.specs.Views.{IsParted, pieces_from}
 
 nat_lt-step : (m n : ℕ) → nat_lt (1 + m) (suc n) ≡ nat_lt m n
 nat_lt-step m n = grind (arith, nat_tests)
@@ -21,28 +21,33 @@ list_any-is p (x ∷ xs) = by (p x) (list_any-is p xs ∙ sym (nat_lt-step (posi
     by true e = grind (arith, nat_tests)
     by false e = e
 
-pieces : ℕ → List ℕ → Pieces
-pieces n text = (take n text, drop (n + 1) text)
-
-found-by : (b : Bool) (k n : ℕ) (text : List ℕ) → Some k ≡ cond b (Some n) None → Some (pieces k text) ≡ cond b (Some (pieces n text)) None
-found-by true k n text e = let same : k ≡ n = cc in ap (λ (n : ℕ). Some (pieces n text)) same
-found-by false k n text e = absurd (cc e)
-
-lost-by : (b : Bool) (n : ℕ) (text : List ℕ) → None ≡ cond b (Some n) None → None ≡ cond b (Some (pieces n text)) None
-lost-by true n text e = absurd (cc e)
-lost-by false n text e = refl
-
 -- the part of a list from a place on
 pub rest_whole : (n : ℕ) (xs : List ℕ) → take (length xs - n) (drop n xs) ≡ drop n xs
 rest_whole n xs = rw (← length-drop n xs) (take-length (drop n xs))
 
-pub pieces_at-found : (p : ℕ → Bool) (text : List ℕ) (k : ℕ) → Some k ≡ position p text → ◌≡◌ {A = Option Pieces} (Some (take k text, take (length text - (k + 1)) (drop (k + 1) text))) (pieces_at p text)
-unfolding pieces
-pieces_at-found p text k e = rw (rest_whole (k + 1) text, list_any-is p text) (found-by (nat_lt (position_or_len p text) (length text)) k (position_or_len p text) text e)
+-- a code that passes is found
+pub position-some : (p : ℕ → Bool) (text : List ℕ) (k : ℕ) → Some k ≡ position p text → (list_any p text ≡ true) × (k ≡ position_or_len p text)
+position-some p text k e = rw (list_any-is p text) (by (nat_lt (position_or_len p text) (length text)) e)
+  where
+    by : (b : Bool) → Some k ≡ cond b (Some (position_or_len p text)) None → (b ≡ true) × (k ≡ position_or_len p text)
+    by true e = (refl, cc e)
+    by false e = absurd (cc e)
 
-pub pieces_at-lost : (p : ℕ → Bool) (text : List ℕ) → None ≡ position p text → None ≡ pieces_at p text
-unfolding pieces
-pieces_at-lost p text e = rw (list_any-is p text) (lost-by (nat_lt (position_or_len p text) (length text)) (position_or_len p text) text e)
+pub position-none : (p : ℕ → Bool) (text : List ℕ) → None ≡ position p text → list_any p text ≡ false
+position-none p text e = rw (list_any-is p text) (by (nat_lt (position_or_len p text) (length text)) e)
+  where
+    by : (b : Bool) → None ≡ cond b (Some (position_or_len p text)) None → b ≡ false
+    by true e = absurd (cc e)
+    by false e = refl
+
+pub IsParted-found : (p : ℕ → Bool) (text : List ℕ) (k : ℕ) → Some k ≡ position p text → IsParted p text (take k text) (take (length text - (k + 1)) (drop (k + 1) text))
+IsParted-found p text k e =
+    let found = position-some p text k e in
+    record {
+      has_one = found.0;
+      before_is = ap (λ (n : ℕ). take n text) found.1;
+      behind_is = rest_whole (k + 1) text ∙ ap (λ (n : ℕ). drop (n + 1) text) found.1;
+    }
 
 -- the pieces of a text are the one before the first code that passes, and those behind it
 none_before : (p : ℕ → Bool) (text : List ℕ) → length text ≤ position_or_len p text → All (λ code. p code ≡ false) text
@@ -60,17 +65,6 @@ slice_split-some p text e =
     let within : position_or_len p text < length text = grind (arith, nat_tests) in
     slice_split_first p text 0 within
 
--- a code that passes is found
-pub position-some : (p : ℕ → Bool) (text : List ℕ) (k : ℕ) → Some k ≡ position p text → (list_any p text ≡ true) × (k ≡ position_or_len p text)
-position-some p text k e = rw (list_any-is p text) (by (nat_lt (position_or_len p text) (length text)) e)
-  where
-    by : (b : Bool) → Some k ≡ cond b (Some (position_or_len p text)) None → (b ≡ true) × (k ≡ position_or_len p text)
-    by true e = (refl, cc e)
-    by false e = absurd (cc e)
-
-pub position-none : (p : ℕ → Bool) (text : List ℕ) → None ≡ position p text → list_any p text ≡ false
-position-none p text e = rw (list_any-is p text) (by (nat_lt (position_or_len p text) (length text)) e)
-  where
-    by : (b : Bool) → None ≡ cond b (Some (position_or_len p text)) None → b ≡ false
-    by true e = absurd (cc e)
-    by false e = refl
+-- the first piece, and those behind it
+pub pieces_from-some : (p : ℕ → Bool) (text before behind : List ℕ) → IsParted p text before behind → slice_split p text ≡ pieces_from p before (Some behind)
+pieces_from-some p text before behind parted = rw (parted.before_is, parted.behind_is) (slice_split-some p text parted.has_one)

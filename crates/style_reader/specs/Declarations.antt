@@ -8,7 +8,7 @@ use Rattle.style_reader.specs.Characters.{is_word, trimmed}
 use Rattle.style_reader.specs.Properties.{all_properties, name_of}
 use Rattle.style_reader.specs.Values.{value_of}
 use Rattle.style_reader.specs.declared.properties.Property.{Property}
-use Rattle.style_reader.specs.declared.rules.Declaration.{Declaration}
+use Rattle.style_reader.specs.declared.declarations.Declaration.{Declaration}
 
 abbrev pub is_colon : ℕ → Bool
 is_colon code = code == byte ":"

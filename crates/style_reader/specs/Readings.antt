@@ -11,7 +11,7 @@ use Rattle.style_reader.specs.Declarations.{declarations_in, is_colon, is_semico
 use Rattle.style_reader.specs.Rules.{StyleRule, any_element, is_comma}
 use Rattle.style_reader.specs.Sheets.{Sheet, is_at, is_open, is_close}
 use Rattle.style_reader.specs.Sheets.Sheet.{Rest, Rule, OpenRule, AtRule, OpenAtRule}
-use Rattle.style_reader.specs.declared.rules.Declaration.{Declaration}
+use Rattle.style_reader.specs.declared.declarations.Declaration.{Declaration}
 use Rattle.style_reader.specs.declared.selectors.Selector.{Selector}
 use Rattle.style_reader.specs.declared.selectors.Mark.{Mark}
 use Rattle.style_reader.specs.declared.selectors.Mark.TheVariants.{Class, Id}
@@ -43,9 +43,19 @@ plain_text text = plain_from false text
 abbrev pub pseudo_class_of : List ℕ → Option PseudoClass
 pseudo_class_of word = if is_word (ascii "focus") word then Some Focus else if is_word (ascii "active") word then Some Active else None
 
--- behind the first colon, where there is one
-unfoldable pub pseudo_class_behind : List ℕ → Option (Option PseudoClass)
-pseudo_class_behind text = if list_any is_colon text then option_map Some (pseudo_class_of (after_first is_colon text)) else Some None
+-- what stands before the first colon, or all of a text without one, and the pseudo-class behind it
+pub record Parted : Type 0 where
+  pub subject : List ℕ
+  pub pseudo_class : Option PseudoClass
+
+abbrev pub parted : List ℕ → Option PseudoClass → Parted
+parted subject pseudo_class = record { subject = subject; pseudo_class = pseudo_class }
+
+unfoldable pub before_pseudo_class : List ℕ → Option Parted
+before_pseudo_class text =
+    if list_any is_colon text
+    then option_map (λ pseudo_class. parted (before_first is_colon text) (Some pseudo_class)) (pseudo_class_of (after_first is_colon text))
+    else Some (parted text None)
 
 abbrev pub begins_mark : ℕ → Bool
 begins_mark code = (code == byte ".") || (code == byte "#")
@@ -68,19 +78,21 @@ tag_of (first ∷ more) = if is_name (first ∷ more) then Some (Some (first ∷
 abbrev pub marked : List ℕ → List ℕ → Option Asked
 marked tag mark = option_and_then (λ tag. option_map (λ mark. record { tag = tag; mark = Some mark }) (mark_of mark)) (tag_of tag)
 
+abbrev pub asked_tag : List ℕ → Option Asked
+asked_tag text = if is_name text then Some (record { tag = Some text; mark = None }) else None
+
 unfoldable pub asked_of : List ℕ → Option Asked
 asked_of text =
     if is_same text (ascii "*") then Some (record { tag = None; mark = None })
     else if list_any begins_mark text then marked (before_first begins_mark text) (drop (position_or_len begins_mark text) text)
-    else if is_name text then Some (record { tag = Some text; mark = None })
-    else None
+    else asked_tag text
 
 -- the selector that a text is, where it is one
 abbrev pub selector_with : Option PseudoClass → Asked → Selector
 selector_with pseudo_class asked = record { tag = asked.tag; mark = asked.mark; pseudo_class = pseudo_class }
 
 unfoldable pub selector_of : List ℕ → Option Selector
-selector_of text = option_and_then (λ pseudo_class. option_map (selector_with pseudo_class) (asked_of (before_first is_colon text))) (pseudo_class_behind text)
+selector_of text = option_and_then (λ parted. option_map (selector_with parted.pseudo_class) (asked_of parted.subject)) (before_pseudo_class text)
 
 -- the selectors that texts are, where each is one
 abbrev pub all_selectors : List (List ℕ) → Option (List Selector)

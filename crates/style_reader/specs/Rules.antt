@@ -10,7 +10,7 @@ use Rattle.style_reader.specs.Declarations.{declarations_in}
 use Rattle.style_reader.specs.Selectors.{IsSelector}
 use Rattle.style_reader.specs.Sheets.{Sheet, Spells}
 use Rattle.style_reader.specs.Sheets.Sheet.{Rest, Rule, OpenRule, AtRule, OpenAtRule}
-use Rattle.style_reader.specs.declared.rules.Declaration.{Declaration}
+use Rattle.style_reader.specs.declared.declarations.Declaration.{Declaration}
 use Rattle.style_reader.specs.declared.properties.Property.{Property}
 use Rattle.style_reader.specs.declared.properties.StyleValue.{StyleValue}
 use Rattle.style_reader.specs.declared.selectors.Selector.{Selector}

@@ -7,6 +7,13 @@ use Rattle.style_reader.specs.Characters.{is_white, is_word}
 use Rattle.style_reader.specs.Properties.{Row, Values}
 use Rattle.style_reader.specs.Properties.Values.{Pixels, Numbers, NumbersOrNone, VisibleOrHidden, KeyGroups}
 use Rattle.style_reader.specs.Values.{numeral, pixel_count, signed, unit_of, without_unit}
+use Rattle.style_reader.specs.Readings.{Asked, Found, Parted, parted, rules_by}
+use Rattle.style_reader.specs.Readings.Found.{Nothing, FoundRule, FoundOpenRule, FoundAtRule, FoundOpenAtRule}
+use Rattle.style_reader.specs.Rules.{StyleRule}
+use Rattle.style_reader.specs.declared.sheets.Part.{Part}
+use Rattle.style_reader.specs.declared.sheets.Part.TheVariants as parts
+use Rattle.style_reader.specs.declared.selectors.Asked.{Asked as AskedInCode}
+use Rattle.style_reader.specs.declared.selectors.PseudoClass.{PseudoClass}
 use Rattle.style_reader.specs.declared.numbers.Unit.{Unit as UnitInCode}
 use Rattle.style_reader.specs.declared.numbers.Unit.TheVariants as units
 use Rattle.style_reader.specs.declared.numbers.Unit.TheVariants.{Plain}
@@ -47,18 +54,54 @@ count_in units.Pixels text = pixel_count text
 
 -- ---- pieces
 
-abbrev pub found_pieces : Bor (List ℕ) × Bor (List ℕ) → List ℕ × List ℕ
-found_pieces (before, behind) = (before.now, behind.now)
-
 abbrev pub is_code : ℕ → ℕ → Bool
 is_code sought code = code == sought
 
--- before the first such code, and behind it
-abbrev pub Pieces : Type 0
-Pieces = List ℕ × List ℕ
+-- before the first code that passes the test, and behind it
+pub record IsParted (test : ℕ → Bool) (text before behind : List ℕ) : Type 0 where
+  pub has_one : list_any test text ≡ true
+  pub before_is : before ≡ before_first test text
+  pub behind_is : behind ≡ after_first test text
 
-abbrev pub pieces_at : (ℕ → Bool) → List ℕ → Option Pieces
-pieces_at test text = if list_any test text then Some (before_first test text, after_first test text) else None
+-- the first piece, and those behind it
+abbrev pub pieces_from : (ℕ → Bool) → List ℕ → Option (List ℕ) → List (List ℕ)
+pieces_from test piece None = piece ∷ []
+pieces_from test piece (Some more) = piece ∷ slice_split test more
+
+-- ---- selectors
+
+abbrev pub seen_before : Bor (List ℕ) × Option PseudoClass → Parted
+seen_before (subject, pseudo_class) = parted subject.now pseudo_class
+
+abbrev pub seen_asked : AskedInCode → Asked
+seen_asked asked = record { tag = asked.tag; mark = asked.mark }
+
+-- ---- sheets
+
+-- the rules that a part of a sheet gives
+abbrev pub rules_by_part : Part → List StyleRule
+rules_by_part (parts.Rule selectors block) = rules_by selectors.now block.now
+rules_by_part parts.AtRule = []
+
+-- the rules that stand at the front of a sheet, and what stands behind them
+pub record FirstPart : Type 0 where
+  pub rules : List StyleRule
+  pub rest : List ℕ
+
+abbrev pub first_part : List StyleRule → List ℕ → FirstPart
+first_part rules rest = record { rules = rules; rest = rest }
+
+abbrev pub part_of : Found → Option FirstPart
+part_of Nothing = None
+part_of (FoundRule selectors block rest) = Some (first_part (rules_by selectors block) rest)
+part_of (FoundOpenRule selectors block) = Some (first_part (rules_by selectors block) [])
+part_of (FoundAtRule rest) = Some (first_part [] rest)
+part_of FoundOpenAtRule = None
+
+abbrev pub seen_part : Part × Bor (List ℕ) → FirstPart
+seen_part (part, rest) = first_part (rules_by_part part) rest.now
+
+-- ---- comments
 
 -- what stands behind two codes, where they stand first
 abbrev pub behind_pair : ℕ → ℕ → List ℕ → Option (List ℕ)

@@ -1,6 +1,6 @@
 //! The characters of a style's text.
 
-ghost use Rattle.std.specs.Prelude.{◌≡◌, length, option_copied, option_map};
+ghost use Rattle.std.specs.Prelude.{◌≡◌, ◌≤◌, length};
 ghost use Rattle.std.specs.List.{list_all};
 ghost use Rattle.bml_bytes.specs.Numerals.{is_decimal_digit};
 ghost use Rattle.style_reader.specs.Characters.{is_letter as spec_is_letter, is_name as spec_is_name, is_name_code as spec_is_name_code, is_name_start as spec_is_name_start, is_white as spec_is_white, trimmed as spec_trimmed, without_white_front as spec_without_white_front};
@@ -25,7 +25,8 @@ pub fn is_name(text: &[u16]) -> bool
 
 /// The text without the white at its front.
 pub fn without_white_front(text: &[u16]) -> &[u16]
-    ensures { result.now ≡ spec_without_white_front text.now }
+    ensures text { result.now ≡ spec_without_white_front text.now }
+    ensures bound { length result.now ≤ length text.now }
 {
     let mut rest = text;
     'front: while let Some((first, more)) = rest.split_first() {

@@ -3,6 +3,7 @@
 
 mod characters;
 mod comments;
+mod declarations;
 mod keys;
 mod laws;
 mod numbers;
@@ -10,9 +11,11 @@ mod pieces;
 mod properties;
 mod rules;
 mod selectors;
+mod sheets;
 mod values;
 
+pub use crate::declarations::Declaration;
 pub use crate::properties::{Property, StyleValue};
-pub use crate::rules::{Declaration, Rule, Rules};
+pub use crate::rules::{Rule, Rules};
 pub use crate::selectors::{Mark, PseudoClass, Selector};
 pub use crate::values::{fits, push_value, value_of};

@@ -1,15 +1,8 @@
 //! Rules.
 
-use crate::properties::{Property, StyleValue};
+use crate::declarations::Declaration;
 use crate::selectors::Selector;
 use std::marker::Model;
-
-/// A property, and what it is given.
-#[derive(Clone, Copy, Debug, PartialEq, Eq)]
-pub struct Declaration {
-    pub property: Property,
-    pub value: StyleValue,
-}
 
 /// A rule: its selectors, and what it declares, in order.
 #[derive(Debug, Drop)]
