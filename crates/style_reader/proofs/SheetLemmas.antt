@@ -1,5 +1,5 @@
 -- The parts of a sheet, one by one.
-use Rattle.std.proofs.Common.{◌≡◌, ℕ, zero, suc, ◌+◌, ◌-◌, ◌<◌, ◌≤◌, Bool, true, false, cond, List, [], ◌∷◌, ◌++◌, length, take, drop, Option, Some, None, refl, sym, ◌∙◌, ap, append-nil, arith}
+use Rattle.std.proofs.Common.{◌≡◌, ℕ, zero, suc, ◌+◌, ◌-◌, ◌<◌, ◌≤◌, Bool, true, false, cond, List, [], ◌∷◌, ◌++◌, length, take, drop, Option, Some, None, refl, sym, ◌∙◌, ap, append-nil, append_assoc, arith}
 use Rattle.std.proofs.lemmas.Bool.Decides.{nat_tests}
 use Rattle.std.proofs.lemmas.List.{length-drop}
 use Rattle.std.specs.Prelude.{option_map}
@@ -7,7 +7,7 @@ use Rattle.std.specs.List.{after_first, before_first, list_any, position_or_len,
 use Rattle.style_reader.specs.Characters.{is_white, without_white_front}
 use Rattle.style_reader.specs.Readings.{Found, at_rule_found, behind_at_rule, behind_block, block_found, found_at, found_behind_white, rule_found, rules_by, rules_in, sheet_of, sheet_within}
 use Rattle.style_reader.specs.Readings.Found.{Nothing, FoundRule, FoundOpenRule, FoundAtRule, FoundOpenAtRule}
-use Rattle.style_reader.specs.Rules.{StyleRule}
+use Rattle.style_reader.specs.declared.rules.Rule.{Rule as StyleRule}
 use Rattle.style_reader.specs.Declarations.{is_semicolon}
 use Rattle.style_reader.specs.Sheets.{Sheet, is_at, is_close, is_open}
 use Rattle.style_reader.specs.Sheets.Sheet.{Rest, Rule, OpenRule, AtRule, OpenAtRule}
@@ -170,3 +170,15 @@ rules_in-some text first e = ap rules_in (sheet_of-step text) ∙ by (found_at t
         rw same (sym (append-nil (rules_by selectors block)) ∙ ap (λ (more : List StyleRule). rules_by selectors block ++ more) (sym sheet_of-nothing))
     by (FoundAtRule rest) h = let same : first ≡ first_part [] rest = cc in rw same refl
     by FoundOpenAtRule h = absurd (cc h)
+
+-- one part more
+pub rules-more : (read new rules whole : List StyleRule) (rest more : List ℕ) → read ++ rules_in (sheet_of rest) ≡ whole → new ≡ read ++ rules → Some (first_part rules more) ≡ part_of (found_at rest) → new ++ rules_in (sheet_of more) ≡ whole
+rules-more read new rules whole rest more so_far pushed part =
+    ap (λ (front : List StyleRule). front ++ rules_in (sheet_of more)) pushed
+    ∙ append_assoc read rules (rules_in (sheet_of more))
+    ∙ ap (λ (behind : List StyleRule). read ++ behind) (sym (rules_in-some rest (first_part rules more) part))
+    ∙ so_far
+
+-- no part more
+pub rules-all : (read whole : List StyleRule) (rest : List ℕ) → read ++ rules_in (sheet_of rest) ≡ whole → None ≡ part_of (found_at rest) → read ≡ whole
+rules-all read whole rest so_far none = sym (append-nil read) ∙ ap (λ (behind : List StyleRule). read ++ behind) (sym (rules_in-none rest none)) ∙ so_far

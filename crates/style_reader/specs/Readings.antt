@@ -8,7 +8,8 @@ use Rattle.std.specs.Str.{byte}
 use Rattle.bml_bytes.specs.Words.{is_same}
 use Rattle.style_reader.specs.Characters.{is_name, is_white, is_word, trimmed, without_white_front}
 use Rattle.style_reader.specs.Declarations.{declarations_in, is_colon, is_semicolon}
-use Rattle.style_reader.specs.Rules.{StyleRule, any_element, is_comma}
+use Rattle.style_reader.specs.Rules.{any_element, is_comma}
+use Rattle.style_reader.specs.declared.rules.Rule.{Rule as StyleRule}
 use Rattle.style_reader.specs.Sheets.{Sheet, is_at, is_open, is_close}
 use Rattle.style_reader.specs.Sheets.Sheet.{Rest, Rule, OpenRule, AtRule, OpenAtRule}
 use Rattle.style_reader.specs.declared.declarations.Declaration.{Declaration}
@@ -179,5 +180,8 @@ unfoldable pub rules_of : List ℕ → List StyleRule
 rules_of text = rules_in (sheet_of (plain_text text))
 
 -- and those that an inline text does
+abbrev pub inline_rules_by : List ℕ → List StyleRule
+inline_rules_by text = rule_with (declarations_in text) (any_element ∷ []) ∷ []
+
 unfoldable pub inline_rules_of : List ℕ → List StyleRule
-inline_rules_of text = rule_with (declarations_in (plain_text text)) (any_element ∷ []) ∷ []
+inline_rules_of text = inline_rules_by (plain_text text)

@@ -13,12 +13,8 @@ use Rattle.style_reader.specs.Sheets.Sheet.{Rest, Rule, OpenRule, AtRule, OpenAt
 use Rattle.style_reader.specs.declared.declarations.Declaration.{Declaration}
 use Rattle.style_reader.specs.declared.properties.Property.{Property}
 use Rattle.style_reader.specs.declared.properties.StyleValue.{StyleValue}
+use Rattle.style_reader.specs.declared.rules.Rule.{Rule as StyleRule}
 use Rattle.style_reader.specs.declared.selectors.Selector.{Selector}
-
--- a rule: each of its selectors is given each of its declarations
-pub record StyleRule : Type 0 where
-  pub selectors : List Selector
-  pub declarations : List Declaration
 
 -- ---- the rules of a sheet
 

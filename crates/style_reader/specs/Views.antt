@@ -9,7 +9,7 @@ use Rattle.style_reader.specs.Properties.Values.{Pixels, Numbers, NumbersOrNone,
 use Rattle.style_reader.specs.Values.{numeral, pixel_count, signed, unit_of, without_unit}
 use Rattle.style_reader.specs.Readings.{Asked, Found, Parted, parted, rules_by}
 use Rattle.style_reader.specs.Readings.Found.{Nothing, FoundRule, FoundOpenRule, FoundAtRule, FoundOpenAtRule}
-use Rattle.style_reader.specs.Rules.{StyleRule}
+use Rattle.style_reader.specs.declared.rules.Rule.{Rule as StyleRule}
 use Rattle.style_reader.specs.declared.sheets.Part.{Part}
 use Rattle.style_reader.specs.declared.sheets.Part.TheVariants as parts
 use Rattle.style_reader.specs.declared.selectors.Asked.{Asked as AskedInCode}
@@ -108,3 +108,9 @@ abbrev pub behind_pair : ℕ → ℕ → List ℕ → Option (List ℕ)
 behind_pair first second [] = None
 behind_pair first second (a ∷ []) = None
 behind_pair first second (a ∷ b ∷ rest) = if (a == first) && (b == second) then Some rest else None
+
+-- ---- rules
+
+-- the rules that were there still stand in front
+abbrev pub KeepsFront : List StyleRule → List StyleRule → Type 0
+KeepsFront old new = take (length old) new ≡ old

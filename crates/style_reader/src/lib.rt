@@ -16,6 +16,6 @@ mod values;
 
 pub use crate::declarations::Declaration;
 pub use crate::properties::{Property, StyleValue};
-pub use crate::rules::{Rule, Rules};
+pub use crate::rules::{Rule, Rules, read_inline, read_sheet};
 pub use crate::selectors::{Mark, PseudoClass, Selector};
 pub use crate::values::{fits, push_value, value_of};
