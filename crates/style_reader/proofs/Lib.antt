@@ -5,3 +5,9 @@ pub mod WordLemmas
 pub mod SelectorLemmas
 pub mod DeclarationLemmas
 pub mod SheetLemmas
+pub mod CommentLaws
+pub mod CutLemmas
+pub mod BlockLaws
+pub mod SheetLaws
+pub mod NameLaws
+pub mod DeclarationLaws
