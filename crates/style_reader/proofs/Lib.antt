@@ -11,3 +11,4 @@ pub mod BlockLaws
 pub mod SheetLaws
 pub mod NameLaws
 pub mod DeclarationLaws
+pub mod SelectorLaws

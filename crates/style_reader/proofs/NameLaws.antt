@@ -16,7 +16,7 @@ use Rattle.style_reader.specs.declared.properties.Property.TheVariants.{Left, To
 
 -- ---- texts that are the same
 
-and-true : (a b : Bool) → (a && b) ≡ true → (a ≡ true) × (b ≡ true)
+pub and-true : (a b : Bool) → (a && b) ≡ true → (a ≡ true) × (b ≡ true)
 and-true true b e = (refl, e)
 and-true false b e = absurd (cc e)
 
@@ -106,7 +106,7 @@ script_name_of-one p q e =
 -- ---- names in selectors
 
 -- colons and the marks of classes and ids stand in no name
-no-code : (other : ℕ) → is_name_code other ≡ false → (code : ℕ) → is_name_code code ≡ true → nat_eq code other ≡ false
+pub no-code : (other : ℕ) → is_name_code other ≡ false → (code : ℕ) → is_name_code code ≡ true → nat_eq code other ≡ false
 no-code other never code e = by (nat_eq code other) refl
   where
     by : (b : Bool) → nat_eq code other ≡ b → b ≡ false
