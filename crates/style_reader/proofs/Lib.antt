@@ -12,3 +12,6 @@ pub mod SheetLaws
 pub mod NameLaws
 pub mod DeclarationLaws
 pub mod SelectorLaws
+pub mod RuleLaws
+pub mod ValueLaws
+pub mod PrintLaws
