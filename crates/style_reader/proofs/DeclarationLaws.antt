@@ -49,6 +49,7 @@ declaration-read declaration text e = by (list_any is_colon text) refl e
           name_is = property_of-found (trimmed name) declaration.property (is ∙ ap Some parts.0);
           value_is = parts.1;
         }
+
     by : (b : Bool) → list_any is_colon text ≡ b → cond b (option_and_then (declaration_with (after_first is_colon text)) (property_of (trimmed (before_first is_colon text)))) None ≡ Some declaration → IsDeclaration declaration text
     by true is h =
         let cut = joined-at is_colon text is in

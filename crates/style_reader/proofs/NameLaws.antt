@@ -149,3 +149,6 @@ name-colon name e = lacks-each is_colon (no-code 58 colon-never) name (name-code
 
 pub name-mark : (name : List ℕ) → is_name name ≡ true → list_any begins_mark name ≡ false
 name-mark name e = lacks-each begins_mark no-mark name (name-codes name e)
+
+pub named-by_name : (property : Property) → property_of (name_of property) ≡ Some property
+named-by_name property = named-itself property

@@ -45,6 +45,7 @@ rule-given selectors block = by (all_selectors (slice_split is_comma selectors))
   where
     other : (good : List Selector) → all_selectors (slice_split is_comma selectors) ≡ None → all_selectors (slice_split is_comma selectors) ≡ Some good → ⊥
     other good e f = cc
+
     by : (found : Option (List Selector)) → all_selectors (slice_split is_comma selectors) ≡ found → GivesRule selectors block (option_to_list (option_map (rule_with (declarations_in block)) found))
     by None e = Bad (λ good are. other good e (selectors-spelled good (slice_split is_comma selectors) are))
     by (Some good) e = Good good (selectors-read (slice_split is_comma selectors) good e)

@@ -165,6 +165,7 @@ before-read text found e = by (list_any is_colon text) refl e
     word-by word whole (Some pseudo_class) is h =
         let same : parted (before_first is_colon text) (Some pseudo_class) ≡ found = cc in
         subst (λ (f : Parted). HasSubject text f) same (record { behind = 58 ∷ word; whole = whole; pseudo_class = word-read word pseudo_class is })
+
     by : (b : Bool) → list_any is_colon text ≡ b → cond b (option_map (λ (p : PseudoClass). parted (before_first is_colon text) (Some p)) (pseudo_class_of (after_first is_colon text))) (Some (parted text None)) ≡ Some found → HasSubject text found
     by true is h =
         let cut = joined-at is_colon text is in
@@ -231,6 +232,7 @@ asked-read text asked e = by (is_same text (codes "*")) (list_any begins_mark te
         let same : record { tag = Some text; mark = None } ≡ asked = cc in
         subst (λ (a : Asked). IsAsked text a) same (record { whole = sym (append-nil text); tag_named = named; mark_named = tt })
     alone-by false named h = absurd (cc h)
+
     by : (s m : Bool) → is_same text (codes "*") ≡ s → list_any begins_mark text ≡ m → cond s (Some (record { tag = None; mark = None })) (cond m (marked (before_first begins_mark text) (drop (position_or_len begins_mark text) text)) (asked_tag text)) ≡ Some asked → IsAsked text asked
     by true m star is h =
         let same : record { tag = None; mark = None } ≡ asked = cc in
@@ -256,9 +258,11 @@ selector-read selector text e = by (before_pseudo_class text) refl e
           mark_named = named.mark_named;
           pseudo_class = subject.pseudo_class;
         })
+
     asked-by : (found : Parted) → before_pseudo_class text ≡ Some found → (o : Option Asked) → asked_of found.subject ≡ o → option_map (selector_with found.pseudo_class) o ≡ Some selector → IsSelector selector text
     asked-by found is None is_asked h = absurd (cc h)
     asked-by found is (Some asked) is_asked h = let same : selector_with found.pseudo_class asked ≡ selector = cc in joined found is asked is_asked same
+
     by : (o : Option Parted) → before_pseudo_class text ≡ o → option_and_then (λ (p : Parted). option_map (selector_with p.pseudo_class) (asked_of p.subject)) o ≡ Some selector → IsSelector selector text
     by None is h = absurd (cc h)
     by (Some found) is h = asked-by found is (asked_of found.subject) refl h

@@ -125,6 +125,7 @@ at_rule_found-is text more placed = by (behind_at_rule more) refl
   where
     other : (rest : List ℕ) → behind_at_rule more ≡ None → behind_at_rule more ≡ Some rest → ⊥
     other rest e f = cc
+
     by : (found : Option (List ℕ)) → behind_at_rule more ≡ found → IsFound (at_rule_found found) text
     by None e = record { more = more; placed = placed; never_ended = λ rest ended. other rest e (at_rule-ended more rest ended) }
     by (Some rest) e = record { more = more; placed = placed; ended = at_rule-found more rest e }
@@ -135,6 +136,7 @@ behind_white-found text (code ∷ more) before = by (is_at code) refl
   where
     placed : IsBehindWhite text (code ∷ more)
     placed = behind_white-is text (code ∷ more) before
+
     by : (b : Bool) → is_at code ≡ b → IsFound (cond b (at_rule_found (behind_at_rule more)) (rule_found (code ∷ more))) text
     by true e = at_rule_found-is text more (subst (λ (c : ℕ). IsBehindWhite text (c ∷ more)) (the_code code 64 e) placed)
     by false e = rule_found-is text more code placed before.black e
