@@ -15,3 +15,4 @@ pub mod SelectorLaws
 pub mod RuleLaws
 pub mod ValueLaws
 pub mod PrintLaws
+pub mod FittingLaws

@@ -1,8 +1,8 @@
 -- The rules of a sheet and of an inline text, in order (CSS level 1, 1.1, 1.2 and 3.2, in this
 -- project's own profile).
-use Rattle.std.specs.Prelude.{◌≡◌, ℕ, ◌+◌, ◌==◌, Bool, List, [], ◌∷◌, ◌++◌, length, map, Option, Some, None, option_map, option_and_then}
+use Rattle.std.specs.Prelude.{◌≡◌, ℕ, ◌+◌, ◌==◌, Bool, true, List, [], ◌∷◌, ◌++◌, length, map, Option, Some, None, option_map, option_and_then}
 use Rattle.std.specs.Option.{option_to_list}
-use Rattle.std.specs.List.{flat_map, slice_split}
+use Rattle.std.specs.List.{list_all, slice_split}
 use Rattle.std.specs.Str.{byte}
 use Rattle.style_reader.specs.Characters.{trimmed}
 use Rattle.style_reader.specs.Comments.{Commented, SpellsComments, uncommented}
@@ -10,6 +10,7 @@ use Rattle.style_reader.specs.Declarations.{declarations_in}
 use Rattle.style_reader.specs.Selectors.{IsSelector}
 use Rattle.style_reader.specs.Sheets.{Sheet, Spells}
 use Rattle.style_reader.specs.Sheets.Sheet.{Rest, Rule, OpenRule, AtRule, OpenAtRule}
+use Rattle.style_reader.specs.Values.{fits}
 use Rattle.style_reader.specs.declared.declarations.Declaration.{Declaration}
 use Rattle.style_reader.specs.declared.properties.Property.{Property}
 use Rattle.style_reader.specs.declared.properties.StyleValue.{StyleValue}
@@ -57,6 +58,14 @@ pub record IsInlineOf (text : List ℕ) (rules : List StyleRule) : Type 0 where
   pub commented : Commented
   pub comments_spelled : SpellsComments commented text
   pub given : rules ≡ record { selectors = any_element ∷ []; declarations = declarations_in (uncommented commented) } ∷ []
+
+-- ---- each value that is declared fits its property
+
+abbrev pub is_fitting : Declaration → Bool
+is_fitting declaration = fits declaration.property declaration.value
+
+abbrev pub AreFitting : List StyleRule → Type 0
+AreFitting rules = list_all (λ (rule : StyleRule). list_all is_fitting rule.declarations) rules ≡ true
 
 -- ---- rules as declarations, one by one: those of a rule for each of its selectors. Their order is that of the declarations,
 -- so that one that several selectors are given has one place in it.

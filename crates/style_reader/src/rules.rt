@@ -3,6 +3,7 @@
 ghost use Rattle.std.specs.Prelude.{◌≡◌, ◌++◌, [], IfOk, OnErr, OnOk};
 ghost use Rattle.std.specs.Option.{option_to_list};
 ghost use Rattle.style_reader.specs.Readings.{inline_rules_by, inline_rules_of, plain_text as spec_plain_text, rules_by, rules_in, rules_of, sheet_of};
+ghost use Rattle.style_reader.specs.Rules.{AreFitting};
 ghost use Rattle.style_reader.specs.Views.{KeepsFront, rules_by_part};
 
 use crate::comments::{has_comment, plain_text};
@@ -33,7 +34,11 @@ impl Model for Rules {
 
     ghost Value = { List Rule };
 
+    ghost use Rattle.style_reader.specs.Rules.{AreFitting};
+
     ghost view = { λ rules. rules.rules.items };
+
+    ghost invariant = { λ rules. AreFitting rules.rules.items };
 }
 
 impl Rules {
@@ -46,9 +51,10 @@ impl Rules {
         }
     }
 
-    /// All of them, in order.
+    /// All of them, in order. Each value that they declare fits its property.
     pub fn as_slice(&self) -> &[Rule]
-        ensures { result.now ≡ self.now }
+        ensures all { result.now ≡ self.now }
+        ensures fitting { AreFitting self.now }
     {
         self.rules.as_slice()
     }
