@@ -16,3 +16,4 @@ pub mod RuleLaws
 pub mod ValueLaws
 pub mod PrintLaws
 pub mod FittingLaws
+pub mod OrderLaws

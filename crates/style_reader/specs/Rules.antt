@@ -67,8 +67,9 @@ is_fitting declaration = fits declaration.property declaration.value
 abbrev pub AreFitting : List StyleRule → Type 0
 AreFitting rules = list_all (λ (rule : StyleRule). list_all is_fitting rule.declarations) rules ≡ true
 
--- ---- rules as declarations, one by one: those of a rule for each of its selectors. Their order is that of the declarations,
--- so that one that several selectors are given has one place in it.
+-- ---- rules as declarations, one by one: those of a rule for each of its selectors. Their order
+-- counts declarations, over all texts, and not selectors, so that what the selectors of one rule are
+-- given has one place in it.
 
 pub record Given : Type 0 where
   pub selector : Selector
@@ -90,3 +91,7 @@ given_from order (rule ∷ rules) = given_by_rule order rule.selectors rule.decl
 
 unfoldable pub given_by : List StyleRule → List Given
 given_by rules = given_from 0 rules
+
+abbrev pub declaration_count : List StyleRule → ℕ
+declaration_count [] = 0
+declaration_count (rule ∷ rules) = length rule.declarations + declaration_count rules

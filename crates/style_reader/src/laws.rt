@@ -1,13 +1,13 @@
 //! What the definitions of this crate say together. Each function is a law: its contract is what it is
 //! for, and it does nothing when it runs.
 
-ghost use Rattle.std.specs.Prelude.{◌≡◌, ◌↔◌, ℕ, List, Some, IsTrue};
+ghost use Rattle.std.specs.Prelude.{◌≡◌, ◌↔◌, ◌++◌, ℕ, List, Some, IsTrue};
 ghost use Rattle.bml_bytes.specs.Codes.{codes};
 ghost use Rattle.style_reader.specs.Comments.{Commented, SpellsComments, uncommented};
 ghost use Rattle.style_reader.specs.Declarations.{IsDeclaration, declaration_of, property_of};
 ghost use Rattle.style_reader.specs.Properties.{name_of, script_name_of};
 ghost use Rattle.style_reader.specs.Readings.{inline_rules_of, plain_text, rules_of, selector_of, sheet_of};
-ghost use Rattle.style_reader.specs.Rules.{IsInlineOf, IsSheetOf};
+ghost use Rattle.style_reader.specs.Rules.{IsInlineOf, IsSheetOf, declaration_count, given_by, given_from};
 ghost use Rattle.style_reader.specs.Selectors.{IsSelector};
 ghost use Rattle.style_reader.specs.Sheets.{Sheet, Spells};
 ghost use Rattle.style_reader.specs.Values.{fits as spec_fits, printed, value_of as spec_value_of};
@@ -74,4 +74,10 @@ pub fn law_of_rules()
     ensures inline { (text : List ℕ) → IsInlineOf text (inline_rules_of text) }
     ensures one_inline { (text : List ℕ) (rules : List Rule) → IsInlineOf text rules →
         rules ≡ inline_rules_of text }
+{}
+
+/// The declarations of texts that are read later stand behind those of the texts before.
+pub fn law_of_orders()
+    ensures { (front back : List Rule) → given_by (front ++ back)
+        ≡ given_by front ++ given_from (declaration_count front) back }
 {}

@@ -28,8 +28,8 @@ mod values;
 
 pub use crate::declarations::Declaration;
 pub use crate::laws::{
-    law_of_comments, law_of_declarations, law_of_properties, law_of_rules, law_of_selectors,
-    law_of_sheets, law_of_values,
+    law_of_comments, law_of_declarations, law_of_orders, law_of_properties, law_of_rules,
+    law_of_selectors, law_of_sheets, law_of_values,
 };
 pub use crate::properties::{Property, StyleValue};
 pub use crate::rules::{Rule, Rules, read_inline, read_sheet};
