@@ -1,11 +1,11 @@
 -- Blocks, and where they and at-rules end.
-use Rattle.std.proofs.Common.{◌≡◌, ℕ, zero, suc, ◌+◌, Bool, true, false, cond, List, [], ◌∷◌, ◌++◌, Option, Some, None, refl, sym, ◌∙◌, ap, subst, append_assoc, inl, inr}
+use Rattle.std.proofs.Common.{◌≡◌, ℕ, zero, suc, Bool, true, false, cond, List, [], ◌∷◌, ◌++◌, Some, refl, sym, ◌∙◌, ap, append_assoc, inl, inr}
 use Rattle.std.proofs.lemmas.Bool.{eqb-true}
-use Rattle.std.specs.Prelude.{◌||◌, ◌⊎◌, nat_eq}
+use Rattle.std.specs.Prelude.{◌||◌, nat_eq}
 use Rattle.std.specs.List.{list_any}
 use Rattle.style_reader.specs.Declarations.{Lacks, is_semicolon}
 use Rattle.style_reader.specs.Readings.{behind_at_rule, behind_block}
-use Rattle.style_reader.specs.Sheets.{Block, EndsAtRule, HasOnlyPairs, IsBalanced, IsBlockRule, IsStatement, block_text, ends_prelude, is_close, is_open}
+use Rattle.style_reader.specs.Sheets.{Block, EndsAtRule, HasOnlyPairs, IsBalanced, block_text, ends_prelude, is_close, is_open}
 use Rattle.style_reader.specs.Sheets.Block.{Nothing, Code, Nested}
 
 or-false : (a b : Bool) → (a || b) ≡ false → (a ≡ false) × (b ≡ false)

@@ -1,9 +1,9 @@
 -- A text that is put together, and where it is cut.
-use Rattle.std.proofs.Common.{◌≡◌, ℕ, suc, ◌+◌, Bool, true, false, cond, List, [], ◌∷◌, ◌++◌, length, take, drop, Option, Some, None, refl, sym, ◌∙◌, ap, arith}
-use Rattle.std.specs.Prelude.{◌&&◌, ◌||◌, not}
+use Rattle.std.proofs.Common.{◌≡◌, ℕ, suc, ◌+◌, Bool, true, false, List, [], ◌∷◌, ◌++◌, take, drop, refl, sym, ◌∙◌, ap, arith}
+use Rattle.std.specs.Prelude.{◌&&◌, ◌||◌}
 use Rattle.std.specs.List.{after_first, before_first, list_all, list_any, position_or_len}
 use Rattle.style_reader.specs.Characters.{is_white, without_white_front}
-use Rattle.style_reader.specs.Sheets.{BeginsRule, IsWhite, is_at}
+use Rattle.style_reader.specs.Sheets.{IsWhite}
 use Rattle.style_reader.specs.Views.{IsParted}
 use Rattle.style_reader.proofs.WordLemmas.{without_white-black, without_white-white}
 

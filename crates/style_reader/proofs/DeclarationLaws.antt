@@ -1,10 +1,9 @@
 -- Declarations as they are spelled, and those that are read.
-use Rattle.std.proofs.Common.{◌≡◌, ℕ, Bool, true, false, cond, List, [], ◌∷◌, ◌++◌, Option, Some, None, refl, sym, ◌∙◌, ap}
+use Rattle.std.proofs.Common.{◌≡◌, ℕ, Bool, true, false, cond, List, ◌∷◌, ◌++◌, Option, Some, None, refl, sym, ◌∙◌, ap}
 use Rattle.std.specs.Prelude.{option_and_then, option_map}
 use Rattle.std.specs.List.{after_first, before_first, list_any}
-use Rattle.style_reader.specs.Characters.{is_word, trimmed}
+use Rattle.style_reader.specs.Characters.{trimmed}
 use Rattle.style_reader.specs.Declarations.{IsDeclaration, declaration_of, declaration_with, is_colon, property_of}
-use Rattle.style_reader.specs.Properties.{name_of}
 use Rattle.style_reader.specs.Values.{value_of}
 use Rattle.style_reader.specs.declared.declarations.Declaration.{Declaration}
 use Rattle.style_reader.specs.declared.properties.Property.{Property}

@@ -1,11 +1,9 @@
 -- What names lack, and names of properties.
-use Rattle.std.proofs.Common.{◌≡◌, ℕ, zero, suc, ◌+◌, ◌<◌, ◌≤◌, Bool, true, false, cond, List, [], ◌∷◌, ◌++◌, map, Option, Some, None, refl, sym, ◌∙◌, ap, subst, arith}
+use Rattle.std.proofs.Common.{◌≡◌, ℕ, Bool, true, false, cond, List, [], ◌∷◌, map, Some, refl, sym, ◌∙◌, ap}
 use Rattle.std.proofs.lemmas.Bool.{eqb-true}
-use Rattle.std.proofs.lemmas.Bool.Decides.{nat_tests}
-use Rattle.std.specs.Prelude.{◌&&◌, ◌||◌, nat_eq, nat_le, nat_lt, find, codes}
+use Rattle.std.specs.Prelude.{◌&&◌, nat_eq, find}
 use Rattle.std.specs.Char.{to_ascii_lowercase}
 use Rattle.std.specs.List.{list_all, list_any}
-use Rattle.bml_bytes.specs.Numerals.{is_decimal_digit}
 use Rattle.bml_bytes.specs.Words.{is_same}
 use Rattle.style_reader.specs.Characters.{is_letter, is_name, is_name_code, is_name_start, is_word}
 use Rattle.style_reader.specs.Declarations.{is_colon, property_of}

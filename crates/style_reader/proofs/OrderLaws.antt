@@ -1,5 +1,5 @@
 -- The order of declarations.
-use Rattle.std.proofs.Common.{◌≡◌, ℕ, ◌+◌, List, [], ◌∷◌, ◌++◌, length, refl, sym, ◌∙◌, ap, append_assoc, arith}
+use Rattle.std.proofs.Common.{◌≡◌, ℕ, ◌+◌, List, [], ◌∷◌, ◌++◌, length, sym, ◌∙◌, ap, append_assoc, arith}
 use Rattle.style_reader.specs.Rules.{Given, declaration_count, given_by, given_by_rule, given_from}
 use Rattle.style_reader.specs.declared.rules.Rule.{Rule as StyleRule}
 

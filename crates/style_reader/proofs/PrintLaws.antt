@@ -1,13 +1,12 @@
 -- Printed values, read back.
-use Rattle.std.proofs.Common.{◌≡◌, ◌≢◌, ℕ, zero, suc, ◌+◌, ◌-◌, ◌<◌, ◌≤◌, Bool, true, false, cond, List, [], ◌∷◌, ◌++◌, length, map, take, drop, Option, Some, None, ℤ, pos, negsuc, refl, sym, ◌∙◌, ap, subst, append-nil, length-append, arith}
-use Rattle.std.proofs.lemmas.Bool.{eqb-true}
+use Rattle.std.proofs.Common.{◌≡◌, ℕ, zero, suc, ◌+◌, ◌-◌, ◌<◌, ◌≤◌, Bool, true, false, List, [], ◌∷◌, ◌++◌, length, take, Option, Some, ℤ, pos, negsuc, refl, sym, ◌∙◌, ap, append-nil, length-append, arith}
 use Rattle.std.proofs.lemmas.Bool.Decides.{nat_tests}
-use Rattle.std.proofs.lemmas.List.{drop_at, take_all, take_at, reverse-append, length-reverse}
+use Rattle.std.proofs.lemmas.List.{drop_at, take_all, take_at, reverse-append}
 use Rattle.std.proofs.lemmas.List.Folds.{list_all-append}
 use Rattle.std.proofs.lemmas.List.Sums.{AllPass-from_list_all, list_all-from_AllPass}
-use Rattle.std.specs.Prelude.{◌&&◌, ◌||◌, nat_eq, nat_le, nat_lt, not, neg_ℤ, int_le, option_and_then, option_map, codes, reverse}
+use Rattle.std.specs.Prelude.{◌&&◌, nat_eq, nat_le, nat_lt, not, int_le, option_and_then, codes, reverse}
 use Rattle.std.specs.Char.{to_ascii_lowercase}
-use Rattle.std.specs.List.{All, AllPass, join_with_byte, list_all, list_any, prefix_len, suffix_len}
+use Rattle.std.specs.List.{All, AllPass, join_with_byte, list_all, prefix_len}
 use Rattle.bml_bytes.specs.Codes.{codes as codes_of}
 use Rattle.bml_bytes.specs.Numbers.{number_in}
 use Rattle.bml_bytes.specs.Numerals.{decimal_digits, decimal_number, is_decimal_digit, signed_decimal_digits}
@@ -15,7 +14,7 @@ use Rattle.bml_bytes.specs.Words.{is_same}
 use Rattle.style_reader.specs.Characters.{begins_with, is_white, is_word, trimmed}
 use Rattle.style_reader.specs.Properties.{Values, values_of}
 use Rattle.style_reader.specs.Properties.Values.{Pixels, Numbers, NumbersOrNone, VisibleOrHidden, KeyGroups}
-use Rattle.style_reader.specs.Values.{fits, group_words, is_among, is_between, numeral, pixel_count, printed, signed, unit_behind, unit_of, value_among, value_of, whole_between, without_unit}
+use Rattle.style_reader.specs.Values.{fits, group_words, is_among, is_between, numeral, pixel_count, printed, signed, unit_behind, value_among, value_of, whole_between}
 use Rattle.style_reader.specs.declared.properties.Property.{Property}
 use Rattle.style_reader.specs.declared.properties.StyleValue.{StyleValue}
 use Rattle.style_reader.specs.declared.properties.StyleValue.TheVariants.{Whole, NoValue, Visible, Hidden, Keys}

@@ -1,10 +1,10 @@
 -- The rules that a text gives, and those that are read.
-use Rattle.std.proofs.Common.{◌≡◌, ℕ, List, [], ◌∷◌, ◌++◌, Option, Some, None, refl, sym, ◌∙◌, ap, subst}
+use Rattle.std.proofs.Common.{◌≡◌, ℕ, List, [], ◌∷◌, Option, Some, None, refl, sym, ◌∙◌, ap, subst}
 use Rattle.std.specs.Prelude.{option_and_then, option_map}
 use Rattle.std.specs.Option.{option_to_list}
 use Rattle.std.specs.List.{slice_split}
 use Rattle.style_reader.specs.Characters.{trimmed}
-use Rattle.style_reader.specs.Comments.{Commented, uncommented}
+use Rattle.style_reader.specs.Comments.{uncommented}
 use Rattle.style_reader.specs.Declarations.{declarations_in}
 use Rattle.style_reader.specs.Readings.{all_selectors, inline_rules_by, inline_rules_of, plain_text, rule_with, rules_by, rules_in, rules_of, selector_of, selectors_of, sheet_of}
 use Rattle.style_reader.specs.Rules.{AreSelectorTexts, GivesRule, GivesRules, IsInlineOf, IsSheetOf, is_comma}

@@ -1,8 +1,8 @@
 -- Selectors as they are spelled, and those that are read.
-use Rattle.std.proofs.Common.{◌≡◌, ℕ, zero, suc, ◌+◌, ◌<◌, ◌≤◌, Bool, true, false, cond, List, [], ◌∷◌, ◌++◌, length, map, take, drop, Option, Some, None, refl, sym, ◌∙◌, ap, subst, append-nil, append_assoc, arith}
+use Rattle.std.proofs.Common.{◌≡◌, ℕ, suc, ◌+◌, Bool, true, false, cond, List, [], ◌∷◌, ◌++◌, map, drop, Option, Some, None, refl, sym, ◌∙◌, ap, subst, append-nil, append_assoc, arith}
 use Rattle.std.proofs.lemmas.Bool.{eqb-true}
 use Rattle.std.proofs.lemmas.Bool.Decides.{nat_tests}
-use Rattle.std.specs.Prelude.{◌&&◌, ◌||◌, nat_eq, nat_lt, not, option_and_then, option_map, codes}
+use Rattle.std.specs.Prelude.{◌||◌, nat_eq, option_and_then, option_map, codes}
 use Rattle.std.specs.Char.{to_ascii_lowercase}
 use Rattle.std.specs.List.{after_first, before_first, list_any, position_or_len}
 use Rattle.bml_bytes.specs.Words.{is_same}
@@ -10,7 +10,6 @@ use Rattle.style_reader.specs.Characters.{is_name, is_name_code, is_name_start, 
 use Rattle.style_reader.specs.Declarations.{is_colon}
 use Rattle.style_reader.specs.Readings.{Asked, Parted, asked_of, asked_tag, before_pseudo_class, begins_mark, mark_of, marked, parted, pseudo_class_of, selector_of, selector_with, tag_of}
 use Rattle.style_reader.specs.Selectors.{IsNamedMark, IsNamedTag, IsPseudoClassText, IsSelector, mark_text, tag_text}
-use Rattle.style_reader.specs.Views.{IsParted}
 use Rattle.style_reader.specs.declared.selectors.Mark.{Mark}
 use Rattle.style_reader.specs.declared.selectors.Mark.TheVariants.{Class, Id}
 use Rattle.style_reader.specs.declared.selectors.PseudoClass.{PseudoClass}

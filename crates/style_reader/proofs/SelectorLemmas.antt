@@ -1,11 +1,11 @@
 -- Selectors, part by part.
-use Rattle.std.proofs.Common.{◌≡◌, ℕ, ◌+◌, ◌-◌, Bool, true, false, cond, List, [], ◌∷◌, ◌++◌, length, take, drop, Option, Some, None, refl, sym, ◌∙◌, ap, append_assoc}
-use Rattle.std.specs.Prelude.{option_map, option_and_then, position, codes}
+use Rattle.std.proofs.Common.{◌≡◌, ℕ, ◌-◌, false, List, [], ◌∷◌, ◌++◌, length, take, drop, Option, Some, None, refl, ◌∙◌}
+use Rattle.std.specs.Prelude.{option_map, position, codes}
 use Rattle.std.specs.List.{list_any, slice_split}
 use Rattle.bml_bytes.specs.Words.{is_same}
 use Rattle.style_reader.specs.Characters.{trimmed}
 use Rattle.style_reader.specs.Declarations.{is_colon}
-use Rattle.style_reader.specs.Readings.{Asked, Parted, all_selectors, asked_of, asked_tag, before_pseudo_class, begins_mark, marked, parted, pseudo_class_of, selector_of, selectors_of}
+use Rattle.style_reader.specs.Readings.{all_selectors, asked_of, asked_tag, before_pseudo_class, begins_mark, marked, parted, pseudo_class_of, selector_of, selectors_of}
 use Rattle.style_reader.specs.Rules.{is_comma}
 use Rattle.style_reader.specs.Views.{IsParted, pieces_from}
 use Rattle.style_reader.specs.declared.selectors.PseudoClass.{PseudoClass}

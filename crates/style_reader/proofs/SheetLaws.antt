@@ -1,12 +1,11 @@
 -- Sheets as they are spelled, and the sheet that is read.
-use Rattle.std.proofs.Common.{◌≡◌, ℕ, zero, suc, ◌+◌, ◌<◌, ◌≤◌, Bool, true, false, cond, List, [], ◌∷◌, ◌++◌, length, Option, Some, None, refl, sym, ◌∙◌, ap, subst, append_assoc, arith}
-use Rattle.std.specs.Prelude.{◌⊎◌, nat_eq}
+use Rattle.std.proofs.Common.{◌≡◌, ℕ, zero, suc, ◌<◌, Bool, true, false, cond, List, [], ◌∷◌, ◌++◌, length, Option, Some, None, refl, sym, ◌∙◌, ap, subst, arith}
 use Rattle.std.specs.List.{after_first, before_first, list_any}
 use Rattle.style_reader.specs.Characters.{is_white, without_white_front}
 use Rattle.style_reader.specs.Declarations.{Lacks}
 use Rattle.style_reader.specs.Readings.{Found, at_rule_found, behind_at_rule, block_found, found_at, found_behind_white, rule_found, sheet_of, sheet_within}
 use Rattle.style_reader.specs.Readings.Found.{Nothing, FoundRule, FoundOpenRule, FoundAtRule, FoundOpenAtRule}
-use Rattle.style_reader.specs.Sheets.{AreSelectors, BeginsRule, EndsAtRule, IsAtRule, IsBehindWhite, IsOpenAtRule, IsOpenRule, IsRest, IsRule, IsWhite, Sheet, Spells, is_at, is_close, is_open}
+use Rattle.style_reader.specs.Sheets.{AreSelectors, BeginsRule, IsAtRule, IsBehindWhite, IsOpenAtRule, IsOpenRule, IsRest, IsRule, Sheet, Spells, is_at, is_close, is_open}
 use Rattle.style_reader.specs.Sheets.Sheet.{Rest, Rule, OpenRule, AtRule, OpenAtRule}
 use Rattle.style_reader.specs.Views.{IsParted}
 use Rattle.style_reader.proofs.BlockLaws.{at_rule-ended, at_rule-found, the_code}

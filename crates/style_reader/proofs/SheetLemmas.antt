@@ -1,8 +1,7 @@
 -- The parts of a sheet, one by one.
-use Rattle.std.proofs.Common.{◌≡◌, ℕ, zero, suc, ◌+◌, ◌-◌, ◌<◌, ◌≤◌, Bool, true, false, cond, List, [], ◌∷◌, ◌++◌, length, take, drop, Option, Some, None, refl, sym, ◌∙◌, ap, append-nil, append_assoc, arith}
+use Rattle.std.proofs.Common.{◌≡◌, ℕ, zero, suc, ◌+◌, ◌<◌, ◌≤◌, Bool, true, false, cond, List, [], ◌∷◌, ◌++◌, length, Option, Some, None, refl, sym, ◌∙◌, ap, append-nil, append_assoc, arith}
 use Rattle.std.proofs.lemmas.Bool.Decides.{nat_tests}
 use Rattle.std.proofs.lemmas.List.{length-drop}
-use Rattle.std.specs.Prelude.{option_map}
 use Rattle.std.specs.List.{after_first, before_first, list_any, position_or_len, prefix_len}
 use Rattle.style_reader.specs.Characters.{is_white, without_white_front}
 use Rattle.style_reader.specs.Readings.{Found, at_rule_found, behind_at_rule, behind_block, block_found, found_at, found_behind_white, rule_found, rules_by, rules_in, sheet_of, sheet_within}
@@ -11,7 +10,7 @@ use Rattle.style_reader.specs.declared.rules.Rule.{Rule as StyleRule}
 use Rattle.style_reader.specs.Declarations.{is_semicolon}
 use Rattle.style_reader.specs.Sheets.{Sheet, is_at, is_close, is_open}
 use Rattle.style_reader.specs.Sheets.Sheet.{Rest, Rule, OpenRule, AtRule, OpenAtRule}
-use Rattle.style_reader.specs.Views.{FirstPart, IsParted, first_part, part_of}
+use Rattle.style_reader.specs.Views.{FirstPart, first_part, part_of}
 use Rattle.style_reader.proofs.PieceLemmas.{list_any-is}
 
 -- ---- what is found is shorter

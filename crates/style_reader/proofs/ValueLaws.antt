@@ -1,14 +1,12 @@
 -- Values that are read, and those that are printed.
-use Rattle.std.proofs.Common.{◌≡◌, ◌≢◌, ℕ, zero, suc, ◌+◌, ◌-◌, ◌<◌, ◌≤◌, Bool, true, false, cond, List, [], ◌∷◌, ◌++◌, length, map, take, drop, Option, Some, None, ℤ, pos, negsuc, refl, sym, ◌∙◌, ap, subst, length-append, arith}
+use Rattle.std.proofs.Common.{◌≡◌, ℕ, ◌+◌, ◌≤◌, Bool, true, false, cond, List, [], ◌∷◌, length, Option, Some, None, ℤ, refl, ◌∙◌, subst, arith}
 use Rattle.std.proofs.lemmas.Bool.Decides.{nat_tests}
-use Rattle.std.specs.Prelude.{◌&&◌, ◌||◌, nat_eq, nat_le, nat_lt, not, neg_ℤ, int_le, option_and_then, option_map, codes}
+use Rattle.std.specs.Prelude.{◌&&◌, nat_le, option_and_then, codes}
 use Rattle.std.specs.List.{list_all, list_any}
-use Rattle.bml_bytes.specs.Codes.{codes as codes_of}
-use Rattle.bml_bytes.specs.Numerals.{decimal_digits, decimal_number, is_decimal_digit, signed_decimal_digits}
-use Rattle.style_reader.specs.Characters.{is_white, is_word, trimmed}
+use Rattle.style_reader.specs.Characters.{is_word, trimmed}
 use Rattle.style_reader.specs.Properties.{Values, values_of}
 use Rattle.style_reader.specs.Properties.Values.{Pixels, Numbers, NumbersOrNone, VisibleOrHidden, KeyGroups}
-use Rattle.style_reader.specs.Values.{fits, group_among, is_among, is_between, is_key_word, key_groups, numeral, pixel_count, printed, signed, value_among, value_of, whole_between, words_of}
+use Rattle.style_reader.specs.Values.{fits, group_among, is_among, is_between, is_key_word, key_groups, numeral, pixel_count, signed, value_among, value_of, whole_between, words_of}
 use Rattle.style_reader.specs.declared.properties.Property.{Property}
 use Rattle.style_reader.specs.declared.properties.StyleValue.{StyleValue}
 use Rattle.style_reader.specs.declared.properties.StyleValue.TheVariants.{Whole, NoValue, Visible, Hidden, Keys}

@@ -1,9 +1,9 @@
 -- The words of a text, one by one.
-use Rattle.std.proofs.Common.{◌≡◌, ℕ, suc, ◌+◌, ◌-◌, ◌<◌, ◌≤◌, Bool, true, false, cond, List, [], ◌∷◌, length, take, drop, Option, Some, None, refl, sym, ◌∙◌, ap, arith}
+use Rattle.std.proofs.Common.{◌≡◌, ℕ, suc, ◌+◌, ◌-◌, ◌<◌, Bool, true, false, List, [], ◌∷◌, length, take, drop, Some, None, refl, sym, ◌∙◌, ap, arith}
 use Rattle.std.proofs.lemmas.List.{length-take}
 use Rattle.std.proofs.lemmas.Bool.Decides.{nat_tests}
-use Rattle.std.specs.Prelude.{filter, nat_lt, not, ◌||◌, position}
-use Rattle.std.specs.List.{before_first, after_first, list_any, position_or_len, prefix_len, slice_split}
+use Rattle.std.specs.Prelude.{filter, nat_lt, position}
+use Rattle.std.specs.List.{position_or_len, prefix_len, slice_split}
 use Rattle.style_reader.specs.Characters.{is_white, without_white_front}
 use Rattle.style_reader.specs.Values.{words_of}
 use Rattle.style_reader.proofs.PieceLemmas.{list_any-is, position-none, position-some, rest_whole, slice_split-none, slice_split-some}

@@ -1,7 +1,7 @@
 -- The characters of a style's text. Texts are lists of codes; what is said of letters, digits and
 -- case is said of ASCII alone (the white space, names and case of CSS level 1, 1.1 and 7.1; in this
 -- project's own profile).
-use Rattle.std.specs.Prelude.{ℕ, ◌-◌, ◌==◌, nat_eq, nat_le, Bool, true, false, ◌&&◌, ◌||◌, List, [], ◌∷◌, length, take, drop}
+use Rattle.std.specs.Prelude.{ℕ, ◌-◌, ◌==◌, nat_eq, nat_le, Bool, false, ◌&&◌, ◌||◌, List, [], ◌∷◌, length, take, drop}
 use Rattle.std.specs.List.{list_all, prefix_len, starts_with, suffix_len}
 use Rattle.std.specs.Str.{byte}
 use Rattle.bml_bytes.specs.Numerals.{is_decimal_digit}
@@ -12,7 +12,9 @@ unfoldable pub is_white : ℕ → Bool
 is_white code = (code == 0x20) || ((code == 0x09) || ((code == 0x0A) || (code == 0x0D)))
 
 unfoldable pub is_letter : ℕ → Bool
-is_letter code = (nat_le (byte "A") code && nat_le code (byte "Z")) || (nat_le (byte "a") code && nat_le code (byte "z"))
+is_letter code =
+    (nat_le (byte "A") code && nat_le code (byte "Z"))
+    || (nat_le (byte "a") code && nat_le code (byte "z"))
 
 -- what a name begins with: a letter or `_`
 unfoldable pub is_name_start : ℕ → Bool

@@ -13,19 +13,25 @@ pub data Commented : Type 0 where
 -- `*/` stands behind these codes for the first time
 abbrev pub IsClosedAtFirst : List ℕ → Type 0
 IsClosedAtFirst [] = Unit {0}
-IsClosedAtFirst (code ∷ inside) = (begins_with (ascii "*/") (code ∷ (inside ++ ascii "*/")) ≡ false) × IsClosedAtFirst inside
+IsClosedAtFirst (code ∷ inside) =
+    (begins_with (ascii "*/") (code ∷ (inside ++ ascii "*/")) ≡ false) × IsClosedAtFirst inside
 
 -- `*/` stands nowhere in these codes
 abbrev pub IsNeverClosed : List ℕ → Type 0
 IsNeverClosed [] = Unit {0}
-IsNeverClosed (code ∷ inside) = (begins_with (ascii "*/") (code ∷ inside) ≡ false) × IsNeverClosed inside
+IsNeverClosed (code ∷ inside) =
+    (begins_with (ascii "*/") (code ∷ inside) ≡ false) × IsNeverClosed inside
 
 -- The text is spelled so. A code that stands for itself is one at which no `/*` stands; between the
 -- marks of a comment `*/` stands nowhere, and so `/*/` is still open.
 abbrev pub SpellsComments : Commented → List ℕ → Type 0
 SpellsComments Nothing text = text ≡ []
-SpellsComments (Code code following) text = (rest : List ℕ) × (text ≡ code ∷ rest) × (begins_with (ascii "/*") text ≡ false) × SpellsComments following rest
-SpellsComments (Comment inside following) text = (rest : List ℕ) × (text ≡ ascii "/*" ++ (inside ++ (ascii "*/" ++ rest))) × IsClosedAtFirst inside × SpellsComments following rest
+SpellsComments (Code code following) text =
+    (rest : List ℕ) × (text ≡ code ∷ rest) × (begins_with (ascii "/*") text ≡ false)
+    × SpellsComments following rest
+SpellsComments (Comment inside following) text =
+    (rest : List ℕ) × (text ≡ ascii "/*" ++ (inside ++ (ascii "*/" ++ rest)))
+    × IsClosedAtFirst inside × SpellsComments following rest
 SpellsComments (OpenComment inside) text = (text ≡ ascii "/*" ++ inside) × IsNeverClosed inside
 
 -- the text with each comment as one space

@@ -1,7 +1,7 @@
 -- Declarations: `name: value`, parted by `;` (CSS level 1, 1 and 7.1). That a piece of another
 -- form, with an unknown name or with a text that is no value is left out alone is CSS's rule too;
 -- `!important` isn't known here, and so makes no value.
-use Rattle.std.specs.Prelude.{◌≡◌, ◌≢◌, ℕ, ◌==◌, Bool, true, false, List, [], ◌∷◌, ◌++◌, Option, Some, None, find, option_map, option_and_then, if◌then◌else◌}
+use Rattle.std.specs.Prelude.{◌≡◌, ℕ, ◌==◌, Bool, true, false, List, ◌∷◌, ◌++◌, Option, Some, None, find, option_map, option_and_then, if◌then◌else◌}
 use Rattle.std.specs.List.{after_first, before_first, filter_map, list_any, slice_split}
 use Rattle.std.specs.Str.{byte}
 use Rattle.style_reader.specs.Characters.{is_word, trimmed}
@@ -36,13 +36,16 @@ property_of name = find (λ property. is_word (name_of property) name) all_prope
 
 -- what the property is given
 abbrev pub declaration_with : List ℕ → Property → Option Declaration
-declaration_with value property = option_map (λ value. record { property = property; value = value }) (value_of property value)
+declaration_with value property =
+    option_map (λ value. record { property = property; value = value }) (value_of property value)
 
 -- the declaration that a text is, and none where it is of another form (that these are the
 -- declarations above is a law)
 unfoldable pub declaration_of : List ℕ → Option Declaration
 declaration_of text =
-    if list_any is_colon text then option_and_then (declaration_with (after_first is_colon text)) (property_of (trimmed (before_first is_colon text))) else None
+    if list_any is_colon text
+    then option_and_then (declaration_with (after_first is_colon text))
+    (property_of (trimmed (before_first is_colon text))) else None
 
 -- the declarations of a block or of an inline text are those of its pieces between semicolons that
 -- are declarations, in order

@@ -26,7 +26,14 @@ pub record Row : Type 0 where
 
 abbrev pub row : List ℕ → List ℕ → Values → StyleValue → Row
 row name script_name values initial =
-    record { name = name; script_name = script_name; values = values; initial = initial; is_inherited = false }
+    record {
+      name =
+          name;
+      script_name = script_name;
+      values = values;
+      initial = initial;
+      is_inherited = false;
+    }
 
 abbrev pub inherited : Row → Row
 inherited row = record row { is_inherited = true }
@@ -51,19 +58,26 @@ row_of Left = row (codes "left") (codes "left") (signed Pixels) (Whole (pos 0))
 row_of Top = row (codes "top") (codes "top") (signed Pixels) (Whole (pos 0))
 row_of Width = row (codes "width") (codes "width") (unsigned Pixels) (Whole (pos 0))
 row_of Height = row (codes "height") (codes "height") (unsigned Pixels) (Whole (pos 0))
-row_of Visibility = inherited (row (codes "visibility") (codes "visibility") VisibleOrHidden Visible)
+row_of Visibility =
+    inherited (row (codes "visibility") (codes "visibility") VisibleOrHidden Visible)
 row_of ZIndex = row (codes "z-index") (codes "zIndex") (signed Numbers) (Whole (pos 0))
 row_of NavIndex = row (codes "nav-index") (codes "navIndex") (unsigned NumbersOrNone) NoValue
 row_of NavUp = row (codes "nav-up") (codes "navUp") (unsigned NumbersOrNone) NoValue
 row_of NavDown = row (codes "nav-down") (codes "navDown") (unsigned NumbersOrNone) NoValue
 row_of NavLeft = row (codes "nav-left") (codes "navLeft") (unsigned NumbersOrNone) NoValue
 row_of NavRight = row (codes "nav-right") (codes "navRight") (unsigned NumbersOrNone) NoValue
-row_of UsedKeyList = row (codes "used-key-list") (codes "usedKeyList") KeyGroups basic_and_data_button
-row_of ColorIndex = inherited (row (codes "color-index") (codes "colorIndex") colours (Whole (pos 7)))
-row_of BackgroundColorIndex = row (codes "background-color-index") (codes "backgroundColorIndex") colours (Whole (pos 8))
-row_of BorderWidth = row (codes "border-width") (codes "borderWidth") (unsigned Pixels) (Whole (pos 0))
-row_of BorderColorIndex = row (codes "border-color-index") (codes "borderColorIndex") colours (Whole (pos 7))
-row_of FontSize = inherited (row (codes "font-size") (codes "fontSize") (unsigned Pixels) (Whole (pos 24)))
+row_of UsedKeyList =
+    row (codes "used-key-list") (codes "usedKeyList") KeyGroups basic_and_data_button
+row_of ColorIndex =
+    inherited (row (codes "color-index") (codes "colorIndex") colours (Whole (pos 7)))
+row_of BackgroundColorIndex =
+    row (codes "background-color-index") (codes "backgroundColorIndex") colours (Whole (pos 8))
+row_of BorderWidth =
+    row (codes "border-width") (codes "borderWidth") (unsigned Pixels) (Whole (pos 0))
+row_of BorderColorIndex =
+    row (codes "border-color-index") (codes "borderColorIndex") colours (Whole (pos 7))
+row_of FontSize =
+    inherited (row (codes "font-size") (codes "fontSize") (unsigned Pixels) (Whole (pos 24)))
 
 -- what the table says of a property
 abbrev pub name_of : Property → List ℕ
@@ -84,5 +98,5 @@ is_inherited property = (row_of property).is_inherited
 -- all of them, in the table's order
 abbrev pub all_properties : List Property
 all_properties =
-    Left ∷ Top ∷ Width ∷ Height ∷ Visibility ∷ ZIndex ∷ NavIndex ∷ NavUp ∷ NavDown ∷ NavLeft ∷ NavRight ∷ UsedKeyList
-    ∷ ColorIndex ∷ BackgroundColorIndex ∷ BorderWidth ∷ BorderColorIndex ∷ FontSize ∷ []
+    Left ∷ Top ∷ Width ∷ Height ∷ Visibility ∷ ZIndex ∷ NavIndex ∷ NavUp ∷ NavDown ∷ NavLeft
+    ∷ NavRight ∷ UsedKeyList ∷ ColorIndex ∷ BackgroundColorIndex ∷ BorderWidth ∷ BorderColorIndex ∷ FontSize ∷ []

@@ -1,7 +1,7 @@
 -- Selectors (CSS level 1, 1.1 to 1.4 and 2.1, in this project's own profile): `*`, `tag`, `.class`,
 -- `#id`, `tag.class` and `tag#id`, each also with `:focus` or `:active` behind. Names go by case,
 -- pseudo-classes without.
-use Rattle.std.specs.Prelude.{◌≡◌, ℕ, ◌+◌, ◌*◌, true, Bool, List, [], ◌∷◌, ◌++◌, Option, Some, None, codes as ascii}
+use Rattle.std.specs.Prelude.{◌≡◌, ℕ, ◌+◌, ◌*◌, true, List, [], ◌++◌, Option, Some, None, codes as ascii}
 use Rattle.style_reader.specs.Characters.{is_name, is_word}
 use Rattle.style_reader.specs.declared.selectors.Selector.{Selector}
 use Rattle.style_reader.specs.declared.selectors.Mark.{Mark}
@@ -44,8 +44,10 @@ pub record IsSelector (selector : Selector) (text : List ℕ) : Type 0 where
   pub mark_named : IsNamedMark selector.mark
   pub pseudo_class : IsPseudoClassText selector.pseudo_class behind
 
--- ---- how specific a selector is (CSS level 1, 3.2): its ids, then its classes and pseudo-classes, then its tags; each is
--- below ten, so that they are digits of one number
+-- ---- how specific a selector is (CSS level 1, 3.2)
+
+-- its ids, then its classes and pseudo-classes, then its tags; each is below ten, so that they are
+-- digits of one number
 abbrev pub one_if_some : {A : Type 0} → Option A → ℕ
 one_if_some None = 0
 one_if_some (Some one) = 1
@@ -56,4 +58,5 @@ mark_weight (Some (Class name)) = 10
 mark_weight (Some (Id name)) = 100
 
 unfoldable pub specificity : Selector → ℕ
-specificity selector = mark_weight selector.mark + 10 * one_if_some selector.pseudo_class + one_if_some selector.tag
+specificity selector =
+    mark_weight selector.mark + 10 * one_if_some selector.pseudo_class + one_if_some selector.tag

@@ -3,13 +3,13 @@
 --
 --     sheet    = { white* (rule | at-rule) } white* [open rule | open at-rule | rest]
 --     rule     = codes up to the first "{", codes up to the first "}"
---     at-rule  = "@", codes up to the first ";", or up to the first "{" where that comes before, and then the block that
---                this opens, up to the "}" that closes it
+--     at-rule  = "@", codes up to the first ";", or up to the first "{" where that comes before,
+--                and then the block that this opens, up to the "}" that closes it
 --     block    = { code other than braces | "{" block "}" }
 --
 -- A rule is open where no "}" follows, and is read all the same; what is left of an at-rule that
 -- isn't ended is left out, and so is a rest without "{". Every text is a sheet, in one way (a law).
-use Rattle.std.specs.Prelude.{◌≡◌, ◌≢◌, ℕ, ◌==◌, Bool, false, true, not, ◌||◌, ◌⊎◌, List, [], ◌∷◌, ◌++◌}
+use Rattle.std.specs.Prelude.{◌≡◌, ℕ, ◌==◌, Bool, false, true, ◌||◌, ◌⊎◌, List, [], ◌∷◌, ◌++◌}
 use Rattle.std.specs.List.{list_all}
 use Rattle.std.specs.Str.{byte}
 use Rattle.style_reader.specs.Characters.{is_white}
@@ -60,7 +60,8 @@ block_text (Nested inside following) = 123 ∷ (block_text inside ++ (125 ∷ bl
 
 abbrev pub HasOnlyPairs : Block → Type 0
 HasOnlyPairs Nothing = Unit {0}
-HasOnlyPairs (Code code following) = (is_open code ≡ false) × (is_close code ≡ false) × HasOnlyPairs following
+HasOnlyPairs (Code code following) =
+    (is_open code ≡ false) × (is_close code ≡ false) × HasOnlyPairs following
 HasOnlyPairs (Nested inside following) = HasOnlyPairs inside × HasOnlyPairs following
 
 -- braces stand in the text in pairs alone
@@ -125,7 +126,8 @@ pub record IsRest (text : List ℕ) : Type 0 where
 -- the text is the sheet
 abbrev pub Spells : Sheet → List ℕ → Type 0
 Spells Rest text = IsRest text
-Spells (Rule selectors block following) text = (rest : List ℕ) × IsRule selectors block text rest × Spells following rest
+Spells (Rule selectors block following) text =
+    (rest : List ℕ) × IsRule selectors block text rest × Spells following rest
 Spells (OpenRule selectors block) text = IsOpenRule selectors block text
 Spells (AtRule following) text = (rest : List ℕ) × IsAtRule text rest × Spells following rest
 Spells OpenAtRule text = IsOpenAtRule text

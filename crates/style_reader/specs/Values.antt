@@ -1,7 +1,7 @@
 -- The values of properties as they are written (after CSS level 1, 6, in this project's own
 -- profile): what a text is the value of, and how a value is printed. Letters go without ASCII case,
 -- and white may stand at both ends.
-use Rattle.std.specs.Prelude.{◌≡◌, ℕ, ◌+◌, ◌-◌, ◌/◌, ◌%◌, ◌==◌, nat_le, nat_lt, Bool, false, true, not, ◌&&◌, if◌then◌else◌, ℤ, pos, neg_ℤ, int_le, List, [], ◌∷◌, ◌++◌, length, take, drop, filter, Option, Some, None, option_map, option_and_then, codes}
+use Rattle.std.specs.Prelude.{ℕ, ◌+◌, ◌-◌, ◌/◌, ◌%◌, ◌==◌, nat_le, nat_lt, Bool, false, true, not, ◌&&◌, if◌then◌else◌, ℤ, pos, neg_ℤ, int_le, List, [], ◌∷◌, ◌++◌, length, take, drop, filter, Option, Some, None, option_map, option_and_then, codes}
 use Rattle.std.specs.List.{list_all, list_any, join_with_byte, slice_split}
 use Rattle.bml_bytes.specs.Numerals.{is_decimal_digit, decimal_number, signed_decimal_digits}
 use Rattle.bml_bytes.specs.Words.{is_same}
@@ -16,7 +16,9 @@ use Rattle.style_reader.specs.declared.properties.StyleValue.TheVariants.{Whole,
 
 -- the number of some digits, at least one, with zeros in front where one likes
 abbrev pub numeral : List ℕ → Option ℕ
-numeral digits = if nat_le 1 (length digits) && list_all is_decimal_digit digits then Some (decimal_number digits) else None
+numeral digits =
+    if nat_le 1 (length digits) && list_all is_decimal_digit digits
+    then Some (decimal_number digits) else None
 
 -- the last two codes, and what stands before them
 abbrev pub unit_of : List ℕ → List ℕ
@@ -27,12 +29,16 @@ without_unit text = take (length text - 2) text
 
 -- a number of pixels: digits and `px`, or `0` alone
 abbrev pub pixel_count : List ℕ → Option ℕ
-pixel_count text = if is_same text (codes "0") then Some 0 else if is_word (codes "px") (unit_of text) then numeral (without_unit text) else None
+pixel_count text =
+    if is_same text (codes "0") then Some 0
+    else if is_word (codes "px") (unit_of text) then numeral (without_unit text)
+    else None
 
 -- a number with a minus sign before it, where the least one is below zero, or without
 abbrev pub signed : (List ℕ → Option ℕ) → ℤ → List ℕ → Option ℤ
 signed number least text =
-    if not (int_le (pos 0) least) && begins_with (codes "-") text then option_map (λ n. neg_ℤ (pos n)) (number (drop 1 text))
+    if not (int_le (pos 0) least) && begins_with (codes "-") text
+    then option_map (λ n. neg_ℤ (pos n)) (number (drop 1 text))
     else option_map pos (number text)
 
 -- from the least to the most
@@ -49,7 +55,10 @@ abbrev pub words_of : List ℕ → List (List ℕ)
 words_of text = filter (λ word. nat_lt 0 (length word)) (slice_split is_white text)
 
 abbrev pub is_key_word : List ℕ → Bool
-is_key_word word = if is_word (codes "basic") word then true else if is_word (codes "data-button") word then true else is_word (codes "numeric-tuning") word
+is_key_word word =
+    if is_word (codes "basic") word then true
+    else if is_word (codes "data-button") word then true
+    else is_word (codes "numeric-tuning") word
 
 -- this number where the word is among those, and else nothing
 abbrev pub group_among : List (List ℕ) → List ℕ → ℕ → ℕ
@@ -59,19 +68,27 @@ group_among words word group = if list_any (is_word word) words then group else 
 abbrev pub key_groups : List (List ℕ) → Option StyleValue
 key_groups words =
     if nat_le 1 (length words) && list_all is_key_word words
-    then Some (Keys (group_among words (codes "basic") 1 + (group_among words (codes "data-button") 2 + group_among words (codes "numeric-tuning") 4)))
+    then Some (Keys (group_among words (codes "basic") 1
+    + (group_among words (codes "data-button") 2 + group_among words (codes "numeric-tuning") 4)))
     else None
 
 -- ---- values
 
 -- the value that a text without white at its ends is
 abbrev pub value_among : Values → List ℕ → Option StyleValue
-value_among (Pixels least most) text = option_and_then (whole_between least most) (signed pixel_count least text)
-value_among (Numbers least most) text = option_and_then (whole_between least most) (signed numeral least text)
+value_among (Pixels least most) text =
+    option_and_then (whole_between least most) (signed pixel_count least text)
+value_among (Numbers least most) text =
+    option_and_then (whole_between least most) (signed numeral least text)
 value_among (NumbersOrNone least most) text =
-    if is_word (codes "none") text then Some NoValue else option_and_then (whole_between least most) (signed numeral least text)
-value_among VisibleOrHidden text = if is_word (codes "visible") text then Some Visible else if is_word (codes "hidden") text then Some Hidden else None
-value_among KeyGroups text = if is_word (codes "none") text then Some NoValue else key_groups (words_of text)
+    if is_word (codes "none") text then Some NoValue
+    else option_and_then (whole_between least most) (signed numeral least text)
+value_among VisibleOrHidden text =
+    if is_word (codes "visible") text then Some Visible
+    else if is_word (codes "hidden") text then Some Hidden
+    else None
+value_among KeyGroups text =
+    if is_word (codes "none") text then Some NoValue else key_groups (words_of text)
 
 -- the value that a text gives a property, and none where it is no value of it
 unfoldable pub value_of : Property → List ℕ → Option StyleValue
@@ -106,7 +123,9 @@ has_group groups group = groups / group % 2 == 1
 
 abbrev pub group_words : ℕ → List (List ℕ)
 group_words groups =
-    word_if (has_group groups 1) (codes "basic") ++ (word_if (has_group groups 2) (codes "data-button") ++ word_if (has_group groups 4) (codes "numeric-tuning"))
+    word_if (has_group groups 1) (codes "basic")
+    ++ (word_if (has_group groups 2) (codes "data-button")
+    ++ word_if (has_group groups 4) (codes "numeric-tuning"))
 
 abbrev pub unit_behind : Values → List ℕ
 unit_behind (Pixels least most) = codes "px"

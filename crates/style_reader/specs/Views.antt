@@ -1,12 +1,12 @@
 -- A device of the proofs: what the values that the code keeps stand for, and steps of the code.
-use Rattle.std.specs.Prelude.{◌≡◌, ℕ, ◌+◌, ◌*◌, ◌-◌, ◌==◌, nat_le, nat_lt, min, Bool, true, false, ◌&&◌, ◌||◌, if◌then◌else◌, ℤ, pos, negsuc, List, [], ◌∷◌, ◌++◌, length, drop, take, map, Option, Some, None, option_map, option_and_then, codes as ascii}
+use Rattle.std.specs.Prelude.{◌≡◌, ℕ, ◌==◌, min, Bool, true, ◌&&◌, if◌then◌else◌, List, [], ◌∷◌, length, take, Option, Some, None, codes as ascii}
 use Rattle.std.specs.Borrow.{Bor}
-use Rattle.std.specs.List.{after_first, before_first, list_all, list_any, slice_split, position_or_len}
+use Rattle.std.specs.List.{after_first, before_first, list_all, list_any, slice_split}
 use Rattle.bml_bytes.specs.Numerals.{decimal_number, is_decimal_digit}
-use Rattle.style_reader.specs.Characters.{is_white, is_word}
+use Rattle.style_reader.specs.Characters.{is_word}
 use Rattle.style_reader.specs.Properties.{Row, Values}
 use Rattle.style_reader.specs.Properties.Values.{Pixels, Numbers, NumbersOrNone, VisibleOrHidden, KeyGroups}
-use Rattle.style_reader.specs.Values.{numeral, pixel_count, signed, unit_of, without_unit}
+use Rattle.style_reader.specs.Values.{numeral, pixel_count, unit_of, without_unit}
 use Rattle.style_reader.specs.Readings.{Asked, Found, Parted, parted, rules_by}
 use Rattle.style_reader.specs.Readings.Found.{Nothing, FoundRule, FoundOpenRule, FoundAtRule, FoundOpenAtRule}
 use Rattle.style_reader.specs.declared.rules.Rule.{Rule as StyleRule}
@@ -31,13 +31,21 @@ seen_values values.VisibleOrHidden = VisibleOrHidden
 seen_values values.KeyGroups = KeyGroups
 
 abbrev pub seen_row : RowInCode → Row
-seen_row row = record { name = row.name.now; script_name = row.script_name.now; values = seen_values row.values; initial = row.initial; is_inherited = row.is_inherited }
+seen_row row =
+    record {
+      name = row.name.now;
+      script_name = row.script_name.now;
+      values = seen_values row.values;
+      initial = row.initial;
+      is_inherited = row.is_inherited;
+    }
 
 -- ---- numbers
 
 -- the number of some digits, and none where another code stands among them
 abbrev pub digits_number : List ℕ → Option ℕ
-digits_number digits = if list_all is_decimal_digit digits then Some (decimal_number digits) else None
+digits_number digits =
+    if list_all is_decimal_digit digits then Some (decimal_number digits) else None
 
 -- what stands before `px`
 abbrev pub before_unit : List ℕ → Option (List ℕ)

@@ -1,5 +1,5 @@
-//! What the definitions of this crate say together. Each function is a law: its contract is what it is
-//! for, and it does nothing when it runs.
+//! What the definitions of this crate say together. Each function is a law: its contract is what it
+//! is for, and it does nothing when it runs.
 
 ghost use Rattle.std.specs.Prelude.{◌≡◌, ◌↔◌, ◌++◌, ℕ, List, Some, IsTrue};
 ghost use Rattle.bml_bytes.specs.Codes.{codes};
@@ -26,8 +26,8 @@ pub fn law_of_properties()
     ensures found { (property : Property) → property_of (name_of property) ≡ Some property }
 {}
 
-/// A value fits a property where a text gives it, and only there: what is printed of each value that
-/// fits is read back as that value.
+/// A value fits a property where a text gives it, and only there: what is printed of each value
+/// that fits is read back as that value.
 pub fn law_of_values()
     ensures read { (property : Property) (text : List ℕ) (value : StyleValue) →
         spec_value_of property text ≡ Some value → IsTrue (spec_fits property value) }
@@ -39,8 +39,8 @@ pub fn law_of_values()
     law_of_decimals();
 }
 
-/// Each text is spelled with its comments in one way at least, and what it reads as is what each such
-/// way leaves of it.
+/// Each text is spelled with its comments in one way at least, and what it reads as is what each
+/// such way leaves of it.
 pub fn law_of_comments()
     ensures spelled { (text : List ℕ) → (spelling : Commented) × SpellsComments spelling text }
     ensures one { (text : List ℕ) (spelling : Commented) → SpellsComments spelling text →
@@ -65,8 +65,8 @@ pub fn law_of_sheets()
     ensures one { (sheet : Sheet) (text : List ℕ) → Spells sheet text → sheet ≡ sheet_of text }
 {}
 
-/// Each text stands for one list of rules, as a sheet and as an inline text, and these are the rules
-/// that it reads as.
+/// Each text stands for one list of rules, as a sheet and as an inline text, and these are the
+/// rules that it reads as.
 pub fn law_of_rules()
     ensures sheet { (text : List ℕ) → IsSheetOf text (rules_of text) }
     ensures one_sheet { (text : List ℕ) (rules : List Rule) → IsSheetOf text rules →

@@ -23,7 +23,8 @@ const TOO_MANY: u64 = 0x1_0000_0000;
 /// The number that a text is, from the least to the most.
 pub fn whole(unit: Unit, least: i32, most: i32, text: &[u16]) -> Option<StyleValue>
     ensures { result
-        ≡ option_and_then (spec_whole_between least most) (spec_signed (count_in unit) least text.now) }
+        ≡ option_and_then (spec_whole_between least most)
+        (spec_signed (count_in unit) least text.now) }
 {
     let number = signed(unit, least, text)?;
     if i64::from(least) <= number && number <= i64::from(most) {

@@ -13,8 +13,8 @@ use crate::numbers::{Unit, whole};
 use crate::properties::{Property, StyleValue, Values};
 use bml_bytes::{NoMemory, Text, is_word_in_any_case, push_decimal, push_word};
 
-/// The value that a text gives a property, and None exactly where the text is no value of it. Letters
-/// go without ASCII case, and white may stand at both ends.
+/// The value that a text gives a property, and None exactly where the text is no value of it.
+/// Letters go without ASCII case, and white may stand at both ends.
 pub fn value_of(property: Property, text: &Text) -> Option<StyleValue>
     ensures { result ≡ spec_value_of property text.now }
 {
@@ -102,8 +102,8 @@ fn is_among(values: Values, value: StyleValue) -> bool
     }
 }
 
-/// Appends a value of the property as a script reads it: `10px`, `3`, `none`, `visible`,
-/// `basic data-button`. It reads back as that value.
+/// Appends a value of the property as a script reads it: `10px`, `3`, `none`, `visible`, `basic
+/// data-button`. It reads back as that value.
 #[tactic(auto, unfolding(crate::specs::Values::printed, crate::specs::Values::fits))]
 pub fn push_value(property: Property, value: StyleValue, out: &mut Vec<u8>) -> Result<(), NoMemory>
     requires { IsTrue (spec_fits property value) }

@@ -1,4 +1,4 @@
-use Rattle.std.proofs.Common.{◌≡◌, ℕ, List, Some, None, ap, ◌∙◌, sym}
+use Rattle.std.proofs.Common.{Some, None, ap, ◌∙◌}
 use Rattle.style_reader.specs.Declarations.{property_of}
 use Rattle.style_reader.proofs.DeclarationLemmas.{declaration-bare, declaration-named, declaration-unnamed}
 use Rattle.style_reader.proofs.declarations.declaration_of.Goals as goal

@@ -1,6 +1,5 @@
 use Rattle.std.proofs.Common.{◌≡◌, length}
-use Rattle.std.specs.List.{list_all, list_any}
-use Rattle.style_reader.specs.Characters.{is_word}
+use Rattle.std.specs.List.{list_all}
 use Rattle.style_reader.specs.Values.{is_key_word, words_of}
 use Rattle.style_reader.proofs.keys.are_key_words.Given as goal
 

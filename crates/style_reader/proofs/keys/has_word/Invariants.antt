@@ -1,7 +1,7 @@
 use Rattle.std.proofs.Common.{◌≡◌, length}
-use Rattle.std.specs.List.{list_all, list_any}
+use Rattle.std.specs.List.{list_any}
 use Rattle.style_reader.specs.Characters.{is_word}
-use Rattle.style_reader.specs.Values.{is_key_word, words_of}
+use Rattle.style_reader.specs.Values.{words_of}
 use Rattle.style_reader.proofs.keys.has_word.Given as goal
 
 abbrev pub invariant-words : goal.invariant-words
