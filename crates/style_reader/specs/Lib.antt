@@ -1,0 +1,10 @@
+pub mod Characters
+pub mod Properties
+pub mod Values
+pub mod Comments
+pub mod Selectors
+pub mod Declarations
+pub mod Sheets
+pub mod Rules
+pub mod Readings
+pub mod Views
