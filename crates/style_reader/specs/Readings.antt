@@ -1,6 +1,6 @@
 -- What the text of a style reads as, computed from it front to back. It isn't what comments,
 -- selectors, sheets and their rules are (`Comments`, `Selectors`, `Sheets`, `Rules`): that it
--- agrees with these is a law.
+-- agrees with these is a law. (This project's own.)
 use Rattle.std.specs.Prelude.{ℕ, zero, suc, ◌==◌, Bool, true, false, ◌&&◌, ◌||◌, if◌then◌else◌, List, [], ◌∷◌, ◌++◌, length, drop, Option, Some, None, option_map, option_and_then, codes as ascii}
 use Rattle.std.specs.Option.{option_to_list}
 use Rattle.std.specs.List.{after_first, before_first, list_any, position_or_len, slice_split}
