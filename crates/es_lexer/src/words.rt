@@ -1,0 +1,42 @@
+//! The reserved words of a script.
+
+/// A reserved word: a keyword, `null`, `true` or `false`, or a word that is kept for later
+/// (ECMA-262 second edition, 7.4).
+#[derive(Clone, Copy, Debug, PartialEq, Eq)]
+pub enum ReservedWord {
+    Break,
+    Case,
+    Catch,
+    Class,
+    Const,
+    Continue,
+    Debugger,
+    Default,
+    Delete,
+    Do,
+    Else,
+    Enum,
+    Export,
+    Extends,
+    False,
+    Finally,
+    For,
+    Function,
+    If,
+    Import,
+    In,
+    New,
+    Null,
+    Return,
+    Super,
+    Switch,
+    This,
+    Throw,
+    True,
+    Try,
+    Typeof,
+    Var,
+    Void,
+    While,
+    With,
+}
