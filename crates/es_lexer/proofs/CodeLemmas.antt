@@ -1,10 +1,11 @@
 -- Codes at the front of others, and marks.
 use Rattle.std.proofs.Common.{◌≡◌, ℕ, ◌-◌, ◌≤◌, Bool, true, false, cond, List, [], ◌∷◌, ◌++◌, length, take, Option, Some, None, refl, sym, ◌∙◌, ap, subst, arith, append_assoc, append-nil}
-use Rattle.std.specs.Prelude.{◌==◌, ◌&&◌, option_map, option_and_then}
+use Rattle.std.specs.Prelude.{◌==◌, ◌&&◌, option_map, option_and_then, codes as ascii}
 use Rattle.std.specs.List.{list_all}
 use Rattle.std.proofs.lemmas.Bool.{eq-eqb, eqb-true}
 use Rattle.std.proofs.lemmas.List.{length-append}
 use Rattle.std.proofs.Math.Seq.{take-append_seam}
+use Rattle.es_lexer.specs.ScannedElements.{NoCommentIn}
 use Rattle.es_lexer.specs.Scanning.{Found, found, changed, front, behind, stripped, up_to}
 
 pub both : (a b : Bool) → (a && b) ≡ true → (a ≡ true) × (b ≡ true)
@@ -107,7 +108,7 @@ stripped-front [] l x h = refl
 stripped-front (m ∷ mark) [] x h = absurd (omega arith)
 stripped-front (m ∷ mark) (b ∷ l) x h = stripped-front-by (λ r. r ++ x) (b == m) (stripped mark (l ++ x)) (stripped mark l) (stripped-front mark l x (omega arith))
 
-none-map : {A B : Type 0} (f : A → B) (o : Option A) → option_map f o ≡ None → o ≡ None
+pub none-map : {A B : Type 0} (f : A → B) (o : Option A) → option_map f o ≡ None → o ≡ None
 none-map f None e = refl
 none-map f (Some a) e = absurd (cc e)
 
@@ -215,3 +216,32 @@ pub split-none : (mark l done rest : List ℕ) → up_to mark l ≡ option_map (
 split-none mark l done rest u s n =
     let r = nothing-left rest n in
     sym (u ∙ (ap (λ z. option_map (behind_done done) (up_to mark z)) r ∙ ap (option_map (behind_done done)) (up_to-none mark (subst (λ z. stripped mark z ≡ None) r s))))
+
+-- Comments that aren't closed
+
+up_to-tail : (mark : List ℕ) (b : ℕ) (l : List ℕ) (s : Option (List ℕ)) → stripped mark (b ∷ l) ≡ s → up_to mark (b ∷ l) ≡ None → up_to mark l ≡ None
+up_to-tail mark b l (Some rest) q e = let here : up_to mark (b ∷ l) ≡ Some (found [] rest) = up_to-here mark (b ∷ l) rest q in absurd (cc)
+up_to-tail mark b l None q e = none-map (changed (λ inside. b ∷ inside)) (up_to mark l) (sym (up_to-next mark b l q) ∙ e)
+
+-- where a mark stands nowhere, it stands nowhere further on
+pub up_to-suffix : (mark x y : List ℕ) → up_to mark (x ++ y) ≡ None → up_to mark y ≡ None
+up_to-suffix mark [] y e = e
+up_to-suffix mark (b ∷ x) y e = up_to-suffix mark x y (up_to-tail mark b (x ++ y) (stripped mark (b ∷ (x ++ y))) refl e)
+
+tail-same : (a b : ℕ) (x y : List ℕ) → a ∷ x ≡ b ∷ y → x ≡ y
+tail-same a b x y e = cc
+
+head-same : (a b : ℕ) (x y : List ℕ) → a ∷ x ≡ b ∷ y → a ≡ b
+head-same a b x y e = cc
+
+-- behind a comment that isn't closed none is
+pub no-comment : (rest : List ℕ) → up_to (ascii "*/") rest ≡ None → NoCommentIn (47 ∷ 42 ∷ rest)
+no-comment rest e [] inside s = subst (λ z. up_to (ascii "*/") z ≡ None) (tail-same 42 42 rest inside (tail-same 47 47 (42 ∷ rest) (42 ∷ inside) s)) e
+no-comment rest e (x ∷ []) inside s = let n : 42 ≡ 47 = head-same 42 47 rest (42 ∷ inside) (tail-same 47 x (42 ∷ rest) (47 ∷ 42 ∷ inside) s) in absurd (omega (arith, n))
+no-comment rest e (x ∷ y ∷ before) inside s =
+    let t : rest ≡ before ++ (47 ∷ 42 ∷ inside) = tail-same 42 y rest (before ++ (47 ∷ 42 ∷ inside)) (tail-same 47 x (42 ∷ rest) (y ∷ (before ++ (47 ∷ 42 ∷ inside))) s) in
+    let u : rest ≡ (before ++ (47 ∷ 42 ∷ [])) ++ inside = t ∙ sym (append_assoc before (47 ∷ 42 ∷ []) inside) in
+    up_to-suffix (ascii "*/") (before ++ (47 ∷ 42 ∷ [])) inside (subst (λ z. up_to (ascii "*/") z ≡ None) u e)
+
+pub no-comment-suffix : (codes front rest : List ℕ) → codes ≡ front ++ rest → NoCommentIn codes → NoCommentIn rest
+no-comment-suffix codes front rest e n before inside s = n (front ++ before) inside (e ∙ (ap (λ z. front ++ z) s ∙ sym (append_assoc front before (47 ∷ 42 ∷ inside))))

@@ -1,6 +1,6 @@
 -- A device of the proofs: the input element at the front of some codes. It isn't what an element is
 -- (`Elements`), but how it is found: that both agree is proved.
-use Rattle.std.specs.Prelude.{ℕ, nat_eq, ◌==◌, Bool, true, false, not, if◌then◌else◌, List, [], ◌∷◌, length, Option, Some, None, option_map, find, codes as ascii}
+use Rattle.std.specs.Prelude.{◌≡◌, ℕ, nat_eq, ◌==◌, Bool, true, false, not, if◌then◌else◌, List, [], ◌∷◌, ◌++◌, length, Option, Some, None, option_map, find, codes as ascii}
 use Rattle.std.specs.Cmp.Lexicographic.{pointwise}
 use Rattle.es_lexer.specs.Codes.{is_white, is_line_terminator, is_identifier_start, is_identifier_part, is_decimal_digit, is_quote}
 use Rattle.es_lexer.specs.Spellings.{word_spelling}
@@ -66,3 +66,7 @@ element_at (code ∷ codes) =
     else (if is_quote code then literal_at code codes
     else (if code == 47 then slash_at codes
     else punctuation_at (code ∷ codes))))))
+
+-- no comment that begins in these codes is closed
+abbrev pub NoCommentIn : List ℕ → Type 0
+NoCommentIn codes = (before inside : List ℕ) → codes ≡ before ++ (47 ∷ 42 ∷ inside) → up_to (ascii "*/") inside ≡ None

@@ -1,6 +1,6 @@
 //! What stands at the front of some codes.
 
-ghost use Rattle.std.specs.Prelude.{◌≡◌, ◌≤◌, ◌<◌, length, option_map, option_copied, nat_le, ◌&&◌};
+ghost use Rattle.std.specs.Prelude.{◌≡◌, ◌≤◌, ◌<◌, true, length, option_map, option_copied, nat_le, ◌&&◌};
 ghost use Rattle.es_lexer.specs.Scanning.{front, behind, stripped as spec_stripped, up_to};
 ghost use Rattle.es_lexer.specs.Codes.{is_white as spec_is_white, is_line_terminator as spec_is_line_terminator, is_letter as spec_is_letter, is_decimal_digit as spec_is_decimal_digit, is_octal_digit as spec_is_octal_digit, is_hex_digit as spec_is_hex_digit, is_identifier_start as spec_is_identifier_start, is_identifier_part as spec_is_identifier_part, is_quote as spec_is_quote, digit_value as spec_digit_value};
 ghost use Rattle.es_lexer.specs.Views.{in_class, found_codes};
@@ -173,6 +173,26 @@ pub fn digit_value(code: u16) -> u16
     } else {
         code.saturating_sub(87)
     }
+}
+
+/// The number that an octal digit writes.
+#[tactic(auto, unfolding(crate::specs::Codes::digit_value, crate::specs::Codes::is_octal_digit))]
+pub fn octal_value(digit: u16) -> u16
+    requires { spec_is_octal_digit digit ≡ true }
+    ensures value { result ≡ spec_digit_value digit }
+    ensures small { result < 8 }
+{
+    digit_value(digit)
+}
+
+/// The number that a hexadecimal digit writes.
+#[tactic(auto, unfolding(crate::specs::Codes::digit_value, crate::specs::Codes::is_hex_digit, crate::specs::Codes::is_decimal_digit))]
+pub fn hex_value(digit: u16) -> u16
+    requires { spec_is_hex_digit digit ≡ true }
+    ensures value { result ≡ spec_digit_value digit }
+    ensures small { result < 16 }
+{
+    digit_value(digit)
 }
 
 fn is_between(first: u8, code: u16, last: u8) -> bool

@@ -4,7 +4,7 @@ ghost use Rattle.std.specs.Prelude.{◌≡◌, ◌∷◌, true, None, option_map
 ghost use Rattle.std.specs.List.{list_any};
 ghost use Rattle.es_lexer.specs.Codes.{is_line_terminator as spec_is_line_terminator};
 ghost use Rattle.es_lexer.specs.Scanning.{changed, up_to};
-ghost use Rattle.es_lexer.specs.ScannedElements.{name_at, slash_at, numeral_at, literal_at, punctuation_at};
+ghost use Rattle.es_lexer.specs.ScannedElements.{NoCommentIn, name_at, slash_at, numeral_at, literal_at, punctuation_at};
 ghost use Rattle.es_lexer.specs.ScannedTokens.{seen_of, seen_at};
 ghost use Rattle.es_lexer.specs.ElementViews.{found_element, seen_inside};
 
@@ -32,16 +32,17 @@ pub enum Element {
 }
 
 /// The element at the front, and what stands behind it. None where nothing stands there. `unclosed` is kept from one
-/// place of a text to the next: it is set once no `*/` is left, so that none is looked for again.
+/// place of a text to the next: it is set where a comment isn't closed, since none behind it is closed then, so that the end of
+/// none is looked for again.
 #[tactic(auto, unfolding(crate::specs::ScannedElements::element_at))]
 pub fn element_at_front<'a>(
     alloc: Global,
     codes: &'a [u16],
     unclosed: &mut bool,
 ) -> Result<Option<(Element, &'a [u16])>, NoMemory>
-    requires { unclosed.old ≡ true → up_to (ascii "*/") codes.now ≡ None }
+    requires { unclosed.old ≡ true → NoCommentIn codes.now }
     ensures seen { IfOk result (λ found. option_map found_element found ≡ seen_at codes.now) }
-    ensures left { unclosed.new ≡ true → up_to (ascii "*/") codes.now ≡ None }
+    ensures left { unclosed.new ≡ true → NoCommentIn codes.now }
 {
     let Some((code, rest)) = codes.split_first() else {
         return Ok(None);
@@ -111,9 +112,9 @@ fn comment_or_mark<'a>(
     unclosed: &mut bool,
 ) -> Option<(Element, &'a [u16])>
     requires slash { codes.now ≡ 47 ∷ behind.now }
-    requires left { unclosed.old ≡ true → up_to (ascii "*/") behind.now ≡ None }
+    requires left { unclosed.old ≡ true → NoCommentIn codes.now }
     ensures seen { option_map found_element result ≡ option_map (changed seen_of) (slash_at behind.now) }
-    ensures left { unclosed.new ≡ true → up_to (ascii "*/") behind.now ≡ None }
+    ensures left { unclosed.new ≡ true → NoCommentIn codes.now }
 {
     match stripped(behind, b"/") {
         Some(rest) => return Some((Element::Blank, behind_run(CodeClass::InLine, rest))),

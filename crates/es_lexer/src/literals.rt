@@ -3,12 +3,12 @@
 ghost use Rattle.std.specs.Prelude.{◌≡◌, ◌<◌, true, map, option_map, IfOk, IfSome};
 ghost use Rattle.es_lexer.specs.Literals.{code_meant, control_of as spec_control_of};
 ghost use Rattle.es_lexer.specs.Scanning.{changed};
-ghost use Rattle.es_lexer.specs.Codes.{is_octal_digit};
+ghost use Rattle.es_lexer.specs.Codes.{is_octal_digit as spec_is_octal_digit};
 ghost use Rattle.es_lexer.specs.ScannedLiterals.{hex_digits_at, hex_escape_at, third_digit_at, second_digit_at, escape_at, character_at, characters_at};
 ghost use Rattle.es_lexer.specs.Literals.Character.{ByteEscape, CodeEscape};
 ghost use Rattle.es_lexer.specs.Views.{found_number, found_text, hex_number};
 
-use crate::codes::{digit_value, is_hex_digit, is_line_terminator, is_octal_digit};
+use crate::codes::{hex_value, is_hex_digit, is_line_terminator, is_octal_digit, octal_value};
 use bml_bytes::{NoMemory, Text};
 use std::alloc::Global;
 
@@ -97,38 +97,34 @@ fn control_of(letter: u16) -> Option<u16>
 }
 
 // The code of the octal digits behind `\`, of which this is the first.
-#[tactic(auto, unfolding(crate::specs::ScannedLiterals::second_digit_at))]
+#[tactic(auto, using(crate::proofs::DigitLemmas::octal_digits), unfolding(crate::specs::ScannedLiterals::second_digit_at))]
 fn octal_escape(first: u16, codes: &[u16]) -> (u16, &[u16])
-    requires { is_octal_digit first ≡ true }
+    requires { spec_is_octal_digit first ≡ true }
     ensures { found_number result ≡ changed code_meant (second_digit_at first codes.now) }
 {
-    let Some((second, rest)) = codes.split_first() else {
-        return (digit_value(first), codes);
-    };
-    if !is_octal_digit(*second) {
-        return (digit_value(first), codes);
+    match codes.split_first() {
+        Some((second, rest)) if is_octal_digit(*second) => {
+            if first <= u16::from(b'3') {
+                return third_octal_digit(first, *second, rest);
+            }
+            (octal_value(first) * 8 + octal_value(*second), rest)
+        }
+        _ => (octal_value(first), codes),
     }
-    if first <= u16::from(b'3') {
-        return third_octal_digit(first, *second, rest);
-    }
-    (digit_value(first) * 8 + digit_value(*second), rest)
 }
 
-// The same behind two octal digits, the first of which is at most 3.
-#[tactic(auto, unfolding(crate::specs::ScannedLiterals::third_digit_at))]
+// The same behind two octal digits.
+#[tactic(auto, using(crate::proofs::DigitLemmas::octal_digits), unfolding(crate::specs::ScannedLiterals::third_digit_at))]
 fn third_octal_digit(first: u16, second: u16, codes: &[u16]) -> (u16, &[u16])
-    requires first { is_octal_digit first ≡ true }
-    requires second { is_octal_digit second ≡ true }
+    requires first { spec_is_octal_digit first ≡ true }
+    requires second { spec_is_octal_digit second ≡ true }
     ensures { found_number result ≡ changed code_meant (third_digit_at first second codes.now) }
 {
-    let two = digit_value(first) * 8 + digit_value(second);
-    let Some((third, rest)) = codes.split_first() else {
-        return (two, codes);
-    };
-    if !is_octal_digit(*third) {
-        return (two, codes);
+    let two = octal_value(first) * 8 + octal_value(second);
+    match codes.split_first() {
+        Some((third, rest)) if is_octal_digit(*third) => (two * 8 + octal_value(*third), rest),
+        _ => (two, codes),
     }
-    (two * 8 + digit_value(*third), rest)
 }
 
 // What `\x` means where these codes stand behind it.
@@ -154,14 +150,21 @@ fn code_escape(codes: &[u16]) -> (u16, &[u16])
 }
 
 // The number of the two hexadecimal digits at the front, and what stands behind them.
+#[tactic(auto, using(crate::proofs::DigitLemmas::hex_digits), unfolding(crate::specs::ScannedLiterals::hex_digits_at))]
 fn two_hex_digits(codes: &[u16]) -> Option<(u16, &[u16])>
     ensures number { option_map found_number result
         ≡ option_map (changed hex_number) (hex_digits_at 2 codes.now) }
     ensures small { IfSome result (λ found. found.0 < 256) }
 {
-    let (high, rest) = hex_digit(codes)?;
-    let (low, rest) = hex_digit(rest)?;
-    Some((high * 16 + low, rest))
+    let (high, rest) = codes.split_first()?;
+    if !is_hex_digit(*high) {
+        return None;
+    }
+    let (low, rest) = rest.split_first()?;
+    if !is_hex_digit(*low) {
+        return None;
+    }
+    Some((hex_value(*high) * 16 + hex_value(*low), rest))
 }
 
 // The number of the four hexadecimal digits at the front, and what stands behind them.
@@ -172,17 +175,4 @@ fn four_hex_digits(codes: &[u16]) -> Option<(u16, &[u16])>
     let (high, rest) = two_hex_digits(codes)?;
     let (low, rest) = two_hex_digits(rest)?;
     Some((high * 256 + low, rest))
-}
-
-// The number of the hexadecimal digit at the front, and what stands behind it.
-#[tactic(auto, unfolding(crate::specs::ScannedLiterals::hex_digits_at))]
-fn hex_digit(codes: &[u16]) -> Option<(u16, &[u16])>
-    ensures number { option_map found_number result
-        ≡ option_map (changed hex_number) (hex_digits_at 1 codes.now) }
-    ensures small { IfSome result (λ found. found.0 < 16) }
-{
-    match codes.split_first() {
-        Some((code, rest)) if is_hex_digit(*code) => Some((digit_value(*code), rest)),
-        _ => None,
-    }
 }
