@@ -4,3 +4,6 @@ pub mod MarkLemmas
 pub mod DigitLemmas
 pub mod NumberLemmas
 pub mod LiteralLemmas
+pub mod CharacterLemmas
+pub mod ElementLemmas
+pub mod TokenLemmas

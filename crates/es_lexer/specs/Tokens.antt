@@ -1,6 +1,6 @@
 -- The tokens of a script, and where it has none (ECMA-262 second edition, section 7; the place that
 -- is told of a text without tokens is this project's own).
-use Rattle.std.specs.Prelude.{◌≡◌, ◌≢◌, ℕ, ◌+◌, ◌<◌, ◌≤◌, List, [], ◌∷◌, ◌++◌, length, slice_range, All, Some, None}
+use Rattle.std.specs.Prelude.{◌≡◌, ◌≢◌, ℕ, ◌+◌, ◌<◌, ◌≤◌, List, [], ◌∷◌, ◌++◌, length, slice_range, Some, None}
 use Rattle.std.specs.List.{list_any}
 use Rattle.es_lexer.specs.Elements.{InputElement, spelling, text_of, IsElement, Stands, AreLongest, kind_of, has_line_break}
 use Rattle.es_lexer.specs.declared.token_types.Token.{Token}
@@ -8,7 +8,8 @@ use Rattle.es_lexer.specs.declared.token_types.TokenKind.{TokenKind}
 
 -- the elements are a gap between tokens: none of them is a token
 abbrev pub IsGap : List InputElement → Type 0
-IsGap gap = All (λ element. kind_of element ≡ None) gap
+IsGap [] = Unit {0}
+IsGap (element ∷ gap) = (kind_of element ≡ None) × IsGap gap
 
 -- the elements, the first of which begins at this place, are a gap, an element that is the token,
 -- and more
