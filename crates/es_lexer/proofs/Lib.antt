@@ -7,3 +7,5 @@ pub mod LiteralLemmas
 pub mod CharacterLemmas
 pub mod ElementLemmas
 pub mod TokenLemmas
+pub mod SpanLemmas
+pub mod LoopLemmas
