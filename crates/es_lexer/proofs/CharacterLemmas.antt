@@ -306,14 +306,14 @@ itself-finds quote code behind true u x y h =
     record {
       finds = hex_escape_at 2 120 ByteEscape behind;
       at_front = ap (λ c. character_at quote (92 ∷ c ∷ behind)) e ∙ hex-at quote behind;
-      long = hex_escape-long 2 120 ByteEscape behind (hex_digits_at 2 behind) refl (λ d. omega arith)
+      long = hex_escape-long 2 120 ByteEscape behind (hex_digits_at 2 behind) refl (λ d. omega arith);
     }
 itself-finds quote code behind false true x y h =
     let e : code ≡ 117 = eqb-true code 117 y in
     record {
       finds = hex_escape_at 4 117 CodeEscape behind;
       at_front = ap (λ c. character_at quote (92 ∷ c ∷ behind)) e ∙ unicode-at quote behind;
-      long = hex_escape-long 4 117 CodeEscape behind (hex_digits_at 4 behind) refl (λ d. omega arith)
+      long = hex_escape-long 4 117 CodeEscape behind (hex_digits_at 4 behind) refl (λ d. omega arith);
     }
 itself-finds quote code behind false false x y h = exactly quote (Itself code) behind (itself-exact quote code behind h x y)
 
@@ -447,11 +447,11 @@ longest-of : (quote : ℕ) (codes : List ℕ) (f : Found Character) (inside rest
 longest-of quote codes f inside rest e s = record {
   stands = character_at-good quote codes f e;
   longest = λ other more same h.
-  let b = finds-character quote other (more ++ (quote ∷ rest)) h in
-  let whole : character_spelling other ++ (more ++ (quote ∷ rest)) ≡ codes =
-  sym (append_assoc (character_spelling other) more (quote ∷ rest)) ∙ (ap (λ z. z ++ (quote ∷ rest)) same ∙ (append_assoc (character_spelling f.it) inside (quote ∷ rest) ∙ (ap (λ z. character_spelling f.it ++ z) (sym s) ∙ sym (character_at-is quote codes f e)))) in
-  let one : b.finds ≡ f = some-same b.finds f (sym b.at_front ∙ (ap (character_at quote) whole ∙ e)) in
-  subst (λ (g : Found Character). length (character_spelling other) ≤ length (character_spelling g.it)) one b.long
+      let b = finds-character quote other (more ++ (quote ∷ rest)) h in
+      let whole : character_spelling other ++ (more ++ (quote ∷ rest)) ≡ codes =
+      sym (append_assoc (character_spelling other) more (quote ∷ rest)) ∙ (ap (λ z. z ++ (quote ∷ rest)) same ∙ (append_assoc (character_spelling f.it) inside (quote ∷ rest) ∙ (ap (λ z. character_spelling f.it ++ z) (sym s) ∙ sym (character_at-is quote codes f e)))) in
+      let one : b.finds ≡ f = some-same b.finds f (sym b.at_front ∙ (ap (character_at quote) whole ∙ e)) in
+      subst (λ (g : Found Character). length (character_spelling other) ≤ length (character_spelling g.it)) one b.long;
 }
 
 inside-is-by : (most quote code : ℕ) (codes : List ℕ) (f : Found (List Character)) (t : Bool) (o : Option (Found Character)) → (code == quote) ≡ t → character_at quote (code ∷ codes) ≡ o
@@ -465,7 +465,7 @@ inside-is-by most quote code codes f false (Some g) q p k e =
     let h = k g i ie in
     subst (IsInside quote (code ∷ codes)) is (record {
       spelled = character_at-is quote (code ∷ codes) g p ∙ (ap (λ z. character_spelling g.it ++ z) h.spelled ∙ sym (append_assoc (character_spelling g.it) (inside_spelling i.it) (quote ∷ i.rest)));
-      characters = (longest-of quote (code ∷ codes) g (inside_spelling i.it) i.rest p h.spelled, h.characters)
+      characters = (longest-of quote (code ∷ codes) g (inside_spelling i.it) i.rest p h.spelled, h.characters);
     }))
 
 inside-is : (most quote : ℕ) (codes : List ℕ) (f : Found (List Character)) → inside_at most quote codes ≡ Some f → IsInside quote codes f

@@ -353,7 +353,7 @@ numeral-by : (base : Base) (codes rest : List ℕ) (f : Found Digits) → codes 
 numeral-by base codes rest f s h m = record {
   is_it = s ∙ (ap (λ z. base_mark base ++ z) h.is_it ∙ (sym (append_assoc (base_mark base) f.it.digits f.rest) ∙ ap (λ b. (base_mark b ++ f.it.digits) ++ f.rest) (sym h.base_is)));
   number = subst (λ b. IsNumber b f.it.digits) (sym h.base_is) (record { made_of = h.made_of; begins = m; fits = h.fits });
-  ends = h.ends
+  ends = h.ends;
 }
 
 decimal-begins : (c : ℕ) (l : List ℕ) (f : Found Digits) → is_decimal_digit c ≡ true → (c == 48) ≡ false → f.it.digits ≡ front is_decimal_digit (c ∷ l) → MayFollowMark Decimal f.it.digits
@@ -449,7 +449,7 @@ literal-is quote l f q e = mapped (changed (Literal quote)) (characters_at quote
     let h = characters-are quote l g ge in
     subst (StandsAtFront (quote ∷ l)) gs (record {
       is_it = ap (λ z. quote ∷ z) (h.spelled ∙ sym (append_assoc (inside_spelling g.it) (quote ∷ []) g.rest));
-      stands = (record { quoted = q; inside = h.characters }, tt)
+      stands = (record { quoted = q; inside = h.characters }, tt);
     }))
 
 name-is : (c : ℕ) (l : List ℕ) → is_identifier_start c ≡ true → StandsAtFront (c ∷ l) (name_at (c ∷ l))
@@ -459,7 +459,7 @@ name-is c l e =
     let rest = behind is_identifier_part (c ∷ l) in
     record {
       is_it = front-behind is_identifier_part (c ∷ l) ∙ ap (λ z. z ++ rest) (sym (named-spelling run));
-      stands = named-stands run rest (front-identifier c l e)
+      stands = named-stands run rest (front-identifier c l e);
     }
 
 element-is-by : (c : ℕ) (l : List ℕ) (f : Found InputElement) (t u v w x y : Bool) → is_white c ≡ t → is_line_terminator c ≡ u → is_identifier_start c ≡ v → is_decimal_digit c ≡ w → is_quote c ≡ x → (c == 47) ≡ y
@@ -503,7 +503,7 @@ name-finds name rest element h s n =
       finds = found (named whole) (behind is_identifier_part (name ++ rest));
       at_front = ap (λ z. element_at (z ++ rest)) s ∙ name-found name rest h;
       long = omega (arith, ap length s, ap length (named-spelling whole), length-append name (front is_identifier_part rest));
-      same = λ e. ap named (sym (named-spelling whole) ∙ (e ∙ s)) ∙ n
+      same = λ e. ap named (sym (named-spelling whole) ∙ (e ∙ s)) ∙ n;
     }
 
 line-finds : (inside rest : List ℕ) → list_any is_line_terminator inside ≡ false → Finds (LineComment inside) rest
@@ -514,7 +514,7 @@ line-finds inside rest h =
       finds = found (LineComment (front is_in_line whole)) (behind is_in_line whole);
       at_front = at-slash (47 ∷ whole) ∙ slash-line (47 ∷ whole) whole refl;
       long = omega (arith, ap length more, length-append inside (front is_in_line rest));
-      same = λ e. ap LineComment (cc e)
+      same = λ e. ap LineComment (cc e);
     }
 
 block-finds : (inside rest : List ℕ) → EndsAtFirst (ascii "*/") inside → Finds (BlockComment inside) rest
@@ -569,7 +569,7 @@ punctuation-finds mark rest e = record {
   finds = changed Punctuation (grown mark rest);
   at_front = e ∙ punctuation-found mark rest;
   long = grown-long mark rest;
-  same = λ s. ap Punctuation (mark-same (grown mark rest).it mark s)
+  same = λ s. ap Punctuation (mark-same (grown mark rest).it mark s);
 }
 
 slash-finds : (rest : List ℕ) → BehindSlash rest → Finds (Punctuation Divide) rest
@@ -577,13 +577,13 @@ slash-finds rest (Line inside s e) = record {
   finds = found (LineComment (front is_in_line inside)) (behind is_in_line inside);
   at_front = at-slash rest ∙ e;
   long = omega arith;
-  same = λ q. absurd (omega (arith, ap length q))
+  same = λ q. absurd (omega (arith, ap length q));
 }
 slash-finds rest (Block inside f s u e) = record {
   finds = changed BlockComment f;
   at_front = at-slash rest ∙ e;
   long = omega arith;
-  same = λ q. absurd (omega (arith, ap length q, length-append f.it (ascii "*/")))
+  same = λ q. absurd (omega (arith, ap length q, length-append f.it (ascii "*/")));
 }
 slash-finds rest (Alone e) = punctuation-finds Divide rest (at-slash rest ∙ e)
 
@@ -656,10 +656,16 @@ pub record IsLongestAt (codes : List ℕ) (f : Found InputElement) : Type 0 wher
 pub element_at-is : (codes : List ℕ) (f : Found InputElement) → element_at codes ≡ Some f → IsLongestAt codes f
 element_at-is codes f e =
     let h = element_at-stands codes f e in
-    record { is_it = h.is_it; longest = record { stands = h.stands; longest = λ other more s k.
-      let b = finds-element other more k in
-      let one : b.finds ≡ f = some-same b.finds f (sym b.at_front ∙ (ap element_at (s ∙ sym h.is_it) ∙ e)) in
-      subst (λ (g : Found InputElement). length (spelling other) ≤ length (spelling g.it)) one b.long } }
+    record {
+      is_it = h.is_it;
+      longest = record {
+        stands = h.stands;
+        longest = λ other more s k.
+            let b = finds-element other more k in
+            let one : b.finds ≡ f = some-same b.finds f (sym b.at_front ∙ (ap element_at (s ∙ sym h.is_it) ∙ e)) in
+            subst (λ (g : Found InputElement). length (spelling other) ≤ length (spelling g.it)) one b.long;
+      };
+    }
 
 pub element_at-longest : (element : InputElement) (rest : List ℕ) → IsLongest element rest → element_at (spelling element ++ rest) ≡ Some (found element rest)
 element_at-longest element rest h =

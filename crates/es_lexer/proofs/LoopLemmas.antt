@@ -29,7 +29,7 @@ keeps-start text rest tokens r t = record {
   front = [];
   is_it = sym r;
   same = with-nothing (outcome_from (length text) false text) ∙ (ap (λ z. with_front [] (outcome_from (length text) false z)) (sym r) ∙ ap (λ z. with_front z (outcome_from (length text) false rest)) (sym t));
-  closed = λ e. absurd (cc e)
+  closed = λ e. absurd (cc e);
 }
   where
     with-nothing : (o : Outcome) → o ≡ with_front [] o
@@ -69,7 +69,7 @@ keeps-gap text tokens rest broken unclosed f now h n e k c =
       front = h.front ++ s.spelled;
       is_it = h.is_it ∙ (ap (λ z. h.front ++ z) s.is_it ∙ sym (append_assoc h.front s.spelled f.rest));
       same = h.same ∙ ap (with_front tokens) step;
-      closed = λ u. no-comment-suffix rest s.spelled f.rest s.is_it (c u)
+      closed = λ u. no-comment-suffix rest s.spelled f.rest s.is_it (c u);
     }
 
 -- a token
@@ -84,7 +84,7 @@ keeps-token text tokens more rest broken unclosed f kind now h n e k m c =
       front = h.front ++ s.spelled;
       is_it = h.is_it ∙ (ap (λ z. h.front ++ z) s.is_it ∙ sym (append_assoc h.front s.spelled f.rest));
       same = h.same ∙ (ap (with_front tokens) step ∙ (with-both tokens (t ∷ []) (outcome_from (length text) false f.rest) ∙ ap (λ z. with_front z (outcome_from (length text) false f.rest)) (sym m)));
-      closed = λ u. no-comment-suffix rest s.spelled f.rest s.is_it (c u)
+      closed = λ u. no-comment-suffix rest s.spelled f.rest s.is_it (c u);
     }
 
 pub keeps-within : (text : List ℕ) (tokens : List Token) (rest : List ℕ) (broken unclosed : Bool) → Keeps text tokens rest broken unclosed → length rest ≤ length text

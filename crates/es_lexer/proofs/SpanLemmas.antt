@@ -31,8 +31,7 @@ stand text front place elements (token ∷ tokens) p t l (more, h, rest) =
     let whole : text ≡ before ++ (spelling e ++ text_of more) = t ∙ (ap (λ z. front ++ text_of z) h.end_to_end ∙ (ap (λ z. front ++ z) (text-append h.gap (e ∷ more)) ∙ sym (append_assoc front (text_of h.gap) (spelling e ++ text_of more)))) in
     let start : token.start ≡ length before = omega (arith, h.start, p, length-append front (text_of h.gap)) in
     let slice : slice_range text token.start token.«end» ≡ spelling e = slice-is text before (spelling e) (text_of more) token.start token.«end» whole start h.stop in
-    let behind : token.«end» ≡ length (before ++ spelling e) = omega (arith, h.stop, start, length-append before (spelling e)) in
-    (
+    let behind : token.«end» ≡ length (before ++ spelling e) = omega (arith, h.stop, start, length-append before (spelling e)) in (
       omega (arith, h.start),
       omega (arith, h.stop, long),
       record { element = e; is_element = longest.0.stands.0; kind_is = h.kind; spelled_is = slice },

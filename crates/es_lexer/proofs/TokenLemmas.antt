@@ -167,6 +167,7 @@ outcome-same (suc m) (suc n) whole broken (c ∷ codes) p q = by (first-of (c �
   where
     some : c ∷ codes ≢ []
     some e = absurd (cc e)
+
     by : FirstOf (c ∷ codes) → ((r : List ℕ) → length r < length (c ∷ codes) → (b : Bool) → outcome_within m whole b r ≡ outcome_within n whole b r) → outcome_within (suc m) whole broken (c ∷ codes) ≡ outcome_within (suc n) whole broken (c ∷ codes)
     by (Nowhere e) k =
         let s : seen_at (c ∷ codes) ≡ None = ap (option_map (changed seen_of)) e in
@@ -282,6 +283,7 @@ bad-computed text place h = by (first-of h.rest)
         let all = outcome-elements h.elements h.rest (Err (length text - length h.rest)) (suc (length text)) (length text) 0 false h.longest (ends-bad (length text) h.rest h.some e) (let n : 0 + length (text_of h.elements ++ h.rest) ≡ length text = omega (arith, ap length h.spelled) in n) (omega (arith, ap length h.spelled)) in
         let there : length text - length h.rest ≡ place = omega (arith, size, h.place_is) in
         ap (outcome_within (suc (length text)) (length text) false) h.spelled ∙ (all ∙ ap (λ p. Err p) there)
+
     by : FirstOf h.rest → outcome_within (suc (length text)) (length text) false text ≡ Err place
     by (Nowhere e) = at e
     by (There f e s l less) = absurd (h.nothing f.it f.rest s l.stands)

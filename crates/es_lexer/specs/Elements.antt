@@ -1,6 +1,8 @@
 -- The lexical grammar of a script (ECMA-262 second edition, section 7, in this profile). A text is
 -- input elements end to end: white space, line terminators, comments and tokens, each the longest
--- that stands at its place.
+-- that stands at its place. A line terminator is an element of its own, and
+-- not white space, since whether one stands in front of a token matters to the grammar of programs.
+-- Where something stands at a place, `behind` is the rest of the text behind it.
 use Rattle.std.specs.Prelude.{◌≡◌, ◌≢◌, ℕ, ◌≤◌, ◌==◌, Bool, true, false, ◌||◌, ℤ, pos, List, [], ◌∷◌, ◌++◌, length, map, Option, Some, None, codes}
 use Rattle.std.specs.List.{list_all, list_any, flat_map}
 use Rattle.es_lexer.specs.Codes.{is_white, is_line_terminator, is_identifier, is_identifier_part}

@@ -1,5 +1,5 @@
--- A device of the proofs: punctuators read code by code. Each front of a punctuator is one, so that the
--- longest is found by going on as long as one code more makes another.
+-- A device of the proofs: punctuators read code by code. Each front of a punctuator is one, so that
+-- the longest is found by going on as long as one code more makes another.
 use Rattle.std.specs.Prelude.{ℕ, ◌==◌, if◌then◌else◌, List, [], ◌∷◌, Option, Some, None}
 use Rattle.es_lexer.specs.Scanning.{Found, found}
 use Rattle.es_lexer.specs.declared.punctuators.Punctuator.{Punctuator}

@@ -28,7 +28,8 @@ wants_digits Decimal = false
 wants_digits Octal = false
 wants_digits Hexadecimal = true
 
--- these digits are wanted and there, write a number that isn't too great, and end where a number may end
+-- these digits are wanted and there, write a number that isn't too great, and end where a number
+-- may end
 unfoldable pub is_whole : Base → List ℕ → List ℕ → Bool
 is_whole base digits rest =
     (if wants_digits base then nat_lt 0 (length digits) else true)

@@ -1,4 +1,5 @@
--- A device of the proofs: the tokens of a text or the place of its fault, computed from the front on.
+-- A device of the proofs: the tokens of a text or the place of its fault, computed from the front
+-- on.
 use Rattle.std.specs.Prelude.{ℕ, zero, suc, ◌-◌, Bool, true, false, ◌||◌, List, [], ◌∷◌, ◌++◌, length, Option, Some, None, option_map, Result, Ok, Err}
 use Rattle.es_lexer.specs.Elements.{InputElement, kind_of, has_line_break}
 use Rattle.es_lexer.specs.Scanning.{Found, found, changed}
@@ -25,8 +26,8 @@ abbrev pub with_front : List Token → Outcome → Outcome
 with_front tokens (Ok more) = Ok (tokens ++ more)
 with_front tokens (Err place) = Err place
 
--- what stands at the end of a text of `whole` codes, where a line break stands in front of it or doesn't; there are
--- fewer elements than `most`
+-- what stands at the end of a text of `whole` codes, where a line break stands in front of it or
+-- doesn't; there are fewer elements than `most`
 unfoldable pub outcome_within : ℕ → ℕ → Bool → List ℕ → Outcome
 outcome_within zero whole broken codes = Err zero
 outcome_within (suc most) whole broken [] = Ok []

@@ -31,9 +31,9 @@ pub enum Element {
     Token(TokenKind),
 }
 
-/// The element at the front, and what stands behind it. None where nothing stands there. `unclosed` is kept from one
-/// place of a text to the next: it is set where a comment isn't closed, since none behind it is closed then, so that the end of
-/// none is looked for again.
+/// The element at the front, and what stands behind it. None where nothing stands there. `unclosed`
+/// is kept from one place of a text to the next: it is set where a comment isn't closed, since none
+/// behind it is closed then, so that the end of none is looked for again.
 #[tactic(auto, unfolding(crate::specs::ScannedElements::element_at))]
 pub fn element_at_front<'a>(
     alloc: Global,

@@ -14,8 +14,8 @@ use std::alloc::Global;
 
 const BACKSLASH: u16 = 0x5C;
 
-/// The text that a literal means, from behind its quote up to the next one, and what stands behind that. None where
-/// the literal isn't closed on its line.
+/// The text that a literal means, from behind its quote up to the next one, and what stands behind
+/// that. None where the literal isn't closed on its line.
 pub fn literal(alloc: Global, quote: u16, codes: &[u16]) -> Result<Option<(Text, &[u16])>, NoMemory>
     ensures { IfOk result (λ found. option_map found_text found
         ≡ option_map (changed (map code_meant)) (characters_at quote codes.now)) }

@@ -48,7 +48,8 @@ fn number_in_base(base: Base, codes: &[u16]) -> Option<(i32, &[u16])>
     }
 }
 
-// Whether these digits, which write this number or one that is too great, are a number in front of these codes.
+// Whether these digits, which write this number or one that is too great, are a number in front of
+// these codes.
 #[tactic(auto, unfolding(crate::specs::ScannedNumbers::is_whole))]
 fn is_whole(base: Base, digits: &[u16], value: u64, rest: &[u16]) -> bool
     requires { value ≡ min 2147483648 (number_written (base_of base) digits.now) }

@@ -32,7 +32,8 @@ pub struct Token {
 /// Why a text has no tokens.
 #[derive(Clone, Copy, Debug, PartialEq, Eq)]
 pub enum LexRefusal {
-    /// No token, white space or comment stands at this place, and none did at none before it.
+    /// No token, white space or comment stands at this place, and one does at each place before it
+    /// up to which the text was read.
     Bad { place: usize },
     /// Want of memory, and nothing else.
     NoMemory,

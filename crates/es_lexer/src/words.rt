@@ -6,8 +6,8 @@ ghost use Rattle.es_lexer.specs.ScannedElements.{word_of};
 ghost use Rattle.es_lexer.specs.Spellings.{word_spelling};
 ghost use Rattle.es_lexer.specs.declared.words.ReservedWord.{ReservedWord};
 
-/// A reserved word: a keyword, `null`, `true` or `false`, or a word that is kept for later (ECMA-262
-/// second edition, 7.4).
+/// A reserved word: a keyword, `null`, `true` or `false`, or a word that is kept for later
+/// (ECMA-262 second edition, 7.4).
 #[derive(Clone, Copy, Debug, PartialEq, Eq)]
 pub enum ReservedWord {
     Break,
