@@ -1,17 +1,16 @@
 -- The characters of a text literal are found where they are spelled, and what is found is spelled there.
-use Rattle.std.proofs.Common.{◌≡◌, ◌≢◌, ℕ, zero, suc, ◌+◌, ◌*◌, ◌-◌, ◌<◌, ◌≤◌, Bool, true, false, cond, List, [], ◌∷◌, ◌++◌, length, Option, Some, None, refl, sym, ◌∙◌, ap, subst, arith, append_assoc, append-nil}
+use Rattle.std.proofs.Common.{◌≡◌, ℕ, zero, suc, ◌<◌, ◌≤◌, Bool, true, false, cond, List, [], ◌∷◌, ◌++◌, length, Option, Some, None, refl, sym, ◌∙◌, ap, subst, arith, append_assoc}
 use Rattle.std.specs.Prelude.{◌==◌, ◌||◌, ◌&&◌, map, nat_le, option_map, is_some}
-use Rattle.std.specs.List.{list_all, flat_map}
+use Rattle.std.specs.List.{list_all}
 use Rattle.std.proofs.lemmas.Bool.{eqb-true, eq-eqb, ne_eqb, eqb-false, or_parts}
 use Rattle.std.proofs.lemmas.Bool.Decides.{nat_tests}
-use Rattle.std.proofs.lemmas.List.{length-append}
 use Rattle.bml_bytes.specs.Numbers.{number_in}
 use Rattle.es_lexer.specs.Codes.{is_line_terminator, is_decimal_digit, is_octal_digit, is_hex_digit, digit_value, is_quote}
-use Rattle.es_lexer.specs.Literals.{Character, character_spelling, inside_spelling, code_meant, control_of, IsCharacter, IsLongestCharacter, AreCharacters}
+use Rattle.es_lexer.specs.Literals.{Character, character_spelling, inside_spelling, control_of, IsCharacter, IsLongestCharacter, AreCharacters}
 use Rattle.es_lexer.specs.Literals.Character.{Plain, Control, OctalEscape, ByteEscape, CodeEscape, Itself}
 use Rattle.es_lexer.specs.Scanning.{Found, found, changed}
 use Rattle.es_lexer.specs.ScannedLiterals.{hex_digits_at, hex_escape_at, third_digit_at, second_digit_at, escape_at, character_at, inside_at, characters_at}
-use Rattle.es_lexer.proofs.CodeLemmas.{some-same, mapped, both, both-back, none-map}
+use Rattle.es_lexer.proofs.CodeLemmas.{some-same, mapped, both, both-back}
 use Rattle.es_lexer.proofs.LiteralLemmas.{character_at-is, characters-end, characters-step}
 use Rattle.es_lexer.proofs.DigitLemmas.{hex_digits_at-is, one_octal, two_octal, three_octal}
 

@@ -1,10 +1,9 @@
 -- The numbers that a few digits write.
-use Rattle.std.proofs.Common.{◌≡◌, ℕ, zero, suc, ◌+◌, ◌*◌, ◌^◌, ◌<◌, ◌≤◌, Bool, true, false, cond, List, [], ◌∷◌, ◌++◌, length, Option, Some, None, refl, sym, ◌∙◌, ap, subst, arith}
-use Rattle.std.specs.Prelude.{map, min, option_map, option_and_then}
+use Rattle.std.proofs.Common.{◌≡◌, ℕ, zero, suc, ◌+◌, ◌*◌, Bool, true, false, cond, List, [], ◌∷◌, ◌++◌, length, Option, Some, None, refl, sym, ◌∙◌, ap, subst, arith}
+use Rattle.std.specs.Prelude.{map, option_map, option_and_then}
 use Rattle.bml_bytes.specs.Numbers.{number_in}
 use Rattle.es_lexer.specs.Codes.{digit_value, is_hex_digit}
 use Rattle.es_lexer.specs.Scanning.{Found, found, changed}
-use Rattle.es_lexer.specs.ScannedNumbers.{number_behind}
 use Rattle.es_lexer.specs.ScannedLiterals.{hex_digits_at}
 use Rattle.es_lexer.specs.Views.{hex_number}
 use Rattle.std.specs.List.{list_all}

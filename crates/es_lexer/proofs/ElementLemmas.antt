@@ -1,8 +1,8 @@
 -- Input elements are found where they stand, and what is found stands there.
-use Rattle.std.proofs.Common.{◌≡◌, ◌≢◌, ℕ, zero, suc, ◌+◌, ◌-◌, ◌<◌, ◌≤◌, Bool, true, false, cond, List, [], ◌∷◌, ◌++◌, length, Option, Some, None, refl, sym, ◌∙◌, ap, subst, arith, append_assoc, append-nil}
+use Rattle.std.proofs.Common.{◌≡◌, ◌≢◌, ℕ, ◌<◌, ◌≤◌, Bool, true, false, cond, List, [], ◌∷◌, ◌++◌, length, Option, Some, None, refl, sym, ◌∙◌, ap, subst, arith, append_assoc}
 use Rattle.std.specs.Prelude.{◌==◌, ◌||◌, ◌&&◌, not, nat_le, nat_lt, option_map, codes as ascii}
 use Rattle.std.specs.List.{list_all, list_any}
-use Rattle.std.proofs.lemmas.Bool.{eqb-true, eq-eqb, ne_eqb, eqb-false, or_parts, or_from, leb-true, le-leb, ltb-true, not-true, not-false}
+use Rattle.std.proofs.lemmas.Bool.{eqb-true, ne_eqb, eqb-false, or_parts, or_from, leb-true, le-leb, ltb-true, not-true}
 use Rattle.std.proofs.lemmas.Bool.Decides.{nat_tests}
 use Rattle.std.proofs.lemmas.List.{length-append}
 use Rattle.es_lexer.specs.Codes.{is_white, is_line_terminator, is_letter, is_decimal_digit, is_octal_digit, is_hex_digit, is_identifier_start, is_identifier_part, is_identifier, is_quote}
@@ -10,7 +10,7 @@ use Rattle.es_lexer.specs.Spellings.{word_spelling, mark_spelling}
 use Rattle.es_lexer.specs.Numbers.{Base, base_mark, is_digit_in, MayFollowMark, number_written, most_number, IsNumber}
 use Rattle.es_lexer.specs.Numbers.Base.{Decimal, Octal, Hexadecimal}
 use Rattle.es_lexer.specs.Literals.{Character, inside_spelling, IsLiteral}
-use Rattle.es_lexer.specs.Elements.{InputElement, spelling, EndsAtFirst, IsElement, EndsNumber, MayStandBefore, Stands, IsLongest}
+use Rattle.es_lexer.specs.Elements.{InputElement, spelling, EndsAtFirst, IsElement, EndsNumber, Stands, IsLongest}
 use Rattle.es_lexer.specs.Elements.InputElement.{WhiteSpace, LineTerminator, LineComment, BlockComment, Identifier, Reserved, Punctuation, Numeral, Literal}
 use Rattle.es_lexer.specs.Scanning.{Found, found, changed, front, behind, stripped, up_to}
 use Rattle.es_lexer.specs.Munching.{grown, longer, mark_at}
@@ -21,9 +21,9 @@ use Rattle.es_lexer.specs.declared.words.ReservedWord.{ReservedWord}
 use Rattle.es_lexer.specs.declared.words.ReservedWord.TheVariants.{Break, Case, Catch, Class, Const, Continue, Debugger, Default, Delete, Do, Else, Enum, Export, Extends, False, Finally, For, Function, If, Import, In, New, Null, Return, Super, Switch, This, Throw, True, Try, Typeof, Var, Void, While, With}
 use Rattle.es_lexer.specs.declared.punctuators.Punctuator.{Punctuator}
 use Rattle.es_lexer.specs.declared.punctuators.Punctuator.TheVariants.{OpenBrace, CloseBrace, OpenParenthesis, CloseParenthesis, OpenBracket, CloseBracket, Semicolon, Comma, Dot, Question, Colon, Complement, Not, Increment, Decrement, Assign, TimesAssign, DivideAssign, RemainderAssign, PlusAssign, MinusAssign, ShiftLeftAssign, ShiftRightAssign, UnsignedShiftRightAssign, AndAssign, XorAssign, OrAssign, LogicalOr, LogicalAnd, BitOr, BitXor, BitAnd, Equal, NotEqual, Less, Greater, LessOrEqual, GreaterOrEqual, ShiftLeft, ShiftRight, UnsignedShiftRight, Plus, Minus, Times, Divide, Remainder}
-use Rattle.es_lexer.proofs.CodeLemmas.{both, both-back, some-same, mapped, passed, NoMarkIn, Ends, front-cons, front-run, behind-run, front-behind, front-all, behind-ends, stripped-append, stripped-is, up_to-first, UpTo, up_to-is}
+use Rattle.es_lexer.proofs.CodeLemmas.{both, both-back, some-same, mapped, passed, NoMarkIn, Ends, front-cons, front-run, behind-run, front-behind, front-all, stripped-append, stripped-is, up_to-first, up_to-is}
 use Rattle.es_lexer.proofs.WordLemmas.{word_of-word, word_of-is, word_of-none}
-use Rattle.es_lexer.proofs.MarkLemmas.{grown-is, mark_at-is, mark_at-mark, mark_at-spelling, longer-is}
+use Rattle.es_lexer.proofs.MarkLemmas.{mark_at-is, mark_at-mark, mark_at-spelling, longer-is}
 use Rattle.es_lexer.proofs.CharacterLemmas.{inside-found, characters-are}
 
 -- Lists

@@ -1,15 +1,14 @@
 -- Text literals character by character.
-use Rattle.std.proofs.Common.{◌≡◌, ◌≢◌, ℕ, zero, suc, ◌+◌, ◌<◌, ◌≤◌, Bool, true, false, cond, List, [], ◌∷◌, ◌++◌, length, Option, Some, None, refl, sym, ◌∙◌, ap, subst, arith, append_assoc, append-nil}
+use Rattle.std.proofs.Common.{◌≡◌, ℕ, zero, suc, ◌<◌, Bool, true, false, cond, List, [], ◌∷◌, ◌++◌, length, Option, Some, None, refl, sym, ◌∙◌, ap, subst, arith, append_assoc, append-nil}
 use Rattle.std.specs.Prelude.{◌==◌, ◌||◌, map, nat_le, option_map}
-use Rattle.std.specs.List.{list_all, flat_map}
 use Rattle.std.proofs.lemmas.Bool.{eqb-true, eq-eqb, ne_eqb}
-use Rattle.std.proofs.lemmas.List.{length-append, map-append}
-use Rattle.es_lexer.specs.Codes.{is_line_terminator, is_octal_digit, is_hex_digit}
-use Rattle.es_lexer.specs.Literals.{Character, character_spelling, inside_spelling, code_meant, control_of}
+use Rattle.std.proofs.lemmas.List.{length-append}
+use Rattle.es_lexer.specs.Codes.{is_line_terminator, is_octal_digit}
+use Rattle.es_lexer.specs.Literals.{Character, character_spelling, code_meant, control_of}
 use Rattle.es_lexer.specs.Literals.Character.{Plain, Control, OctalEscape, ByteEscape, CodeEscape, Itself}
 use Rattle.es_lexer.specs.Scanning.{Found, found, changed}
 use Rattle.es_lexer.specs.ScannedLiterals.{hex_digits_at, hex_escape_at, third_digit_at, second_digit_at, escape_at, character_at, inside_at, characters_at}
-use Rattle.es_lexer.proofs.CodeLemmas.{some-same, mapped, both, none-map}
+use Rattle.es_lexer.proofs.CodeLemmas.{some-same, mapped, none-map}
 use Rattle.es_lexer.proofs.DigitLemmas.{hex_digits_at-is}
 
 -- What a character leaves

@@ -1,20 +1,20 @@
 -- The loop over the elements of a text.
-use Rattle.std.proofs.Common.{◌≡◌, ◌≢◌, ℕ, suc, ◌+◌, ◌-◌, ◌<◌, ◌≤◌, Bool, true, false, List, [], ◌∷◌, ◌++◌, length, Option, Some, None, refl, sym, ◌∙◌, ap, subst, arith, append_assoc, append-nil}
-use Rattle.std.specs.Prelude.{◌||◌, ◌==◌, option_map, Result, Ok, Err, IfOk, MatchResult}
+use Rattle.std.proofs.Common.{◌≡◌, ◌≢◌, ℕ, suc, ◌-◌, ◌<◌, ◌≤◌, Bool, true, false, List, [], ◌∷◌, ◌++◌, length, Some, None, refl, sym, ◌∙◌, ap, subst, arith, append_assoc, append-nil}
+use Rattle.std.specs.Prelude.{◌||◌, ◌==◌, Result, Ok, Err}
 use Rattle.std.proofs.lemmas.List.{length-append}
-use Rattle.es_lexer.specs.Elements.{InputElement, spelling}
+use Rattle.es_lexer.specs.Elements.{spelling}
 use Rattle.es_lexer.specs.Tokens.{Tokens, IsBadAt}
-use Rattle.es_lexer.specs.Scanning.{Found, found, changed}
+use Rattle.es_lexer.specs.Scanning.{Found, changed}
 use Rattle.es_lexer.specs.ScannedElements.{NoCommentIn, element_at}
 use Rattle.es_lexer.specs.ScannedTokens.{Seen, seen_of, seen_at, Outcome, with_front, outcome_within, outcome_from, outcome_of}
 use Rattle.es_lexer.specs.declared.token_types.Token.{Token}
 use Rattle.es_lexer.specs.declared.token_types.TokenKind.{TokenKind}
 use Rattle.es_lexer.specs.declared.token_types.LexRefusal.{LexRefusal}
-use Rattle.es_lexer.specs.declared.token_types.LexRefusal.TheVariants.{Bad, NoMemory}
-use Rattle.es_lexer.proofs.CodeLemmas.{some-same, mapped, nothing-left, no-comment-suffix}
+use Rattle.es_lexer.specs.declared.token_types.LexRefusal.TheVariants.{Bad}
+use Rattle.es_lexer.proofs.CodeLemmas.{mapped, nothing-left, no-comment-suffix}
 use Rattle.std.proofs.lemmas.Bool.{eqb-true}
 use Rattle.es_lexer.proofs.ElementLemmas.{element_at-is, element-long}
-use Rattle.es_lexer.proofs.TokenLemmas.{token, after, outcome-step, outcome-bad, outcome-end, outcome-same, with-both, tokens-computed, bad-computed, computed-tokens, computed-bad}
+use Rattle.es_lexer.proofs.TokenLemmas.{token, after, outcome-step, outcome-bad, outcome-end, outcome-same, with-both, tokens-computed, computed-tokens, computed-bad}
 
 -- What is kept: the tokens so far, and those of the rest
 pub record Keeps (text : List ℕ) (tokens : List Token) (rest : List ℕ) (broken unclosed : Bool) : Type 0 where

@@ -1,8 +1,7 @@
 -- Punctuators are found by their spelling, and the longest one is found.
-use Rattle.std.proofs.Common.{◌≡◌, ◌≢◌, ℕ, ◌≤◌, ◌+◌, Bool, true, false, cond, List, [], ◌∷◌, ◌++◌, length, Option, Some, None, refl, sym, ◌∙◌, ap, subst, arith, append_assoc, append-nil}
+use Rattle.std.proofs.Common.{◌≡◌, ℕ, Bool, true, false, cond, List, [], ◌∷◌, ◌++◌, Option, Some, None, refl, sym, ◌∙◌, ap, subst, append_assoc, append-nil}
 use Rattle.std.specs.Prelude.{◌==◌}
 use Rattle.std.proofs.lemmas.Bool.{eqb-true}
-use Rattle.std.proofs.lemmas.List.{length-append}
 use Rattle.es_lexer.specs.Scanning.{Found, found}
 use Rattle.es_lexer.specs.Spellings.{mark_spelling}
 use Rattle.es_lexer.specs.Munching.{made_by, made_by_either, mark_of, longer, grown, mark_at}

@@ -1,10 +1,10 @@
 -- Each token is its part of the text.
-use Rattle.std.proofs.Common.{◌≡◌, ℕ, ◌+◌, ◌-◌, ◌<◌, ◌≤◌, List, [], ◌∷◌, ◌++◌, length, take, drop, Some, refl, sym, ◌∙◌, ap, subst, arith, append_assoc}
+use Rattle.std.proofs.Common.{◌≡◌, ℕ, ◌+◌, ◌-◌, List, [], ◌∷◌, ◌++◌, length, take, drop, refl, sym, ◌∙◌, ap, subst, arith, append_assoc}
 use Rattle.std.specs.List.{slice_range}
 use Rattle.std.proofs.lemmas.List.{length-append}
 use Rattle.std.proofs.Math.Seq.{take-append_seam, drop-append_seam}
 use Rattle.es_lexer.specs.Elements.{InputElement, spelling, text_of, AreLongest}
-use Rattle.es_lexer.specs.Tokens.{IsFirstToken, TokensAmong, Tokens, IsSpelled, StandInOrder}
+use Rattle.es_lexer.specs.Tokens.{TokensAmong, Tokens, StandInOrder}
 use Rattle.es_lexer.specs.declared.token_types.Token.{Token}
 use Rattle.es_lexer.proofs.ElementLemmas.{element-long}
 use Rattle.es_lexer.proofs.TokenLemmas.{text-append}

@@ -1,17 +1,16 @@
 -- The tokens of a text, and the place where it has none, are those that are computed.
-use Rattle.std.proofs.Common.{◌≡◌, ◌≢◌, ℕ, zero, suc, ◌+◌, ◌-◌, ◌<◌, ◌≤◌, Bool, true, false, ◌⊎◌, inl, inr, List, [], ◌∷◌, ◌++◌, length, Option, Some, None, refl, sym, ◌∙◌, ap, subst, arith, append_assoc, append-nil}
+use Rattle.std.proofs.Common.{◌≡◌, ◌≢◌, ℕ, zero, suc, ◌+◌, ◌-◌, ◌<◌, Bool, true, false, ◌⊎◌, inl, inr, List, [], ◌∷◌, ◌++◌, length, Option, Some, None, refl, sym, ◌∙◌, ap, subst, arith, append_assoc, append-nil}
 use Rattle.std.specs.Prelude.{◌||◌, option_map, Result, Ok, Err}
-use Rattle.std.specs.List.{list_any, flat_map}
+use Rattle.std.specs.List.{list_any}
 use Rattle.std.proofs.lemmas.List.{length-append}
-use Rattle.es_lexer.specs.Elements.{InputElement, spelling, text_of, Stands, IsLongest, AreLongest, kind_of, has_line_break}
-use Rattle.es_lexer.specs.Tokens.{IsGap, IsFirstToken, TokensAmong, Tokens, IsBadAt}
+use Rattle.es_lexer.specs.Elements.{InputElement, spelling, text_of, IsLongest, AreLongest, kind_of, has_line_break}
+use Rattle.es_lexer.specs.Tokens.{IsGap, TokensAmong, Tokens, IsBadAt}
 use Rattle.es_lexer.specs.Scanning.{Found, found, changed}
 use Rattle.es_lexer.specs.ScannedElements.{element_at}
 use Rattle.es_lexer.specs.ScannedTokens.{Seen, seen_of, seen_at, Outcome, with_front, outcome_within, outcome_from, outcome_of}
 use Rattle.es_lexer.specs.declared.token_types.Token.{Token}
 use Rattle.es_lexer.specs.declared.token_types.TokenKind.{TokenKind}
-use Rattle.es_lexer.proofs.CodeLemmas.{some-same}
-use Rattle.es_lexer.proofs.ElementLemmas.{IsLongestAt, element_at-is, element_at-longest, element_at-none, element-long}
+use Rattle.es_lexer.proofs.ElementLemmas.{element_at-is, element_at-longest, element_at-none, element-long}
 
 -- The tokens of elements, by recursion
 

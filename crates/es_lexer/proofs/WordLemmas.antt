@@ -3,9 +3,7 @@ use Rattle.std.proofs.Common.{◌≡◌, ◌≢◌, ℕ, Bool, true, false, cond
 use Rattle.std.specs.Prelude.{nat_eq, find, MatchOption}
 use Rattle.std.specs.Cmp.Lexicographic.{pointwise, bytes_decides}
 use Rattle.es_lexer.specs.Spellings.{word_spelling}
-use Rattle.es_lexer.specs.Elements.{InputElement, IsElement}
-use Rattle.es_lexer.specs.Elements.InputElement.{Identifier, Reserved}
-use Rattle.es_lexer.specs.ScannedElements.{all_words, word_of, named}
+use Rattle.es_lexer.specs.ScannedElements.{all_words, word_of}
 use Rattle.es_lexer.proofs.CodeLemmas.{some-same}
 use Rattle.es_lexer.specs.declared.words.ReservedWord.{ReservedWord}
 use Rattle.es_lexer.specs.declared.words.ReservedWord.TheVariants.{Break, Case, Catch, Class, Const, Continue, Debugger, Default, Delete, Do, Else, Enum, Export, Extends, False, Finally, For, Function, If, Import, In, New, Null, Return, Super, Switch, This, Throw, True, Try, Typeof, Var, Void, While, With}

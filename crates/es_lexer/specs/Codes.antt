@@ -30,15 +30,15 @@ unfoldable pub digit_value : ℕ → ℕ
 digit_value code =
     if nat_le code 57 then code - 48 else (if nat_le code 70 then code - 55 else code - 87)
 
--- the first code of an identifier: a letter, `$` or `_`
+-- the first code of a name, an IdentifierLetter: a letter, `$` or `_`
 unfoldable pub is_identifier_start : ℕ → Bool
 is_identifier_start code = is_letter code || ((code == 36) || (code == 95))
 
--- what an identifier goes on with: also a digit
+-- what a name goes on with: also a digit
 unfoldable pub is_identifier_part : ℕ → Bool
 is_identifier_part code = is_identifier_start code || is_decimal_digit code
 
--- the codes are one identifier, a reserved word or not
+-- the codes are an IdentifierName: an identifier or a reserved word
 abbrev pub is_identifier : List ℕ → Bool
 is_identifier [] = false
 is_identifier (first ∷ more) = is_identifier_start first && list_all is_identifier_part more

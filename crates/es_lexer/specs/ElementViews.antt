@@ -1,5 +1,5 @@
 -- A device of the proofs: what the elements in the code stand for.
-use Rattle.std.specs.Prelude.{ℕ, Bool, true, false, List, Some, None}
+use Rattle.std.specs.Prelude.{ℕ, true, false, List, Some, None}
 use Rattle.std.specs.List.{list_any}
 use Rattle.std.specs.Borrow.{Bor}
 use Rattle.es_lexer.specs.Codes.{is_line_terminator}

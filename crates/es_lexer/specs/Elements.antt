@@ -1,10 +1,10 @@
 -- The lexical grammar of a script (ECMA-262 second edition, section 7, in this profile). A text is
 -- input elements end to end: white space, line terminators, comments and tokens, each the longest
--- that stands at its place. A line terminator is an element of its own, and
--- not white space, since whether one stands in front of a token matters to the grammar of programs.
--- Where something stands at a place, `behind` is the rest of the text behind it.
-use Rattle.std.specs.Prelude.{◌≡◌, ◌≢◌, ℕ, ◌≤◌, ◌==◌, Bool, true, false, ◌||◌, ℤ, pos, List, [], ◌∷◌, ◌++◌, length, map, Option, Some, None, codes}
-use Rattle.std.specs.List.{list_all, list_any, flat_map}
+-- that stands at its place. A line terminator is an element of its own, and not white space, since
+-- whether one stands in front of a token matters to the grammar of programs. Where something stands
+-- at a place, `behind` is the rest of the text behind it.
+use Rattle.std.specs.Prelude.{◌≡◌, ◌≢◌, ℕ, ◌≤◌, Bool, true, false, pos, List, [], ◌∷◌, ◌++◌, length, map, Option, Some, None, codes}
+use Rattle.std.specs.List.{list_any, flat_map}
 use Rattle.es_lexer.specs.Codes.{is_white, is_line_terminator, is_identifier, is_identifier_part}
 use Rattle.es_lexer.specs.Spellings.{word_spelling, mark_spelling}
 use Rattle.es_lexer.specs.Numbers.{Base, base_mark, number_written, IsNumber}
@@ -44,8 +44,8 @@ spelling (Literal quote characters) = quote ∷ (inside_spelling characters ++ q
 abbrev pub text_of : List InputElement → List ℕ
 text_of elements = flat_map spelling elements
 
--- the mark stands behind these codes for the first time: where it stands in both, nothing is behind
--- it
+-- the mark stands behind these codes for the first time: wherever it stands in the codes and the mark
+-- behind them, it stands at their very end
 abbrev pub EndsAtFirst : List ℕ → List ℕ → Type 0
 EndsAtFirst mark inside =
     (before behind : List ℕ) → inside ++ mark ≡ before ++ (mark ++ behind) → behind ≡ []
@@ -62,7 +62,8 @@ IsElement (Punctuation mark) = Unit {0}
 IsElement (Numeral base digits) = IsNumber base digits
 IsElement (Literal quote characters) = IsLiteral quote characters
 
--- no digit, letter, `$`, `_` or point
+-- no digit, letter, `$` or `_` stands directly behind a number, which later editions of the standard
+-- ask for too, and no point, since there are no fractions here (this project's own)
 abbrev pub EndsNumber : List ℕ → Type 0
 EndsNumber [] = Unit {0}
 EndsNumber (code ∷ more) = (is_identifier_part code ≡ false) × (code ≢ 46)

@@ -1,7 +1,7 @@
--- Text literals (ECMA-262 second edition, 7.7.4): what stands between the quotes, and the text that
--- it means. That a code behind `\` stands for itself where no escape of another form stands, also
--- `x`, `u`, 8 and 9, is this project's own.
-use Rattle.std.specs.Prelude.{◌≡◌, ◌≢◌, ℕ, ◌≤◌, ◌==◌, nat_le, nat_lt, Bool, true, false, ◌&&◌, ◌||◌, not, if◌then◌else◌, List, [], ◌∷◌, ◌++◌, length, map, Option, Some, None, IsNone, IsSome, unwrap_or}
+-- Text literals, which the standard calls string literals (ECMA-262 second edition, 7.7.4): what
+-- stands between the quotes, and the text that it means. That an `x` or a `u` behind `\` stands for
+-- itself where the hexadecimal digits are missing is this project's own.
+use Rattle.std.specs.Prelude.{◌≡◌, ◌≢◌, ℕ, ◌≤◌, ◌==◌, true, false, if◌then◌else◌, List, [], ◌∷◌, ◌++◌, length, map, Option, Some, None, IsNone, IsSome, unwrap_or}
 use Rattle.std.specs.List.{list_all, flat_map}
 use Rattle.bml_bytes.specs.Numbers.{number_in}
 use Rattle.es_lexer.specs.Codes.{is_line_terminator, is_octal_digit, is_hex_digit, digit_value, is_quote}

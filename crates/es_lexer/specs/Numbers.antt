@@ -1,6 +1,6 @@
--- Numbers as they are written in a script (ECMA-262 second edition, 7.7.3: whole numbers alone).
--- The greatest one is this project's own.
-use Rattle.std.specs.Prelude.{◌≡◌, ◌≢◌, ℕ, ◌≤◌, ◌==◌, Bool, true, not, List, [], ◌∷◌, ◌++◌, map, codes}
+-- Numbers as they are written in a script (ECMA-262 second edition, 7.7.3: whole numbers alone). The
+-- greatest one, and that the `x` of a hexadecimal number is small, are this project's own.
+use Rattle.std.specs.Prelude.{◌≡◌, ◌≢◌, ℕ, ◌≤◌, Bool, true, List, [], ◌∷◌, map, codes}
 use Rattle.std.specs.List.{list_all}
 use Rattle.bml_bytes.specs.Numbers.{number_in}
 use Rattle.es_lexer.specs.Codes.{is_decimal_digit, is_octal_digit, is_hex_digit, digit_value}
@@ -26,8 +26,8 @@ base_mark Decimal = []
 base_mark Octal = codes "0"
 base_mark Hexadecimal = codes "0x"
 
--- the digits may stand behind that: a decimal number doesn't begin with `0`, which makes it octal,
--- and `0` alone is octal without further digits
+-- the digits may stand behind that: a decimal number doesn't begin with `0`; `0` alone, which the
+-- standard has among the decimal ones, is counted with the octal ones here, the value being the same
 abbrev pub MayFollowMark : Base → List ℕ → Type 0
 MayFollowMark Decimal [] = ⊥
 MayFollowMark Decimal (first ∷ digits) = first ≢ 48

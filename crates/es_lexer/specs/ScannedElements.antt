@@ -1,11 +1,10 @@
 -- A device of the proofs: the input element at the front of some codes. It isn't what an element is
 -- (`Elements`), but how it is found: that both agree is proved.
-use Rattle.std.specs.Prelude.{◌≡◌, ℕ, nat_eq, ◌==◌, Bool, true, false, not, if◌then◌else◌, List, [], ◌∷◌, ◌++◌, length, Option, Some, None, option_map, find, codes as ascii}
+use Rattle.std.specs.Prelude.{◌≡◌, ℕ, nat_eq, ◌==◌, Bool, not, if◌then◌else◌, List, [], ◌∷◌, ◌++◌, Option, Some, None, option_map, find, codes as ascii}
 use Rattle.std.specs.Cmp.Lexicographic.{pointwise}
 use Rattle.es_lexer.specs.Codes.{is_white, is_line_terminator, is_identifier_start, is_identifier_part, is_decimal_digit, is_quote}
 use Rattle.es_lexer.specs.Spellings.{word_spelling}
-use Rattle.es_lexer.specs.Literals.{Character}
-use Rattle.es_lexer.specs.Elements.{InputElement, kind_of, has_line_break}
+use Rattle.es_lexer.specs.Elements.{InputElement}
 use Rattle.es_lexer.specs.Elements.InputElement.{WhiteSpace, LineTerminator, LineComment, BlockComment, Identifier, Reserved, Punctuation, Numeral, Literal}
 use Rattle.es_lexer.specs.Scanning.{Found, found, changed, front, behind, stripped, up_to}
 use Rattle.es_lexer.specs.Munching.{mark_at}

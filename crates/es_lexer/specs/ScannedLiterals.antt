@@ -1,5 +1,5 @@
 -- A device of the proofs: the characters of a text literal, one after the other.
-use Rattle.std.specs.Prelude.{ℕ, zero, suc, ◌==◌, nat_le, Bool, true, false, ◌||◌, if◌then◌else◌, List, [], ◌∷◌, length, Option, Some, None, option_map}
+use Rattle.std.specs.Prelude.{ℕ, zero, suc, ◌==◌, nat_le, ◌||◌, if◌then◌else◌, List, [], ◌∷◌, length, Option, Some, None, option_map}
 use Rattle.es_lexer.specs.Codes.{is_line_terminator, is_octal_digit, is_hex_digit}
 use Rattle.es_lexer.specs.Literals.{Character, control_of}
 use Rattle.es_lexer.specs.Literals.Character.{Plain, Control, OctalEscape, ByteEscape, CodeEscape, Itself}

@@ -1,8 +1,8 @@
 -- A device of the proofs: the tokens of a text or the place of its fault, computed from the front
 -- on.
-use Rattle.std.specs.Prelude.{ℕ, zero, suc, ◌-◌, Bool, true, false, ◌||◌, List, [], ◌∷◌, ◌++◌, length, Option, Some, None, option_map, Result, Ok, Err}
+use Rattle.std.specs.Prelude.{ℕ, zero, suc, ◌-◌, Bool, false, ◌||◌, List, [], ◌∷◌, ◌++◌, length, Option, Some, None, option_map, Result, Ok, Err}
 use Rattle.es_lexer.specs.Elements.{InputElement, kind_of, has_line_break}
-use Rattle.es_lexer.specs.Scanning.{Found, found, changed}
+use Rattle.es_lexer.specs.Scanning.{Found, changed}
 use Rattle.es_lexer.specs.ScannedElements.{element_at}
 use Rattle.es_lexer.specs.declared.token_types.Token.{Token}
 use Rattle.es_lexer.specs.declared.token_types.TokenKind.{TokenKind}

@@ -6,7 +6,7 @@ use Rattle.es_lexer.specs.declared.words.ReservedWord.TheVariants.{Break, Case, 
 use Rattle.es_lexer.specs.declared.punctuators.Punctuator.{Punctuator}
 use Rattle.es_lexer.specs.declared.punctuators.Punctuator.TheVariants.{OpenBrace, CloseBrace, OpenParenthesis, CloseParenthesis, OpenBracket, CloseBracket, Semicolon, Comma, Dot, Question, Colon, Complement, Not, Increment, Decrement, Assign, TimesAssign, DivideAssign, RemainderAssign, PlusAssign, MinusAssign, ShiftLeftAssign, ShiftRightAssign, UnsignedShiftRightAssign, AndAssign, XorAssign, OrAssign, LogicalOr, LogicalAnd, BitOr, BitXor, BitAnd, Equal, NotEqual, Less, Greater, LessOrEqual, GreaterOrEqual, ShiftLeft, ShiftRight, UnsignedShiftRight, Plus, Minus, Times, Divide, Remainder}
 
--- the keywords and the literals of a word, and the words that are reserved for later
+-- the keywords, the words that are reserved for later, and `null`, `true` and `false` (7.7.1, 7.7.2)
 abbrev pub word_spelling : ReservedWord → List ℕ
 word_spelling Break = codes "break"
 word_spelling Case = codes "case"

@@ -82,7 +82,8 @@ fn name(codes: &[u16]) -> (Element, &[u16])
 
 #[tactic(auto, unfolding(crate::specs::ScannedElements::numeral_at))]
 fn numeral(codes: &[u16]) -> Option<(Element, &[u16])>
-    ensures { option_map found_element result ≡ option_map (changed seen_of) (numeral_at codes.now) }
+    ensures { option_map found_element result
+        ≡ option_map (changed seen_of) (numeral_at codes.now) }
 {
     let (number, rest) = number(codes)?;
     Some((Element::Token(TokenKind::Number(number)), rest))
@@ -113,7 +114,8 @@ fn comment_or_mark<'a>(
 ) -> Option<(Element, &'a [u16])>
     requires slash { codes.now ≡ 47 ∷ behind.now }
     requires left { unclosed.old ≡ true → NoCommentIn codes.now }
-    ensures seen { option_map found_element result ≡ option_map (changed seen_of) (slash_at behind.now) }
+    ensures seen { option_map found_element result
+        ≡ option_map (changed seen_of) (slash_at behind.now) }
     ensures left { unclosed.new ≡ true → NoCommentIn codes.now }
 {
     match stripped(behind, b"/") {
@@ -162,7 +164,8 @@ fn has_line_break(codes: &[u16]) -> bool
 
 #[tactic(auto, unfolding(crate::specs::ScannedElements::punctuation_at))]
 fn mark(codes: &[u16]) -> Option<(Element, &[u16])>
-    ensures { option_map found_element result ≡ option_map (changed seen_of) (punctuation_at codes.now) }
+    ensures { option_map found_element result
+        ≡ option_map (changed seen_of) (punctuation_at codes.now) }
 {
     let (_, rest) = mark_at_front(codes)?;
     Some((Element::Token(TokenKind::Mark), rest))

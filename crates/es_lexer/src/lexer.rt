@@ -10,7 +10,7 @@ use bml_bytes::Text;
 use std::alloc::Global;
 
 /// The tokens of a text, in their order. Where the text has none, tells the first place at which
-/// nothing stands. The text is read once, in time linear in its length.
+/// nothing stands.
 pub fn tokens(alloc: Global, text: &Text) -> Result<Vec<Token>, LexRefusal>
     ensures ok { IfOk result (λ found. Tokens text.now found.items) }
     ensures only { (tokens : List Token) → Tokens text.now tokens

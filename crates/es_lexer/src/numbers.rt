@@ -21,7 +21,8 @@ pub enum Base {
 /// The number at the front, where a decimal digit is there, and what stands behind it.
 #[tactic(auto, unfolding(crate::specs::ScannedNumbers::number_at))]
 pub fn number(codes: &[u16]) -> Option<(i32, &[u16])>
-    ensures { option_map found_value result ≡ option_map (changed value_of_digits) (number_at codes.now) }
+    ensures { option_map found_value result
+        ≡ option_map (changed value_of_digits) (number_at codes.now) }
 {
     match stripped(codes, b"0x") {
         Some(rest) => return number_in_base(Base::Hexadecimal, rest),
@@ -61,7 +62,8 @@ fn is_whole(base: Base, digits: &[u16], value: u64, rest: &[u16]) -> bool
 }
 
 fn has_wanted_digits(base: Base, digits: &[u16]) -> bool
-    ensures { result ≡ (if wants_digits (base_of base) then nat_lt 0 (length digits.now) else true) }
+    ensures { result
+        ≡ (if wants_digits (base_of base) then nat_lt 0 (length digits.now) else true) }
 {
     match base {
         Base::Hexadecimal => !digits.is_empty(),

@@ -32,8 +32,8 @@ pub struct Token {
 /// Why a text has no tokens.
 #[derive(Clone, Copy, Debug, PartialEq, Eq)]
 pub enum LexRefusal {
-    /// No token, white space or comment stands at this place, and one does at each place before it
-    /// up to which the text was read.
+    /// No token, white space or comment stands at this place, and one stands at each place before it
+    /// at which an earlier one ends, from the first place on.
     Bad { place: usize },
     /// Want of memory, and nothing else.
     NoMemory,

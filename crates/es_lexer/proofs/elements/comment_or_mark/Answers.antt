@@ -1,4 +1,4 @@
-use Rattle.std.proofs.Common.{◌≡◌, ℕ, List, [], ◌∷◌, ◌++◌, Some, None, ◌∙◌, sym, ap, subst}
+use Rattle.std.proofs.Common.{◌≡◌, ℕ, List, [], ◌∷◌, ◌∙◌, sym, ap, subst}
 use Rattle.std.specs.Prelude.{codes as ascii}
 use Rattle.std.specs.Option.{option_copied}
 use Rattle.es_lexer.specs.ScannedElements.{NoCommentIn}

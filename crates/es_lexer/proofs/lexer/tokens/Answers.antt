@@ -1,6 +1,6 @@
-use Rattle.std.proofs.Common.{◌≡◌, ◌≢◌, ℕ, ◌<◌, ◌≤◌, ◌-◌, Bool, List, [], ◌∷◌, ◌++◌, length, subst, Some, None, ◌∙◌, sym, ap, arith}
+use Rattle.std.proofs.Common.{◌≡◌, ◌≢◌, ℕ, ◌-◌, List, [], ◌∷◌, ◌++◌, length, subst, Some, None, ◌∙◌, sym, ap, arith}
 use Rattle.std.specs.Prelude.{option_map}
-use Rattle.es_lexer.specs.Scanning.{Found, found}
+use Rattle.es_lexer.specs.Scanning.{Found}
 use Rattle.es_lexer.specs.ScannedTokens.{Seen, seen_at}
 use Rattle.es_lexer.specs.ElementViews.{element_seen, found_element}
 use Rattle.es_lexer.specs.Tokens.{IsBadAt}

@@ -1,4 +1,4 @@
-use Rattle.std.proofs.Common.{◌≡◌, ℕ, List, None, Some, sym, ◌∙◌, ap}
+use Rattle.std.proofs.Common.{sym, ◌∙◌, ap}
 use Rattle.std.specs.Prelude.{option_map}
 use Rattle.es_lexer.specs.Views.{found_number}
 use Rattle.es_lexer.proofs.DigitLemmas.{four_hex, none_hex, low_none_hex}

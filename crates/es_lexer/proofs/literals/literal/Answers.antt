@@ -1,9 +1,8 @@
-use Rattle.std.proofs.Common.{◌≡◌, ℕ, List, ◌∙◌, sym, ap, ◌++◌, ◌∷◌, []}
+use Rattle.std.proofs.Common.{◌∙◌}
 use Rattle.std.specs.Prelude.{option_map, map}
 use Rattle.es_lexer.specs.Literals.{code_meant}
 use Rattle.es_lexer.specs.Scanning.{changed}
 use Rattle.es_lexer.specs.ScannedLiterals.{characters_at}
-use Rattle.es_lexer.specs.Views.{found_number}
 use Rattle.es_lexer.proofs.CodeLemmas.{nothing-left}
 use Rattle.es_lexer.proofs.LiteralLemmas.{walk-none, walk-end, walk-bad, walk-smaller, walk-step}
 use Rattle.es_lexer.proofs.literals.literal.Goals as goal

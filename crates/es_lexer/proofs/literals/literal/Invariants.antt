@@ -1,4 +1,4 @@
-use Rattle.std.proofs.Common.{◌≡◌, ◌++◌, length}
+use Rattle.std.proofs.Common.{◌≡◌, length}
 use Rattle.std.specs.Prelude.{map, option_map}
 use Rattle.es_lexer.specs.Literals.{code_meant}
 use Rattle.es_lexer.specs.Scanning.{changed}
