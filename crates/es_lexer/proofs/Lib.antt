@@ -1,0 +1,11 @@
+pub mod CodeLemmas
+pub mod WordLemmas
+pub mod MarkLemmas
+pub mod DigitLemmas
+pub mod NumberLemmas
+pub mod LiteralLemmas
+pub mod CharacterLemmas
+pub mod ElementLemmas
+pub mod TokenLemmas
+pub mod SpanLemmas
+pub mod LoopLemmas

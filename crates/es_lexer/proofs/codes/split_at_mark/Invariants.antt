@@ -1,0 +1,10 @@
+use Rattle.std.proofs.Common.{◌≡◌, List, ℕ, ◌++◌, length}
+use Rattle.std.specs.Prelude.{option_map}
+use Rattle.es_lexer.specs.Scanning.{Found, found, up_to}
+use Rattle.es_lexer.proofs.codes.split_at_mark.Given as goal
+
+abbrev pub invariant-places : goal.invariant-places
+invariant-places l = (done : List ℕ) × (l.codes ≡ done ++ l.rest) × (up_to l.mark l.codes ≡ option_map (λ (f : Found (List ℕ)). found (done ++ f.it) f.rest) (up_to l.mark l.rest))
+
+abbrev pub decreases-places : goal.decreases-places
+decreases-places l = length l.rest

@@ -1,0 +1,14 @@
+pub mod Codes
+pub mod Spellings
+pub mod Numbers
+pub mod Literals
+pub mod Elements
+pub mod Tokens
+pub mod Scanning
+pub mod Munching
+pub mod ScannedNumbers
+pub mod ScannedLiterals
+pub mod ScannedElements
+pub mod ScannedTokens
+pub mod Views
+pub mod ElementViews
