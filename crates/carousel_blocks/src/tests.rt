@@ -1,8 +1,7 @@
 mod sections;
 
 use super::*;
-use bml_bytes::NoMemory;
-use bml_bytes::Sequence;
+use bml_bytes::{NoMemory, Sequence};
 use dsmcc_messages::{Ddb, Dii, Entry};
 use std::alloc::Global;
 use std::test::Fail;
