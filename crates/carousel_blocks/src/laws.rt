@@ -5,7 +5,6 @@ ghost use Rattle.std.specs.Prelude.{None, Some, is_some, option_map, option_to_l
 ghost use Rattle.std.specs.List.Sorted.{IsStrictlyIncreasing};
 ghost use Rattle.dsmcc_messages.specs.declared.dii.Dii.{Dii};
 ghost use Rattle.dsmcc_messages.specs.Ddb.{DataBlock};
-ghost use Rattle.bml_bytes.specs.Codes.{AreBytes};
 ghost use Rattle.carousel_blocks.specs.Message.{Message, Indication, Data, CarriesMessage, message_of};
 ghost use Rattle.carousel_blocks.specs.InForce.{in_force, standing_of, block_count, size_limit, is_compressed};
 ghost use Rattle.carousel_blocks.specs.Entries.{CountsAsEntry, IsLargeAt, skip_in};
@@ -25,7 +24,7 @@ use dsmcc_messages::{law_of_ddb, law_of_dii};
 
 /// The message of a section is the one that the relation between its bytes and the message's fields tells.
 pub fn law_of_messages()
-    ensures { (section : List ℕ) (message : Message) → AreBytes section
+    ensures { (section : List ℕ) (message : Message)
         → CarriesMessage section message ↔ (message_of section ≡ Some message) }
 {
     law_of_dii();
