@@ -199,7 +199,7 @@ def table(reader, what):
     out = [
         "# Definitions",
         "",
-        f"What {what} stands on: who believes these definitions, and the toolchain, may believe what it says. Nothing else of the",
+        f"What {what} stands on: who believes these definitions, and trusts what `README.md` lists as trusted, may believe what it says. Nothing else of the",
         "repository has to be read for that: the code and the proofs are checked against them. The list is in reading order, from the top",
         "down: each file before those that it stands on. Of each file it has the first lines, and the definitions that are reached.",
         "`tools/definitions.py` makes this page by following names, and `.ci/run` compares.",

@@ -4,7 +4,8 @@
 //! bytes. Each tells, for contracts alone, its counts of faults and whether the last call failed, what was
 //! asked for, and maybe its content. So a caller can prove what was read and written, however the calls
 //! were cut, and that a fault which it reports was one. The ports in memory tell all of their content, and
-//! fail exactly where they are told to.
+//! fail exactly where they are told to, where a file is missing or was opened before, and where no room
+//! is left.
 #![tactic(auto)]
 
 pub mod laws;

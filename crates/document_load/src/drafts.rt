@@ -96,7 +96,7 @@ impl Draft {
         Ok(())
     }
 
-    /// The document of what was read and given. A need that wasn't given reads as empty.
+    /// The document with the tree that was read. What was given isn't read at this stage.
     pub fn finish(self) -> Result<Document, NoMemory>
         ensures { IfOk result (λ document. document.tree ≡ self.items) }
     {

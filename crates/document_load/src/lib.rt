@@ -3,7 +3,7 @@
 //! `specs/Needs.antt` says which resources a document needs: what its elements `link` and `script`
 //! name, in document order. [`read_draft`] reads a document and tells these paths; a [`Draft`]
 //! takes their bytes, in any order and any number of times, and [`Draft::finish`] makes the
-//! [`Document`]. What the definition of needs says of a part of a document stands in
+//! [`Document`], which has the tree alone at this stage. What the definition of needs says of a part of a document stands in
 //! `law_of_needs`.
 #![tactic(auto)]
 

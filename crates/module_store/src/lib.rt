@@ -4,8 +4,8 @@
 //! A [`Store`] stands for the components with the messages that came for each since it got its PID, and for all deliveries
 //! of modules so far, in order. What one more section or another map changes, which number the delivery of a module has,
 //! what is there under a path, and where the start document is, is said of these in `specs/`. Memory is taken for a
-//! component with its first section, and given back when it leaves the map or gets another PID; it is taken for the parts
-//! of an entity when its module is held. A look-up takes none and copies nothing.
+//! component when the map brings it, and for its numbers, half a megabyte, with its first section; both are given back
+//! when it leaves the map or gets another PID; and for the parts of an entity when its module is held. A look-up takes none and copies nothing.
 #![tactic(auto)]
 
 mod entities;

@@ -22,8 +22,8 @@ AsksOnly None world = IsUnasked world
 AsksOnly (Some request) world =
     AsksAtMost world.stream request.stream × AsksAtMost world.notes request.notes
 
--- The record was asked for only once the stream was opened: not before the stream was asked for,
--- and not where the run ended because the stream couldn't be opened, which may be read otherwise.
+-- The record wasn't asked for before the stream was, and not where the run ended because the stream
+-- couldn't be opened: after a failed opening of it nothing may be read.
 pub record AsksInOrder (status : Status) (world : WorldState) : Type 0 where
   pub behind : (world.notes.asked ≡ None) ⊎ IsSome world.stream.asked
   pub opened : status ≡ OpenFault → (world.notes.asked ≡ None) ⊎ IsTrue world.stream.readable

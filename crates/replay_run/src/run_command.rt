@@ -56,7 +56,7 @@ pub fn run<W: World, K: Keeper, S: Sink>(
 
     // Whether or not content is told: each fault was counted in this run, in the last call under
     // its count, and no name was asked for but the command's two, each at its own port, the
-    // record's once the stream was opened.
+    // record's not before the stream's.
     ensures cause { IsCaused result
         (outside (W.told world.old) (S.told out.old))
         (outside (W.told world.new) (S.told out.new)) }
