@@ -53,14 +53,14 @@ unfolding is_white
 found-block text selectors behind placed front =
     behind-white text (selectors ++ (123 ∷ behind)) placed (black-rule selectors (123 ∷ behind) front.begins refl)
     ∙ rule-behind selectors 123 behind front.begins refl
-    ∙ rule-cut (selectors ++ (123 ∷ behind)) selectors behind (parted-at is_open selectors behind 123 front.closed_first refl)
+    ∙ rule-cut (selectors ++ (123 ∷ behind)) selectors behind (parted-at is_open selectors behind 123 front.opened_first refl)
 
 found-rest : (text more : List ℕ) → IsBehindWhite text more → AreSelectors more → found_at text ≡ Nothing
 found-rest text [] placed front = behind-white text [] placed tt
 found-rest text (code ∷ more) placed front =
     behind-white text (code ∷ more) placed front.begins.0
     ∙ rule-at-once code more front.begins.1
-    ∙ rw front.closed_first refl
+    ∙ rw front.opened_first refl
 
 found-at : (text more : List ℕ) → IsBehindWhite text (64 ∷ more) → found_at text ≡ at_rule_found (behind_at_rule more)
 unfolding is_white
@@ -86,10 +86,10 @@ behind_white-is : (text more : List ℕ) → IsWhiteBefore text more → IsBehin
 behind_white-is text more before = (before.white, before.is, before.whites)
 
 are-selectors : (code : ℕ) (text before behind : List ℕ) → code ∷ text ≡ before ++ (123 ∷ behind) → is_white code ≡ false → is_at code ≡ false → Lacks is_open before → AreSelectors before
-are-selectors code text [] behind e black at_not lacks = record { begins = tt; closed_first = refl }
+are-selectors code text [] behind e black at_not lacks = record { begins = tt; opened_first = refl }
 are-selectors code text (first ∷ before) behind e black at_not lacks =
     let same : code ≡ first = cc in
-    record { begins = (rw (← same) black, rw (← same) at_not); closed_first = lacks }
+    record { begins = (rw (← same) black, rw (← same) at_not); opened_first = lacks }
 
 block_found-is : (text selectors behind : List ℕ) → IsBehindWhite text (selectors ++ (123 ∷ behind)) → AreSelectors selectors → IsFound (block_found selectors behind) text
 block_found-is text selectors behind placed front = by (list_any is_close behind) refl
@@ -117,7 +117,7 @@ rule_found-is text more code placed black at_not = by (list_any is_open (code �
         let behind = after_first is_open (code ∷ more) in
         let whole : code ∷ more ≡ before ++ (123 ∷ behind) = cut.end_to_end ∙ ap (λ (c : ℕ). before ++ (c ∷ behind)) (the_code cut.code 123 cut.passes) in
         block_found-is text before behind (placed.0, placed.1 ∙ ap (λ (t : List ℕ). placed.0 ++ t) whole, placed.2) (are-selectors code more before behind whole black at_not cut.lacks)
-    by false e = record { more = code ∷ more; placed = placed; left_out = record { begins = (black, at_not); closed_first = e } }
+    by false e = record { more = code ∷ more; placed = placed; left_out = record { begins = (black, at_not); opened_first = e } }
 
 at_rule_found-is : (text more : List ℕ) → IsBehindWhite text (64 ∷ more) → IsFound (at_rule_found (behind_at_rule more)) text
 at_rule_found-is text more placed = by (behind_at_rule more) refl
@@ -130,7 +130,7 @@ at_rule_found-is text more placed = by (behind_at_rule more) refl
     by (Some rest) e = record { more = more; placed = placed; ended = at_rule-found more rest e }
 
 behind_white-found : (text more : List ℕ) → IsWhiteBefore text more → IsFound (found_behind_white more) text
-behind_white-found text [] before = record { more = []; placed = behind_white-is text [] before; left_out = record { begins = tt; closed_first = refl } }
+behind_white-found text [] before = record { more = []; placed = behind_white-is text [] before; left_out = record { begins = tt; opened_first = refl } }
 behind_white-found text (code ∷ more) before = by (is_at code) refl
   where
     placed : IsBehindWhite text (code ∷ more)

@@ -1,6 +1,7 @@
 -- The characters of a style's text. Texts are lists of codes; what is said of letters, digits and
--- case is said of ASCII alone (the white space, names and case of CSS level 1, 1.1 and 7.1; in this
--- project's own profile).
+-- case is said of ASCII alone (after the grammar of CSS level 1, 7.1). That form feeds are no
+-- white, that `_` stands in names, and that escapes and codes past ASCII don't is this project's
+-- own.
 use Rattle.std.specs.Prelude.{ℕ, ◌-◌, ◌==◌, nat_eq, nat_le, Bool, false, ◌&&◌, ◌||◌, List, [], ◌∷◌, length, take, drop}
 use Rattle.std.specs.List.{list_all, prefix_len, starts_with, suffix_len}
 use Rattle.std.specs.Str.{byte}

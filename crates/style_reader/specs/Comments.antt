@@ -1,5 +1,6 @@
 -- Comments in the text of a style (CSS level 1, 1.7). Each is taken as one space, before anything
--- else is read. That one which isn't closed runs to the end of the text is this project's own rule.
+-- else is read. That a comment which isn't closed runs to the end of the text is this project's own
+-- rule.
 use Rattle.std.specs.Prelude.{◌≡◌, ℕ, false, List, [], ◌∷◌, ◌++◌, codes as ascii}
 use Rattle.style_reader.specs.Characters.{begins_with}
 

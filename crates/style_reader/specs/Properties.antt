@@ -48,7 +48,7 @@ unsigned values = values (pos 0) (pos 32767)
 abbrev colours : Values
 colours = Numbers (pos 0) (pos 255)
 
--- the groups of keys are numbered 1, 2 and 4: basic, data-button, numeric-tuning
+-- each group of keys has a bit, 1, 2 and 4: basic, data-button, numeric-tuning
 abbrev basic_and_data_button : StyleValue
 basic_and_data_button = Keys 3
 

@@ -1,6 +1,6 @@
--- Selectors (CSS level 1, 1.1 to 1.4 and 2.1, in this project's own profile): `*`, `tag`, `.class`,
--- `#id`, `tag.class` and `tag#id`, each also with `:focus` or `:active` behind. Names go by case,
--- pseudo-classes without.
+-- Selectors (CSS level 1, 1, 1.2, 1.4 and 1.5; `*` and the pseudo-classes are those of CSS level 2,
+-- 5.3 and 5.11.3; in this project's own profile): `*`, `tag`, `.class`, `#id`, `tag.class` and
+-- `tag#id`, each also with `:focus` or `:active` behind. Names go by case, pseudo-classes without.
 use Rattle.std.specs.Prelude.{◌≡◌, ℕ, ◌+◌, ◌*◌, true, List, [], ◌++◌, Option, Some, None, codes as ascii}
 use Rattle.style_reader.specs.Characters.{is_name, is_word}
 use Rattle.style_reader.specs.declared.selectors.Selector.{Selector}

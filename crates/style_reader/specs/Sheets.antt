@@ -1,14 +1,18 @@
 -- The grammar of a sheet (CSS level 1, 7.1, with the rules of CSS level 2, 4.1 and 4.2, on what is
 -- left out, in this project's own profile), once its comments are spaces:
 --
---     sheet    = { white* (rule | at-rule) } white* [open rule | open at-rule | rest]
---     rule     = codes up to the first "{", codes up to the first "}"
---     at-rule  = "@", codes up to the first ";", or up to the first "{" where that comes before,
---                and then the block that this opens, up to the "}" that closes it
---     block    = { code other than braces | "{" block "}" }
+--     sheet        = { white* (rule | at-rule) } white* (open rule | open at-rule | rest)
+--     rule         = selectors "{" codes up to the first "}"
+--     open rule    = selectors "{" codes without "}", to the end
+--     rest         = selectors, to the end
+--     selectors    = codes up to the first "{", of which the first is neither white nor "@"
+--     at-rule      = "@", codes up to the first ";", or up to the first "{" where that comes
+--                    before, and then the block that this opens, up to the "}" that closes it
+--     open at-rule = "@" and what is no at-rule, to the end
+--     block        = { code other than braces | "{" block "}" }
 --
--- A rule is open where no "}" follows, and is read all the same; what is left of an at-rule that
--- isn't ended is left out, and so is a rest without "{". Every text is a sheet, in one way (a law).
+-- An open rule is read as a rule; an at-rule, an open one and the rest are left out. Quotes and
+-- brackets hide nothing, which is this project's own. Every text is a sheet, in one way (a law).
 use Rattle.std.specs.Prelude.{◌≡◌, ℕ, ◌==◌, Bool, false, true, ◌||◌, ◌⊎◌, List, [], ◌∷◌, ◌++◌}
 use Rattle.std.specs.List.{list_all}
 use Rattle.std.specs.Str.{byte}
@@ -24,7 +28,7 @@ is_open code = code == byte "{"
 abbrev pub is_close : ℕ → Bool
 is_close code = code == byte "}"
 
--- the parts of a sheet that count, each with what follows it
+-- the parts of a sheet, each with what follows it; of what is left out only that it stands there
 pub data Sheet : Type 0 where
   Rest : Sheet
   Rule : (selectors block : List ℕ) → (following : Sheet) → Sheet
@@ -43,7 +47,7 @@ BeginsRule (code ∷ more) = (is_white code ≡ false) × (is_at code ≡ false)
 -- what is selected goes up to the first `{`
 pub record AreSelectors (selectors : List ℕ) : Type 0 where
   pub begins : BeginsRule selectors
-  pub closed_first : Lacks is_open selectors
+  pub opened_first : Lacks is_open selectors
 
 -- ---- at-rules
 

@@ -41,7 +41,7 @@ pub enum StyleValue {
 
 // The values of a property: numbers from a least to a most one, in pixels or plain, or words.
 #[derive(Clone, Copy, Debug)]
-pub enum Values {
+pub(crate) enum Values {
     Pixels(i32, i32),
     Numbers(i32, i32),
     NumbersOrNone(i32, i32),
@@ -170,7 +170,7 @@ impl Property {
     }
 
     // The values that it takes.
-    pub fn values(self) -> Values
+    pub(crate) fn values(self) -> Values
         ensures { seen_values result ≡ values_of self }
     {
         self.row().values
