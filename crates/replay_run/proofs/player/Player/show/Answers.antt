@@ -14,27 +14,27 @@ use Rattle.replay_run.proofs.player.Player.show.Goals as goal
 pub returns-clause-handled : goal.returns-clause-handled
 returns-clause-handled g c =
     let shown = c.in_ok-show.ensures.shown in
-    let pieces : List Piece = record { text = shown.0; area = c.show.new.self.area } ∷ [] in
+    let pieces : List Piece = record { text = shown.text; area = c.show.new.self.area } ∷ [] in
     let same : c.deref.result.now ≡ bytes_of pieces =
-    made_alone _ _ _ _ c.deref.ensures.value shown.1 c.clear.ensures.items ∙ sym (append-nil shown.0) in
+    made_alone _ _ _ _ c.deref.ensures.value shown.printed c.clear.ensures.items ∙ sym (append-nil shown.text) in
     on_ok_weaker c.write_piece.result
     (λ whole world replay inputs ahead m.
     midway_pieces replay _ inputs (inputs ++ Display ∷ []) ahead _ pieces _
-    (shown.3 c.requires.idle replay.selection replay.area inputs) (packet_count-show inputs)
+    (shown.shows c.requires.idle replay.selection replay.area inputs) (packet_count-show inputs)
     (λ start e. whole start e ∙ ap (λ l. Some (start ++ l)) same) m)
     c.write_piece.ensures.whole
 
 pub returns-clause-stopped : goal.returns-clause-stopped
 returns-clause-stopped g c =
     let shown = c.in_ok-show.ensures.shown in
-    let pieces : List Piece = record { text = shown.0; area = c.show.new.self.area } ∷ [] in
+    let pieces : List Piece = record { text = shown.text; area = c.show.new.self.area } ∷ [] in
     let same : c.deref.result.now ≡ bytes_of pieces =
-    made_alone _ _ _ _ c.deref.ensures.value shown.1 c.clear.ensures.items ∙ sym (append-nil shown.0) in
+    made_alone _ _ _ _ c.deref.ensures.value shown.printed c.clear.ensures.items ∙ sym (append-nil shown.text) in
     piece_stops c.write_piece.result _ _ c.write_piece.ensures.short c.write_piece.ensures.fault
     (λ short world replay inputs ahead m.
     stops_short replay _ (outside world (g.S.Sink.told c.write_piece.new.out)) inputs
     (inputs ++ Display ∷ []) ahead _ pieces
-    (shown.3 c.requires.idle replay.selection replay.area inputs) refl
+    (shown.shows c.requires.idle replay.selection replay.area inputs) refl
     (λ start e. subst (λ l. CutShort start (g.S.Sink.told c.write_piece.new.out).written l) same (short start e))
     c.requires.within m)
 
