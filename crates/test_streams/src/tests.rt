@@ -11,7 +11,7 @@ fn sections_are_intact(rt: HostRuntime) -> Result<(), Fail> {
     for (sent, size, intact) in [
         (Sent::Programs(1), 16, true),
         (Sent::Map(1, &[Announced(0x0D, DATA_PID, 0x40)]), 24, true),
-        (Sent::Indication(1, 4, &[Entry(1, 1, 10, &[])]), 52, true),
+        (Sent::Indication(1, 4, &[Entry(1, 1, 10, &[])]), 54, true),
         (Sent::Block(1, 1, 0, b"abcd"), 34, true),
         (Sent::Flipped(1, 1, 0, b"abcd"), 34, false),
         (Sent::BlockOn(300, 1, 1, 0, b""), 30, true),
