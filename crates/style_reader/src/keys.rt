@@ -82,8 +82,8 @@ fn is_key_word(word: &[u16]) -> bool
         || is_word_in_any_case(word, "numeric-tuning")
 }
 
-// The first word of a text, and what stands behind it.
-fn next_word(text: &[u16]) -> Option<(&[u16], &[u16])>
+/// The first word of a text, parted by white, and what stands behind it. None where it has none.
+pub fn next_word(text: &[u16]) -> Option<(&[u16], &[u16])>
     ensures first { MatchOption result (words_of text.now ≡ [])
         (λ found. words_of text.now ≡ found.0.now ∷ words_of found.1.now) }
     ensures shorter { IfSome result (λ found. length found.1.now < length text.now) }

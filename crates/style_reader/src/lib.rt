@@ -27,6 +27,7 @@ mod tests;
 mod values;
 
 pub use crate::declarations::Declaration;
+pub use crate::keys::next_word;
 pub use crate::laws::{
     law_of_comments, law_of_declarations, law_of_orders, law_of_properties, law_of_rules,
     law_of_selectors, law_of_sheets, law_of_values,

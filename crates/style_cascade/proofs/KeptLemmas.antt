@@ -1,0 +1,104 @@
+-- What is kept of the elements of a tree.
+use Rattle.std.proofs.Common.{◌≡◌, ℕ, zero, suc, ◌+◌, ◌*◌, ◌<◌, List, [], ◌∷◌, ◌++◌, length, Option, Some, None, refl, sym, ◌∙◌, ap, arith}
+use Rattle.std.specs.Prelude.{Bool, true, false, map, if◌then◌else◌, option_map, option_and_then, slice_get}
+use Rattle.std.specs.Option.{option_flatten, option_map_or, option_or}
+use Rattle.dom_tree.specs.NodeNumbers.{number_of}
+use Rattle.dom_tree.specs.Walks.{path_of}
+use Rattle.dom_tree.specs.declared.node_ids.NodeId.{NodeId}
+use Rattle.dom_tree.specs.Items.{Item, IsElement}
+use Rattle.style_reader.specs.declared.properties.Property.{Property}
+use Rattle.style_reader.specs.declared.properties.StyleValue.{StyleValue}
+use Rattle.style_reader.specs.declared.rules.Rule.{Rule}
+use Rattle.style_cascade.specs.Cascade.{Place, Sources, first_own, own_value, place, said_to, said_value, write_of}
+use Rattle.style_cascade.specs.Keeping.{IsRight, StylesState, kept_value, said_of, styled_by}
+use Rattle.style_cascade.specs.Matching.{subject_of}
+use Rattle.style_cascade.specs.declared.states.State.{State}
+use Rattle.style_cascade.specs.declared.states.State.TheVariants as states
+use Rattle.style_cascade.specs.declared.subjects.Subject.{Subject}
+use Rattle.style_cascade.specs.declared.subjects.Styled.{Styled}
+
+-- an element is in the tree
+pub element-within : (items : List Item) (node : ℕ) → IsElement items node → node < length items
+element-within [] node h = absurd (cc h)
+element-within (item ∷ items) zero h = omega arith
+element-within (item ∷ items) (suc node) h = omega (arith, element-within items node h)
+
+said-kept : (rules : List Rule) (state : State) (property : Property) (subject : Option Subject) → option_and_then (said_of rules state property) (option_map styled_by subject) ≡ option_and_then (said_to rules state property) subject
+said-kept rules state property None = refl
+said-kept rules state property (Some subject) = refl
+
+-- what is kept is what is said of the element itself
+pub kept-own : (items : List Item) (present : ℕ → State) (styles : StylesState) (node : ℕ) (state : State) (property : Property) → IsRight items present styles → node < length items → kept_value styles node state property ≡ own_value items styles.sources node state property
+unfolding IsRight said_value
+kept-own items present styles node state property right within =
+    let found : option_flatten (slice_get styles.kept node) ≡ option_map styled_by (subject_of items node) = ap option_flatten (right.elements node within) in
+    ap (λ (o : Option StyleValue). option_or (write_of styles.sources node state property) (option_or (write_of styles.sources node states.Normal property) o))
+    (ap (option_and_then (said_of styles.sources.rules state property)) found ∙ said-kept styles.sources.rules state property (subject_of items node))
+
+kept-length_by : (xs : List (Option Styled)) (node : ℕ) (o : Option Styled) → slice_get xs node ≡ Some o → node < length xs
+kept-length_by [] node o e = absurd (cc e)
+kept-length_by (x ∷ xs) zero o e = omega arith
+kept-length_by (x ∷ xs) (suc node) o e = omega (arith, kept-length_by xs node o e)
+
+pub kept-within : (items : List Item) (present : ℕ → State) (styles : StylesState) (node : ℕ) → IsRight items present styles → node < length items → node < length styles.kept
+unfolding IsRight
+kept-within items present styles node right within = kept-length_by styles.kept node (option_map styled_by (subject_of items node)) (right.elements node within)
+
+pub room-of : (items : List Item) (present : ℕ → State) (styles : StylesState) → IsRight items present styles → length styles.sources.writes ≡ 51 * length items
+unfolding IsRight
+room-of items present styles right = right.room
+
+-- a write changes nothing that is kept of the tree
+pub right-put : (items : List Item) (present : ℕ → State) (old new : StylesState) → new.kept ≡ old.kept → length new.sources.writes ≡ length old.sources.writes → IsRight items present old → IsRight items present new
+unfolding IsRight
+right-put items present old new kept room right =
+    record {
+      room = room ∙ right.room;
+      elements = λ node within. ap (λ (k : List (Option Styled)). slice_get k node) kept ∙ right.elements node within;
+    }
+
+-- one node more
+pub elements-more : (f : ℕ → Option Styled) (xs : List (Option Styled)) (x : Option Styled) (n : ℕ) → length xs ≡ n → ((node : ℕ) → node < n → slice_get xs node ≡ Some (f node)) → x ≡ f n → (node : ℕ) → node < n + 1 → slice_get (xs ++ x ∷ []) node ≡ Some (f node)
+elements-more f [] x n e before is zero h = let same : zero ≡ n = e in ap (λ (s : Option Styled). Some s) (is ∙ ap f (sym same))
+elements-more f [] x n e before is (suc node) h = let none : zero ≡ n = e in absurd (omega (arith, h, none))
+elements-more f (first ∷ xs) x n e before is zero h = let same : suc (length xs) ≡ n = e in before zero (omega (arith, same))
+elements-more f (first ∷ xs) x zero e before is (suc node) h = let same : suc (length xs) ≡ zero = e in absurd (omega (arith, same))
+elements-more f (first ∷ xs) x (suc n) e before is (suc node) h =
+    let same : suc (length xs) ≡ suc n = e in
+    elements-more (λ k. f (suc k)) xs x n (omega (arith, same)) (λ k lt. before (suc k) (omega (arith, lt))) is node (omega (arith, h))
+
+-- ---- climbing
+
+pub own-some : (own above : Option StyleValue) (value : StyleValue) → own ≡ Some value → Some value ≡ option_or own above
+own-some own above value e = sym (ap (λ (o : Option StyleValue). option_or o above) e)
+
+abbrev above_if : List Item → Sources → Property → List Place → Bool → Option StyleValue
+above_if items sources property above t = first_own items sources property (if t then above else [])
+
+pub own-none_above : (items : List Item) (sources : Sources) (property : Property) (above : List Place) (t : Bool) (own result : Option StyleValue) → own ≡ None → t ≡ true → result ≡ first_own items sources property above → result ≡ option_or own (above_if items sources property above t)
+own-none_above items sources property above t own result e inherits is = is ∙ sym (ap (λ (o : Option StyleValue). option_or o (above_if items sources property above t)) e ∙ ap (above_if items sources property above) inherits)
+
+pub own-none : (items : List Item) (sources : Sources) (property : Property) (above : List Place) (t : Bool) (own : Option StyleValue) → own ≡ None → t ≡ false → None ≡ option_or own (above_if items sources property above t)
+own-none items sources property above t own e alone = sym (ap (λ (o : Option StyleValue). option_or o (above_if items sources property above t)) e ∙ ap (above_if items sources property above) alone)
+
+abbrev pub above_from : List Item → (ℕ → State) → Option ℕ → List Place
+above_from items present up = map (λ at. place at (present at)) (option_map_or (path_of items) up [])
+
+-- what is said from an element on
+pub climb : (items : List Item) (sources : Sources) (property : Property) (present : ℕ → State) (up : ℕ) (above : Option ℕ) → path_of items up ≡ up ∷ option_map_or (path_of items) above [] → first_own items sources property (above_from items present (Some up)) ≡ option_or (own_value items sources up (present up) property) (first_own items sources property (above_from items present above))
+climb items sources property present up above path = ap (λ (l : List ℕ). first_own items sources property (map (λ at. place at (present at)) l)) path
+
+-- where the climb has come to that element, and all that is said from there on is this
+pub climb-some : (items : List Item) (sources : Sources) (property : Property) (present : ℕ → State) (next : Option NodeId) (up : NodeId) (above : Option ℕ) (all : Option StyleValue) (value : StyleValue) → next ≡ Some up → first_own items sources property (above_from items present (number_of next)) ≡ all → path_of items up.0 ≡ up.0 ∷ option_map_or (path_of items) above [] → own_value items sources up.0 (present up.0) property ≡ Some value → Some value ≡ all
+climb-some items sources property present next up above all value is so_far path own =
+    own-some (own_value items sources up.0 (present up.0) property) (first_own items sources property (above_from items present above)) value own
+    ∙ sym (climb items sources property present up.0 above path)
+    ∙ sym (ap (λ (o : Option NodeId). first_own items sources property (above_from items present (number_of o))) is)
+    ∙ so_far
+
+pub climb-none : (items : List Item) (sources : Sources) (property : Property) (present : ℕ → State) (next : Option NodeId) (up : NodeId) (above : Option ℕ) (all : Option StyleValue) → next ≡ Some up → first_own items sources property (above_from items present (number_of next)) ≡ all → path_of items up.0 ≡ up.0 ∷ option_map_or (path_of items) above [] → own_value items sources up.0 (present up.0) property ≡ None → first_own items sources property (above_from items present above) ≡ all
+climb-none items sources property present next up above all is so_far path own =
+    sym (ap (λ (o : Option StyleValue). option_or o (first_own items sources property (above_from items present above))) own)
+    ∙ sym (climb items sources property present up.0 above path)
+    ∙ sym (ap (λ (o : Option NodeId). first_own items sources property (above_from items present (number_of o))) is)
+    ∙ so_far

@@ -1,0 +1,12 @@
+pub mod PlaceLemmas
+pub mod SearchLemmas
+pub mod RuleLemmas
+pub mod IndexLemmas
+pub mod ChainLemmas
+pub mod LookupLemmas
+pub mod InlineLaws
+pub mod FittingLemmas
+pub mod StrengthLaws
+pub mod CascadeLaws
+pub mod TreeLaws
+pub mod KeptLemmas

@@ -1,0 +1,44 @@
+use Rattle.std.proofs.Common.{◌≡◌, ℕ, Option, None, Some, [], ◌∷◌, ap, sym, subst, ◌∙◌}
+use Rattle.std.specs.Prelude.{IfSome}
+use Rattle.std.specs.Option.{option_map_or}
+use Rattle.std.proofs.lemmas.Option.{IfSome_then}
+use Rattle.dom_tree.specs.Items.{IsElement}
+use Rattle.dom_tree.specs.NodeNumbers.{number_of}
+use Rattle.dom_tree.specs.Walks.{path_of}
+use Rattle.dom_tree.specs.declared.node_ids.NodeId.{NodeId}
+use Rattle.style_cascade.specs.Cascade.{own_value}
+use Rattle.style_cascade.specs.Keeping.{kept_value}
+use Rattle.style_cascade.specs.declared.states.State.{State}
+use Rattle.style_cascade.proofs.KeptLemmas.{climb-none, climb-some, element-within, kept-own, kept-within}
+use Rattle.style_cascade.specs.States.{present_state}
+use Rattle.style_cascade.proofs.styles.Styles.found_above.Goals as goal
+
+pub parent-next-requires-in-Some : goal.parent-next-requires-in-Some
+parent-next-requires-in-Some c =
+    let element : IsElement c.args.tree.now c.in-Some.up.0 = subst (λ (o : Option NodeId). IfSome o (λ n. IsElement c.args.tree.now n.0)) c.in-Some.is c.up.invariant.0 in
+    element-within c.args.tree.now c.in-Some.up.0 element
+
+pub own-requires : goal.own-requires
+own-requires c =
+    let element : IsElement c.args.tree.now c.in-Some.up.0 = subst (λ (o : Option NodeId). IfSome o (λ n. IsElement c.args.tree.now n.0)) c.in-Some.is c.up.invariant.0 in
+    kept-within c.args.tree.now (present_state c.args.focus.now) c.args.self.now c.in-Some.up.0 c.requires.right (element-within c.args.tree.now c.in-Some.up.0 element)
+
+pub returns-in-Some-own-clause-value : goal.returns-in-Some-own-clause-value
+returns-in-Some-own-clause-value c =
+    let element : IsElement c.args.tree.now c.in-Some.up.0 = subst (λ (o : Option NodeId). IfSome o (λ n. IsElement c.args.tree.now n.0)) c.in-Some.is c.up.invariant.0 in
+    let path : path_of c.args.tree.now c.in-Some.up.0 ≡ c.in-Some.up.0 ∷ option_map_or (path_of c.args.tree.now) (number_of c.parent-next-in-Some.result) [] =
+    subst (λ (o : Option ℕ). path_of c.args.tree.now c.in-Some.up.0 ≡ c.in-Some.up.0 ∷ option_map_or (path_of c.args.tree.now) o []) (sym c.parent-next-in-Some.ensures.parent) c.parent-next-in-Some.ensures.path in
+    let kept = kept-own c.args.tree.now (present_state c.args.focus.now) c.args.self.now c.in-Some.up.0 (present_state c.args.focus.now c.in-Some.up.0) c.args.property c.requires.right (element-within c.args.tree.now c.in-Some.up.0 element) in
+    let own : own_value c.args.tree.now c.args.self.now.sources c.in-Some.up.0 (present_state c.args.focus.now c.in-Some.up.0) c.args.property ≡ Some c.in-Some-own.value =
+    sym ((c.in-Some-own.ensures {u = tt}).value ∙ ap (λ (state : State). kept_value c.args.self.now c.in-Some.up.0 state c.args.property) c.state_of.ensures ∙ kept) in
+    climb-some c.args.tree.now c.args.self.now.sources c.args.property (present_state c.args.focus.now) c.up.next c.in-Some.up (number_of c.parent-next-in-Some.result) _ c.in-Some-own.value c.in-Some.is c.up.invariant.1 path own
+
+pub up-preserved : goal.up-preserved
+up-preserved c =
+    let element : IsElement c.args.tree.now c.in-Some.up.0 = subst (λ (o : Option NodeId). IfSome o (λ n. IsElement c.args.tree.now n.0)) c.in-Some.is c.up.invariant.0 in
+    let path : path_of c.args.tree.now c.in-Some.up.0 ≡ c.in-Some.up.0 ∷ option_map_or (path_of c.args.tree.now) (number_of c.parent-next-in-Some.result) [] =
+    subst (λ (o : Option ℕ). path_of c.args.tree.now c.in-Some.up.0 ≡ c.in-Some.up.0 ∷ option_map_or (path_of c.args.tree.now) o []) (sym c.parent-next-in-Some.ensures.parent) c.parent-next-in-Some.ensures.path in
+    let kept = kept-own c.args.tree.now (present_state c.args.focus.now) c.args.self.now c.in-Some.up.0 (present_state c.args.focus.now c.in-Some.up.0) c.args.property c.requires.right (element-within c.args.tree.now c.in-Some.up.0 element) in
+    let own : own_value c.args.tree.now c.args.self.now.sources c.in-Some.up.0 (present_state c.args.focus.now c.in-Some.up.0) c.args.property ≡ None =
+    sym ((c.in_default-own.ensures {u = tt}).value ∙ ap (λ (state : State). kept_value c.args.self.now c.in-Some.up.0 state c.args.property) c.state_of.ensures ∙ kept) in
+    (IfSome_then c.parent-next-in-Some.result c.parent-next-in-Some.ensures.before (λ up h. h.1), climb-none c.args.tree.now c.args.self.now.sources c.args.property (present_state c.args.focus.now) c.up.next c.in-Some.up (number_of c.parent-next-in-Some.result) _ c.in-Some.is c.up.invariant.1 path own)

@@ -1,0 +1,45 @@
+-- What `Styles` are, and when they are those of a tree (this project's own).
+use Rattle.std.specs.Prelude.{◌≡◌, ℕ, ◌*◌, ◌<◌, List, Option, Some, length, option_map, option_and_then, slice_get}
+use Rattle.std.specs.Option.{option_flatten, option_or}
+use Rattle.dom_tree.specs.Items.{Item}
+use Rattle.style_reader.specs.declared.properties.Property.{Property}
+use Rattle.style_reader.specs.declared.properties.StyleValue.{StyleValue}
+use Rattle.style_reader.specs.declared.rules.Rule.{Rule}
+use Rattle.style_cascade.specs.Cascade.{Sources, write_of}
+use Rattle.style_cascade.specs.Candidates.{declared_value, inline_rules}
+use Rattle.style_cascade.specs.Matching.{subject_of}
+use Rattle.style_cascade.specs.declared.states.State.{State}
+use Rattle.style_cascade.specs.declared.states.State.TheVariants as states
+use Rattle.style_cascade.specs.declared.subjects.Subject.{Subject}
+use Rattle.style_cascade.specs.declared.subjects.Styled.{Styled}
+
+-- What values come from, and a device, of which no public clause speaks: what is kept of the tree.
+pub record StylesState : Type 0 where
+  pub sources : Sources
+  pub kept : List (Option Styled)
+
+abbrev pub styled_by : Subject → Styled
+styled_by subject = record { subject = subject; inline = inline_rules subject }
+
+-- A device: what is said of an element, and of a node by what is kept.
+abbrev pub said_of : List Rule → State → Property → Styled → Option StyleValue
+said_of rules state property styled =
+    option_or (declared_value styled.inline styled.subject state property)
+    (declared_value rules styled.subject state property)
+
+abbrev pub kept_value : StylesState → ℕ → State → Property → Option StyleValue
+kept_value styles node state property =
+    option_or (write_of styles.sources node state property)
+    (option_or (write_of styles.sources node states.Normal property)
+    (option_and_then (said_of styles.sources.rules state property)
+    (option_flatten (slice_get styles.kept node))))
+
+-- A device: what is kept is that of the tree.
+pub record IsKept (items : List Item) (styles : StylesState) : Type 0 where
+  pub room : length styles.sources.writes ≡ 51 * length items
+  pub elements : (node : ℕ) → node < length items →
+      slice_get styles.kept node ≡ Some (option_map styled_by (subject_of items node))
+
+-- the styles are those of this tree, and what they keep is right where each node is in this state
+unfoldable pub IsRight : List Item → (ℕ → State) → StylesState → Type 0
+IsRight items states styles = IsKept items styles

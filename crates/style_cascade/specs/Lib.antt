@@ -1,0 +1,8 @@
+pub mod States
+pub mod Matching
+pub mod Candidates
+pub mod Writes
+pub mod Cascade
+pub mod Keeping
+pub mod Searching
+pub mod Indexing

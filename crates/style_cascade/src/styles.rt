@@ -1,0 +1,199 @@
+//! The styles of a document.
+
+ghost use Rattle.std.specs.Prelude.{◌≡◌, ◌≢◌, ◌<◌, ℕ, Some, None, length, IfOk, IfSome, IsTrue};
+ghost use Rattle.dom_tree.specs.Items.{IsElement};
+ghost use Rattle.style_reader.specs.Values.{fits as spec_fits};
+ghost use Rattle.style_cascade.specs.States.{present_state};
+ghost use Rattle.style_cascade.specs.declared.states.State.{State};
+ghost use Rattle.style_reader.specs.declared.properties.Property.{Property};
+
+use crate::search::value_said;
+use crate::sheets::Sheet;
+use crate::states::{Focus, State};
+use crate::subjects::{Names, Styled, styled_at};
+use crate::tables::Table;
+use bml_bytes::NoMemory;
+use dom_tree::{NodeId, Tree};
+use std::alloc::Global;
+use std::marker::Model;
+use style_reader::{Property, Rules, StyleValue};
+
+/// The styles of a document: its rules, its inline texts and what scripts have written. Contracts
+/// see the rules and the writes; whether the styles are those of a tree as it is now is the
+/// relation `IsRight`. The tree may be changed by other texts, and by attributes other than `id`,
+/// `class` and `style`.
+#[derive(Drop)]
+pub struct Styles {
+    rules: Sheet,
+    writes: Table,
+
+    // for each node what styles ask of it, where it is an element
+    elements: Vec<Option<Styled>>,
+}
+
+impl Model for Styles {
+    ghost use Rattle.style_cascade.specs.Keeping.{StylesState};
+
+    ghost Value = { StylesState };
+
+    ghost view = { λ styles. record {
+      sources = record { rules = styles.rules; writes = styles.writes };
+      kept = styles.elements.items;
+    } };
+}
+
+impl Styles {
+    ghost use Rattle.style_cascade.specs.Cascade.{asked_places, first_own, places_above, style_value, write_of};
+    ghost use Rattle.style_cascade.specs.Keeping.{IsRight, kept_value};
+
+    /// The styles of a document with these rules. Nothing is written yet.
+    pub fn new(alloc: Global, tree: &Tree, rules: Rules) -> Result<Styles, NoMemory>
+        ensures rules { IfOk result (λ styles. styles.sources.rules ≡ rules) }
+        ensures unwritten { IfOk result
+            (λ styles. (node : ℕ) (state : State) (property : Property) →
+            write_of styles.sources node state property ≡ None) }
+        ensures right { IfOk result
+            (λ styles. (states : ℕ → State) → IsRight tree.now states styles) }
+    {
+        let rules = Sheet::new(alloc, rules)?;
+        let names = Names::new(alloc)?;
+        let count = tree.node_count();
+        let mut elements = Vec::new(alloc);
+        'nodes: for number in 0..count {
+            let styled = styled_at(alloc, tree, &names, NodeId(number))?;
+            elements.push(styled)?;
+        }
+        let writes = Table::new(alloc, count)?;
+        Ok(Styles {
+            rules,
+            writes,
+            elements,
+        })
+    }
+
+    /// The value that an element has for a property in a state. An inherited one that nothing gives
+    /// it is that of the element above in the state that this one has by the focus.
+    pub fn get(
+        &mut self,
+        tree: &Tree,
+        node: NodeId,
+        state: State,
+        focus: &Focus,
+        property: Property,
+    ) -> StyleValue
+        requires element { IsElement tree.now node.0 }
+        requires right { IsRight tree.now (present_state focus.now) self.old }
+        ensures value { result
+            ≡ style_value tree.now self.old.sources (present_state focus.now) node.0 state
+            property }
+        ensures fits { IsTrue (spec_fits property result) }
+        ensures sources { self.new.sources ≡ self.old.sources }
+        ensures right { IsRight tree.now (present_state focus.now) self.new }
+    {
+        match self.found(tree, node, state, focus, property) {
+            Some(value) => value,
+            None => property.initial(),
+        }
+    }
+
+    /// A script writes a value into the style of an element for a state.
+    pub fn set(
+        &mut self,
+        tree: &Tree,
+        node: NodeId,
+        state: State,
+        property: Property,
+        value: StyleValue,
+    )
+        requires element { IsElement tree.now node.0 }
+        requires fits { IsTrue (spec_fits property value) }
+        requires right { (states : ℕ → State) × IsRight tree.now states self.old }
+        ensures written { write_of self.new.sources node.0 state property ≡ Some value }
+        ensures others { (other : ℕ) (at : State) (of : Property) →
+            ((other ≡ node.0) × (at ≡ state) × (of ≡ property) → ⊥) →
+            write_of self.new.sources other at of ≡ write_of self.old.sources other at of }
+        ensures rules { self.new.sources.rules ≡ self.old.sources.rules }
+        ensures right { (states : ℕ → State) →
+            IsRight tree.now states self.old → IsRight tree.now states self.new }
+    {
+        self.writes.put(node, state, property, value);
+    }
+
+    /// Says that the state of an element changed.
+    pub fn touch(&mut self, tree: &Tree, node: NodeId)
+        requires { IsElement tree.now node.0 }
+        ensures sources { self.new.sources ≡ self.old.sources }
+        ensures right { (before after : ℕ → State) →
+            ((other : ℕ) → other ≢ node.0 → after other ≡ before other) →
+            IsRight tree.now before self.old → IsRight tree.now after self.new }
+    {}
+
+    // What is said of the element, or, where the property is inherited, of one above it.
+    fn found(
+        &self,
+        tree: &Tree,
+        node: NodeId,
+        state: State,
+        focus: &Focus,
+        property: Property,
+    ) -> Option<StyleValue>
+        requires element { IsElement tree.now node.0 }
+        requires right { IsRight tree.now (present_state focus.now) self.now }
+        ensures value { result ≡ first_own tree.now self.now.sources property
+            (asked_places tree.now (present_state focus.now) node.0 state property) }
+        ensures fits { IfSome result (λ value. IsTrue (spec_fits property value)) }
+    {
+        if let Some(value) = self.own(node, state, property) {
+            return Some(value);
+        }
+        if property.is_inherited() {
+            self.found_above(tree, node, focus, property)
+        } else {
+            None
+        }
+    }
+
+    // What is said of the first element above the node of which something is said.
+    fn found_above(
+        &self,
+        tree: &Tree,
+        node: NodeId,
+        focus: &Focus,
+        property: Property,
+    ) -> Option<StyleValue>
+        requires element { IsElement tree.now node.0 }
+        requires right { IsRight tree.now (present_state focus.now) self.now }
+        ensures value { result ≡ first_own tree.now self.now.sources property
+            (places_above tree.now (present_state focus.now) node.0) }
+        ensures fits { IfSome result (λ value. IsTrue (spec_fits property value)) }
+    {
+        let mut next = tree.parent(node);
+        'up: while let Some(up) = next {
+            next = tree.parent(up);
+            if let Some(value) = self.own(up, focus.state_of(up), property) {
+                return Some(value);
+            }
+        }
+        None
+    }
+
+    // What is said of the element itself.
+    fn own(&self, node: NodeId, state: State, property: Property) -> Option<StyleValue>
+        requires { node.0 < length self.now.kept }
+        ensures value { result ≡ kept_value self.now node.0 state property }
+        ensures fits { IfSome result (λ value. IsTrue (spec_fits property value)) }
+    {
+        let written = self.writes.get(node, state, property);
+        if written.is_some() {
+            return written;
+        }
+        let written = self.writes.get(node, State::Normal, property);
+        if written.is_some() {
+            return written;
+        }
+        match &self.elements[node.0 as usize] {
+            Some(styled) => value_said(&self.rules, styled, state, property),
+            None => None,
+        }
+    }
+}
