@@ -1,1 +1,3 @@
 pub mod NeedLemmas
+pub mod GiftLemmas
+pub mod StyleLemmas

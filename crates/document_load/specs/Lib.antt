@@ -1,3 +1,5 @@
 pub mod Needs
 pub mod Drafts
+pub mod StyleTexts
 pub mod NeedViews
+pub mod GiftViews

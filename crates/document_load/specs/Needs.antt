@@ -2,9 +2,11 @@
 -- project's own profile).
 use Rattle.std.specs.Prelude.{ℕ, if◌then◌else◌, List, Option, None, option_and_then, codes}
 use Rattle.std.specs.List.{filter_map}
+use Rattle.std.specs.Option.{is_some}
 use Rattle.bml_bytes.specs.Words.{is_same}
 use Rattle.dom_tree.specs.Items.{Attribute, Content, Item, value_in}
 use Rattle.dom_tree.specs.Items.Content.{Element, Text}
+use Rattle.dom_tree.specs.Walks.{places}
 use Rattle.multipart_entities.specs.Paths.{path_of_text}
 use Rattle.multipart_entities.specs.declared.paths.Path.{Path}
 
@@ -27,3 +29,7 @@ need_in base item = option_and_then (λ text. path_of_text text base) (reference
 -- the needs of a document at a path, in document order
 unfoldable pub needs_of : Path → List Item → List Path
 needs_of base items = filter_map (need_in base) items
+
+-- for each need, in the same order, the number of the node that names it
+unfoldable pub named_by : Path → List Item → List ℕ
+named_by base items = places (λ item. is_some (need_in base item)) items

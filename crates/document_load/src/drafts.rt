@@ -5,19 +5,23 @@ ghost use Rattle.bml_bytes.specs.Codes.{codes};
 ghost use Rattle.bml_reader.specs.Readings.{reading_of};
 ghost use Rattle.dom_tree.specs.Items.{Item};
 ghost use Rattle.document_load.specs.Drafts.{with_gift, draft_of};
+ghost use Rattle.document_load.specs.StyleTexts.{document_rules};
 
-use crate::needs::needs_of;
+use crate::needs::{Needs, needs_of};
+use crate::style_texts::rules_of_styles;
 use bml_bytes::{NoMemory, Text};
 use bml_reader::{DocFault, read_document};
 use dom_tree::Tree;
 use multipart_entities::Path;
 use std::alloc::Global;
 use std::marker::Model;
+use style_reader::Rules;
 
-/// A document: the tree of its nodes.
+/// A document: the tree of its nodes, and the rules of its style texts.
 #[derive(Drop)]
 pub struct Document {
     pub tree: Tree,
+    pub rules: Rules,
 }
 
 /// A document that was read, whose needs are waited for.
@@ -26,23 +30,28 @@ pub struct Draft {
     tree: Tree,
     needs: Vec<Path>,
 
+    // for each need the number of the node that names it
+    named: Vec<u32>,
+
     // for each need its text, where it was given
     given: Vec<Option<Text>>,
 }
 
 impl Model for Draft {
-    ghost use Rattle.std.specs.Prelude.{◌≡◌, length};
     ghost use Rattle.document_load.specs.Drafts.{DraftState};
+    ghost use Rattle.document_load.specs.GiftViews.{HasOneEach};
 
     ghost Value = { DraftState };
 
     ghost view = { λ draft. record {
       items = draft.tree;
       needs = draft.needs.items;
+      named = draft.named.items;
       given = draft.given.items;
     } };
 
-    ghost invariant = { λ draft. length draft.given.items ≡ length draft.needs.items };
+    ghost invariant = { λ draft.
+        HasOneEach draft.needs.items draft.named.items draft.given.items };
 }
 
 /// Reads a document that lies at a path, and finds its needs. The faults are those of
@@ -63,9 +72,17 @@ impl Draft {
     fn open(alloc: Global, tree: Tree, path: &Path) -> Result<Draft, NoMemory>
         ensures { IfOk result (λ draft. draft ≡ draft_of path.now tree) }
     {
-        let needs = needs_of(alloc, &tree, path)?;
+        let Needs {
+            paths: needs,
+            named,
+        } = needs_of(alloc, &tree, path)?;
         let given = nothing_given(alloc, needs.len())?;
-        Ok(Draft { tree, needs, given })
+        Ok(Draft {
+            tree,
+            needs,
+            named,
+            given,
+        })
     }
 
     /// The path of a need, counted from 0 in document order, and None exactly past the last. This
@@ -96,11 +113,23 @@ impl Draft {
         Ok(())
     }
 
-    /// The document with the tree that was read. What was given isn't read at this stage.
+    /// The document with the tree that was read, and the rules of its style texts, a link that wasn't
+    /// given among them as an empty one. What was given for scripts isn't read at this stage.
     pub fn finish(self) -> Result<Document, NoMemory>
-        ensures { IfOk result (λ document. document.tree ≡ self.items) }
+        ensures tree { IfOk result (λ document. document.tree ≡ self.items) }
+        ensures rules { IfOk result (λ document. document.rules ≡ document_rules self) }
     {
-        Ok(Document { tree: self.tree })
+        let alloc = *self.given.allocator();
+        let rules = rules_of_styles(
+            alloc,
+            &self.tree,
+            self.named.as_slice(),
+            self.given.as_slice(),
+        )?;
+        Ok(Document {
+            tree: self.tree,
+            rules,
+        })
     }
 }
 

@@ -1,7 +1,7 @@
 //! The resources that the nodes of a document need.
 
 ghost use Rattle.std.specs.Prelude.{◌≡◌, ◌<◌, IfOk, length, option_and_then, option_copied, slice_get};
-ghost use Rattle.document_load.specs.Needs.{need_in, needs_of, reference_in};
+ghost use Rattle.document_load.specs.Needs.{need_in, named_by, needs_of, reference_in};
 ghost use Rattle.document_load.specs.NeedViews.{AreNames};
 
 use bml_bytes::{NoMemory, Text};
@@ -16,18 +16,29 @@ struct AttributeNames {
     src: Text,
 }
 
-/// The needs of a document at a path, in document order. Each node is looked at once.
-pub fn needs_of(alloc: Global, tree: &Tree, base: &Path) -> Result<Vec<Path>, NoMemory>
-    ensures { IfOk result (λ needs. needs.items ≡ needs_of base.now tree.now) }
+/// The needs of a document, in document order.
+#[derive(Drop)]
+pub struct Needs {
+    pub paths: Vec<Path>,
+    /// For each the number of the node that names it.
+    pub named: Vec<u32>,
+}
+
+/// The needs of a document at a path. Each node is looked at once.
+pub fn needs_of(alloc: Global, tree: &Tree, base: &Path) -> Result<Needs, NoMemory>
+    ensures paths { IfOk result (λ needs. needs.paths.items ≡ needs_of base.now tree.now) }
+    ensures named { IfOk result (λ needs. needs.named.items ≡ named_by base.now tree.now) }
 {
     let names = attribute_names(alloc)?;
-    let mut needs = Vec::new(alloc);
+    let mut paths = Vec::new(alloc);
+    let mut named = Vec::new(alloc);
     'nodes: for number in 0..tree.node_count() {
         if let Some(need) = need_of(alloc, tree, NodeId(number), base, &names)? {
-            needs.push(need)?;
+            paths.push(need)?;
+            named.push(number)?;
         }
     }
-    Ok(needs)
+    Ok(Needs { paths, named })
 }
 
 fn attribute_names(alloc: Global) -> Result<AttributeNames, NoMemory>

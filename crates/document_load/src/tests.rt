@@ -1,12 +1,13 @@
 //! Documents with links and scripts, and what they need. What is expected is from the rules.
 
 use crate::*;
-use bml_bytes::{NoMemory, Text};
+use bml_bytes::{NoMemory, Text, push_count};
 use bml_reader::DocFault;
 use multipart_entities::Path;
 use std::alloc::Global;
 use std::process::Abort;
 use std::test::Fail;
+use style_reader::Rules;
 
 // What is read of the bytes of the document `/50/1234/doc.bml`.
 fn read(alloc: Global, bytes: &[u8]) -> Result<Draft, DocFault> {
@@ -155,5 +156,149 @@ fn gifts(rt: HostRuntime) -> Result<(), Fail> {
     assert_eq!(rt; needs.as_slice(), b"/50/1234/a /50/1234/b ".as_slice());
     let document = draft.finish()?;
     assert_eq!(rt; document.tree.node_count(), 4);
+    Ok(())
+}
+
+// The tag that each rule's first selector asks for, with the number of its declarations, as `a1 `.
+fn printed_rules(alloc: Global, rules: &Rules) -> Result<Vec<u8>, NoMemory> {
+    let mut out = Vec::new(alloc);
+    for rule in rules.as_slice() {
+        if let Some(selector) = rule.selectors.as_slice().first() {
+            if let Some(tag) = &selector.tag {
+                tag.push_bytes(&mut out)?;
+            }
+        }
+        push_count(rule.declarations.as_slice().len() as u64, &mut out)?;
+        out.push(b' ')?;
+    }
+    Ok(out)
+}
+
+type Gifts = &'static [(usize, &'static [u8])];
+
+// A document, what is given for which of its needs, and its rules.
+const STYLED: [(&[u8], Gifts, &[u8]); 20] = [
+    (b"<bml/>", &[], b""),
+    (b"<bml><style>a{left:1px} b{}</style></bml>", &[], b"a1 b0 "),
+    // styles and links in document order
+    (
+        b"<bml><style>a{}</style><link href='x'/><style>c{}</style><link href='y'/></bml>",
+        &[(1, b"d{}"), (0, b"b{}")],
+        b"a0 b0 c0 d0 ",
+    ),
+    // a link for which nothing was given is empty
+    (
+        b"<bml><link href='x'/><style>a{}</style><link href='y'/></bml>",
+        &[(1, b"b{}")],
+        b"a0 b0 ",
+    ),
+    // a link whose path isn't resolved has no need
+    (
+        b"<bml><link href='a/b'/><link href=''/><link href='ok'/><link rel='r'/></bml>",
+        &[(0, b"a{}")],
+        b"a0 ",
+    ),
+    // two links of one path are two needs
+    (
+        b"<bml><link href='x'/><link href='x'/></bml>",
+        &[(0, b"a{}"), (1, b"b{}")],
+        b"a0 b0 ",
+    ),
+    // a script is a need, and no style text
+    (
+        b"<bml><script src='x'/><link href='y'/><script>c{}</script></bml>",
+        &[(0, b"a{}"), (1, b"b{}")],
+        b"b0 ",
+    ),
+    // a second gift replaces the first
+    (
+        b"<bml><link href='x'/></bml>",
+        &[(0, b"a{}"), (0, b"b{}c{}")],
+        b"b0 c0 ",
+    ),
+    (
+        b"<bml><link href='x'/></bml>",
+        &[(0, b"a{}"), (0, b"")],
+        b"",
+    ),
+    // a link's own text isn't read, nor the resource that a style names
+    (
+        b"<bml><link href='x'>a{}</link><style href='y'>b{}</style></bml>",
+        &[],
+        b"b0 ",
+    ),
+    // the text in an element that stands in a style isn't that of the style
+    (
+        b"<bml><style>a{}<p>b{}</p>c{}</style></bml>",
+        &[],
+        b"a0 c0 ",
+    ),
+    (
+        b"<bml><style>a{left:<p>b{}</p>1px}</style></bml>",
+        &[],
+        b"a1 ",
+    ),
+    // a style in a style or in a link is a style text of its own, behind the outer one
+    (
+        b"<bml><style>a{}<style>b{}</style>c{}</style></bml>",
+        &[],
+        b"a0 c0 b0 ",
+    ),
+    (
+        b"<bml><link href='x'><style>b{}</style></link></bml>",
+        &[(0, b"a{}")],
+        b"a0 b0 ",
+    ),
+    // wherever they stand
+    (
+        b"<bml><head><style>a{}</style></head><body><p><style>b{}</style></p></body></bml>",
+        &[],
+        b"a0 b0 ",
+    ),
+    // comments, character data and references of the document
+    (
+        b"<bml><style>a{}<!-- b{} --><![CDATA[c{} /* d{} */]]>e{}</style></bml>",
+        &[],
+        b"a0 c0 e0 ",
+    ),
+    (
+        b"<bml><style>a&#123;left:1px;top&#x3a;2px}</style></bml>",
+        &[],
+        b"a2 ",
+    ),
+    // an open rule, comment or at-rule ends with its text
+    (
+        b"<bml><style>a{left:1px</style><style>b{}/*</style><style>c{} d</style><style>e{}</style></bml>",
+        &[],
+        b"a1 b0 c0 e0 ",
+    ),
+    (
+        b"<bml><link href='x'/><link href='y'/><style>c{}</style></bml>",
+        &[(0, b"a{} @import"), (1, b"b{top:1px")],
+        b"a0 b1 c0 ",
+    ),
+    // tags compare by case
+    (
+        b"<bml><STYLE>a{}</STYLE><Link href='x'/><styles>a{}</styles></bml>",
+        &[],
+        b"",
+    ),
+];
+
+fn give_each(rt: &impl Abort, draft: &mut Draft, gifts: &[(usize, &[u8])]) {
+    for (number, gift) in gifts {
+        give(rt, draft, *number, gift);
+    }
+}
+
+#[test]
+fn rules_of_documents(rt: HostRuntime) -> Result<(), Fail> {
+    for (bytes, gifts, expected) in STYLED {
+        let mut draft = read(rt.alloc(), bytes).expect(&rt, "a document");
+        give_each(&rt, &mut draft, gifts);
+        let document = draft.finish()?;
+        let rules = printed_rules(rt.alloc(), &document.rules)?;
+        assert_eq!(rt; rules.as_slice(), expected, "of {bytes:?}");
+    }
     Ok(())
 }

@@ -1,4 +1,4 @@
-use Rattle.document_load.proofs.NeedLemmas.{needs_of-none, needs_of-one, needs_of-order}
+use Rattle.document_load.proofs.NeedLemmas.{needs_of-none, needs_of-one, needs_of-order, named_by-more, length-named_by}
 use Rattle.document_load.proofs.laws.law_of_needs.Goals as goal
 
 pub returns-clause-none : goal.returns-clause-none
@@ -9,3 +9,9 @@ returns-clause-one c = needs_of-one
 
 pub returns-clause-order : goal.returns-clause-order
 returns-clause-order c = needs_of-order
+
+pub returns-clause-nodes : goal.returns-clause-nodes
+returns-clause-nodes c = named_by-more
+
+pub returns-clause-count : goal.returns-clause-count
+returns-clause-count c = length-named_by
