@@ -1,9 +1,8 @@
-pub mod ChildLemmas
-pub mod CommentLemmas
-pub mod DrawnLemmas
-pub mod DeclarationLemmas
-pub mod FirstLemmas
-pub mod LineLemmas
-pub mod OffsetLemmas
-pub mod PixelLemmas
-pub mod RangeLemmas
+mod BoxLemmas
+mod FirstLemmas
+mod LineLemmas
+mod OrderLemmas
+mod PlaceLemmas
+mod TextLemmas
+mod ValueLemmas
+mod ShowLemmas

@@ -1,35 +1,44 @@
--- Which elements of a document are drawn, and where they stand (boxes of BML, ARIB STD-B24 volume
--- 2, in this project's own profile).
-use Rattle.std.specs.Prelude.{ℕ, ◌==◌, Bool, false, ◌&&◌, ◌||◌, ℤ, pos, ◌+ℤ◌, List, [], ◌∷◌, length, map, Option, codes}
+-- Which elements of a document are drawn, in which order, where they stand, and whose texts are
+-- whose (boxes of BML, ARIB STD-B24 volume 2, in this project's own profile).
+use Rattle.std.specs.Prelude.{ℕ, ◌==◌, Bool, false, not, ◌&&◌, ◌||◌, if◌then◌else◌, ℤ, pos, ◌+ℤ◌, int_le, List, [], ◌∷◌, length, map, Option, find, codes}
 use Rattle.std.specs.Option.{option_map_or}
 use Rattle.std.specs.List.{list_any, filter, range_with_len}
 use Rattle.bml_bytes.specs.Words.{is_same}
-use Rattle.dom_tree.specs.Items.{Item, tag_in, tag_of, value_of}
+use Rattle.dom_tree.specs.Items.{Item, parent_of, tag_in, tag_of}
 use Rattle.dom_tree.specs.Walks.{first, places, path_of}
-use Rattle.display_list.specs.Inline.{measure_of}
+use Rattle.display_list.specs.Shown.{Shown, style_at}
+use Rattle.display_list.specs.declared.node_styles.NodeStyle.{NodeStyle}
 use Rattle.display_list.specs.declared.places.Place.{Place}
-use Rattle.display_list.specs.declared.pixels.Measure.{Measure}
-use Rattle.display_list.specs.declared.pixels.Measure.TheVariants.{Left, Top, Width, Height}
 
--- Tags; they compare by case.
+-- ---- tags; they compare by case
 
 abbrev pub is_body_tag : List ℕ → Bool
 is_body_tag tag = is_same tag (codes "body")
 
--- the elements that are drawn
-abbrev pub is_drawn_tag : List ℕ → Bool
-is_drawn_tag tag = is_body_tag tag || (is_same tag (codes "div") || is_same tag (codes "p"))
+abbrev pub is_input_tag : List ℕ → Bool
+is_input_tag tag = is_same tag (codes "input")
 
--- the elements that have a place, from which the places of what stands in them are counted
-abbrev pub is_placed_tag : List ℕ → Bool
-is_placed_tag tag =
-    is_drawn_tag tag || (is_same tag (codes "input") || is_same tag (codes "object"))
+abbrev pub is_object_tag : List ℕ → Bool
+is_object_tag tag = is_same tag (codes "object")
+
+abbrev pub is_break_tag : List ℕ → Bool
+is_break_tag tag = is_same tag (codes "br")
+
+-- the elements that have a box
+abbrev pub is_box_tag : List ℕ → Bool
+is_box_tag tag =
+    is_body_tag tag
+    || (is_same tag (codes "div") || (is_same tag (codes "p") || (is_input_tag tag || is_object_tag tag)))
+
+-- the elements inside a line of text
+abbrev pub is_inline_tag : List ℕ → Bool
+is_inline_tag tag = is_same tag (codes "span") || is_same tag (codes "a")
 
 -- the node is an element with such a tag
 abbrev pub has_tag : (List ℕ → Bool) → List Item → ℕ → Bool
 has_tag test items node = option_map_or test (tag_of items node) false
 
--- Which are drawn
+-- ---- which are drawn
 
 -- the first `body` in document order
 unfoldable pub body_of : List Item → Option ℕ
@@ -40,48 +49,75 @@ unfoldable pub is_under_body : List Item → ℕ → Bool
 is_under_body items node =
     option_map_or (λ body. list_any (λ up. up == body) (path_of items node)) (body_of items) false
 
-unfoldable pub is_drawn : List Item → ℕ → Bool
-is_drawn items node = has_tag is_drawn_tag items node && is_under_body items node
+abbrev pub is_visible : Shown → ℕ → Bool
+is_visible shown node = (style_at shown node).is_visible
+
+-- A visible element inside a hidden one is drawn too.
+unfoldable pub is_drawn : Shown → ℕ → Bool
+is_drawn shown node =
+    has_tag is_box_tag shown.items node && (is_under_body shown.items node && is_visible shown node)
 
 -- the elements that are drawn, in document order
-unfoldable pub drawn_nodes : List Item → List ℕ
-drawn_nodes items = filter (is_drawn items) (range_with_len 0 (length items))
+unfoldable pub drawn_nodes : Shown → List ℕ
+drawn_nodes shown = filter (is_drawn shown) (range_with_len 0 (length shown.items))
 
--- Where they stand, in pixels
+-- ---- in which order
 
--- what the node's own attribute `style` says, and 0 without one
-unfoldable pub own_measure : Measure → List Item → ℕ → ℤ
-own_measure measure items node =
-    option_map_or (measure_of measure) (value_of items node (codes "style")) (pos 0)
+-- some that are in order, with one more that stands before those of its own level
+abbrev pub with_next : {A : Type 0} → (A → ℤ) → A → List A → List A
+with_next level one [] = one ∷ []
+with_next level one (other ∷ others) =
+    if int_le (level one) (level other) then one ∷ other ∷ others
+    else other ∷ with_next level one others
+
+-- By their levels, the lowest first; those of one level keep their order.
+unfoldable pub in_order : {A : Type 0} → (A → ℤ) → List A → List A
+in_order level [] = []
+in_order level (one ∷ others) = with_next level one (in_order level others)
+
+abbrev pub level_of : Shown → ℕ → ℤ
+level_of shown node = (style_at shown node).level
+
+-- the elements that are drawn, as they are drawn one over the other
+unfoldable pub boxes_of : Shown → List ℕ
+boxes_of shown = in_order (level_of shown) (drawn_nodes shown)
+
+-- ---- where they stand, in pixels
+
+-- the elements that a node stands in, the nearest first
+abbrev pub ancestors_of : List Item → ℕ → List ℕ
+ancestors_of items node = option_map_or (path_of items) (parent_of items node) []
 
 abbrev pub total : List ℤ → ℤ
 total [] = pos 0
 total (number ∷ numbers) = number +ℤ total numbers
 
--- the sum of what the elements with a place say, from the node up to the root
-unfoldable pub offset_of : Measure → List Item → ℕ → ℤ
-offset_of measure items node =
-    total (map (own_measure measure items)
-    (filter (has_tag is_placed_tag items) (path_of items node)))
+-- the sum of what those of these nodes say that have a box
+abbrev pub total_of : (NodeStyle → ℤ) → Shown → List ℕ → ℤ
+total_of offset shown nodes =
+    total (map (λ node. offset (style_at shown node)) (filter (has_tag is_box_tag shown.items) nodes))
 
-abbrev pub x_of : List Item → ℕ → ℤ
-x_of items node = offset_of Left items node
+-- what the node's own style says, and all boxes that it stands in
+unfoldable pub offset_of : (NodeStyle → ℤ) → Shown → ℕ → ℤ
+offset_of offset shown node =
+    offset (style_at shown node) +ℤ total_of offset shown (ancestors_of shown.items node)
 
-abbrev pub y_of : List Item → ℕ → ℤ
-y_of items node = offset_of Top items node
-
-abbrev pub width_of : List Item → ℕ → ℤ
-width_of items node = own_measure Width items node
-
-abbrev pub height_of : List Item → ℕ → ℤ
-height_of items node = own_measure Height items node
-
--- the element's box
-unfoldable pub place_of : List Item → ℕ → Place
-place_of items node =
+-- the element's place on the screen
+unfoldable pub place_of : Shown → ℕ → Place
+place_of shown node =
     record {
-      x = x_of items node;
-      y = y_of items node;
-      width = width_of items node;
-      height = height_of items node;
+      x = offset_of (λ style. style.left) shown node;
+      y = offset_of (λ style. style.top) shown node;
+      width = (style_at shown node).width;
+      height = (style_at shown node).height;
     }
+
+-- ---- whose texts are whose
+
+-- the nearest element that a node stands in and that isn't inside a line of text
+unfoldable pub holder_of : List Item → ℕ → Option ℕ
+holder_of items node =
+    find (λ up. not (has_tag is_inline_tag items up)) (ancestors_of items node)
+
+abbrev pub is_held_by : List Item → ℕ → ℕ → Bool
+is_held_by items box node = option_map_or (λ holder. holder == box) (holder_of items node) false

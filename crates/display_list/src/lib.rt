@@ -1,17 +1,25 @@
-//! The display list of a document: the places of its boxes, with their texts, line by line.
+//! The display list of a document: its boxes with their texts and pictures, and the focus, line by
+//! line.
 //!
-//! `specs/Inline.antt` says which pixels the text of an attribute `style` gives,
-//! `specs/Places.antt` which elements are drawn and where they stand, and `specs/Show.antt` how
-//! that is printed. [`show_places`] appends exactly those lines. Each style is read once, so that
-//! the time grows with the document and not with its depth.
+//! `specs/Shown.antt` says what is shown of a document: its nodes, and the values that
+//! `style_cascade` gives the properties of its elements, each in its present state.
+//! `specs/Places.antt` says which elements are drawn, in which order, where they stand and whose
+//! texts are whose, and `specs/Show.antt` how that is printed. [`Shower::show`] appends exactly
+//! those lines; [`law_of_order`] says what the order is. Each property of an element is asked for
+//! once, a node's texts are looked for among those that stand in it, and the boxes are sorted, so
+//! that the time grows with the document and its depth.
 #![tactic(auto)]
 
-mod comments;
-mod inline_styles;
-mod pixels;
+mod laws;
+mod lines;
+mod node_styles;
 mod places;
+mod scenes;
 mod show;
+mod tags;
 #[cfg(test)]
 mod tests;
 
-pub use crate::show::{push_clock_line, show_places};
+pub use crate::laws::law_of_order;
+pub use crate::lines::push_clock_line;
+pub use crate::show::Shower;

@@ -1,186 +1,233 @@
-//! Styles and small documents, with what the rules give them.
+//! Small documents and sheets, with what the rules give them.
 
-use crate::inline_styles::Measures;
 use crate::*;
 use bml_bytes::Text;
-use dom_tree::{MOST_NODES, NodeId, Tree};
+use bml_reader::read_document;
 use std::alloc::Global;
 use std::process::Abort;
 use std::test::Fail;
+use style_cascade::{Focus, Styles};
+use style_reader::{Rules, read_sheet};
 
-#[test]
-fn styles(rt: HostRuntime) -> Result<(), Fail> {
-    let cases: [(&[u8], [i16; 4]); 27] = [
-        (b"", [0, 0, 0, 0]),
-        (b"left:1px;top:-2px;width:3px;height:4px", [1, -2, 3, 4]),
-        (b" LEFT\t:\r 1PX \n; tOp : -2Px", [1, -2, 0, 0]),
-        (b"left:-0;top:-0px;width:0;height:00px", [0, 0, 0, 0]),
-        (b"left:7px;left:-0px", [0, 0, 0, 0]),
-        (b"width:7px;width:-0px;height:7px;height:-0", [0, 0, 7, 7]),
-        (b"left:9px;left:00;top:9px;top:0", [9, 0, 0, 0]),
-        (b"left:007px;top:0032767px", [7, 32767, 0, 0]),
-        (
-            b"left:1px;left:+5px;left:5 px;left:5;left:px;left:-px",
-            [1, 0, 0, 0],
-        ),
-        (
-            b"left:1px;left:--5px;left:5pxx;left:p5x;left:5em;left:",
-            [1, 0, 0, 0],
-        ),
-        (
-            b"left:32767px;top:-32768px;width:32767px",
-            [32767, -32768, 32767, 0],
-        ),
-        (b"left:32768px;top:-32769px;width:32768px", [0, 0, 0, 0]),
-        (
-            b"left:4294967297px;top:18446744073709551617px",
-            [0, 0, 0, 0],
-        ),
-        (b"left:1px;left:2px;left:red;top:3px;;top 4px", [2, 3, 0, 0]),
-        (b"left:1px:2px;top::3px;:4px;:", [0, 0, 0, 0]),
-        (b"margin-left:1px;left-:2px;lef:3px;lefts:4px", [0, 0, 0, 0]),
-        (b"le ft:1px;color:red;top:2px", [0, 2, 0, 0]),
-        (b"left:1px;/* top:2px; */width:3px", [1, 0, 3, 0]),
-        (b"left/**/:/* ; : */1px/***/;top:2/**/px", [1, 0, 0, 0]),
-        (b"left:1px;/*/top:2px;/**/width:3px", [1, 0, 3, 0]),
-        (b"left:1px;/*top:2px;width:3px", [1, 0, 0, 0]),
-        (
-            b"left:1px;/* /* */top:2px/* */;*/width:3px;height:4px",
-            [1, 2, 0, 4],
-        ),
-        (b"left:1px/", [0, 0, 0, 0]),
-        (b"left:1px;/", [1, 0, 0, 0]),
-        (b"le/**/ft:1px;top:1p/**/x", [0, 0, 0, 0]),
-        (b"\xA4\xA2left:1px;top:\xA3\xB1px;width:1px", [0, 0, 1, 0]),
-        (
-            b"left:1px\x0B;top:2px\x0C;width:3px\x00;height:4px",
-            [0, 0, 0, 4],
-        ),
-    ];
-    for (style, [left, top, width, height]) in cases {
-        let text = Text::of_bytes(rt.alloc(), style)?;
-        let read = Measures::of_style(rt.alloc(), text.codes())?;
-        assert_eq!(rt; (read.left, read.top), (left, top), "in {style:?}");
-        assert_eq!(rt; (read.width, read.height), (width, height), "in {style:?}");
-    }
-    Ok(())
+// What is shown, and the ids of the focus and of the active element, empty where there is none.
+#[derive(Clone, Copy, Debug)]
+struct Case<'a> {
+    sheet: &'a [u8],
+    document: &'a [u8],
+    focus: &'a [u8],
+    active: &'a [u8],
 }
 
-// A node: the number of its parent, its tag and its style, or no tag and its text.
-type Row<'a> = (u32, &'a [u8], &'a [u8]);
-
-fn word(rt: &impl Abort, alloc: Global, bytes: &[u8]) -> Text {
-    Text::of_bytes(alloc, bytes).expect(rt, "memory")
-}
-
-// The tree of these nodes in document order, behind a root `bml`.
-fn document(rt: &impl Abort, alloc: Global, rows: &[Row]) -> Tree {
-    let tree = Tree::with_root(alloc, word(rt, alloc, b"bml"));
-    let mut tree = tree.expect(rt, "memory");
-    for (parent, tag, text) in rows {
-        let parent = NodeId(*parent);
-        assert!(rt; tree.contains(parent) && tree.node_count() < MOST_NODES);
-        assert!(rt; tree.is_open(parent));
-        assert!(rt; tree.tag(parent).is_some());
-        if tag.is_empty() {
-            assert!(rt; tree.add_text(parent, word(rt, alloc, text)).is_ok());
-        } else {
-            let added = tree.add_element(parent, word(rt, alloc, tag));
-            give_style(rt, alloc, &mut tree, added.expect(rt, "memory"), text);
-        }
-    }
-    tree
-}
-
-fn give_style(rt: &impl Abort, alloc: Global, tree: &mut Tree, node: NodeId, style: &[u8]) {
-    let name = word(rt, alloc, b"style");
-    assert!(rt; tree.contains(node));
-    assert!(rt; tree.tag(node).is_some());
+// The display list of a document, behind what was there before.
+fn shown(rt: &impl Abort, alloc: Global, case: &Case) -> Vec<u8> {
+    let tree = read_document(alloc, case.document).expect(rt, "a document");
+    let mut rules = Rules::new(alloc);
+    let sheet = Text::of_bytes(alloc, case.sheet).expect(rt, "memory");
+    assert!(rt; read_sheet(&sheet, &mut rules).is_ok());
+    let mut styles = Styles::new(alloc, &tree, rules).expect(rt, "memory");
+    let focus = Text::of_bytes(alloc, case.focus).expect(rt, "memory");
+    let active = Text::of_bytes(alloc, case.active).expect(rt, "memory");
+    let focus = Focus {
+        focus: tree.by_id(&focus),
+        active: tree.by_id(&active),
+    };
+    let mut out = b"<".to_vec(alloc).expect(rt, "memory");
     assert!(rt;
-        tree.set_attribute(node, &name, word(rt, alloc, style))
+        Shower::new()
+            .show(&tree, &mut styles, &focus, &mut out)
             .is_ok()
+    );
+    out
+}
+
+fn shows(rt: &impl Abort, alloc: Global, document: &[u8], expected: &[u8]) {
+    let case = Case {
+        sheet: b"",
+        document,
+        focus: b"",
+        active: b"",
+    };
+    assert_eq!(rt;
+        shown(rt, alloc, &case).as_slice(),
+        expected,
+        "of {document:?}"
     );
 }
 
-// Whether the display list of these nodes is as expected, behind what was there before.
-fn shows(rt: &impl Abort, alloc: Global, rows: &[Row], clock: u64, expected: &[u8]) {
-    let tree = document(rt, alloc, rows);
-    assert!(rt; clock < 1_000_000);
-    let mut out = b"<".to_vec(alloc).expect(rt, "memory");
-    assert!(rt; show_places(&tree, clock, &mut out).is_ok());
-    assert_eq!(rt; out.as_slice(), expected);
+#[test]
+fn values_of_the_cascade(rt: HostRuntime) {
+    let case = Case {
+        sheet: b"p{color-index:1} .c{color-index:2} p.c{color-index:3;left:5px} \
+            #q{color-index:4} p{bad;top:7px;left:red}",
+        document: b"<bml><head><style>p</style></head><body>\
+            <p id=\"q\" class=\"c\" style=\"color-index:5\">z</p></body></bml>",
+        focus: b"",
+        active: b"",
+    };
+    let expected = b"<box 0 0 0 0 8 0 7\nbox 5 7 0 0 8 0 7\ntext 5 7 0 0 5 24 z\n";
+    assert_eq!(&rt;
+        shown(&rt, rt.alloc(), &case).as_slice(),
+        expected.as_slice()
+    );
 }
 
 #[test]
-fn a_text_in_a_paragraph(rt: HostRuntime) {
-    let rows: [Row; 3] = [
-        (0, b"body", b"left:1px;width:9px"),
-        (1, b"p", b"top:2px"),
-        (2, b"", b"a&b"),
-    ];
-    let expected = b"<show 0\nbox 1 0 9 0 8 0 7\nbox 1 2 0 0 8 0 7\ntext 1 2 0 0 7 24 a&b\n";
-    shows(&rt, rt.alloc(), &rows, 0, expected);
-}
-
-#[test]
-fn boxes_in_boxes(rt: HostRuntime) {
-    let rows: [Row; 21] = [
-        (0, b"object", b"left:1000px;top:10px;width:5px"),
-        (1, b"p", b"left:1px"),
-        (2, b"", b"before the body"),
-        (1, b"body", b"left:100px;height:6px"),
-        (4, b"", b"one"),
-        (4, b"span", b"left:7px;top:7px"),
-        (6, b"", b"in a span"),
-        (6, b"div", b"left:-2000px"),
-        (8, b"a", b"left:7px"),
-        (9, b"p", b"top:-20px"),
-        (10, b"", b"deep"),
-        (8, b"", b"two"),
-        (4, b"", b"three"),
-        (4, b"input", b"left:30px;width:4px"),
-        (14, b"object", b"top:40px"),
-        (15, b"body", b"width:8px"),
-        (4, b"P", b"left:1px"),
-        (17, b"p", b""),
-        (0, b"p", b"left:5px"),
-        (19, b"", b"behind the body"),
-        (0, b"body", b""),
-    ];
-    let expected = b"<show 1234
-box 1100 10 0 6 8 0 7
-text 1100 10 0 6 7 24 one
-text 1100 10 0 6 7 24 three
-box -900 10 0 0 8 0 7
-text -900 10 0 0 7 24 two
-box -900 -10 0 0 8 0 7
-text -900 -10 0 0 7 24 deep
-box 1130 50 8 0 8 0 7
-box 1100 10 0 0 8 0 7
+fn all_kinds_of_boxes(rt: HostRuntime) {
+    let document = b"<bml><body><p style=\"z-index:1\">a<span style=\"color-index:2\">b</span><br/>\
+        </p><object type=\"image/x\" data=\"q r\"/><input value=\"v%\"/></body></bml>";
+    let expected = b"<box 0 0 0 0 8 0 7
+box 0 0 0 0 8 0 7
+picture 0 0 0 0 image/x q%20r
+box 0 0 0 0 8 0 7
+text 0 0 0 0 7 24 v%25
+box 0 0 0 0 8 0 7
+text 0 0 0 0 7 24 a
+text 0 0 0 0 2 24 b
+text 0 0 0 0 7 24 %0A
 ";
-    shows(&rt, rt.alloc(), &rows, 1234, expected);
+    shows(&rt, rt.alloc(), document, expected);
 }
 
 #[test]
-fn escapes(rt: HostRuntime) {
-    let rows: [Row; 4] = [
-        (0, b"body", b""),
-        (1, b"", b" 100%\x1F\x20\x7F\x80~\n\0"),
-        (1, b"p", b""),
-        (3, b"", b"\xA4\xA2\xFF"),
+fn documents(rt: HostRuntime) {
+    let cases: [(&[u8], &[u8]); 9] = [
+        (b"<bml><div style=\"left:1px\">x</div></bml>", b"<"),
+        // A visible box inside hidden ones, which still move it.
+        (
+            b"<bml><body style=\"visibility:hidden;left:3px;top:4px\">g<div style=\"left:10px;\
+                top:1px\">h<p style=\"visibility:visible;left:-2px;width:6px;height:7px\">v</p>\
+                </div></body></bml>",
+            b"<box 11 5 6 7 8 0 7\ntext 11 5 6 7 7 24 v\n",
+        ),
+        // Spans in spans, each text by its own parent.
+        (
+            b"<bml><body><p style=\"color-index:9\">a<span style=\"left:50px;color-index:1;\
+                font-size:30px\">b<a style=\"visibility:hidden\">c<span style=\"visibility:visible;\
+                color-index:3\">d</span></a>e</span>f</p></body></bml>",
+            b"<box 0 0 0 0 8 0 7\nbox 0 0 0 0 8 0 7\ntext 0 0 0 0 9 24 a\ntext 0 0 0 0 1 30 b\n\
+                text 0 0 0 0 3 30 d\ntext 0 0 0 0 1 30 e\ntext 0 0 0 0 9 24 f\n",
+        ),
+        // A box in a span, which doesn't move it.
+        (
+            b"<bml><body><span style=\"left:50px\"><p style=\"top:1px\">a</p></span></body></bml>",
+            b"<box 0 0 0 0 8 0 7\nbox 0 1 0 0 8 0 7\ntext 0 1 0 0 7 24 a\n",
+        ),
+        // Texts stand behind their own box, before the boxes in it; those of unknown elements and
+        // inside a `br` aren't shown.
+        (
+            b"<bml><body>x<p>1<p style=\"left:1px\">2</p>3<b>4</b><br>5</br></p></body></bml>",
+            b"<box 0 0 0 0 8 0 7\ntext 0 0 0 0 7 24 x\nbox 0 0 0 0 8 0 7\ntext 0 0 0 0 7 24 1\n\
+                text 0 0 0 0 7 24 3\ntext 0 0 0 0 7 24 %0A\nbox 1 0 0 0 8 0 7\n\
+                text 1 0 0 0 7 24 2\n",
+        ),
+        // Levels below and above that of the body, and ties.
+        (
+            b"<bml><body><p style=\"z-index:-1\">n</p><p style=\"z-index:2\">t</p>\
+                <div style=\"z-index:2\">u</div><p>m</p></body></bml>",
+            b"<box 0 0 0 0 8 0 7\ntext 0 0 0 0 7 24 n\nbox 0 0 0 0 8 0 7\nbox 0 0 0 0 8 0 7\n\
+                text 0 0 0 0 7 24 m\nbox 0 0 0 0 8 0 7\ntext 0 0 0 0 7 24 t\nbox 0 0 0 0 8 0 7\n\
+                text 0 0 0 0 7 24 u\n",
+        ),
+        // Pictures and inputs.
+        (
+            b"<bml><body style=\"background-color-index:1;border-width:2px;border-color-index:3\">\
+                <object>t<p>in</p></object><object type=\"\" data=\"a%b\"/><input>i</input>\
+                <input value=\"\"/></body></bml>",
+            b"<box 0 0 0 0 1 2 3\nbox 0 0 0 0 8 0 7\npicture 0 0 0 0 - -\nbox 0 0 0 0 8 0 7\n\
+                text 0 0 0 0 7 24 in\nbox 0 0 0 0 8 0 7\npicture 0 0 0 0 - a%25b\n\
+                box 0 0 0 0 8 0 7\nbox 0 0 0 0 8 0 7\ntext 0 0 0 0 7 24 \n",
+        ),
+        // What is above the body moves it; an inner body is drawn, and a second one isn't.
+        (
+            b"<bml><object style=\"left:5px\"><body><body style=\"top:1px\"/></body></object>\
+                <body>b</body></bml>",
+            b"<box 5 0 0 0 8 0 7\nbox 5 1 0 0 8 0 7\n",
+        ),
+        // Names of elements compare by case.
+        (
+            b"<bml><BODY>a</BODY><body><P>b</P></body></bml>",
+            b"<box 0 0 0 0 8 0 7\n",
+        ),
     ];
-    let expected = b"<show 7\nbox 0 0 0 0 8 0 7\n\
-        text 0 0 0 0 7 24  100%25%1F %7F\x80~%0A%00\n\
-        box 0 0 0 0 8 0 7\ntext 0 0 0 0 7 24 \xA4\xA2\xFF\n";
-    shows(&rt, rt.alloc(), &rows, 7, expected);
+    for (document, expected) in cases {
+        shows(&rt, rt.alloc(), document, expected);
+    }
 }
 
 #[test]
-fn no_body(rt: HostRuntime) -> Result<(), Fail> {
-    let rows: [Row; 3] = [(0, b"div", b"left:1px"), (1, b"", b"x"), (0, b"BODY", b"")];
-    shows(&rt, rt.alloc(), &rows, 999_999, b"<show 999999\n");
+fn states(rt: HostRuntime) {
+    let sheet = b"p:focus{color-index:1;left:2px} p:active{color-index:2} \
+        a:focus{top:3px;width:4px;height:5px} #h:focus{visibility:hidden}";
+    let document = b"<bml><p id=\"o\" style=\"top:9px\"/><body style=\"left:10px\">\
+        <p id=\"f\">x<a id=\"a\">y</a></p><p id=\"h\">z</p></body></bml>";
+    let cases: [(&[u8], &[u8], &[u8]); 6] = [
+        (
+            b"",
+            b"",
+            b"<box 10 0 0 0 8 0 7\nbox 10 0 0 0 8 0 7\ntext 10 0 0 0 7 24 x\n\
+                text 10 0 0 0 7 24 y\nbox 10 0 0 0 8 0 7\ntext 10 0 0 0 7 24 z\n",
+        ),
+        (
+            b"f",
+            b"",
+            b"<box 10 0 0 0 8 0 7\nbox 12 0 0 0 8 0 7\ntext 12 0 0 0 1 24 x\n\
+                text 12 0 0 0 1 24 y\nbox 10 0 0 0 8 0 7\ntext 10 0 0 0 7 24 z\n\
+                focus 12 0 0 0\n",
+        ),
+        // An active element shows as such, also where it has the focus.
+        (
+            b"f",
+            b"f",
+            b"<box 10 0 0 0 8 0 7\nbox 10 0 0 0 8 0 7\ntext 10 0 0 0 2 24 x\n\
+                text 10 0 0 0 2 24 y\nbox 10 0 0 0 8 0 7\ntext 10 0 0 0 7 24 z\n\
+                focus 10 0 0 0\n",
+        ),
+        // The focus inside a line of text, outside the body, and hidden by having it.
+        (
+            b"a",
+            b"",
+            b"<box 10 0 0 0 8 0 7\nbox 10 0 0 0 8 0 7\ntext 10 0 0 0 7 24 x\n\
+                text 10 0 0 0 7 24 y\nbox 10 0 0 0 8 0 7\ntext 10 0 0 0 7 24 z\n\
+                focus 10 3 4 5\n",
+        ),
+        (
+            b"o",
+            b"",
+            b"<box 10 0 0 0 8 0 7\nbox 10 0 0 0 8 0 7\ntext 10 0 0 0 7 24 x\n\
+                text 10 0 0 0 7 24 y\nbox 10 0 0 0 8 0 7\ntext 10 0 0 0 7 24 z\n\
+                focus 2 9 0 0\n",
+        ),
+        (
+            b"h",
+            b"",
+            b"<box 10 0 0 0 8 0 7\nbox 10 0 0 0 8 0 7\ntext 10 0 0 0 7 24 x\n\
+                text 10 0 0 0 7 24 y\n",
+        ),
+    ];
+    for (focus, active, expected) in cases {
+        let case = Case {
+            sheet,
+            document,
+            focus,
+            active,
+        };
+        assert_eq!(&rt;
+            shown(&rt, rt.alloc(), &case).as_slice(),
+            expected,
+            "of {focus:?}"
+        );
+    }
+}
+
+#[test]
+fn clock_lines(rt: HostRuntime) -> Result<(), Fail> {
     let mut out = Vec::new(rt.alloc());
     push_clock_line(4_000_000_000_000_000_000, &mut out)?;
-    assert_eq!(rt; out.as_slice(), b"show 4000000000000000000\n".as_slice());
+    push_clock_line(0, &mut out)?;
+    assert_eq!(&rt;
+        out.as_slice(),
+        b"show 4000000000000000000\nshow 0\n".as_slice()
+    );
+    law_of_order();
     Ok(())
 }

@@ -1,14 +1,9 @@
-use Rattle.std.proofs.Common.{◌∷◌, [], ◌++◌, sym, ◌∙◌, arith}
-use Rattle.std.proofs.lemmas.List.FromFn.{map-range_with_len_more}
-use Rattle.bml_bytes.specs.Codes.{codes}
-use Rattle.display_list.specs.Views.{node_place_of}
+use Rattle.display_list.specs.Views.{shown_in}
+use Rattle.display_list.proofs.PlaceLemmas.{ArePlaces-more, ArePlaces-none}
 use Rattle.display_list.proofs.places.node_places_of.Goals as goal
 
-pub own_measures-requires-clause-style : goal.own_measures-requires-clause-style
-unfolding codes
-own_measures-requires-clause-style c = c.in_ok-style.ensures {u = tt}
+pub nodes-init : goal.nodes-init
+nodes-init c = ArePlaces-none (shown_in c.args.tree.now c.args.styles.now) _ (c.in_ok-places.ensures {u = tt}).items
 
 pub nodes-preserved : goal.nodes-preserved
-nodes-preserved c =
-    let pushed = (c.in_ok-push.ensures {u = tt}).items in
-    pushed ∙ (λ i. c.nodes.invariant i ++ c.of-node_place.ensures i ∷ []) ∙ sym (map-range_with_len_more (node_place_of c.args.tree.now) 0 c.nodes.number c.nodes.number (omega arith))
+nodes-preserved c = ArePlaces-more (shown_in c.args.tree.now c.args.styles.now) c.nodes.number c.nodes.places.items _ c.of-place.result c.nodes.invariant c.of-place.ensures.place c.of-place.ensures.near (c.in_ok-push.ensures {u = tt}).items

@@ -1,6 +1,8 @@
-use Rattle.std.proofs.Common.{◌≡◌, ◌++◌}
-use Rattle.display_list.proofs.DrawnLemmas.{lines_before}
+use Rattle.std.proofs.Common.{◌≡◌, ◌++◌, take}
+use Rattle.std.specs.List.{flat_map}
+use Rattle.display_list.specs.Views.{shown_of}
+use Rattle.display_list.proofs.BoxLemmas.{box_lines}
 use Rattle.display_list.proofs.show.push_boxes.Given as goal
 
-abbrev pub invariant-nodes : goal.invariant-nodes
-invariant-nodes l = l.out.items ≡ l.fn.out.items ++ lines_before l.tree l.number
+abbrev pub invariant-boxes : goal.invariant-boxes
+invariant-boxes l = l.out.items ≡ l.fn.out.items ++ flat_map (box_lines (shown_of l.scene)) (take l.drawn-index l.drawn-items)

@@ -1,9 +1,0 @@
-use Rattle.std.proofs.Common.{◌≡◌, length}
-use Rattle.display_list.specs.Views.{without_white_front}
-use Rattle.display_list.proofs.inline_styles.without_white_front.Given as goal
-
-abbrev pub invariant-front : goal.invariant-front
-invariant-front l = without_white_front l.rest ≡ without_white_front l.text
-
-abbrev pub decreases-front : goal.decreases-front
-decreases-front l = length l.rest

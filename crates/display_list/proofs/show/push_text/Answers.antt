@@ -1,7 +1,0 @@
-use Rattle.display_list.proofs.LineLemmas.{five-parts, text_line-is}
-use Rattle.display_list.proofs.show.push_text.Goals as goal
-
-pub returns-clause-ok : goal.returns-clause-ok
-returns-clause-ok c =
-    text_line-is c.args.out.now.items _ c.args.place c.args.text.now
-    (five-parts c.args.out.now.items _ _ _ _ _ _ _ _ _ _ (c.in_ok-push_word.ensures {u = tt}).ok (c.in_ok-push_place.ensures {u = tt}).ok (c.in_ok-push_word-2.ensures {u = tt}).ok (c.in_ok-push.ensures {u = tt}).ok (c.in_ok-push_line_end.ensures {u = tt}).ok)
