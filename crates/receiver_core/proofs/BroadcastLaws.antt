@@ -2,7 +2,7 @@
 use Rattle.std.proofs.Common.{◌≡◌, ◌≢◌, ℕ, suc, Bool, true, false, cond, List, [], ◌∷◌, ◌++◌, refl, sym, ap, ap₂, ◌∙◌, subst, append-nil, append_assoc, inl, inr}
 use Rattle.std.specs.Prelude.{zero, ◌⊎◌, AllPairs, Option, Some, None, Result, option_map}
 use Rattle.std.specs.List.{flat_map}
-use Rattle.dom_tree.specs.Items.{Item}
+use Rattle.document_load.specs.StyleTexts.{DocumentState}
 use Rattle.bml_reader.specs.declared.faults.DocFault.{DocFault}
 use Rattle.psi_tables.specs.declared.components.Component.{Component}
 use Rattle.psi_tables.specs.declared.pat.PatEntry.{PatEntry}
@@ -295,7 +295,7 @@ keeps_with state s t startup keeps same start current = subst (λ (x : State). K
 })
 
 -- what comes of what is there under the start path is what a dispatch makes of it
-dispatched_as : (old : BroadcastState) (startup : Startup) (text : List ℕ) (s : State) (reading : Option (Result (List Item) DocFault)) → Keeps old s → s.start ≡ Wanted → loadable_reading s.store (start_path s.store) ≡ reading
+dispatched_as : (old : BroadcastState) (startup : Startup) (text : List ℕ) (s : State) (reading : Option (Result DocumentState DocFault)) → Keeps old s → s.start ≡ Wanted → loadable_reading s.store (start_path s.store) ≡ reading
     → LoadsAs s.store reading startup text → HasDispatched (with_startup old startup) text s
 dispatched_as old startup text s None keeps wanted is loads =
     subst (λ (l : List ℕ). HasDispatched (with_startup old startup) l s) (sym loads.text_is)
@@ -378,7 +378,7 @@ turned_with old mid new pid section before between after takes made = record {
 abbrev KeepsWanted : State → State → Type 0
 KeepsWanted s now = (other : ℕ) → now.packets other ≡ cond (wants now other) (s.packets other) []
 
-keeps_loaded : (s now : State) (path : Path) (reading : Option (Result (List Item) DocFault)) (t : Step) → option_map (load now path) reading ≡ Some t → KeepsWanted s now → KeepsWanted s t.state
+keeps_loaded : (s now : State) (path : Path) (reading : Option (Result DocumentState DocFault)) (t : Step) → option_map (load now path) reading ≡ Some t → KeepsWanted s now → KeepsWanted s t.state
 keeps_loaded s now path None t e k = absurd cc
 keeps_loaded s now path (Some reading) t e k = let same : load now path reading ≡ t = cc in subst (λ (x : Step). KeepsWanted s x.state) same (λ other. k other)
 
@@ -413,7 +413,7 @@ turn_packets pid section s = keeps_dispatches most_dispatches s (step_of_section
 
 -- ---- the area that a turn leaves
 
-area_loaded : (now : State) (path : Path) (reading : Option (Result (List Item) DocFault)) (t : Step) → option_map (load now path) reading ≡ Some t → t.state.area ≡ now.area
+area_loaded : (now : State) (path : Path) (reading : Option (Result DocumentState DocFault)) (t : Step) → option_map (load now path) reading ≡ Some t → t.state.area ≡ now.area
 area_loaded now path None t e = absurd cc
 area_loaded now path (Some reading) t e = let same : load now path reading ≡ t = cc in subst (λ (x : Step). x.state.area ≡ now.area) same refl
 

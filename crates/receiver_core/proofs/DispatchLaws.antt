@@ -13,7 +13,8 @@ use Rattle.module_store.specs.Resources.{LooksAlike, Resource, look, look_in, st
 use Rattle.module_store.specs.Resources.Resource.{Found, Waiting, Missing}
 use Rattle.module_store.specs.Store.{Followed, Stored, component_in, followed_from, messages_of_component}
 use Rattle.document_load.specs.Needs.{needs_of}
-use Rattle.receiver_core.specs.Dispatches.{are_settled, dispatch, dispatch_of, dispatches, is_settled, load, loadable_reading, reading_in, most_dispatches, next_and, once_settled, step_behind, wanted_path}
+use Rattle.document_load.specs.StyleTexts.{DocumentState, loaded_document}
+use Rattle.receiver_core.specs.Dispatches.{are_settled, dispatch, dispatch_of, dispatches, is_settled, load, loadable_reading, reading_in, most_dispatches, next_and, once_settled, step_behind, text_at, text_found, wanted_path}
 use Rattle.receiver_core.specs.Outputs.{with_packet}
 use Rattle.receiver_core.specs.State.{Start, State, opening}
 use Rattle.receiver_core.specs.State.Start.{Wanted, Refused, Loaded}
@@ -25,8 +26,13 @@ settled_alike : (one other : Stored) (needs : List Path) → ((path : Path) → 
 settled_alike one other [] same = refl
 settled_alike one other (need ∷ needs) same = ap₂ (λ a b. a && b) (ap is_settled (same need)) (settled_alike one other needs same)
 
+texts_alike : (one other : Stored) (needs : List Path) → ((path : Path) → look one path ≡ look other path) → map (text_at one) needs ≡ map (text_at other) needs
+texts_alike one other [] same = refl
+texts_alike one other (need ∷ needs) same = ap₂ (λ (a : Option (List ℕ)) b. a ∷ b) (ap text_found (same need)) (texts_alike one other needs same)
+
 once_alike : (one other : Stored) (path : Path) (reading : Result (List Item) DocFault) → ((path : Path) → look one path ≡ look other path) → once_settled one path reading ≡ once_settled other path reading
-once_alike one other path (Ok items) same = ap (λ (b : Bool). cond b (Some (Ok items)) None) (settled_alike one other (needs_of path items) same)
+once_alike one other path (Ok items) same =
+    ap₂ (λ (b : Bool) (gifts : List (Option (List ℕ))). cond b (Some (Ok (loaded_document path items gifts))) None) (settled_alike one other (needs_of path items) same) (texts_alike one other (needs_of path items) same)
 once_alike one other path (Err fault) same = refl
 
 as_alike : (one other : Stored) (path : Path) (resource : Resource) → ((path : Path) → look one path ≡ look other path) → reading_in one path resource ≡ reading_in other path resource
@@ -95,7 +101,7 @@ unfolding dispatch
 dispatch_wanted s e = rw e refl
 
 -- behind a load nothing is wanted
-pub done_behind : (s : State) (path : Path) (reading : Result (List Item) DocFault) → dispatch (load s path reading).state ≡ None
+pub done_behind : (s : State) (path : Path) (reading : Result DocumentState DocFault) → dispatch (load s path reading).state ≡ None
 unfolding dispatch
 done_behind s path (Ok items) = refl
 done_behind s path (Err fault) = refl

@@ -4,3 +4,5 @@ pub mod DispatchLaws
 pub mod MapLaws
 pub mod BroadcastLaws
 pub mod ReceivingLaws
+pub mod GiftLaws
+pub mod DisplayLaws

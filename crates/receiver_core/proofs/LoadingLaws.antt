@@ -1,9 +1,10 @@
 -- What the load of a document comes to.
 use Rattle.std.proofs.Common.{◌≡◌, ◌∙◌, ℕ, suc, ◌+◌, ◌<◌, Bool, true, false, cond, eqb, ◌&&◌, List, [], ◌∷◌, take, drop, refl, sym, ap, subst, append-nil, arith}
-use Rattle.std.specs.Prelude.{zero, AllPairs, Option, Some, None, Result, Ok, slice_get}
+use Rattle.std.specs.Prelude.{zero, AllPairs, Option, Some, None, Result, Ok, map, slice_get}
 use Rattle.std.proofs.lemmas.Bool.{eq-eqb}
 use Rattle.std.specs.Option.{option_map_or}
-use Rattle.dom_tree.specs.Items.{Item}
+use Rattle.document_load.specs.Drafts.{DraftState, with_gifts}
+use Rattle.document_load.specs.StyleTexts.{DocumentState, document_of}
 use Rattle.bml_reader.specs.declared.faults.DocFault.{DocFault}
 use Rattle.multipart_entities.specs.declared.paths.Path.{Path}
 use Rattle.carousel_blocks.specs.declared.changes.Change.{Change}
@@ -16,7 +17,7 @@ use Rattle.module_store.specs.Staying.{tells_of, is_gone}
 use Rattle.module_store.specs.Store.{Stored, changes_by, with_section, gone_by, with_map}
 use Rattle.receiver_core.specs.declared.startup.Startup.{Startup}
 use Rattle.receiver_core.specs.declared.startup.Startup.TheVariants as kept
-use Rattle.receiver_core.specs.Dispatches.{are_settled, is_settled, loadable_reading, reading_in, start_after_load, once_settled}
+use Rattle.receiver_core.specs.Dispatches.{are_settled, is_settled, loadable_reading, reading_in, start_after_load, once_settled, text_at}
 use Rattle.receiver_core.specs.Lines.{load_line}
 use Rattle.receiver_core.specs.Loading.{Loads, LoadsAs, WaitsAt}
 use Rattle.receiver_core.specs.Pendings.{IsStart, PendingState}
@@ -24,21 +25,27 @@ use Rattle.receiver_core.specs.Startups.{IsCurrent, startup_behind, is_told_by, 
 use Rattle.receiver_core.specs.State.Start.{Wanted}
 
 -- what a document that was read and is the one that is there comes to
-loadable_pending : (stored : Stored) (pending : PendingState) → IsStart stored pending → loadable_reading stored (start_path stored) ≡ cond (are_settled stored pending.draft.needs) (Some (Ok pending.draft.items)) None
+abbrev document_now : Stored → DraftState → DocumentState
+document_now stored draft = document_of (with_gifts (map (text_at stored) draft.needs) draft)
+
+abbrev reading_now : Stored → DraftState → Option (Result DocumentState DocFault)
+reading_now stored draft = cond (are_settled stored draft.needs) (Some (Ok (document_now stored draft))) None
+
+loadable_pending : (stored : Stored) (pending : PendingState) → IsStart stored pending → loadable_reading stored (start_path stored) ≡ reading_now stored pending.draft
 loadable_pending stored pending is =
     ap (loadable_reading stored) (sym is.path_is) ∙ ap (reading_in stored pending.path) is.found ∙ ap (once_settled stored pending.path) is.reading_is
-    ∙ ap (λ (needs : List Path). cond (are_settled stored needs) (Some (Ok pending.draft.items)) None) (sym is.needs_are)
+    ∙ ap (reading_now stored) (sym is.draft_is)
 
-waits_as : (stored : Stored) (pending : PendingState) (reading : Option (Result (List Item) DocFault)) → IsStart stored pending → reading ≡ None → LoadsAs stored reading (kept.Pending pending) []
+waits_as : (stored : Stored) (pending : PendingState) (reading : Option (Result DocumentState DocFault)) → IsStart stored pending → reading ≡ None → LoadsAs stored reading (kept.Pending pending) []
 waits_as stored pending reading is none = record {
-  start_is = ap (λ (o : Option (Result (List Item) DocFault)). option_map_or start_after_load o Wanted) (sym none);
+  start_is = ap (λ (o : Option (Result DocumentState DocFault)). option_map_or start_after_load o Wanted) (sym none);
   current = is;
-  text_is = ap (λ (o : Option (Result (List Item) DocFault)). option_map_or (load_line (start_path stored)) o []) (sym none);
+  text_is = ap (λ (o : Option (Result DocumentState DocFault)). option_map_or (load_line (start_path stored)) o []) (sym none);
 }
 
 -- wherever it waits, it is the same document
 moved : (stored : Stored) (pending : PendingState) (place : ℕ) → IsStart stored pending → IsStart stored (record { path = pending.path; draft = pending.draft; place = place })
-moved stored pending place is = record { path_is = is.path_is; bytes = is.bytes; found = is.found; reading_is = is.reading_is; needs_are = is.needs_are }
+moved stored pending place is = record { path_is = is.path_is; bytes = is.bytes; found = is.found; reading_is = is.reading_is; draft_is = is.draft_is }
 
 -- ---- the need at a place
 
@@ -79,7 +86,7 @@ goes_on store pending place before w = record {
   printed = sym (append-nil before);
   loads = λ stored stands is.
       waits_as stored (record { path = pending.path; draft = pending.draft; place = place }) (loadable_reading stored (start_path stored)) (moved stored pending place is)
-      (loadable_pending stored pending is ∙ ap (λ (b : Bool). cond b (Some (Ok pending.draft.items)) None) (unsettled_at stored pending.draft.needs place w.need w.is_there (w.waits stored stands)));
+      (loadable_pending stored pending is ∙ ap (λ (b : Bool). cond b (Some (Ok (document_now stored pending.draft))) None) (unsettled_at stored pending.draft.needs place w.need w.is_there (w.waits stored stands)));
 }
 
 -- ---- a document that was read stays the one that is there
@@ -94,7 +101,7 @@ still_start one other pending is found start = record {
   bytes = is.bytes;
   found = found;
   reading_is = is.reading_is;
-  needs_are = is.needs_are;
+  draft_is = is.draft_is;
 }
 
 -- where its component is the one, no change of the module is told

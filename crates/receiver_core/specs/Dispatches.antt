@@ -1,7 +1,8 @@
 -- Dispatches: what a receiver does once a section has made its changes. At this stage one dispatch
 -- is the load of a document. (This project's own, after ARIB STD-B24, volume 2.)
-use Rattle.std.specs.Prelude.{ℕ, zero, suc, Bool, true, false, if◌then◌else◌, List, [], ◌++◌, Option, Some, None, option_map, Result, Ok, Err}
+use Rattle.std.specs.Prelude.{ℕ, zero, suc, Bool, true, false, if◌then◌else◌, List, [], ◌++◌, map, Option, Some, None, option_map, Result, Ok, Err}
 use Rattle.std.specs.List.{list_all}
+use Rattle.bml_bytes.specs.Codes.{codes}
 use Rattle.dom_tree.specs.Items.{Item}
 use Rattle.bml_reader.specs.declared.faults.DocFault.{DocFault}
 use Rattle.bml_reader.specs.Readings.{reading_of}
@@ -10,6 +11,7 @@ use Rattle.module_store.specs.Resources.{Resource, look, start_path}
 use Rattle.module_store.specs.Resources.Resource.{Found, Waiting, Missing}
 use Rattle.module_store.specs.Store.{Stored}
 use Rattle.document_load.specs.Needs.{needs_of}
+use Rattle.document_load.specs.StyleTexts.{DocumentState, loaded_document}
 use Rattle.receiver_core.specs.Lines.{load_line}
 use Rattle.receiver_core.specs.State.{Start, State}
 use Rattle.receiver_core.specs.State.Start.{Wanted, Refused, Loaded}
@@ -26,20 +28,35 @@ is_settled Missing = true
 abbrev pub are_settled : Stored → List Path → Bool
 are_settled stored needs = list_all (λ need. is_settled (look stored need)) needs
 
+-- what is found is given to the document as text; nothing is given for what is missing
+abbrev pub text_found : Resource → Option (List ℕ)
+text_found (Found bytes) = Some (codes bytes)
+text_found Waiting = None
+text_found Missing = None
+
+abbrev pub text_at : Stored → Path → Option (List ℕ)
+text_at stored need = text_found (look stored need)
+
+-- the document with these nodes, for each of whose needs what is found now is given
+abbrev pub document_in : Stored → Path → List Item → DocumentState
+document_in stored path items =
+    loaded_document path items (map (text_at stored) (needs_of path items))
+
 -- A document is loaded once none of its needs is waited for, and one that is refused has no needs.
 abbrev pub once_settled : Stored → Path → Result (List Item) DocFault
-    → Option (Result (List Item) DocFault)
+    → Option (Result DocumentState DocFault)
 once_settled stored path (Ok items) =
-    if are_settled stored (needs_of path items) then Some (Ok items) else None
+    if are_settled stored (needs_of path items) then Some (Ok (document_in stored path items))
+    else None
 once_settled stored path (Err fault) = Some (Err fault)
 
-abbrev pub reading_in : Stored → Path → Resource → Option (Result (List Item) DocFault)
+abbrev pub reading_in : Stored → Path → Resource → Option (Result DocumentState DocFault)
 reading_in stored path (Found bytes) = once_settled stored path (reading_of bytes)
 reading_in stored path Waiting = None
 reading_in stored path Missing = None
 
 -- what is there under a path to be loaded: a document, or why it is refused
-abbrev pub loadable_reading : Stored → Path → Option (Result (List Item) DocFault)
+abbrev pub loadable_reading : Stored → Path → Option (Result DocumentState DocFault)
 loadable_reading stored path = reading_in stored path (look stored path)
 
 -- ---- one dispatch
@@ -48,14 +65,14 @@ loadable_reading stored path = reading_in stored path (look stored path)
 abbrev pub wanted_path : Start → Stored → Option Path
 wanted_path Wanted stored = Some (start_path stored)
 wanted_path Refused stored = None
-wanted_path (Loaded items) stored = None
+wanted_path (Loaded document) stored = None
 
 -- what becomes of the start document by its load
-abbrev pub start_after_load : Result (List Item) DocFault → Start
-start_after_load (Ok items) = Loaded items
+abbrev pub start_after_load : Result DocumentState DocFault → Start
+start_after_load (Ok document) = Loaded document
 start_after_load (Err fault) = Refused
 
-abbrev pub load : State → Path → Result (List Item) DocFault → Step
+abbrev pub load : State → Path → Result DocumentState DocFault → Step
 load s path reading =
     record { state = record s { start = start_after_load reading }; text = load_line path reading }
 

@@ -4,10 +4,10 @@
 use Rattle.std.specs.Prelude.{ℕ, List, [], ◌++◌, codes, Result, Ok, Err}
 use Rattle.std.specs.Option.{option_map_or}
 use Rattle.bml_bytes.specs.Numerals.{decimal_digits, hex_digits}
-use Rattle.dom_tree.specs.Items.{Item}
 use Rattle.bml_reader.specs.declared.faults.DocFault.{DocFault}
 use Rattle.bml_reader.specs.declared.faults.DocFault.TheVariants.{Malformed, WrongRoot, TooDeep, TooManyNodes, NoMemory}
 use Rattle.multipart_entities.specs.declared.paths.Path.{Path}
+use Rattle.document_load.specs.StyleTexts.{DocumentState}
 use Rattle.multipart_entities.specs.Paths.{path_text}
 use Rattle.carousel_blocks.specs.declared.standing.SkipCause.{SkipCause}
 use Rattle.carousel_blocks.specs.declared.standing.SkipCause.TheVariants.{Compressed, Large}
@@ -52,7 +52,7 @@ fault_name TooManyNodes = codes "TooManyNodes"
 fault_name NoMemory = codes "NoMemory"
 
 -- the document at this path was loaded, or refused for this fault
-abbrev pub load_line : Path → Result (List Item) DocFault → List ℕ
-load_line path (Ok items) = codes "load " ++ (path_text path ++ codes "\n")
+abbrev pub load_line : Path → Result DocumentState DocFault → List ℕ
+load_line path (Ok document) = codes "load " ++ (path_text path ++ codes "\n")
 load_line path (Err fault) =
     codes "refuse " ++ (path_text path ++ (codes " " ++ (fault_name fault ++ codes "\n")))

@@ -2,13 +2,13 @@
 -- for.
 use Rattle.std.specs.Prelude.{◌≡◌, ℕ, List, [], ◌++◌, slice_get, Option, Some, Result}
 use Rattle.std.specs.Option.{option_map_or}
-use Rattle.dom_tree.specs.Items.{Item}
 use Rattle.bml_reader.specs.declared.faults.DocFault.{DocFault}
 use Rattle.multipart_entities.specs.declared.paths.Path.{Path}
 use Rattle.module_store.specs.Resources.{look, start_path}
 use Rattle.module_store.specs.Resources.Resource.{Waiting}
 use Rattle.module_store.specs.Standing.{ForStored, StoreState}
 use Rattle.module_store.specs.Store.{Stored}
+use Rattle.document_load.specs.StyleTexts.{DocumentState}
 use Rattle.receiver_core.specs.declared.startup.Startup.{Startup}
 use Rattle.receiver_core.specs.declared.startup.Startup.TheVariants as kept
 use Rattle.receiver_core.specs.Dispatches.{loadable_reading, start_after_load}
@@ -28,7 +28,7 @@ KnowsItsPlace store (kept.Pending pending) = WaitsAt store pending.draft.needs p
 KnowsItsPlace store _ = Unit {0}
 
 -- what comes of a reading under the start path, where there is one, and the line that tells it
-pub record LoadsAs (stored : Stored) (reading : Option (Result (List Item) DocFault))
+pub record LoadsAs (stored : Stored) (reading : Option (Result DocumentState DocFault))
     (startup : Startup) (text : List ℕ) : Type 0 where
   pub start_is : start_of startup ≡ option_map_or start_after_load reading Wanted
   pub current : IsCurrent stored startup

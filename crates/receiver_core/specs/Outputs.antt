@@ -4,11 +4,12 @@ use Rattle.std.specs.Prelude.{ℕ, ◌==◌, ◌&&◌, if◌then◌else◌, List
 use Rattle.ts_packets.specs.Packet.{pid_of}
 use Rattle.ts_sections.specs.Sections.{completed_by}
 use Rattle.ts_sections.specs.Intact.{is_intact}
-use Rattle.display_list.specs.Show.{clock_line, display_lines}
+use Rattle.display_list.specs.Show.{clock_line}
 use Rattle.psi_tables.specs.declared.services.Selection.{Selection}
 use Rattle.receiver_core.specs.State.{Input, Packet, Show, Start, State, opening, wants}
 use Rattle.receiver_core.specs.State.Start.{Wanted, Refused, Loaded}
 use Rattle.receiver_core.specs.Dispatches.{turn}
+use Rattle.receiver_core.specs.Displays.{document_lines}
 use Rattle.receiver_core.specs.Turns.{Step}
 
 -- a text, and the persistent area behind it
@@ -56,12 +57,12 @@ sections_by packet s =
 abbrev pub intact_sections : List ℕ → State → List (List ℕ)
 intact_sections packet s = filter is_intact (sections_by packet s)
 
--- the display list of the document, at a clock that stands still; without one it is its first line
--- alone
+-- the display list of the document, behind the line of a clock that stands still; without one it is
+-- that line alone
 abbrev pub display_of : Start → List ℕ
 display_of Wanted = clock_line 0
 display_of Refused = clock_line 0
-display_of (Loaded items) = display_lines items 0
+display_of (Loaded document) = clock_line 0 ++ document_lines document
 
 -- what one input prints, and what it leaves: a packet the turns of the intact sections that it
 -- completes

@@ -5,8 +5,7 @@ use Rattle.multipart_entities.specs.declared.paths.Path.{Path}
 use Rattle.module_store.specs.Resources.{look, start_path}
 use Rattle.module_store.specs.Resources.Resource.{Found}
 use Rattle.module_store.specs.Store.{Stored}
-use Rattle.document_load.specs.Drafts.{DraftState}
-use Rattle.document_load.specs.Needs.{needs_of}
+use Rattle.document_load.specs.Drafts.{DraftState, draft_of}
 
 pub record PendingState : Type 0 where
   pub path : Path
@@ -14,10 +13,10 @@ pub record PendingState : Type 0 where
   -- where the need stands that was waited for last
   pub place : ℕ
 
--- it is the document that is found under the start path, with its needs
+-- it is the document that is found under the start path, for whose needs nothing is given yet
 pub record IsStart (stored : Stored) (pending : PendingState) : Type 0 where
   pub path_is : pending.path ≡ start_path stored
   pub bytes : List ℕ
   pub found : look stored pending.path ≡ Found bytes
   pub reading_is : reading_of bytes ≡ Ok pending.draft.items
-  pub needs_are : pending.draft.needs ≡ needs_of pending.path pending.draft.items
+  pub draft_is : pending.draft ≡ draft_of pending.path pending.draft.items

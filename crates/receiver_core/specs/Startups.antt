@@ -14,7 +14,7 @@ abbrev pub start_of : Startup → Start
 start_of kept.Wanted = Wanted
 start_of (kept.Pending pending) = Wanted
 start_of kept.Refused = Refused
-start_of (kept.Loaded document) = Loaded document.tree
+start_of (kept.Loaded shown) = Loaded shown
 
 -- one that was read is the one that is there
 abbrev pub IsCurrent : Stored → Startup → Type 0

@@ -6,19 +6,19 @@ use Rattle.psi_tables.specs.Service.{ServicesState}
 use Rattle.psi_tables.specs.Service as services_of
 use Rattle.module_store.specs.Store.{Stored}
 use Rattle.module_store.specs.Store as store
-use Rattle.dom_tree.specs.Items.{Item}
+use Rattle.document_load.specs.StyleTexts.{DocumentState}
 
 -- the next packet of the stream, of whatever PID, or the wish to see what is displayed
 pub data Input : Type 0 where
   Packet : List ℕ → Input
   Show : Input
 
--- what became of the start document: it is still wanted, it was refused, or it was loaded with its
--- nodes
+-- what became of the start document: it is still wanted, it was refused, or it was loaded as this
+-- document
 pub data Start : Type 0 where
   Wanted : Start
   Refused : Start
-  Loaded : List Item → Start
+  Loaded : DocumentState → Start
 
 pub record State : Type 0 where
   -- which service is asked for

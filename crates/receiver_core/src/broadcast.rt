@@ -87,9 +87,10 @@ impl Broadcast {
     }
 
     /// Appends the display list of the start document, or its first line alone.
-    pub fn show(&self, out: &mut Vec<u8>) -> Result<(), NoMemory>
+    pub fn show(&mut self, out: &mut Vec<u8>) -> Result<(), NoMemory>
+        ensures same { self.new ≡ self.old }
         ensures ok { OnOk result
-            (out.new.items ≡ out.old.items ++ display_of (start_of self.now.startup)) }
+            (out.new.items ≡ out.old.items ++ display_of (start_of self.old.startup)) }
         ensures grows { StartsWith out.new.items out.old.items }
     {
         self.startup.show(out)

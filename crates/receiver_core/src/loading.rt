@@ -27,7 +27,7 @@ pub fn load(alloc: Global, store: &Store, out: &mut Vec<u8>) -> Result<Startup, 
         return Ok(Startup::Wanted);
     };
     match read_draft(alloc, bytes, &path) {
-        Ok(draft) => Pending::new(path, draft).load(store, out),
+        Ok(draft) => Pending::new(path, draft).load(alloc, store, out),
         Err(DocFault::NoMemory) => Err(NoMemory),
         Err(fault) => {
             push_refuse_line(&path, fault, out)?;

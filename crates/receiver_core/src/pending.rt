@@ -1,18 +1,21 @@
 //! A document that was read, and the needs that it waits for.
 
 ghost use Rattle.std.specs.Io.{StartsWith};
-ghost use Rattle.std.specs.Prelude.{◌≡◌, true, None, IfOk, IfSome, length};
+ghost use Rattle.std.specs.Prelude.{◌≡◌, ◌<◌, true, None, IfOk, IfSome, OnOk, length};
 ghost use Rattle.module_store.specs.Standing.{ForStored};
 ghost use Rattle.receiver_core.specs.Dispatches.{are_settled};
 ghost use Rattle.receiver_core.specs.declared.startup.Startup.TheVariants as kept;
+ghost use Rattle.receiver_core.specs.Gifts.{GivesFound, with_found};
 ghost use Rattle.receiver_core.specs.Loading.{KnowsItsPlace, Loads, WaitsAt};
 
 use crate::lines::push_load_line;
+use crate::shown::Shown;
 use crate::startup::Startup;
 use bml_bytes::NoMemory;
 use document_load::Draft;
 use module_store::{Look, Store};
 use multipart_entities::Path;
+use std::alloc::Global;
 use std::marker::Model;
 
 /// A document that was read, and waits until nothing that it needs is waited for.
@@ -56,22 +59,28 @@ impl Pending {
         &self.path
     }
 
-    /// Loads the document, where nothing that it needs is waited for, and appends its line. Else it
-    /// goes on waiting.
-    pub fn load(self, store: &Store, out: &mut Vec<u8>) -> Result<Startup, NoMemory>
+    /// Loads the document with what is found of its needs, where none of them is waited for, and
+    /// appends its line. Else it goes on waiting.
+    pub fn load(self, alloc: Global, store: &Store, out: &mut Vec<u8>) -> Result<Startup, NoMemory>
         ensures loads { IfOk result
             (λ startup. Loads store.now (kept.Pending self) startup out.old.items out.new.items) }
         ensures knows { IfOk result (λ startup. KnowsItsPlace store.now startup) }
         ensures grows { StartsWith out.new.items out.old.items }
     {
         let waited = self.waited_for(store);
-        let Pending { path, draft, .. } = self;
+        let Pending {
+            path,
+            mut draft,
+            ..
+        } = self;
         if let Some(place) = waited {
             return Ok(Startup::Pending(Pending { path, draft, place }));
         }
+        give_all_found(store, &mut draft)?;
         let document = draft.finish()?;
+        let shown = Shown::new(alloc, document)?;
         push_load_line(&path, out)?;
-        Ok(Startup::Loaded(document))
+        Ok(Startup::Loaded(shown))
     }
 
     // Where a need stands that is waited for.
@@ -100,4 +109,31 @@ fn first_waited(store: &Store, needs: &[Path]) -> Option<usize>
         }
     }
     None
+}
+
+// Gives a draft what is found of each of its needs.
+fn give_all_found(store: &Store, draft: &mut Draft) -> Result<(), NoMemory>
+    ensures { OnOk result (GivesFound store.now draft.old draft.new) }
+{
+    let count = draft.needs().len();
+    'gifts: for number in 0..count {
+        give_found(store, number, draft)?;
+    }
+    Ok(())
+}
+
+// Gives a draft what is found of its need of that number.
+fn give_found(store: &Store, number: usize, draft: &mut Draft) -> Result<(), NoMemory>
+    requires { number < length draft.old.needs }
+    ensures found { OnOk result
+        (ForStored store.now (λ stored. draft.new ≡ with_found stored number draft.old)) }
+    ensures needs { OnOk result (draft.new.needs ≡ draft.old.needs) }
+{
+    let Some(need) = draft.need(number) else {
+        return Ok(());
+    };
+    if let Look::Found(bytes) = store.resource(need) {
+        draft.give(number, bytes)?;
+    }
+    Ok(())
 }

@@ -152,8 +152,8 @@ impl Receiver {
         }
     }
 
-    /// Appends the display list: `show 0`, and the boxes and texts of the document, where one is
-    /// loaded.
+    /// Appends the display list: `show 0`, and the boxes, texts and pictures of the document, where
+    /// one is loaded.
     pub fn show(&mut self, out: &mut Vec<u8>) -> Result<(), NoMemory>
         ensures same { OnOk result (self.new ≡ self.old) }
         ensures shown { OnOk result

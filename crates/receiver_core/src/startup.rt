@@ -10,9 +10,9 @@ ghost use Rattle.receiver_core.specs.Startups.{startup_behind, is_told_by, start
 
 use crate::loading::load;
 use crate::pending::Pending;
-use bml_bytes::NoMemory;
-use display_list::{push_clock_line, show_places};
-use document_load::Document;
+use crate::shown::Shown;
+use bml_bytes::{NoMemory, law_of_fronts};
+use display_list::push_clock_line;
 use module_store::{Change, Store};
 use std::alloc::Global;
 
@@ -28,7 +28,7 @@ pub enum Startup {
     Pending(Pending),
     /// It isn't a document that is shown.
     Refused,
-    Loaded(Document),
+    Loaded(Shown),
 }
 
 impl Startup {
@@ -48,7 +48,7 @@ impl Startup {
     {
         match self {
             Startup::Wanted => load(alloc, store, out),
-            Startup::Pending(pending) => pending.load(store, out),
+            Startup::Pending(pending) => pending.load(alloc, store, out),
             Startup::Refused | Startup::Loaded(_) => Ok(self),
         }
     }
@@ -73,15 +73,18 @@ impl Startup {
         }
     }
 
-    /// Appends the display list: its first line, and the boxes and texts of the document, where one
-    /// is loaded.
-    pub fn show(&self, out: &mut Vec<u8>) -> Result<(), NoMemory>
-        ensures ok { OnOk result (out.new.items ≡ out.old.items ++ display_of (start_of self.now)) }
+    /// Appends the display list: its first line, and the boxes, texts and pictures of the document,
+    /// where one is loaded.
+    pub fn show(&mut self, out: &mut Vec<u8>) -> Result<(), NoMemory>
+        ensures same { self.new ≡ self.old }
+        ensures ok { OnOk result (out.new.items ≡ out.old.items ++ display_of (start_of self.old)) }
         ensures grows { StartsWith out.new.items out.old.items }
     {
+        law_of_fronts();
+        push_clock_line(CLOCK, out)?;
         match self {
-            Startup::Loaded(document) => show_places(&document.tree, CLOCK, out),
-            Startup::Wanted | Startup::Pending(_) | Startup::Refused => push_clock_line(CLOCK, out),
+            Startup::Loaded(shown) => shown.show(out),
+            Startup::Wanted | Startup::Pending(_) | Startup::Refused => Ok(()),
         }
     }
 
