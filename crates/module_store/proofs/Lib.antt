@@ -12,3 +12,4 @@ pub mod MapLaws
 pub mod AlikeLaws
 pub mod SameMapLaws
 pub mod StayingLaws
+pub mod SinceLaws

@@ -6,3 +6,4 @@ pub mod Noted
 pub mod Slots
 pub mod Carousels
 pub mod Staying
+pub mod Since

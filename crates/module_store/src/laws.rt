@@ -1,15 +1,16 @@
 //! The laws of the carousel, and what follows for what is found. Each function is a law: its contract is what it is for,
 //! and it does nothing when it runs.
 
-ghost use Rattle.std.specs.Prelude.{◌≡◌, ◌<◌, ◌^◌, ℕ, List, false, AllPairs};
+ghost use Rattle.std.specs.Prelude.{◌≡◌, ◌<◌, ◌^◌, ◌↔◌, ℕ, List, None, false, AllPairs, Contains};
 ghost use Rattle.multipart_entities.specs.declared.paths.Path.{Path};
 ghost use Rattle.psi_tables.specs.declared.components.Component.{Component};
 ghost use Rattle.psi_tables.specs.Components.{AreApart};
 ghost use Rattle.module_store.specs.Carousels.{MessageLaws};
 ghost use Rattle.module_store.specs.Resources.{look, start_component, start_path};
 ghost use Rattle.module_store.specs.Resources.Resource.{Found};
+ghost use Rattle.module_store.specs.Since.{HasMessagesSince, IsSince, Told, sections_since, stored_behind};
 ghost use Rattle.module_store.specs.Staying.{tells_of, is_gone};
-ghost use Rattle.module_store.specs.Store.{Stored, changes_by, with_section, gone_by, with_map};
+ghost use Rattle.module_store.specs.Store.{Stored, at_start, changes_by, with_section, gone_by, with_map};
 
 use carousel_blocks::{
     law_of_completed_modules, law_of_new_entries, law_of_no_change, law_of_same_modules,
@@ -57,3 +58,13 @@ pub fn law_of_start_paths()
 {
     law_of_messages();
 }
+
+/// Behind all sections and component maps a component has the PID of the last map, and the messages of its sections since
+/// it got this: of those for which the last map before has it on that PID, and so has each map behind.
+pub fn law_of_component_messages()
+    ensures messages { (told : List Told) (tag : ℕ)
+        → HasMessagesSince (stored_behind at_start told) told tag }
+    ensures places { (told : List Told) (tag : ℕ) (section : List ℕ)
+        → Contains (sections_since tag None told) section
+        ↔ ((place : ℕ) × IsSince told tag section place) }
+{}

@@ -16,7 +16,7 @@ mod slot;
 mod staging;
 mod store;
 
-pub use crate::laws::{law_of_found_resources, law_of_start_paths};
+pub use crate::laws::{law_of_component_messages, law_of_found_resources, law_of_start_paths};
 pub use crate::resources::Look;
 pub use crate::store::Store;
 pub use carousel_blocks::{Change, ChangeLine, SkipCause};

@@ -1,2 +1,3 @@
 pub mod ChannelLaws
 pub mod StandingLaws
+pub mod SinceLaws

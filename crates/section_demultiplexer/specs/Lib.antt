@@ -1,3 +1,4 @@
 pub mod Channels
 pub mod Demultiplexing
+pub mod Since
 pub mod Laws

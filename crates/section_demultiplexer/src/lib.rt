@@ -4,14 +4,15 @@
 //! [`Demultiplexer`] has an assembler for each PID that is wanted and on which packets came. Its
 //! contract says, PID by PID, for which packets it stands, those since the PID was wanted without a
 //! break, and which of their sections were given; a PID that isn't wanted any more loses what was
-//! begun. The laws say that there is room for each wanted PID.
+//! begun. The laws say that there is room for each wanted PID, and which packets of all that were
+//! handed in are those.
 #![tactic(auto)]
 
 mod demultiplexer;
 mod laws;
 
 pub use crate::demultiplexer::Demultiplexer;
-pub use crate::laws::{law_of_room, law_of_same_lists};
+pub use crate::laws::{law_of_packets, law_of_room, law_of_same_lists};
 
 #[cfg(test)]
 mod tests;

@@ -1,5 +1,5 @@
 //! Packets of two PIDs, side by side: which sections they complete is said by hand.
-use super::{Demultiplexer, law_of_room, law_of_same_lists};
+use super::{Demultiplexer, law_of_packets, law_of_room, law_of_same_lists};
 use psi_tables::{Selection, Services};
 use std::alloc::Global;
 use std::test::Fail;
@@ -60,6 +60,7 @@ fn hand_in(demultiplexer: &mut Demultiplexer, packet: &Packet) -> Result<(), Fai
 
 #[test]
 fn two_pids(rt: HostRuntime) -> Result<(), Fail> {
+    law_of_packets();
     law_of_room();
     law_of_same_lists();
     let alloc = rt.alloc();
