@@ -1,0 +1,11 @@
+pub mod Numbers
+pub mod Numerals
+pub mod Values
+pub mod Objects
+pub mod Heaps
+pub mod Conversions
+pub mod Operators
+pub mod Charges
+pub mod Hosts
+pub mod Lengths
+pub mod Capped

@@ -1,0 +1,80 @@
+//! What the definitions of this crate say together. Each function is a law: its contract is what it is
+//! for, and it does nothing when it runs.
+
+ghost use Rattle.std.specs.Prelude.{◌≡◌, ◌<◌, ◌≤◌, ◌^◌, ◌++◌, ◌||◌, ◌+ℤ◌, ℕ, ℤ, pos, List, [], ◌∷◌, Bool, Some, true, false, FitsSigned, is_some, length};
+ghost use Rattle.std.specs.Int.{w32};
+ghost use Rattle.std.specs.List.{list_any};
+ghost use Rattle.std.specs.Map.{lookup};
+ghost use Rattle.bml_bytes.specs.Numerals.{decimal_digits};
+ghost use Rattle.bml_bytes.specs.Words.{is_same};
+ghost use Rattle.es_values.specs.declared.values.Value.{Value};
+ghost use Rattle.es_values.specs.Numbers.{wrapped};
+ghost use Rattle.es_values.specs.Objects.{ObjectState};
+ghost use Rattle.es_values.specs.Values.{is_function};
+ghost use Rattle.es_values.specs.Heaps.{IsLive, IsSound, holds_function, index_of, is_array_length, names_of, new_object, object_at, value_of, with_property, without_property, with_object};
+ghost use Rattle.es_values.specs.Operators.{with_put};
+
+use bml_bytes::law_of_decimals;
+
+/// What is left of a number in 32 bits fits them, is the number where that fits, and is the same for a
+/// number and one that is 2^32 more.
+pub fn law_of_wrapping()
+    ensures fits { (z : ℤ) → FitsSigned w32 (wrapped z) }
+    ensures same { (z : ℤ) → FitsSigned w32 z → wrapped z ≡ z }
+    ensures turn { (z : ℤ) → wrapped (z +ℤ pos (2 ^ 32)) ≡ wrapped z }
+{}
+
+/// The names that are indices are exactly the decimal texts of 0 to 2,147,483,646.
+pub fn law_of_indices()
+    ensures digits { (index : ℕ) → index < 2147483647
+        → index_of (decimal_digits index) ≡ Some index }
+    ensures text { (name : List ℕ) (index : ℕ) → index_of name ≡ Some index →
+        (name ≡ decimal_digits index) × (index < 2147483647) }
+{
+    law_of_decimals();
+}
+
+/// A property that is put, for a name other than an array's length, is there with its value, and every
+/// other name but `length` has the value that it had. The names that are listed are exactly those that
+/// a look-up finds.
+pub fn law_of_properties()
+    ensures put { (object : ObjectState) (name : List ℕ) (value : Value)
+        → is_array_length object name ≡ false
+        → value_of (with_property object name value) name ≡ value }
+    ensures others { (object : ObjectState) (name other : List ℕ) (value : Value)
+        → is_same name other ≡ false → is_array_length object other ≡ false
+        → value_of (with_property object name value) other ≡ value_of object other }
+    ensures names { (object : ObjectState) (name : List ℕ)
+        → list_any (is_same name) (names_of object)
+        ≡ is_some (lookup (is_same name) object.properties) }
+{}
+
+/// A put to a sound heap of a value that is live in it leaves a sound heap with as many objects, and what
+/// is read there is live. What is live in a heap is live in each that has as many objects or more.
+pub fn law_of_live_values()
+    ensures stays { (heap more : List ObjectState) (value : Value) → length heap ≤ length more
+        → IsLive heap value → IsLive more value }
+    ensures read { (heap : List ObjectState) (object : ℕ) (name : List ℕ) → IsSound heap
+        → IsLive heap (value_of (object_at heap object) name) }
+    ensures put { (heap : List ObjectState) (object : ℕ) (name : List ℕ) (value : Value)
+        → IsSound heap → IsLive heap value → IsSound (with_put heap object name value) }
+    ensures count { (heap : List ObjectState) (object : ℕ) (name : List ℕ) (value : Value)
+        → length (with_put heap object name value) ≡ length heap }
+{}
+
+/// A function is read only where the heap holds it, and the heap holds no other than before and those that
+/// are put.
+pub fn law_of_functions()
+    ensures read { (heap : List ObjectState) (object number : ℕ) (name : List ℕ)
+        → is_function number (value_of (object_at heap object) name) ≡ true
+        → holds_function number heap ≡ true }
+    ensures put { (heap : List ObjectState) (object number : ℕ) (name : List ℕ) (value : Value)
+        → holds_function number (with_put heap object name value) ≡ true
+        → (holds_function number heap || is_function number value) ≡ true }
+    ensures removed { (heap : List ObjectState) (object number : ℕ) (name : List ℕ)
+        → holds_function number
+        (with_object heap object (without_property (object_at heap object) name)) ≡ true
+        → holds_function number heap ≡ true }
+    ensures added { (heap : List ObjectState) (array : Bool) (number : ℕ)
+        → holds_function number (heap ++ new_object array ∷ []) ≡ holds_function number heap }
+{}
