@@ -50,6 +50,14 @@ fn documents(rt: HostRuntime) -> Result<(), Fail> {
             b"load /40/0000\nshow 0\nbox 0 0 0 0 8 0 7\nbox 0 0 0 0 8 0 7\ntext 0 0 0 0 7 24 <A&&nbsp;%25\n",
         ),
         (
+            b"<bml><head><style>p{color-index:1} .c{color-index:2} p.c{color-index:3;left:5px} #q{color-index:4} p{bad;top:7px;left:red}</style></head><body><p id=\"q\" class=\"c\" style=\"color-index:5\">z</p></body></bml>",
+            b"load /40/0000\nshow 0\nbox 0 0 0 0 8 0 7\nbox 5 7 0 0 8 0 7\ntext 5 7 0 0 5 24 z\n",
+        ),
+        (
+            b"<bml><body><p style=\"z-index:1\">a<span style=\"color-index:2\">b</span><br/></p><object type=\"image/x\" data=\"q r\"/><input value=\"v%\"/></body></bml>",
+            b"load /40/0000\nshow 0\nbox 0 0 0 0 8 0 7\nbox 0 0 0 0 8 0 7\npicture 0 0 0 0 image/x q%20r\nbox 0 0 0 0 8 0 7\ntext 0 0 0 0 7 24 v%25\nbox 0 0 0 0 8 0 7\ntext 0 0 0 0 7 24 a\ntext 0 0 0 0 2 24 b\ntext 0 0 0 0 7 24 %0A\n",
+        ),
+        (
             b"<bml><body><p></body></bml>",
             b"refuse /40/0000 Malformed\nshow 0\n",
         ),
@@ -125,6 +133,39 @@ fn start_documents_in_entities(rt: HostRuntime) -> Result<(), Fail> {
     ] {
         let stream = Stream::of_modules(alloc, modules)?;
         let run = replayed(alloc, REPLAY, stream.bytes(), b"all\n", SOUND)?;
+        assert_eq!(rt; run.status, Status::Done, "for {lines}");
+        assert_eq!(rt; run.sink.written(), lines.as_bytes(), "for {lines}");
+    }
+    Ok(())
+}
+
+// A start document, and a part that it links.
+const LINKING: &[u8] =
+    b"Content-Type: multipart/mixed; boundary=b\r\n\r\n--b\r\nContent-Location: startup.bml\r\n\r\n<bml><head><link href=\"../0001/a.css\"/></head><body/></bml>\r\n--b--";
+
+const LINKED: &[u8] =
+    b"Content-Type: multipart/mixed; boundary=b\r\n\r\n--b\r\nContent-Location: a.css\r\n\r\nbody{left:3px}\r\n--b--";
+
+// A linked sheet counts where it is found, and reads as empty where it is missing.
+#[test]
+fn linked_sheets(rt: HostRuntime) -> Result<(), Fail> {
+    let alloc = rt.alloc();
+    for (modules, lines) in [
+        (
+            [(0, LINKING), (1, LINKED)].as_slice(),
+            "module 40 0000 01 149\nmodule 40 0001 01 98\nload /40/0000/startup.bml\nshow 0\nbox 3 0 0 0 8 0 7\nend 4\n",
+        ),
+        (
+            &[(0, LINKING), (1, OTHER)],
+            "module 40 0000 01 149\nmodule 40 0001 01 87\nload /40/0000/startup.bml\nshow 0\nbox 0 0 0 0 8 0 7\nend 4\n",
+        ),
+        (
+            &[(0, LINKING)],
+            "module 40 0000 01 149\nload /40/0000/startup.bml\nshow 0\nbox 0 0 0 0 8 0 7\nend 3\n",
+        ),
+    ] {
+        let stream = Stream::of_modules(alloc, modules)?;
+        let run = replayed(alloc, REPLAY, stream.bytes(), b"all\nshow\n", SOUND)?;
         assert_eq!(rt; run.status, Status::Done, "for {lines}");
         assert_eq!(rt; run.sink.written(), lines.as_bytes(), "for {lines}");
     }
