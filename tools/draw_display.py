@@ -5,7 +5,7 @@
 
 reads the lines of OUTPUT and writes FOLDER/show-1.svg, show-2.svg and so on. Boxes have their background and border, texts their colour and
 size, and pictures are a frame with their type and name. Colours 0 to 8 are those of the receivers' common fixed table (ARIB TR-B14);
-each other colour is a grey with its number beside it. Texts are EUC-JP, cut at the edges of their box and not broken into rows.
+each other colour is a grey with its number beside it. Texts are EUC-JP, one behind the other in their box, cut at its edges and not broken into rows.
 
 A drawing is a help for the eye. What was shown is what the lines say; a drawing is neither proved nor a receiver's.
 """
@@ -68,15 +68,36 @@ def box(fields):
     return drawn
 
 
-def text(fields):
-    x, y, width, height, number, size = numbers(fields, 6)
-    if number == CLEAR:
-        return []
-    rows = text_of(b" ".join(fields[6:])).split("\n")
-    drawn = [label(0, (row + 1) * size - size // 5, size, colour(number), it) for row, it in enumerate(rows)]
-    # a box without a size cuts nothing: its text is still to be seen
-    frame = f'width="{width or WIDTH}" height="{height or HEIGHT}"'
-    return [f'<svg x="{x}" y="{y}" {frame}>', *drawn, "</svg>", *noted(x, y, number)]
+def advance(raw, size):
+    """How far a row of bytes goes: a character of two bytes is as wide as its size, every other half as wide."""
+    wide = len(re.findall(rb"[\x8e\xa1-\xfe][\xa1-\xfe]", raw))
+    return wide * size + (len(raw) - 2 * wide) * (size // 2)
+
+
+class Pen:
+    """Where the next text of a box begins: the texts of one box follow each other, and a line feed begins a row."""
+
+    def __init__(self):
+        self.box, self.right, self.down = None, 0, 0
+
+    def texts(self, fields):
+        x, y, width, height, number, size = numbers(fields, 6)
+        if self.box != (x, y, width, height):
+            self.box, self.right, self.down = (x, y, width, height), 0, 0
+        raw = re.sub(rb"%([0-9A-F]{2})", lambda it: bytes([int(it[1], 16)]), b" ".join(fields[6:]))
+        drawn = []
+        for place, row in enumerate(raw.split(b"\n")):
+            if place > 0:
+                self.right, self.down = 0, self.down + size
+            written = row.decode("euc_jp", errors="replace")
+            if written and number != CLEAR:
+                drawn.append(label(self.right, self.down + size - size // 5, size, colour(number), written))
+            self.right += advance(row, size)
+        if not drawn:
+            return []
+        # a box without a size cuts nothing: its text is still to be seen
+        frame = f'width="{width or WIDTH}" height="{height or HEIGHT}"'
+        return [f'<svg x="{x}" y="{y}" {frame}>', *drawn, "</svg>", *noted(x, y, number)]
 
 
 def picture(fields):
@@ -91,7 +112,7 @@ def focus(fields):
     return [rectangle(x - 1, y - 1, width + 2, height + 2, 'fill="none" stroke="#ff8000" stroke-width="2"')]
 
 
-KINDS = {b"box": box, b"text": text, b"picture": picture, b"focus": focus}
+KINDS = {b"box": box, b"picture": picture, b"focus": focus}
 
 
 def drawing(clock, shapes):
@@ -104,12 +125,15 @@ def drawing(clock, shapes):
 
 def drawings(lines):
     """The display lists of a run's lines: for each its clock and its shapes."""
-    found = []
+    found, pen = [], Pen()
     for line in lines:
         word, *fields = line.split(b" ")
         if word == b"show":
             found.append((numbers(fields, 1)[0], []))
+        elif word == b"text" and found:
+            found[-1][1].extend(pen.texts(fields))
         elif word in KINDS and found:
+            pen = Pen()
             found[-1][1].extend(KINDS[word](fields))
     return found
 
