@@ -1,6 +1,6 @@
 //! Values from outside: what the rules of ECMA-262 in this profile give, worked out by hand.
 
-ghost use Rattle.std.specs.Prelude.{◌<◌, List, length, IfOk};
+ghost use Rattle.std.specs.Prelude.{◌≡◌, ◌<◌, List, length, IfOk};
 ghost use Rattle.es_values.specs.Objects.{ObjectState};
 ghost use Rattle.es_values.specs.Heaps.{IsLive};
 
