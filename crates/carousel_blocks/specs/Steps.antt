@@ -1,5 +1,5 @@
 -- A device of the proofs: what one message makes of what a carousel keeps. (This project's own.)
-use Rattle.std.specs.Prelude.{◌≡◌, ℕ, ◌==◌, Bool, false, ◌&&◌, if◌then◌else◌, List, find, slice_get, slice_set, Option, Some, None, is_some, option_map, option_and_then}
+use Rattle.std.specs.Prelude.{◌≡◌, ℕ, ◌==◌, Bool, false, ◌&&◌, if◌then◌else◌, List, find, slice_get, slice_set, Option, Some, None, is_some, option_map, option_and_then, Result, Ok, Err}
 use Rattle.std.specs.List.{filter_map, range_with_len}
 use Rattle.dsmcc_messages.specs.declared.dii.Dii.{Dii}
 use Rattle.dsmcc_messages.specs.Ddb.{DataBlock}
@@ -12,7 +12,7 @@ use Rattle.carousel_blocks.specs.Held.{Kept, is_asked, same_standing, bytes_kept
 use Rattle.carousel_blocks.specs.Buffers.{BufferState, is_missing, all_came, with_block_at}
 use Rattle.carousel_blocks.specs.Modules.{kept_for, standing_kept}
 use Rattle.carousel_blocks.specs.Changes.{line_by, gone, changed, appeared, completed, number_bound}
-use Rattle.carousel_blocks.specs.Carousel.{CarouselState, kept_in}
+use Rattle.carousel_blocks.specs.Carousel.{CarouselState, KeepsSame, kept_in}
 
 -- the transactionId is that of the DII in force
 abbrev pub is_transaction : Option ℕ → ℕ → Bool
@@ -58,6 +58,11 @@ pub record TakesBlock (old new : CarouselState) (block : DataBlock) (answer : Pu
 pub record TakesBack (old new : CarouselState) (block : DataBlock) : Type 0 where
   pub transaction : new.transaction ≡ old.transaction
   pub modules : (number : ℕ) → kept_in new number ≡ option_map (without_block block) (kept_in old number)
+
+-- the same of a section, by the DDB that it carries; without one nothing changes
+abbrev pub TakesBackBy : {F : Type 0} → Result DataBlock F → CarouselState → CarouselState → Type 0
+TakesBackBy (Ok block) old new = TakesBack old new block
+TakesBackBy (Err fault) old new = KeepsSame old new
 
 -- what a buffer makes of a block with the length that it has there
 abbrev pub with_block_in : ℕ → List ℕ → BufferState → BufferState

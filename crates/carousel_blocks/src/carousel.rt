@@ -3,6 +3,7 @@
 ghost use Rattle.std.specs.Prelude.{◌≡◌, ◌<◌, ◌≤◌, ◌^◌, ◌++◌, [], ◌∷◌, ℕ, List, length, Option, Some, option_copied, option_map};
 ghost use Rattle.std.specs.Prelude.{IfOk, IfSome, OnOk, OnErr};
 ghost use Rattle.dsmcc_messages.specs.Ddb.{fields_of};
+ghost use Rattle.dsmcc_messages.specs.Reading.{ddb_in};
 
 use crate::buffer::Buffer;
 use crate::changes::{Change, changes_between, next_modules};
@@ -53,7 +54,7 @@ impl Carousel {
     ghost use Rattle.carousel_blocks.specs.Carousel.{CarouselState, ForMessages, StandsFor, KeepsSame, kept_in};
     ghost use Rattle.carousel_blocks.specs.Carousel.{entry_in_force, skip_in_force, put_after};
     ghost use Rattle.carousel_blocks.specs.Changes.{changes, departures, number_bound};
-    ghost use Rattle.carousel_blocks.specs.Steps.{TakesDii, TakesBlock, is_in_force, TakesBack, entry_changes, block_change};
+    ghost use Rattle.carousel_blocks.specs.Steps.{TakesDii, TakesBlock, is_in_force, TakesBack, TakesBackBy, entry_changes, block_change};
     ghost use Rattle.carousel_blocks.specs.Staging.{made_whole};
 
     /// A carousel of which no message came.
@@ -95,9 +96,13 @@ impl Carousel {
 
     /// Takes the section back that was taken last, where its block made a module whole: the carousel is as if it hadn't
     /// come. So a caller that finds no memory for what it has to keep of that module leaves everything as before.
+    ///
+    /// Of any other section the block that it carries is given up, where the DII in force asks for it, and nothing else
+    /// changes.
     pub fn take_back(&mut self, section: &[u8])
         requires { 12 ≤ length section.now }
-        ensures { (messages : List Message) (number : ℕ) (bytes : List ℕ)
+        ensures block { TakesBackBy (ddb_in section.now) self.old self.new }
+        ensures before { (messages : List Message) (number : ℕ) (bytes : List ℕ)
             → made_whole messages section.now ≡ Some (number, bytes)
             → StandsFor self.old (messages ++ messages_of (section.now ∷ []))
             → StandsFor self.new messages }

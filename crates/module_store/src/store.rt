@@ -58,9 +58,10 @@ impl Model for Store {
 }
 
 impl Store {
-    /// A store without components. This takes no memory.
+    /// A store without components, in which nothing has changed. This takes no memory.
     pub fn new(alloc: Global) -> Store
-        ensures { StandsFor result at_start }
+        ensures stands { StandsFor result at_start }
+        ensures changed { result.changed ≡ false }
     {
         Store {
             alloc,

@@ -9,4 +9,4 @@ pub returns-in-Err-clause-before : goal.returns-in-Err-clause-before
 returns-in-Err-clause-before c = λ messages stands.
     let then = c.in_ok-changes.ensures.stands messages stands in
     let whole = c.in-Err.ensures.whole messages c.args.section.now then (c.as_slice.ensures.value ∙ c.in_ok-changes.ensures.changes messages stands) in
-    c.take_back.ensures messages whole.0 whole.1 whole.2 then
+    c.take_back.ensures.before messages whole.0 whole.1 whole.2 then

@@ -3,4 +3,4 @@ use Rattle.receiver_core.proofs.broadcast.Broadcast.new.Goals as goal
 
 pub returns : goal.returns
 returns c =
-    stands_first c.new-services.result c.new-store.result c.set_components.new.self c.args.selection c.new-services.ensures.selection c.new-services.ensures.stands c.new-store.ensures c.in_ok-set_components.ensures.stands
+    stands_first c.new-services.result c.new-store.result c.set_components.new.self c.args.selection c.new-services.ensures.selection c.new-services.ensures.stands c.new-store.ensures.stands c.in_ok-set_components.ensures.stands
