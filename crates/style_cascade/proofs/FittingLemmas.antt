@@ -1,7 +1,7 @@
 -- What the search finds fits its property.
 use Rattle.std.proofs.Common.{◌≡◌, Bool, true, false, List, [], ◌∷◌, Option, Some, None, refl, subst}
 use Rattle.std.proofs.lemmas.Bool.{and_parts, eqb-true}
-use Rattle.std.specs.Prelude.{nat_le, IfSome, IsTrue, if◌then◌else◌}
+use Rattle.std.specs.Prelude.{nat_le, unwrap_or, IfSome, IsTrue, if◌then◌else◌}
 use Rattle.std.specs.List.{list_all}
 use Rattle.style_reader.specs.Rules.{AreFitting, is_fitting}
 use Rattle.style_reader.specs.Properties.{initial_of}
@@ -69,6 +69,10 @@ rules-fit subject state property best (rule ∷ more) h ok =
 pub value-fits : (property : Property) (best : Option Candidate) → Fits property best → IfSome (value_in best) (λ value. IsTrue (fits property value))
 value-fits property None h = tt
 value-fits property (Some best) h = h
+
+pub unwrap-fits : (property : Property) (found : Option StyleValue) (value : StyleValue) → IfSome found (λ v. IsTrue (fits property v)) → IsTrue (fits property value) → IsTrue (fits property (unwrap_or found value))
+unwrap-fits property None value h k = k
+unwrap-fits property (Some found) value h k = h
 
 -- the initial values fit
 pub initial-fits : (property : Property) → IsTrue (fits property (initial_of property))

@@ -13,9 +13,11 @@ use Rattle.style_cascade.specs.declared.states.State.TheVariants as states
 use Rattle.style_cascade.specs.declared.subjects.Subject.{Subject}
 use Rattle.style_cascade.specs.declared.subjects.Styled.{Styled}
 
--- What values come from, and a device, of which no public clause speaks: what is kept of the tree.
+-- What values come from, how many were worked out from the rules, and a device, of which no public
+-- clause speaks: what is kept of the tree.
 pub record StylesState : Type 0 where
   pub sources : Sources
+  pub worked : ℕ
   pub kept : List (Option Styled)
 
 abbrev pub styled_by : Subject → Styled

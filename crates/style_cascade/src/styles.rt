@@ -1,6 +1,6 @@
 //! The styles of a document.
 
-ghost use Rattle.std.specs.Prelude.{◌≡◌, ◌≢◌, ◌<◌, ℕ, Some, None, length, IfOk, IfSome, IsTrue};
+ghost use Rattle.std.specs.Prelude.{◌≡◌, ◌≢◌, ◌<◌, ◌+◌, ◌-◌, ◌^◌, ℕ, Some, None, length, min, IfOk, IfSome, IsTrue};
 ghost use Rattle.dom_tree.specs.Items.{IsElement};
 ghost use Rattle.style_reader.specs.Values.{fits as spec_fits};
 ghost use Rattle.style_cascade.specs.States.{present_state};
@@ -29,6 +29,16 @@ pub struct Styles {
 
     // for each node what styles ask of it, where it is an element
     elements: Vec<Option<Styled>>,
+
+    // how many values were worked out
+    worked: u64,
+}
+
+// What is found, and how many values were worked out by then.
+#[derive(Clone, Copy, Debug)]
+struct Answer {
+    value: Option<StyleValue>,
+    worked: u64,
 }
 
 impl Model for Styles {
@@ -38,12 +48,13 @@ impl Model for Styles {
 
     ghost view = { λ styles. record {
       sources = record { rules = styles.rules; writes = styles.writes };
+      worked = styles.worked;
       kept = styles.elements.items;
     } };
 }
 
 impl Styles {
-    ghost use Rattle.style_cascade.specs.Cascade.{asked_places, first_own, places_above, style_value, write_of};
+    ghost use Rattle.style_cascade.specs.Cascade.{asked_count, asked_places, first_own, places_above, style_value, values_asked, write_of};
     ghost use Rattle.style_cascade.specs.Keeping.{IsRight, kept_value};
 
     /// The styles of a document with these rules. Nothing is written yet.
@@ -52,6 +63,7 @@ impl Styles {
         ensures unwritten { IfOk result
             (λ styles. (node : ℕ) (state : State) (property : Property) →
             write_of styles.sources node state property ≡ None) }
+        ensures worked { IfOk result (λ styles. styles.worked ≡ 0) }
         ensures right { IfOk result
             (λ styles. (states : ℕ → State) → IsRight tree.now states styles) }
     {
@@ -68,7 +80,16 @@ impl Styles {
             rules,
             writes,
             elements,
+            worked: 0,
         })
+    }
+
+    /// The number of values, each of one property of one node in one state, that were worked out
+    /// from the rules since `new`; it stands still at 2^64 - 1.
+    pub fn worked(&self) -> u64
+        ensures { result ≡ self.now.worked }
+    {
+        self.worked
     }
 
     /// The value that an element has for a property in a state. An inherited one that nothing gives
@@ -88,12 +109,14 @@ impl Styles {
             property }
         ensures fits { IsTrue (spec_fits property result) }
         ensures sources { self.new.sources ≡ self.old.sources }
+        ensures worked { self.new.worked ≡ min (self.old.worked
+            + values_asked tree.now self.old.sources (present_state focus.now) node.0 state
+            property) (2 ^ 64 - 1) }
         ensures right { IsRight tree.now (present_state focus.now) self.new }
     {
-        match self.found(tree, node, state, focus, property) {
-            Some(value) => value,
-            None => property.initial(),
-        }
+        let answer = self.found(tree, node, state, focus, property);
+        self.worked = answer.worked;
+        answer.value.unwrap_or(property.initial())
     }
 
     /// A script writes a value into the style of an element for a state.
@@ -113,6 +136,7 @@ impl Styles {
             ((other ≡ node.0) × (at ≡ state) × (of ≡ property) → ⊥) →
             write_of self.new.sources other at of ≡ write_of self.old.sources other at of }
         ensures rules { self.new.sources.rules ≡ self.old.sources.rules }
+        ensures worked { self.new.worked ≡ self.old.worked }
         ensures right { (states : ℕ → State) →
             IsRight tree.now states self.old → IsRight tree.now states self.new }
     {
@@ -123,6 +147,7 @@ impl Styles {
     pub fn touch(&mut self, tree: &Tree, node: NodeId)
         requires { IsElement tree.now node.0 }
         ensures sources { self.new.sources ≡ self.old.sources }
+        ensures worked { self.new.worked ≡ self.old.worked }
         ensures right { (before after : ℕ → State) →
             ((other : ℕ) → other ≢ node.0 → after other ≡ before other) →
             IsRight tree.now before self.old → IsRight tree.now after self.new }
@@ -136,20 +161,30 @@ impl Styles {
         state: State,
         focus: &Focus,
         property: Property,
-    ) -> Option<StyleValue>
+    ) -> Answer
         requires element { IsElement tree.now node.0 }
         requires right { IsRight tree.now (present_state focus.now) self.now }
-        ensures value { result ≡ first_own tree.now self.now.sources property
+        ensures value { result.value ≡ first_own tree.now self.now.sources property
             (asked_places tree.now (present_state focus.now) node.0 state property) }
-        ensures fits { IfSome result (λ value. IsTrue (spec_fits property value)) }
+        ensures fits { IfSome result.value (λ value. IsTrue (spec_fits property value)) }
+        ensures worked { result.worked ≡ min (self.now.worked
+            + asked_count tree.now self.now.sources property
+            (asked_places tree.now (present_state focus.now) node.0 state property)) (2 ^ 64 - 1) }
     {
+        let worked = self.worked.saturating_add(1);
         if let Some(value) = self.own(node, state, property) {
-            return Some(value);
+            return Answer {
+                value: Some(value),
+                worked,
+            };
         }
         if property.is_inherited() {
-            self.found_above(tree, node, focus, property)
+            self.found_above(tree, node, focus, property, worked)
         } else {
-            None
+            Answer {
+                value: None,
+                worked,
+            }
         }
     }
 
@@ -160,21 +195,33 @@ impl Styles {
         node: NodeId,
         focus: &Focus,
         property: Property,
-    ) -> Option<StyleValue>
+        before: u64,
+    ) -> Answer
         requires element { IsElement tree.now node.0 }
         requires right { IsRight tree.now (present_state focus.now) self.now }
-        ensures value { result ≡ first_own tree.now self.now.sources property
+        ensures value { result.value ≡ first_own tree.now self.now.sources property
             (places_above tree.now (present_state focus.now) node.0) }
-        ensures fits { IfSome result (λ value. IsTrue (spec_fits property value)) }
+        ensures fits { IfSome result.value (λ value. IsTrue (spec_fits property value)) }
+        ensures worked { result.worked ≡ min (before
+            + asked_count tree.now self.now.sources property
+            (places_above tree.now (present_state focus.now) node.0)) (2 ^ 64 - 1) }
     {
+        let mut worked = before;
         let mut next = tree.parent(node);
         'up: while let Some(up) = next {
             next = tree.parent(up);
+            worked = worked.saturating_add(1);
             if let Some(value) = self.own(up, focus.state_of(up), property) {
-                return Some(value);
+                return Answer {
+                    value: Some(value),
+                    worked,
+                };
             }
         }
-        None
+        Answer {
+            value: None,
+            worked,
+        }
     }
 
     // What is said of the element itself.

@@ -144,5 +144,12 @@ fn writes_stand_over_declarations(rt: HostRuntime) -> Result<(), Fail> {
     assert_eq!(rt; top, value);
     let size = styles.get(&tree, node, State::Active, &NO_FOCUS, Property::FontSize);
     assert_eq!(rt; size, StyleValue::Whole(10));
+    assert_eq!(rt; styles.worked(), 2);
+    let other = NodeId(3);
+    assert!(rt; tree.contains(other));
+    assert!(rt; tree.tag(other).is_some());
+    let size = styles.get(&tree, other, State::Normal, &NO_FOCUS, Property::FontSize);
+    assert_eq!(rt; size, StyleValue::Whole(24));
+    assert_eq!(rt; styles.worked(), 5);
     Ok(())
 }
