@@ -4,16 +4,13 @@ use Rattle.std.proofs.lemmas.Bool.{cases_lt}
 use Rattle.std.proofs.lemmas.Option.{slice_get_past}
 use Rattle.std.proofs.lemmas.Bool.Decides.{nat_tests}
 use Rattle.std.specs.Prelude.{◌==◌, nat_le, nat_lt, ◌&&◌, ◌||◌, if◌then◌else◌, IfSome, IsSomeAnd, option_map, option_and_then, slice_get}
-use Rattle.style_reader.specs.declared.properties.Property.{Property}
 use Rattle.style_reader.specs.declared.properties.StyleValue.{StyleValue}
 use Rattle.style_reader.specs.declared.rules.Rule.{Rule}
 use Rattle.style_cascade.specs.Candidates.{declared_value, last_value}
-use Rattle.style_cascade.specs.Indexing.{Covers, IsNotAbove, IsSound, Question, better_of, is_weaker, offer_of, question, rule_offer, with_offer}
-use Rattle.style_cascade.specs.Searching.{best_of_declarations, best_of_rules, best_with_both, greatest_of, stronger_candidate, value_in}
-use Rattle.style_cascade.specs.declared.index.Found.{Found}
+use Rattle.style_cascade.specs.Indexing.{Covers, IsNotAbove, IsSound, Question, is_weaker, offer_of, rule_offer, with_offer}
+use Rattle.style_cascade.specs.Searching.{best_of_rules, best_with_both, greatest_of, value_in}
+use Rattle.style_cascade.specs.declared.rows.Found.{Found}
 use Rattle.style_cascade.specs.declared.search.Candidate.{Candidate}
-use Rattle.style_cascade.specs.declared.states.State.{State}
-use Rattle.style_cascade.specs.declared.subjects.Subject.{Subject}
 use Rattle.style_cascade.proofs.RuleLemmas.{rule-at_once}
 use Rattle.style_cascade.proofs.SearchLemmas.{declared-found}
 
@@ -169,7 +166,7 @@ order-value asked (rule ∷ more) best number offers h =
     plus_one : (n k : ℕ) → n + 1 + k ≡ n + suc k
     plus_one n k = omega arith
 
-offer-past : (asked : Question) (number : ℕ) → length asked.rules ≤ number → (best : Option Found) → Covers asked best number
+pub offer-past : (asked : Question) (number : ℕ) → length asked.rules ≤ number → (best : Option Found) → Covers asked best number
 unfolding Covers offer_of
 offer-past asked number h best = subst (λ (o : Option Rule). IfSome (option_and_then (rule_offer asked.subject asked.state asked.property) o) (λ c. IsSomeAnd best (IsNotAbove number c))) (sym (slice_get_past asked.rules number h)) tt
 

@@ -1,7 +1,7 @@
 -- What is kept of the elements of a tree.
-use Rattle.std.proofs.Common.{◌≡◌, ℕ, zero, suc, ◌+◌, ◌-◌, ◌*◌, ◌^◌, ◌<◌, ◌≤◌, List, [], ◌∷◌, ◌++◌, length, Option, Some, None, refl, sym, ◌∙◌, ap, subst, arith}
-use Rattle.std.specs.Prelude.{Bool, true, false, is_some, map, min, if◌then◌else◌, option_map, option_and_then, slice_get}
-use Rattle.std.specs.Option.{option_flatten, option_map_or, option_or}
+use Rattle.std.proofs.Common.{◌≡◌, ◌≢◌, ℕ, zero, suc, ◌+◌, ◌-◌, ◌*◌, ◌^◌, ◌<◌, ◌≤◌, List, [], ◌∷◌, length, Option, Some, None, inl, inr, refl, sym, ◌∙◌, ap, subst, arith}
+use Rattle.std.specs.Prelude.{Bool, true, false, is_some, map, min, if◌then◌else◌, option_map, option_and_then}
+use Rattle.std.specs.Option.{option_map_or, option_or}
 use Rattle.dom_tree.specs.NodeNumbers.{number_of}
 use Rattle.dom_tree.specs.Walks.{path_of}
 use Rattle.dom_tree.specs.declared.node_ids.NodeId.{NodeId}
@@ -12,10 +12,11 @@ use Rattle.style_reader.specs.declared.rules.Rule.{Rule}
 use Rattle.style_cascade.specs.Cascade.{Place, Sources, asked_count, first_own, own_value, place, said_to, said_value, write_of}
 use Rattle.style_cascade.specs.Keeping.{IsRight, StylesState, kept_value, said_of, styled_by}
 use Rattle.style_cascade.specs.Matching.{subject_of}
+use Rattle.style_cascade.specs.Writes.{cell_of}
+use Rattle.style_cascade.proofs.ChainLemmas.{below-or_at}
 use Rattle.style_cascade.specs.declared.states.State.{State}
 use Rattle.style_cascade.specs.declared.states.State.TheVariants as states
 use Rattle.style_cascade.specs.declared.subjects.Subject.{Subject}
-use Rattle.style_cascade.specs.declared.subjects.Styled.{Styled}
 
 -- an element is in the tree
 pub element-within : (items : List Item) (node : ℕ) → IsElement items node → node < length items
@@ -23,49 +24,53 @@ element-within [] node h = absurd (cc h)
 element-within (item ∷ items) zero h = omega arith
 element-within (item ∷ items) (suc node) h = omega (arith, element-within items node h)
 
-said-kept : (rules : List Rule) (state : State) (property : Property) (subject : Option Subject) → option_and_then (said_of rules state property) (option_map styled_by subject) ≡ option_and_then (said_to rules state property) subject
-said-kept rules state property None = refl
-said-kept rules state property (Some subject) = refl
-
 -- what is kept is what is said of the element itself
 pub kept-own : (items : List Item) (present : ℕ → State) (styles : StylesState) (node : ℕ) (state : State) (property : Property) → IsRight items present styles → node < length items → kept_value styles node state property ≡ own_value items styles.sources node state property
-unfolding IsRight said_value
-kept-own items present styles node state property right within =
-    let found : option_flatten (slice_get styles.kept node) ≡ option_map styled_by (subject_of items node) = ap option_flatten (right.elements node within) in
-    ap (λ (o : Option StyleValue). option_or (write_of styles.sources node state property) (option_or (write_of styles.sources node states.Normal property) o))
-    (ap (option_and_then (said_of styles.sources.rules state property)) found ∙ said-kept styles.sources.rules state property (subject_of items node))
-
-kept-length_by : (xs : List (Option Styled)) (node : ℕ) (o : Option Styled) → slice_get xs node ≡ Some o → node < length xs
-kept-length_by [] node o e = absurd (cc e)
-kept-length_by (x ∷ xs) zero o e = omega arith
-kept-length_by (x ∷ xs) (suc node) o e = omega (arith, kept-length_by xs node o e)
-
-pub kept-within : (items : List Item) (present : ℕ → State) (styles : StylesState) (node : ℕ) → IsRight items present styles → node < length items → node < length styles.kept
 unfolding IsRight
-kept-within items present styles node right within = kept-length_by styles.kept node (option_map styled_by (subject_of items node)) (right.elements node within)
+kept-own items present styles node state property right within =
+    ap (λ (o : Option StyleValue). option_or (write_of styles.sources node state property) (option_or (write_of styles.sources node states.Normal property) o)) (right.said node state property within)
 
 pub room-of : (items : List Item) (present : ℕ → State) (styles : StylesState) → IsRight items present styles → length styles.sources.writes ≡ 51 * length items
 unfolding IsRight
 room-of items present styles right = right.room
 
 -- a write changes nothing that is kept of the tree
-pub right-put : (items : List Item) (present : ℕ → State) (old new : StylesState) → new.kept ≡ old.kept → length new.sources.writes ≡ length old.sources.writes → IsRight items present old → IsRight items present new
+pub right-put : (items : List Item) (present : ℕ → State) (old new : StylesState) → new.kept ≡ old.kept → new.sources.rules ≡ old.sources.rules → length new.sources.writes ≡ length old.sources.writes → IsRight items present old → IsRight items present new
 unfolding IsRight
-right-put items present old new kept room right =
+right-put items present old new kept rules room right =
     record {
       room = room ∙ right.room;
-      elements = λ node within. ap (λ (k : List (Option Styled)). slice_get k node) kept ∙ right.elements node within;
+      said = λ node state property within. ap (λ (k : List (Option StyleValue)). cell_of k node state property) kept ∙ right.said node state property within ∙ ap (λ (r : List Rule). said_value items r node state property) (sym rules);
     }
 
--- one node more
-pub elements-more : (f : ℕ → Option Styled) (xs : List (Option Styled)) (x : Option Styled) (n : ℕ) → length xs ≡ n → ((node : ℕ) → node < n → slice_get xs node ≡ Some (f node)) → x ≡ f n → (node : ℕ) → node < n + 1 → slice_get (xs ++ x ∷ []) node ≡ Some (f node)
-elements-more f [] x n e before is zero h = let same : zero ≡ n = e in ap (λ (s : Option Styled). Some s) (is ∙ ap f (sym same))
-elements-more f [] x n e before is (suc node) h = let none : zero ≡ n = e in absurd (omega (arith, h, none))
-elements-more f (first ∷ xs) x n e before is zero h = let same : suc (length xs) ≡ n = e in before zero (omega (arith, same))
-elements-more f (first ∷ xs) x zero e before is (suc node) h = let same : suc (length xs) ≡ zero = e in absurd (omega (arith, same))
-elements-more f (first ∷ xs) x (suc n) e before is (suc node) h =
-    let same : suc (length xs) ≡ suc n = e in
-    elements-more (λ k. f (suc k)) xs x n (omega (arith, same)) (λ k lt. before (suc k) (omega (arith, lt))) is node (omega (arith, h))
+-- ---- the nodes in turn
+
+-- what is said of the nodes so far, and nothing of the others
+pub record IsSaid (items : List Item) (rules : List Rule) (cells : List (Option StyleValue)) (count : ℕ) : Type 0 where
+  pub said : (node : ℕ) (state : State) (property : Property) → node < count → cell_of cells node state property ≡ said_value items rules node state property
+  pub empty : (node : ℕ) (state : State) (property : Property) → count ≤ node → cell_of cells node state property ≡ None
+
+pub said-start : (items : List Item) (rules : List Rule) (cells : List (Option StyleValue)) → ((node : ℕ) (state : State) (property : Property) → cell_of cells node state property ≡ None) → IsSaid items rules cells 0
+said-start items rules cells empty = record { said = λ node state property h. absurd (omega (arith, h)); empty = λ node state property h. empty node state property }
+
+pub said-more : (items : List Item) (rules : List Rule) (old new : List (Option StyleValue)) (count : ℕ) → ((state : State) (property : Property) → cell_of new count state property ≡ said_value items rules count state property) → ((other : ℕ) (state : State) (property : Property) → other ≢ count → cell_of new other state property ≡ cell_of old other state property) → IsSaid items rules old count → IsSaid items rules new (count + 1)
+said-more items rules old new count here others so_far =
+    record {
+      said = λ node state property h. elim (below-or_at node count h) [
+        | inl lt ↦ others node state property (λ same. omega (arith, lt, same)) ∙ so_far.said node state property lt
+        | inr at ↦ subst (λ (n : ℕ). cell_of new n state property ≡ said_value items rules n state property) (sym at) (here state property)
+      ];
+      empty = λ node state property h. others node state property (λ same. omega (arith, h, same)) ∙ so_far.empty node state property (omega (arith, h));
+    }
+
+-- what is said of an element, and nothing of a text
+pub said-by : (items : List Item) (rules : List Rule) (node : ℕ) (state : State) (property : Property) → option_and_then (said_of rules state property) (option_map styled_by (subject_of items node)) ≡ said_value items rules node state property
+unfolding said_value
+said-by items rules node state property = by (subject_of items node)
+  where
+    by : (subject : Option Subject) → option_and_then (said_of rules state property) (option_map styled_by subject) ≡ option_and_then (said_to rules state property) subject
+    by None = refl
+    by (Some subject) = refl
 
 -- ---- counting
 

@@ -3,6 +3,7 @@ pub mod SearchLemmas
 pub mod RuleLemmas
 pub mod IndexLemmas
 pub mod ChainLemmas
+pub mod RowLemmas
 pub mod LookupLemmas
 pub mod InlineLaws
 pub mod FittingLemmas
@@ -10,3 +11,4 @@ pub mod StrengthLaws
 pub mod CascadeLaws
 pub mod TreeLaws
 pub mod KeptLemmas
+pub mod SaidLemmas

@@ -1,7 +1,6 @@
 -- The search by names finds each rule that gives something.
-use Rattle.std.proofs.Common.{◌≡◌, ℕ, zero, suc, ◌+◌, ◌<◌, ◌≤◌, Bool, true, false, List, [], ◌∷◌, Option, Some, None, ◌⊎◌, inl, inr, length, refl, sym, ◌∙◌, ap, subst, arith}
+use Rattle.std.proofs.Common.{◌≡◌, ℕ, suc, ◌+◌, ◌<◌, ◌≤◌, Bool, true, false, List, [], ◌∷◌, Option, Some, None, ◌⊎◌, inl, inr, length, refl, sym, ◌∙◌, ap, subst, arith}
 use Rattle.std.proofs.lemmas.Bool.{and_parts, cases_Bool, or_cases}
-use Rattle.std.proofs.lemmas.Option.{IfSome_then}
 use Rattle.std.specs.Prelude.{Contains, if◌then◌else◌, ◌&&◌, IfSome, IsSomeAnd, IsTrue, option_and_then, option_map, slice_get}
 use Rattle.std.specs.List.{list_any}
 use Rattle.std.specs.Option.{option_map_or}
@@ -21,7 +20,7 @@ use Rattle.style_cascade.specs.Candidates.{declared_value, last_value}
 use Rattle.style_cascade.specs.Indexing.{AreBackward, AreNoted, Covers, CoversChain, Improves, IsNotAbove, IsSound, Question, Reaches, found_value, head_of, name_of, name_with, offer_of, rule_offer, with_offer}
 use Rattle.style_cascade.specs.Matching.{has_mark, has_tag, is_for_state, matches}
 use Rattle.style_cascade.specs.Searching.{best_of_rules, best_with_both, greater_of, greatest_of, greatest_with}
-use Rattle.style_cascade.specs.declared.index.Found.{Found}
+use Rattle.style_cascade.specs.declared.rows.Found.{Found}
 use Rattle.style_cascade.specs.declared.index.Link.{Link}
 use Rattle.style_cascade.specs.declared.search.Candidate.{Candidate}
 use Rattle.style_cascade.specs.declared.states.State.{State}

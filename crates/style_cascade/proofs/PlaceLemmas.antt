@@ -43,10 +43,10 @@ state_place-is states.Normal = refl
 state_place-is states.Focus = refl
 state_place-is states.Active = refl
 
-abbrev property_at : ℕ → Property
+abbrev pub property_at : ℕ → Property
 property_at place = get_or all_properties place Left
 
-property_at-place : (property : Property) → property_at (property_place property) ≡ property
+pub property_at-place : (property : Property) → property_at (property_place property) ≡ property
 unfolding property_place
 property_at-place Left = refl
 property_at-place Top = refl
@@ -128,40 +128,39 @@ pub cell_place-within : (node : ℕ) (state : State) (property : Property) → c
 unfolding cell_place
 cell_place-within node state property = omega (arith, state_place-small state, property_place-small property)
 
-get-set : (cells : List (Option StyleValue)) (i : ℕ) (v : Option StyleValue) → i < length cells → slice_get (slice_set cells i v) i ≡ Some v
+pub get-set : {A : Type 0} (cells : List A) (i : ℕ) (v : A) → i < length cells → slice_get (slice_set cells i v) i ≡ Some v
 get-set [] i v h = absurd (omega (arith, h))
 get-set (cell ∷ cells) zero v h = refl
 get-set (cell ∷ cells) (suc i) v h = get-set cells i v (omega (arith, h))
 
-get-set_other : (cells : List (Option StyleValue)) (i k : ℕ) (v : Option StyleValue) → k ≢ i → slice_get (slice_set cells i v) k ≡ slice_get cells k
+pub get-set_other : {A : Type 0} (cells : List A) (i k : ℕ) (v : A) → k ≢ i → slice_get (slice_set cells i v) k ≡ slice_get cells k
 get-set_other [] i k v ne = refl
 get-set_other (cell ∷ cells) zero zero v ne = absurd (ne refl)
 get-set_other (cell ∷ cells) zero (suc k) v ne = refl
 get-set_other (cell ∷ cells) (suc i) zero v ne = refl
 get-set_other (cell ∷ cells) (suc i) (suc k) v ne = get-set_other cells i k v (λ e. ne (ap (λ n. suc n) e))
 
-pub cell_of-put : (cells : List (Option StyleValue)) (node : ℕ) (state : State) (property : Property) (value : StyleValue) → 51 * node + 51 ≤ length cells → cell_of (slice_set cells (cell_place node state property) (Some value)) node state property ≡ Some value
+pub cell_of-put : (cells : List (Option StyleValue)) (node : ℕ) (state : State) (property : Property) (value : Option StyleValue) → 51 * node + 51 ≤ length cells → cell_of (slice_set cells (cell_place node state property) value) node state property ≡ value
 unfolding cell_of
-cell_of-put cells node state property value h = ap option_flatten (get-set cells (cell_place node state property) (Some value) (omega (arith, h, cell_place-within node state property)))
+cell_of-put cells node state property value h = ap option_flatten (get-set cells (cell_place node state property) value (omega (arith, h, cell_place-within node state property)))
 
-pub cell_of-others : (cells : List (Option StyleValue)) (node other : ℕ) (state at : State) (property of : Property) (value : StyleValue) → ((other ≡ node) × (at ≡ state) × (of ≡ property) → ⊥) → cell_of (slice_set cells (cell_place node state property) (Some value)) other at of ≡ cell_of cells other at of
+pub cell_of-others : (cells : List (Option StyleValue)) (node other : ℕ) (state at : State) (property of : Property) (value : Option StyleValue) → ((other ≡ node) × (at ≡ state) × (of ≡ property) → ⊥) → cell_of (slice_set cells (cell_place node state property) value) other at of ≡ cell_of cells other at of
 unfolding cell_of
-cell_of-others cells node other state at property of value ne = ap option_flatten (get-set_other cells (cell_place node state property) (cell_place other at of) (Some value) (λ e. ne (cell_place-one other node at state of property e)))
+cell_of-others cells node other state at property of value ne = ap option_flatten (get-set_other cells (cell_place node state property) (cell_place other at of) value (λ e. ne (cell_place-one other node at state of property e)))
 
 -- a table still fits once a fitting value is put into it
-pub AreFitting-put : (cells : List (Option StyleValue)) (node : ℕ) (state : State) (property : Property) (value : StyleValue) → 51 * node + 51 ≤ length cells → IsTrue (fits property value) → AreFitting cells → AreFitting (slice_set cells (cell_place node state property) (Some value))
+pub AreFitting-put : (cells : List (Option StyleValue)) (node : ℕ) (state : State) (property : Property) (value : Option StyleValue) → 51 * node + 51 ≤ length cells → IfSome value (λ v. IsTrue (fits property v)) → AreFitting cells → AreFitting (slice_set cells (cell_place node state property) value)
 AreFitting-put cells node state property value h ok fitting = record { each = λ other at of found is. by other at of found is (cases_eq (cell_place other at of) (cell_place node state property)) }
   where
-    by : (other : ℕ) (at : State) (of : Property) (found : StyleValue) → cell_of (slice_set cells (cell_place node state property) (Some value)) other at of ≡ Some found → (cell_place other at of ≡ cell_place node state property) ⊎ (cell_place other at of ≢ cell_place node state property) → IsTrue (fits of found)
+    by : (other : ℕ) (at : State) (of : Property) (found : StyleValue) → cell_of (slice_set cells (cell_place node state property) value) other at of ≡ Some found → (cell_place other at of ≡ cell_place node state property) ⊎ (cell_place other at of ≢ cell_place node state property) → IsTrue (fits of found)
     by other at of found is (inl e) =
         let same = cell_place-one other node at state of property e in
-        let put : cell_of (slice_set cells (cell_place node state property) (Some value)) other at of ≡ Some value =
-        subst (λ (n : ℕ). cell_of (slice_set cells (cell_place node state property) (Some value)) n at of ≡ Some value) (sym same.0)
-        (subst (λ (s : State). cell_of (slice_set cells (cell_place node state property) (Some value)) node s of ≡ Some value) (sym same.1)
-        (subst (λ (p : Property). cell_of (slice_set cells (cell_place node state property) (Some value)) node state p ≡ Some value) (sym same.2) (cell_of-put cells node state property value h))) in
-        let both : Some value ≡ Some found = sym put ∙ is in
-        let value_is : value ≡ found = cc in
-        subst (λ (v : StyleValue). IsTrue (fits of v)) value_is (subst (λ (p : Property). IsTrue (fits p value)) (sym same.2) ok)
+        let put : cell_of (slice_set cells (cell_place node state property) value) other at of ≡ value =
+        subst (λ (n : ℕ). cell_of (slice_set cells (cell_place node state property) value) n at of ≡ value) (sym same.0)
+        (subst (λ (s : State). cell_of (slice_set cells (cell_place node state property) value) node s of ≡ value) (sym same.1)
+        (subst (λ (p : Property). cell_of (slice_set cells (cell_place node state property) value) node state p ≡ value) (sym same.2) (cell_of-put cells node state property value h))) in
+        let fitting_value : IfSome (Some found) (λ v. IsTrue (fits property v)) = subst (λ (o : Option StyleValue). IfSome o (λ v. IsTrue (fits property v))) (sym put ∙ is) ok in
+        subst (λ (p : Property). IsTrue (fits p found)) (sym same.2) fitting_value
     by other at of found is (inr ne) =
         let old : cell_of cells other at of ≡ Some found = sym (cell_of-others cells node other state at property of value (λ same. ne (ap (λ (n : ℕ). cell_place n at of) same.0 ∙ ap (λ (s : State). cell_place node s of) same.1 ∙ ap (λ (p : Property). cell_place node state p) same.2))) ∙ is in
         fitting.each other at of found old

@@ -9,7 +9,7 @@ use Rattle.style_reader.specs.declared.properties.Property.{Property}
 use Rattle.style_reader.specs.declared.properties.StyleValue.{StyleValue}
 use Rattle.style_reader.specs.declared.rules.Rule.{Rule}
 use Rattle.style_cascade.specs.Cascade.{Place, Sources, asked_places, first_own, own_value, place, places_above, said_to, said_value, style_value, write_of}
-use Rattle.style_cascade.specs.Keeping.{IsRight, StylesState, styled_by}
+use Rattle.style_cascade.specs.Keeping.{IsRight, StylesState}
 use Rattle.style_cascade.specs.Matching.{subject_of, subject_with, words_in}
 use Rattle.style_cascade.specs.declared.states.State.{State}
 use Rattle.style_cascade.specs.declared.states.State.TheVariants as states
@@ -39,18 +39,18 @@ subject_of-same : (old new : List Item) → SameSubjects old new → (node : ℕ
 unfolding subject_of
 subject_of-same old new same node = ap (option_map (subject_with new node)) (same.places.tags node) ∙ map-same (subject_with new node) (subject_with old node) (subject_with-same old new same node) (tag_of old node)
 
+said-same : (old new : List Item) → SameSubjects old new → (rules : List Rule) (node : ℕ) (state : State) (property : Property) → said_value new rules node state property ≡ said_value old rules node state property
+unfolding said_value
+said-same old new same rules node state property = ap (option_and_then (said_to rules state property)) (subject_of-same old new same node)
+
 -- the styles of the one are those of the other
 pub right-same : (old new : List Item) → SameSubjects old new → (present : ℕ → State) (styles : StylesState) → IsRight old present styles → IsRight new present styles
 unfolding IsRight
 right-same old new same present styles right =
     record {
       room = omega (arith, right.room, same.places.count);
-      elements = λ node within. right.elements node (omega (arith, within, same.places.count)) ∙ sym (ap (λ (s : Option Subject). Some (option_map styled_by s)) (subject_of-same old new same node));
+      said = λ node state property within. right.said node state property (omega (arith, within, same.places.count)) ∙ sym (said-same old new same styles.sources.rules node state property);
     }
-
-said-same : (old new : List Item) → SameSubjects old new → (rules : List Rule) (node : ℕ) (state : State) (property : Property) → said_value new rules node state property ≡ said_value old rules node state property
-unfolding said_value
-said-same old new same rules node state property = ap (option_and_then (said_to rules state property)) (subject_of-same old new same node)
 
 own-same : (old new : List Item) → SameSubjects old new → (sources : Sources) (node : ℕ) (state : State) (property : Property) → own_value new sources node state property ≡ own_value old sources node state property
 own-same old new same sources node state property = ap (λ (o : Option StyleValue). option_or (write_of sources node state property) (option_or (write_of sources node states.Normal property) o)) (said-same old new same sources.rules node state property)

@@ -6,3 +6,4 @@ pub mod Cascade
 pub mod Keeping
 pub mod Searching
 pub mod Indexing
+pub mod Rows

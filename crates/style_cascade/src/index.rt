@@ -1,12 +1,11 @@
 //! Rules by the names that their selectors ask for.
 
-ghost use Rattle.std.specs.Prelude.{◌≡◌, ℕ, List, [], Option, Some, None, Contains, option_copied, not, if◌then◌else◌, IfOk, IsTrue, OnOk};
+ghost use Rattle.std.specs.Prelude.{◌≡◌, ℕ, List, [], Option, Some, None, Contains, option_copied, if◌then◌else◌, IfOk, IsTrue, OnOk};
 ghost use Rattle.indexmap.specs.IndexMap.{get};
 ghost use Rattle.bml_bytes.specs.Words.{is_same};
-ghost use Rattle.style_cascade.specs.Indexing.{AreBackward, AreInside, AreNoted, KeepsChains, Reaches, head_of, is_weaker, name_of as spec_name_of, same_name, with_offer as spec_with_offer};
+ghost use Rattle.style_cascade.specs.Indexing.{AreBackward, AreInside, AreNoted, KeepsChains, Reaches, head_of, name_of as spec_name_of, same_name};
 ghost use Rattle.style_reader.specs.declared.selectors.Selector.{Selector};
 
-use crate::search::Candidate;
 use bml_bytes::{NoMemory, Text};
 use indexmap::IndexMap;
 use std::alloc::Global;
@@ -17,13 +16,6 @@ use style_reader::{Mark, Rule, Selector};
 pub struct Link {
     pub rule: usize,
     pub next: Option<usize>,
-}
-
-/// The best so far, and the number of its rule.
-#[derive(Clone, Copy, Debug)]
-pub struct Found {
-    pub rule: usize,
-    pub candidate: Candidate,
 }
 
 /// The rules by the names that their selectors ask for: one chain of links for each name, and one
@@ -47,27 +39,6 @@ fn name_of(selector: &Selector) -> Option<&Text>
             None => None,
         },
     }
-}
-
-// The best once a rule came, which may stand before it or behind it.
-pub fn with_offer(best: Option<Found>, rule: usize, offered: Option<Candidate>) -> Option<Found>
-    ensures { result ≡ spec_with_offer best rule offered }
-{
-    let Some(candidate) = offered else {
-        return best;
-    };
-    match best {
-        Some(found) if is_stronger(found, rule, candidate) => Some(found),
-        _ => Some(Found { rule, candidate }),
-    }
-}
-
-// Whether it is stronger than what that rule gives.
-fn is_stronger(found: Found, rule: usize, candidate: Candidate) -> bool
-    ensures { result ≡ not (is_weaker found rule candidate) }
-{
-    let best = found.candidate.specificity;
-    candidate.specificity < best || (candidate.specificity == best && rule < found.rule)
 }
 
 impl Index {

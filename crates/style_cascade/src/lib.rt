@@ -11,6 +11,8 @@
 mod index;
 mod laws;
 mod lookup;
+mod rows;
+mod said;
 mod search;
 mod sheets;
 mod states;

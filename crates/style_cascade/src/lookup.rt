@@ -1,130 +1,84 @@
 //! The search of the rules that ask for a name that an element has.
 
-ghost use Rattle.std.specs.Prelude.{◌≡◌, ◌<◌, ℕ, List, Option, Some, None, option_copied, IfSome, IsTrue};
+ghost use Rattle.std.specs.Prelude.{◌≡◌, ◌<◌, ℕ, List, Option, Some, option_copied, IsTrue};
 ghost use Rattle.std.specs.List.{list_any};
 ghost use Rattle.bml_bytes.specs.Words.{is_same};
-ghost use Rattle.style_cascade.specs.Indexing.{AreBackward, AreNoted, Covers, CoversChain, Improves, IsSound, head_of, question};
+ghost use Rattle.style_cascade.specs.Indexing.{AreBackward, AreNoted, head_of};
+ghost use Rattle.style_cascade.specs.Rows.{CoversEach, CoversEachIn, ImprovesEach};
 
-use crate::index::{Found, Index, with_offer};
-use crate::search::offered;
-use crate::states::State;
+use crate::index::Index;
+use crate::rows::Row;
 use crate::subjects::Subject;
 use bml_bytes::Text;
-use style_reader::{Property, Rule};
+use style_reader::Rule;
 
 impl Index {
-    /// The best of all rules, of which those are searched that ask for a name of the element, or
-    /// for none.
-    pub fn best(
-        &self,
-        rules: &[Rule],
-        subject: &Subject,
-        state: State,
-        property: Property,
-    ) -> Option<Found>
+    /// Offers all rules that give the element something: those that ask for a name of it, or for
+    /// none.
+    pub fn search(&self, rules: &[Rule], subject: &Subject, row: &mut Row)
         requires { AreNoted rules.now self.now.heads self.now.unnamed self.now.links.items }
-        ensures sound { IsSound (question rules.now subject.now state property) result }
-        ensures all { (number : ℕ) →
-            Covers (question rules.now subject.now state property) result number }
+        ensures improves { ImprovesEach rules.now subject.now row.old row.new }
+        ensures all { (number : ℕ) → CoversEach rules.now subject.now row.new number }
     {
-        let unnamed = self.best_by_name(rules, subject, state, property, None, None);
-        let tag = Some(&subject.tag);
-        let tagged = self.best_by_name(rules, subject, state, property, tag, unnamed);
-        let marked = self.best_by_id(rules, subject, state, property, tagged);
-        self.best_by_classes(rules, subject, state, property, marked)
+        self.search_name(rules, subject, None, row);
+        self.search_name(rules, subject, Some(&subject.tag), row);
+        self.search_id(rules, subject, row);
+        self.search_classes(rules, subject, row);
     }
 
-    // The best once those came that ask for the element's id.
-    fn best_by_id(
-        &self,
-        rules: &[Rule],
-        subject: &Subject,
-        state: State,
-        property: Property,
-        before: Option<Found>,
-    ) -> Option<Found>
+    // Offers those that ask for the element's id.
+    fn search_id(&self, rules: &[Rule], subject: &Subject, row: &mut Row)
         requires { AreBackward self.now.links.items }
-        ensures improves { Improves (question rules.now subject.now state property) before result }
+        ensures improves { ImprovesEach rules.now subject.now row.old row.new }
         ensures covers { (id : List ℕ) → subject.now.id ≡ Some id →
-            CoversChain (question rules.now subject.now state property) result
+            CoversEachIn rules.now subject.now row.new
             self.now.links.items (head_of self.now.heads self.now.unnamed (Some id)) }
     {
-        match &subject.id {
-            Some(id) => self.best_by_name(rules, subject, state, property, Some(id), before),
-            None => before,
-        }
+        let Some(id) = &subject.id else {
+            return;
+        };
+        self.search_name(rules, subject, Some(id), row);
     }
 
-    // The best once those came that ask for one of the element's classes.
-    fn best_by_classes(
-        &self,
-        rules: &[Rule],
-        subject: &Subject,
-        state: State,
-        property: Property,
-        before: Option<Found>,
-    ) -> Option<Found>
+    // Offers those that ask for one of the element's classes.
+    fn search_classes(&self, rules: &[Rule], subject: &Subject, row: &mut Row)
         requires { AreBackward self.now.links.items }
-        ensures improves { Improves (question rules.now subject.now state property) before result }
+        ensures improves { ImprovesEach rules.now subject.now row.old row.new }
         ensures covers { (name : List ℕ) →
             IsTrue (list_any (is_same name) subject.now.classes) →
-            CoversChain (question rules.now subject.now state property) result
+            CoversEachIn rules.now subject.now row.new
             self.now.links.items (head_of self.now.heads self.now.unnamed (Some name)) }
     {
-        let mut best = before;
         let mut rest = subject.classes.as_slice();
         'classes: while let Some((first, more)) = rest.split_first() {
-            best = self.best_by_name(rules, subject, state, property, Some(first), best);
+            self.search_name(rules, subject, Some(first), row);
             rest = more;
         }
-        best
     }
 
-    // The best once those came that ask for a name.
-    fn best_by_name(
-        &self,
-        rules: &[Rule],
-        subject: &Subject,
-        state: State,
-        property: Property,
-        name: Option<&Text>,
-        before: Option<Found>,
-    ) -> Option<Found>
+    // Offers those that ask for a name.
+    fn search_name(&self, rules: &[Rule], subject: &Subject, name: Option<&Text>, row: &mut Row)
         requires { AreBackward self.now.links.items }
-        ensures improves { Improves (question rules.now subject.now state property) before result }
-        ensures covers { CoversChain (question rules.now subject.now state property) result
-            self.now.links.items
+        ensures improves { ImprovesEach rules.now subject.now row.old row.new }
+        ensures covers { CoversEachIn rules.now subject.now row.new self.now.links.items
             (head_of self.now.heads self.now.unnamed (option_copied name.entry)) }
     {
-        let head = self.head(name);
-        self.best_in_chain(rules, subject, state, property, head, before)
+        self.search_chain(rules, subject, self.head(name), row);
     }
 
-    // The best once those of a chain came.
-    fn best_in_chain(
-        &self,
-        rules: &[Rule],
-        subject: &Subject,
-        state: State,
-        property: Property,
-        head: Option<usize>,
-        before: Option<Found>,
-    ) -> Option<Found>
+    // Offers those of a chain.
+    fn search_chain(&self, rules: &[Rule], subject: &Subject, head: Option<usize>, row: &mut Row)
         requires { AreBackward self.now.links.items }
-        ensures improves { Improves (question rules.now subject.now state property) before result }
-        ensures covers { CoversChain (question rules.now subject.now state property) result
-            self.now.links.items head }
+        ensures improves { ImprovesEach rules.now subject.now row.old row.new }
+        ensures covers { CoversEachIn rules.now subject.now row.new self.now.links.items head }
     {
-        let mut best = before;
         let mut next = head;
         'chain: while let Some(place) = next {
             let Some(link) = self.links.get(place) else {
-                return best;
+                return;
             };
-            let offer = offered(rules, link.rule, subject, state, property);
-            best = with_offer(best, link.rule, offer);
+            row.offer_rule(rules, link.rule, subject);
             next = link.next;
         }
-        best
     }
 }

@@ -3,15 +3,17 @@
 ghost use Rattle.std.specs.Prelude.{◌≡◌, IfOk, IfSome, IsTrue};
 ghost use Rattle.style_reader.specs.Values.{fits};
 ghost use Rattle.style_cascade.specs.Candidates.{declared_value};
-ghost use Rattle.style_cascade.specs.Indexing.{found_value};
+ghost use Rattle.style_cascade.specs.Rows.{value_at};
+ghost use Rattle.style_cascade.specs.declared.states.State.{State};
+ghost use Rattle.style_reader.specs.declared.properties.Property.{Property};
 
-use crate::index::{Found, Index};
-use crate::states::State;
+use crate::index::Index;
+use crate::rows::Row;
 use crate::subjects::Subject;
 use bml_bytes::NoMemory;
 use std::alloc::Global;
 use std::marker::Model;
-use style_reader::{Property, Rules, StyleValue};
+use style_reader::Rules;
 
 /// The rules of a document's style texts, with the names that they ask for. Contracts see the list
 /// of them.
@@ -44,23 +46,23 @@ impl Sheet {
         Ok(Sheet { rules, index })
     }
 
-    /// What the rules give an element in a state for a property. Only those are searched that ask
-    /// for a name of the element, or for none.
-    pub fn value(&self, subject: &Subject, state: State, property: Property) -> Option<StyleValue>
-        ensures value { result ≡ declared_value self.now subject.now state property }
-        ensures fits { IfSome result (λ value. IsTrue (fits property value)) }
+    /// The best of what the rules give an element. Only those are searched that ask for a name of
+    /// the element, or for none.
+    pub fn best(&self, alloc: Global, subject: &Subject) -> Result<Row, NoMemory>
+        ensures best { IfOk result (λ row. (state : State) (property : Property) →
+            value_at row state property ≡ declared_value self.now subject.now state property) }
+        ensures fits { IfOk result (λ row. (state : State) (property : Property) →
+            IfSome (value_at row state property) (λ value. IsTrue (fits property value))) }
     {
-        let rules = self.rules.as_slice();
-        let best = self.index.best(rules, subject, state, property);
-        value_of(best)
+        let mut row = Row::new(alloc)?;
+        self.index.search(self.rules.as_slice(), subject, &mut row);
+        Ok(row)
     }
-}
 
-fn value_of(best: Option<Found>) -> Option<StyleValue>
-    ensures { result ≡ found_value best }
-{
-    match best {
-        Some(Found { candidate, .. }) => Some(candidate.value),
-        None => None,
+    /// The rules alone.
+    pub fn into_rules(self) -> Rules
+        ensures { result ≡ self }
+    {
+        self.rules
     }
 }

@@ -1,16 +1,16 @@
 //! The styles of a document.
 
-ghost use Rattle.std.specs.Prelude.{◌≡◌, ◌≢◌, ◌<◌, ◌+◌, ◌-◌, ◌^◌, ℕ, Some, None, length, min, IfOk, IfSome, IsTrue};
+ghost use Rattle.std.specs.Prelude.{◌≡◌, ◌≢◌, ◌+◌, ◌-◌, ◌^◌, ℕ, Some, None, min, IfOk, IfSome, IsTrue};
 ghost use Rattle.dom_tree.specs.Items.{IsElement};
 ghost use Rattle.style_reader.specs.Values.{fits as spec_fits};
 ghost use Rattle.style_cascade.specs.States.{present_state};
 ghost use Rattle.style_cascade.specs.declared.states.State.{State};
 ghost use Rattle.style_reader.specs.declared.properties.Property.{Property};
 
-use crate::search::value_said;
+use crate::said::put_said;
 use crate::sheets::Sheet;
 use crate::states::{Focus, State};
-use crate::subjects::{Names, Styled, styled_at};
+use crate::subjects::{Names, styled_at};
 use crate::tables::Table;
 use bml_bytes::NoMemory;
 use dom_tree::{NodeId, Tree};
@@ -24,11 +24,10 @@ use style_reader::{Property, Rules, StyleValue};
 /// `class` and `style`.
 #[derive(Drop)]
 pub struct Styles {
-    rules: Sheet,
+    // what contracts see: all that they say is in the table
+    rules: Rules,
+    said: Table,
     writes: Table,
-
-    // for each node what styles ask of it, where it is an element
-    elements: Vec<Option<Styled>>,
 
     // how many values were worked out
     worked: u64,
@@ -49,7 +48,7 @@ impl Model for Styles {
     ghost view = { λ styles. record {
       sources = record { rules = styles.rules; writes = styles.writes };
       worked = styles.worked;
-      kept = styles.elements.items;
+      kept = styles.said;
     } };
 }
 
@@ -57,7 +56,9 @@ impl Styles {
     ghost use Rattle.style_cascade.specs.Cascade.{asked_count, asked_places, first_own, places_above, style_value, values_asked, write_of};
     ghost use Rattle.style_cascade.specs.Keeping.{IsRight, kept_value};
 
-    /// The styles of a document with these rules. Nothing is written yet.
+    /// The styles of a document with these rules. Nothing is written yet. What rules and inline
+    /// texts say is worked out here: for each element each rule that asks for a name of it is
+    /// looked at once.
     pub fn new(alloc: Global, tree: &Tree, rules: Rules) -> Result<Styles, NoMemory>
         ensures rules { IfOk result (λ styles. styles.sources.rules ≡ rules) }
         ensures unwritten { IfOk result
@@ -67,19 +68,20 @@ impl Styles {
         ensures right { IfOk result
             (λ styles. (states : ℕ → State) → IsRight tree.now states styles) }
     {
-        let rules = Sheet::new(alloc, rules)?;
+        let sheet = Sheet::new(alloc, rules)?;
         let names = Names::new(alloc)?;
         let count = tree.node_count();
-        let mut elements = Vec::new(alloc);
+        let mut said = Table::new(alloc, count)?;
         'nodes: for number in 0..count {
-            let styled = styled_at(alloc, tree, &names, NodeId(number))?;
-            elements.push(styled)?;
+            let node = NodeId(number);
+            let styled = styled_at(alloc, tree, &names, node)?;
+            put_said(alloc, &sheet, styled, node, &mut said)?;
         }
         let writes = Table::new(alloc, count)?;
         Ok(Styles {
-            rules,
+            rules: sheet.into_rules(),
+            said,
             writes,
-            elements,
             worked: 0,
         })
     }
@@ -140,7 +142,7 @@ impl Styles {
         ensures right { (states : ℕ → State) →
             IsRight tree.now states self.old → IsRight tree.now states self.new }
     {
-        self.writes.put(node, state, property, value);
+        self.writes.put(node, state, property, Some(value));
     }
 
     /// Says that the state of an element changed.
@@ -226,7 +228,6 @@ impl Styles {
 
     // What is said of the element itself.
     fn own(&self, node: NodeId, state: State, property: Property) -> Option<StyleValue>
-        requires { node.0 < length self.now.kept }
         ensures value { result ≡ kept_value self.now node.0 state property }
         ensures fits { IfSome result (λ value. IsTrue (spec_fits property value)) }
     {
@@ -238,9 +239,6 @@ impl Styles {
         if written.is_some() {
             return written;
         }
-        match &self.elements[node.0 as usize] {
-            Some(styled) => value_said(&self.rules, styled, state, property),
-            None => None,
-        }
+        self.said.get(node, state, property)
     }
 }

@@ -1,12 +1,12 @@
 //! Tables of values by node, state and property.
 
-ghost use Rattle.std.specs.Prelude.{◌≡◌, ◌+◌, ◌*◌, ◌<◌, ◌≤◌, ℕ, Some, None, length, slice_set, IfOk, IfSome, IsTrue};
+ghost use Rattle.std.specs.Prelude.{◌≡◌, ◌+◌, ◌*◌, ◌<◌, ◌≤◌, ℕ, None, length, slice_set, IfOk, IfSome, IsTrue};
 ghost use Rattle.style_reader.specs.Values.{fits};
+ghost use Rattle.style_cascade.specs.Candidates.{property_place};
 ghost use Rattle.style_cascade.specs.Writes.{cell_place as spec_cell_place};
 ghost use Rattle.style_cascade.specs.declared.states.State.{State};
 ghost use Rattle.style_reader.specs.declared.properties.Property.{Property};
 
-use crate::search::place_of;
 use crate::states::State;
 use bml_bytes::NoMemory;
 use dom_tree::NodeId;
@@ -14,8 +14,8 @@ use std::alloc::Global;
 use std::marker::Model;
 use style_reader::{Property, StyleValue};
 
-// The cells of a node, 17 for each of the three states.
-const CELLS: usize = 51;
+/// The cells of a node, 17 for each of the three states.
+pub const CELLS: usize = 51;
 
 const STATE_CELLS: usize = 17;
 
@@ -66,14 +66,13 @@ impl Table {
         }
     }
 
-    /// Gives a cell a value.
-    pub fn put(&mut self, node: NodeId, state: State, property: Property, value: StyleValue)
+    /// Gives a cell a value, or none.
+    pub fn put(&mut self, node: NodeId, state: State, property: Property, value: Option<StyleValue>)
         requires within { 51 * node.0 + 51 ≤ length self.old }
-        requires fits { IsTrue (fits property value) }
-        ensures { self.new
-            ≡ slice_set self.old (spec_cell_place node.0 state property) (Some value) }
+        requires fits { IfSome value (λ value. IsTrue (fits property value)) }
+        ensures { self.new ≡ slice_set self.old (spec_cell_place node.0 state property) value }
     {
-        self.cells[cell_place(node, state, property)] = Some(value);
+        self.cells[cell_place(node, state, property)] = value;
     }
 }
 
@@ -81,5 +80,20 @@ fn cell_place(node: NodeId, state: State, property: Property) -> usize
     ensures place { result ≡ spec_cell_place node.0 state property }
     ensures within { result < 51 * node.0 + 51 }
 {
-    CELLS * node.0 as usize + STATE_CELLS * state as usize + place_of(property)
+    CELLS * node.0 as usize + row_place(state, property)
+}
+
+/// The place of a state and a property among those of a node.
+pub fn row_place(state: State, property: Property) -> usize
+    ensures place { result ≡ spec_cell_place 0 state property }
+    ensures within { result < 51 }
+{
+    STATE_CELLS * state as usize + place_of(property)
+}
+
+// The place of a property among all.
+fn place_of(property: Property) -> usize
+    ensures { result ≡ property_place property }
+{
+    property as usize
 }

@@ -1,14 +1,7 @@
 use Rattle.std.proofs.Common.{arith}
 use Rattle.style_cascade.specs.Writes.{cell_place}
-use Rattle.style_cascade.proofs.PlaceLemmas.{property_place-small, state_place-is, state_place-small}
 use Rattle.style_cascade.proofs.tables.cell_place.Goals as goal
-
-pub overflow_add-result-2 : goal.overflow_add-result-2
-overflow_add-result-2 c = omega (arith, state_place-is c.args.state, state_place-small c.args.state, property_place-small c.args.property, c.place_of.ensures)
 
 pub returns-clause-place : goal.returns-clause-place
 unfolding cell_place
-returns-clause-place c = omega (arith, state_place-is c.args.state, c.place_of.ensures)
-
-pub returns-clause-within : goal.returns-clause-within
-returns-clause-within c = omega (arith, state_place-is c.args.state, state_place-small c.args.state, property_place-small c.args.property, c.place_of.ensures)
+returns-clause-place c = omega (arith, c.row_place.ensures.place)

@@ -1,7 +1,6 @@
-use Rattle.std.proofs.Common.{◌≡◌, ℕ, None, refl}
+use Rattle.std.proofs.Common.{None, refl}
 use Rattle.style_cascade.specs.States.{present_state}
 use Rattle.style_cascade.specs.declared.states.Focus.{Focus}
-use Rattle.style_cascade.specs.declared.states.State.{State}
 use Rattle.style_cascade.specs.declared.states.State.TheVariants as states
 use Rattle.style_cascade.proofs.tests.writes_stand_over_declarations.Goals as goal
 

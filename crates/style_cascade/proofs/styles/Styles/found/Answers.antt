@@ -3,12 +3,9 @@ use Rattle.std.specs.Prelude.{min}
 use Rattle.style_cascade.specs.Keeping.{StylesState}
 use Rattle.style_reader.specs.Properties.{is_inherited}
 use Rattle.style_cascade.specs.Cascade.{own_value, places_above}
-use Rattle.style_cascade.proofs.KeptLemmas.{counted-alone, counted-inherited, counted-some, element-within, kept-own, kept-within, own-none, own-none_above, own-some}
+use Rattle.style_cascade.proofs.KeptLemmas.{counted-alone, counted-inherited, counted-some, element-within, kept-own, own-none, own-none_above, own-some}
 use Rattle.style_cascade.specs.States.{present_state}
 use Rattle.style_cascade.proofs.styles.Styles.found.Goals as goal
-
-pub own-requires : goal.own-requires
-own-requires c = kept-within c.args.tree.now (present_state c.args.focus.now) c.args.self.now c.args.node.0 c.requires.right (element-within c.args.tree.now c.args.node.0 c.requires.element)
 
 pub returns-in-Some-clause-value : goal.returns-in-Some-clause-value
 returns-in-Some-clause-value c = own-some _ _ c.in-Some.value (sym ((c.in-Some.ensures {u = tt}).value ∙ kept-own c.args.tree.now (present_state c.args.focus.now) c.args.self.now c.args.node.0 c.args.state c.args.property c.requires.right (element-within c.args.tree.now c.args.node.0 c.requires.element)))

@@ -9,7 +9,7 @@ use Rattle.dom_tree.specs.declared.node_ids.NodeId.{NodeId}
 use Rattle.style_cascade.specs.Cascade.{own_value}
 use Rattle.style_cascade.specs.Keeping.{kept_value}
 use Rattle.style_cascade.specs.declared.states.State.{State}
-use Rattle.style_cascade.proofs.KeptLemmas.{climb-counted-end, climb-counted-none, climb-counted-some, climb-none, climb-some, element-within, kept-own, kept-within}
+use Rattle.style_cascade.proofs.KeptLemmas.{climb-counted-end, climb-counted-none, climb-counted-some, climb-none, climb-some, element-within, kept-own}
 use Rattle.style_cascade.specs.States.{present_state}
 use Rattle.style_cascade.proofs.styles.Styles.found_above.Goals as goal
 
@@ -17,11 +17,6 @@ pub parent-next-requires-in-Some : goal.parent-next-requires-in-Some
 parent-next-requires-in-Some c =
     let element : IsElement c.args.tree.now c.in-Some.up.0 = subst (λ (o : Option NodeId). IfSome o (λ n. IsElement c.args.tree.now n.0)) c.in-Some.is c.up.invariant.element in
     element-within c.args.tree.now c.in-Some.up.0 element
-
-pub own-requires : goal.own-requires
-own-requires c =
-    let element : IsElement c.args.tree.now c.in-Some.up.0 = subst (λ (o : Option NodeId). IfSome o (λ n. IsElement c.args.tree.now n.0)) c.in-Some.is c.up.invariant.element in
-    kept-within c.args.tree.now (present_state c.args.focus.now) c.args.self.now c.in-Some.up.0 c.requires.right (element-within c.args.tree.now c.in-Some.up.0 element)
 
 pub returns-in-Some-own-clause-value : goal.returns-in-Some-own-clause-value
 returns-in-Some-own-clause-value c =

@@ -27,4 +27,4 @@ unfolding values_asked
 returns-clause-worked c = c.found-answer.ensures.worked
 
 pub returns-clause-right : goal.returns-clause-right
-returns-clause-right c = right-put c.args.tree.now (present_state c.args.focus.now) c.args.self.now _ (ap (λ (s : StylesState). s.kept) c.self.view_is) (ap (λ (s : StylesState). length s.sources.writes) c.self.view_is) c.requires.right
+returns-clause-right c = right-put c.args.tree.now (present_state c.args.focus.now) c.args.self.now _ (ap (λ (s : StylesState). s.kept) c.self.view_is) (ap (λ (s : StylesState). s.sources.rules) c.self.view_is) (ap (λ (s : StylesState). length s.sources.writes) c.self.view_is) c.requires.right
