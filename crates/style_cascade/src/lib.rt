@@ -2,10 +2,11 @@
 //! an element has for a property (after CSS level 1 and the styles of BML, ARIB STD-B24 volume 2;
 //! in this project's own profile).
 //!
-//! `specs/Matching.antt` says which elements a selector matches, `specs/Declared.antt` which of the
-//! declarations counts, and `specs/Cascade.antt` which value an element has. [`Styles::get`] gives
-//! just that value, [`Styles::set`] changes what scripts have written, and [`Styles::touch`] says
-//! that the state of an element changed. The `law_of_..` functions say what the definitions mean.
+//! `specs/Matching.antt` says which elements a selector matches, `specs/Candidates.antt` which of
+//! the declarations counts, and `specs/Cascade.antt` which value an element has. [`Styles::new`]
+//! works out what rules and inline texts say, [`Styles::get`] gives just the value of an element,
+//! [`Styles::set`] changes what scripts have written, and [`Styles::touch`] says that the state of
+//! an element changed. The `law_of_..` functions say what the definitions mean.
 #![tactic(auto)]
 
 mod index;
