@@ -7,7 +7,7 @@ import subprocess
 import tempfile
 import time
 
-from transport import packets_taken, section_packets
+from transport import counters_from, packets_taken, section_packets
 
 
 def words(name):
@@ -23,8 +23,7 @@ def stream_of(sections):
     """Returns the packets of sections, each with its PID, and how many they are."""
     packets, counters = [], {}
     for pid, section in sections:
-        first = counters.get(pid, 0)
-        taken = [(first + at) % 16 for at in range(packets_taken(section))]
+        taken = counters_from(counters.get(pid, 0), packets_taken(section))
         packets += section_packets(pid, taken, section)
         counters[pid] = (taken[-1] + 1) % 16
     return b"".join(packets), len(packets)
