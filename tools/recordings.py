@@ -1,0 +1,223 @@
+"""What recordings are read by: the packets of a file, the sections of a PID's packets (ISO/IEC 13818-1), and the PIDs of data that
+the tables name.
+
+docs/FORMATS.md has the rules. They are those of bml_replay, so that what is read here is what it reads, but for two points: packets may
+have 4 bytes in front of them or 16 behind them, and all services are followed at once.
+"""
+
+import re
+from typing import NamedTuple
+
+from transport import DATA_STREAM, PACKET_SIZE, is_intact, payload_of, read_pat, read_pmt
+
+PIECE = 1 << 20  # bytes that are read at a time
+SYNC = b"\x47"
+SIZES = (188, 192, 204)  # alone, with 4 bytes in front, with 16 behind
+# So many packets one behind the other settle their size; in a shorter file fewer have to do.
+ENOUGH_PACKETS = 5
+PAT_PID = 0
+
+
+class Layout(NamedTuple):
+    """How packets lie in bytes: from a place on, so many one behind the other, each of so many bytes from one to the next."""
+
+    packets: int
+    size: int
+    start: int
+
+
+def best_layout(data, is_all):
+    """Returns the layout of the longest row of packets in these bytes, which are the whole rest of a file where is_all says so."""
+    best = Layout(0, 0, 0)
+    for size in SIZES:
+        for start in range(min(size, len(data))):
+            for row in re.finditer(SYNC + b"+", data[start::size]):
+                # (the last of a row is a packet only where the file ends with it)
+                ends_file = is_all and len(data) - start - (row.end() - 1) * size in (PACKET_SIZE, size)
+                packets = row.end() - row.start() - (0 if ends_file else 1)
+                if packets > best.packets:
+                    best = Layout(packets, size, start)
+    return best
+
+
+def found_layout(file):
+    """Returns the layout of a file's packets, or None where it has none, and the bytes that were read and not given yet."""
+    data = b""
+    while True:
+        piece = file.read(PIECE)
+        data = data[-ENOUGH_PACKETS * max(SIZES) :] + piece
+        best = best_layout(data, len(piece) < PIECE)
+        if best.packets >= ENOUGH_PACKETS or (len(piece) < PIECE and best.packets):
+            return best, data
+        if len(piece) < PIECE:
+            return None, data
+
+
+def is_packet(data, at, size, is_all):
+    """Whether a packet stands there, or None where more bytes have to say so."""
+    if data[at] != SYNC[0]:
+        return False
+    if at + size < len(data):
+        return data[at + size] == SYNC[0]
+    return len(data) - at in (PACKET_SIZE, size) if is_all else None
+
+
+def cut(data, size, is_all):
+    """Returns the packets of bytes, each 188 bytes, and the bytes that are left for the next call."""
+    packets, at = [], 0
+    while 0 <= at < len(data):
+        stands = is_packet(data, at, size, is_all)
+        if stands is None:
+            return packets, data[at:]
+        if not stands:
+            at = data.find(SYNC, at + 1)
+            continue
+        marks = data[at::size]
+        row = max(1, len(marks) - len(marks.lstrip(SYNC)) - 1)
+        packets += [data[place : place + PACKET_SIZE] for place in range(at, at + row * size, size)]
+        at += row * size
+    return packets, b""
+
+
+def packets_of(file, layout, data, progress):
+    """Yields the packets of a file in lists, and tells after each how many bytes were read."""
+    data, size, read = data[layout.start :], layout.size, len(data)
+    while True:
+        piece = file.read(PIECE)
+        packets, data = cut(data + piece, size, not piece)
+        yield packets
+        read += len(piece)
+        progress(read)
+        if not piece:
+            return
+
+
+def pid_of(packet):
+    """Returns the PID of a packet."""
+    return (packet[1] & 0x1F) << 8 | packet[2]
+
+
+class Assembler:
+    """Puts the sections of one PID together from its packets."""
+
+    def __init__(self):
+        self.last = None  # the packet that was taken in last
+        self.piece = None  # what came of a section that isn't whole yet; None where nothing is read up to the next mark
+
+    def push(self, packet):
+        """Returns the sections that a packet completes, damaged ones too."""
+        payload = payload_of(packet)
+        if payload is None or packet == self.last:
+            return []
+        if self.last is not None and (packet[3] - self.last[3]) % 16 != 1:
+            self.piece = None
+        self.last = packet
+        if not packet[1] & 0x40:
+            return self.join(payload)
+        mark = 1 + payload[0]
+        if mark > len(payload):
+            self.piece = None
+            return []
+        sections = self.join(payload[1:mark])
+        self.piece = b""
+        return sections + self.join(payload[mark:])
+
+    def join(self, data):
+        """Returns the sections that more bytes complete."""
+        if self.piece is None:
+            return []
+        piece, at, sections = self.piece + data, 0, []
+        while at < len(piece) and piece[at] != 0xFF:
+            end = at + 3 + (int.from_bytes(piece[at + 1 : at + 3], "big") & 0xFFF)
+            if at + 3 > len(piece) or end > len(piece):
+                break
+            sections.append(piece[at:end])
+            at = end
+        self.piece = None if piece[at : at + 1] == b"\xff" else piece[at:]
+        return sections
+
+
+class Reception:
+    """Follows the tables of all services, and hands the packets of data to what takes them.
+
+    A component begins anew where none of the services has its PID under the tag under which one had it before.
+    """
+
+    def __init__(self, component_on):
+        self.component_on = component_on  # makes what takes the packets of a PID of data
+        self.tables = {PAT_PID: Assembler()}  # by PID
+        self.read = {}  # the section of each table that was read last
+        self.programs = {}  # the PID of each service's PMT
+        self.streams = {}  # of each service whose PMT came, the streams of data
+        self.named = {}  # of each service, all streams of data that it ever had, in the order in which they came
+        self.components = {}  # by PID
+        self.owners = {}  # by PID: the services that have it, with the tags
+        self.wanted = {PAT_PID}
+
+    def take(self, pid, packet):
+        """Takes a packet of a wanted PID, and says whether a component took it."""
+        component = self.components.get(pid)
+        if pid in self.tables:
+            for section in self.tables[pid].push(packet):
+                self.take_table(pid, section)
+        if component is None:
+            return False
+        component.take(packet)
+        return True
+
+    def take_table(self, pid, section):
+        """Takes a section of a table, where it isn't the one that was read last."""
+        key = pid, section[3:5]
+        if section == self.read.get(key) or not is_intact(section):
+            return
+        take = self.take_programs if pid == PAT_PID else self.take_streams
+        if take(pid, section):
+            self.read[key] = section
+
+    def take_programs(self, _, section):
+        """Takes a PAT, and says whether it is one: of two programs with one number the first counts, and a service that isn't in it
+        stays as it was."""
+        programs = read_pat(section)
+        if programs is None:
+            return False
+        self.read = {}  # (what a PMT says may count now)
+        first = {}
+        for number, pid in programs:
+            first.setdefault(number, pid)
+        self.programs.update({number: pid for number, pid in first.items() if number != 0})
+        pids = {PAT_PID, *self.programs.values()}
+        self.tables = {pid: self.tables.get(pid) or Assembler() for pid in pids}
+        self.wanted = {*self.tables, *self.components}
+        return True
+
+    def take_streams(self, pid, section):
+        """Takes a PMT, and says whether it counts: it does on the PID of its service."""
+        found = read_pmt(section)
+        if found is None or self.programs.get(found[0]) != pid:
+            return False
+        self.streams[found[0]] = [stream for stream in found[1] if stream.kind == DATA_STREAM]
+        self.named.setdefault(found[0], {}).update(dict.fromkeys(self.streams[found[0]]))
+        owners = {}
+        for service, streams in self.streams.items():
+            for stream in streams:
+                owners.setdefault(stream.pid, set()).add((service, stream.component))
+        owners.pop(PAT_PID, None)
+        self.follow(owners)
+        return True
+
+    def follow(self, owners):
+        """Keeps the components that have an owner that they had, and begins and ends the others."""
+        for pid in [pid for pid in self.components if pid not in owners]:
+            self.components.pop(pid).end()
+        for pid, now in owners.items():
+            if pid not in self.components:
+                self.components[pid] = self.component_on(pid)
+            elif not now & self.owners[pid]:
+                self.components[pid].begin_anew()
+        self.owners = owners
+        self.wanted = {*self.tables, *self.components}
+
+    def end(self):
+        """Ends all components, behind the last packet."""
+        for component in self.components.values():
+            component.end()
