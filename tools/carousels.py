@@ -294,6 +294,8 @@ class Announcement:
     def rewritten(self):
         """Returns the section that announces what was unpacked."""
         dii, modules, left = read_dii(self.came), [], dict(self.modules)
+        if not self.modules and self.transaction == dii.transaction:
+            return self.came
         for entry in dii.modules:
             # (of two entries with one number the first counts)
             module = left.pop(entry.number, None)
@@ -437,29 +439,36 @@ class UnpackedComponent:
 
     def announce(self, section, dii):
         """Takes another DII: what is announced as before stays as it is, and what isn't is let go."""
-        faults, modules, refused = faults_of(dii), {}, {}
-        for number, module in entries_of(dii).items():
-            made = CompressedModule(dii, module) if number in faults else None
-            if made is not None and faults[number] is None:
-                old = self.modules.get(number)
-                modules[number] = old if old is not None and old.key == made.key else made
-            elif made is not None:
-                refused[made.key] = faults[number]
-        self.let_go([old for number, old in self.modules.items() if modules.get(number) is not old])
-        for key in refused.keys() - self.refused.keys():
-            self.say(key[2], refused[key])
-        self.modules, self.refused = modules, refused
+        faults, before = faults_of(dii), self.modules
+        made = {number: CompressedModule(dii, module) for number, module in entries_of(dii).items() if number in faults}
+        self.refuse({module.key: (module.module, faults[number]) for number, module in made.items() if faults[number]})
+        self.modules = {
+            number: before[number] if number in before and before[number].key == module.key else module
+            for number, module in made.items()
+            if faults[number] is None
+        }
+        self.let_go([module for number, module in before.items() if self.modules.get(number) is not module])
         self.transaction, self.dii = dii.transaction, section
-        if modules or dii.transaction == self.written_transaction:
-            self.written_transaction = own_transaction(dii.transaction, self.written_transaction)
-        else:
-            self.written_transaction = dii.transaction
-        self.announcement = Announcement(section, self.written_transaction, modules)
+        self.announcement = Announcement(section, self.next_transaction(), self.modules)
+        self.written_transaction = self.announcement.transaction
         self.waiting.append(self.announcement)
-        for module in modules.values():
+        for module in self.modules.values():
             if module.is_open and module.is_whole():
                 self.complete(module)
         self.settle()
+
+    def refuse(self, refused):
+        """Says which modules of a DII can't be unpacked, where the DII before didn't announce them so."""
+        for key, (module, fault) in refused.items():
+            if key not in self.refused:
+                self.say(module, fault)
+        self.refused = refused
+
+    def next_transaction(self):
+        """Returns the transactionId under which the DII in force is written: its own where it is another DII than the one that came, or
+        where the one before is written under that."""
+        is_taken = self.channel.sends and self.transaction == self.written_transaction
+        return own_transaction(self.transaction, self.written_transaction) if self.modules or is_taken else self.transaction
 
     def let_go(self, modules):
         """Leaves those of the modules that are open, and keeps no bytes of any."""

@@ -7,11 +7,15 @@ examples/README.md explains the format of descriptions.
 import os
 import re
 import sys
+import zlib
 
 from transport import (
+    PACKET_SIZE,
     TYPE_DESCRIPTOR,
     ElementaryStream,
     Module,
+    compression_type,
+    counters_from,
     ddb_section,
     descriptor,
     dii_section,
@@ -23,6 +27,8 @@ from transport import (
 )
 
 TOKEN = re.compile(r'"[^"]*"(?:\*[0-9]+)?|#.*|[^\s"#]+')
+# What stands in front of a packet and behind it, by the size of both with it.
+ROUND_PACKETS = {188: (0, 0), 192: (4, 0), 204: (0, 16)}
 BYTES = re.compile(r'(?:"([ -~]*)"|([0-9A-Fa-f]{2}))(?:\*([0-9]+))?')
 
 
@@ -59,18 +65,6 @@ def parted(name, text, mark, form):
     if len(fields) != len(form.split(mark)):
         raise Fault(f"{name}={text} is not of the form {name}={form}")
     return fields
-
-
-def module_infos(fields):
-    """The infos of modules by their numbers: descriptors and other bytes, in the order written."""
-    infos = {}
-    for name, text in fields.taken_of("type", "info"):
-        module, _, value = text.partition(":")
-        if not value:
-            raise Fault(f"{name}={text} is not of the form {name}=MODULE:VALUE")
-        data = descriptor(TYPE_DESCRIPTOR, value.encode("ascii")) if name == "type" else bytes.fromhex(value)
-        infos[number(module, 16)] = infos.get(number(module, 16), b"") + data
-    return infos
 
 
 class Fields:
@@ -113,6 +107,8 @@ class Stream:
         self.made = {}  # the files that statements make, by their names
         self.data = bytearray()
         self.pid = None
+        self.front, self.behind = 0, 0  # bytes round each packet
+        self.packets = 0
         self.next_counters = {}
         self.last_section = None  # where its first packet begins, and its length
 
@@ -122,13 +118,15 @@ class Stream:
             raise Fault("a statement pid is to come first")
         count = packets_taken(section)
         if counters is None:
-            first = self.next_counters.get(self.pid, 0)
-            counters = [(first + at) % 16 for at in range(count)]
+            counters = counters_from(self.next_counters.get(self.pid, 0), count)
         elif len(counters) != count:
             raise Fault(f"counters= has {len(counters)} numbers, and the section takes {count} packets")
         self.next_counters[self.pid] = (counters[-1] + 1) % 16
         self.last_section = len(self.data), len(section)
-        self.data += b"".join(section_packets(self.pid, counters, section))
+        for packet in section_packets(self.pid, counters, section):
+            # (an arrival time stands in front: one more for each packet)
+            self.data += self.packets.to_bytes(4, "big")[: self.front] + packet + bytes(self.behind)
+            self.packets += 1
 
     def file(self, name):
         if name in self.made:
@@ -139,10 +137,38 @@ class Stream:
         except OSError as fault:
             raise Fault(str(fault)) from None
 
+    def size(self, text):
+        """A size: a number, or that of a file behind an @."""
+        return len(self.file(text[1:])) if text.startswith("@") else number(text, 32)
+
     def module(self, text, infos):
         module, version, size = parted("module", text, "/", "NUMBER/VERSION/SIZE")
-        length = len(self.file(size[1:])) if size.startswith("@") else number(size, 32)
-        return Module(number(module, 16), number(version, 8), length, infos.get(number(module, 16), b""))
+        return Module(number(module, 16), number(version, 8), self.size(size), infos.get(number(module, 16), b""))
+
+    def module_infos(self, fields):
+        """The infos of modules by their numbers: descriptors and other bytes, in the order written."""
+        makers = {
+            "type": lambda value: descriptor(TYPE_DESCRIPTOR, value.encode("ascii")),
+            "zlib": lambda value: compression_type(self.size(value)),
+            "info": bytes.fromhex,
+        }
+        infos = {}
+        for name, text in fields.taken_of(*makers):
+            module, _, value = text.partition(":")
+            if not value:
+                raise Fault(f"{name}={text} is not of the form {name}=MODULE:VALUE")
+            infos[number(module, 16)] = infos.get(number(module, 16), b"") + makers[name](value)
+        return infos
+
+    def compress(self, words):
+        """Makes a file: the zlib data of another, by Huffman codes alone, since how zlib looks for repeats changes with its version."""
+        fields = Fields(words)
+        name, of = fields.optional("file"), fields.optional("of")
+        fields.end()
+        if not name or not of:
+            raise Fault("compressed takes a file= and an of=")
+        maker = zlib.compressobj(9, strategy=zlib.Z_HUFFMAN_ONLY)
+        self.made[name] = maker.compress(self.file(of)) + maker.flush()
 
     def entity(self, words):
         """Makes a file: an entity of several parts, whose lines end with CR LF, and whose parts are files."""
@@ -169,18 +195,14 @@ class Stream:
         fields = Fields(words)
         counters = counters_of(fields)
         program = fields.number("program", 16)
-        streams = [parted("stream", text, ":", "TYPE:PID:COMPONENT") for text in fields.all_of("stream")]
+        streams = [stream_of_program(text) for text in fields.all_of("stream")]
         fields.end()
-        streams = [
-            ElementaryStream(number(kind, 8), number(pid, 13), None if tag == "-" else number(tag, 8))
-            for kind, pid, tag in streams
-        ]
         self.send(pmt_section(program, streams), counters)
 
     def dii(self, words):
         fields = Fields(words)
         counters = counters_of(fields)
-        infos = module_infos(fields)
+        infos = self.module_infos(fields)
         modules = [self.module(text, infos) for text in fields.all_of("module")]
         identity = [fields.number("transaction", 32), fields.number("download", 32), fields.number("blocksize", 16)]
         fields.end()
@@ -216,12 +238,19 @@ class Stream:
         start, length = self.last_section
         if at >= length:
             raise Fault(f"the last section has {length} bytes, and so no byte {at}")
-        self.data[start + place_in_packets(at)] ^= 1 << bit
+        packet, byte = divmod(place_in_packets(at), PACKET_SIZE)
+        self.data[start + packet * (self.front + PACKET_SIZE + self.behind) + self.front + byte] ^= 1 << bit
 
     def select_pid(self, words):
         if len(words) != 1:
             raise Fault("pid takes one number")
         self.pid = number(words[0], 13)
+
+    def select_size(self, words):
+        if len(words) != 1 or number(words[0], 8) not in ROUND_PACKETS:
+            raise Fault("packets takes one number, which is 188, 192 or 204")
+        self.front, self.behind = ROUND_PACKETS[number(words[0], 8)]
+        self.last_section = None
 
     def bytes(self, words):
         self.data += bytes_of(words)
@@ -234,10 +263,12 @@ class Stream:
         if not words:
             return
         statements = {
+            "packets": self.select_size,
             "pid": self.select_pid,
             "pat": self.pat,
             "pmt": self.pmt,
             "entity": self.entity,
+            "compressed": self.compress,
             "dii": self.dii,
             "ddb": self.ddb,
             "blocks": self.blocks,
@@ -247,6 +278,14 @@ class Stream:
         if words[0] not in statements:
             raise Fault(f"{words[0]} is no statement")
         statements[words[0]](words[1:])
+
+
+def stream_of_program(text):
+    """Reads a stream of a PMT: its type, PID and component, and its data component where a fourth field says it."""
+    form = "TYPE:PID:COMPONENT:DATA" if text.count(":") == 3 else "TYPE:PID:COMPONENT"
+    kind, pid, tag, *data = parted("stream", text, ":", form)
+    component = None if tag == "-" else number(tag, 8)
+    return ElementaryStream(number(kind, 8), number(pid, 13), component, number(data[0], 16) if data else None)
 
 
 def counters_of(fields):

@@ -19,25 +19,30 @@ PAT_PID = 0
 
 
 class Layout(NamedTuple):
-    """How packets lie in bytes: from a place on, so many one behind the other, each of so many bytes from one to the next."""
+    """How packets lie in bytes: the longest row of them, how many bytes it is from one to the next, and where the first may stand."""
 
     packets: int
     size: int
     start: int
 
 
+def rows(data, size, is_all):
+    """Yields the rows of packets of that size in bytes, each with its number of packets and its place; where is_all says so, the bytes are
+    all that is left of a file."""
+    for phase in range(min(size, len(data))):
+        for row in re.finditer(SYNC + b"+", data[phase::size]):
+            # (the last of a row is a packet only where the file ends with it)
+            ends_file = is_all and len(data) - phase - (row.end() - 1) * size in (PACKET_SIZE, size)
+            yield row.end() - row.start() - (0 if ends_file else 1), phase + row.start() * size
+
+
 def best_layout(data, is_all):
-    """Returns the layout of the longest row of packets in these bytes, which are the whole rest of a file where is_all says so."""
-    best = Layout(0, 0, 0)
-    for size in SIZES:
-        for start in range(min(size, len(data))):
-            for row in re.finditer(SYNC + b"+", data[start::size]):
-                # (the last of a row is a packet only where the file ends with it)
-                ends_file = is_all and len(data) - start - (row.end() - 1) * size in (PACKET_SIZE, size)
-                packets = row.end() - row.start() - (0 if ends_file else 1)
-                if packets > best.packets:
-                    best = Layout(packets, size, start)
-    return best
+    """Returns the layout of the longest row. Of rows at the front the longest counts, since in a recording with arrival times these may
+    look like packets for a while."""
+    found = {size: list(rows(data, size, is_all)) for size in SIZES}
+    packets, size = max((max(found[size], default=(0, 0))[0], -size) for size in SIZES)
+    _, start = max([row for row in found[-size] if row[1] < -size], default=(0, 0))
+    return Layout(packets, -size, start)
 
 
 def found_layout(file):

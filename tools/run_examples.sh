@@ -2,7 +2,8 @@
 # Runs examples against a built program: run_examples.sh PROGRAM [EXAMPLE..]
 #
 # With no example named it runs all of them. It makes each stream anew from its description and compares it with the
-# file beside it, runs the program in a copy of the example's folder, for at most 60 seconds and with 256 MiB of addresses,
+# file beside it, and where there is a file unpacked.ts it lists and unpacks the stream by prepare_recording.py and compares what that gave. It
+# runs the program in a copy of the example's folder, for at most 60 seconds and with 256 MiB of addresses,
 # and compares standard output, standard error and status with what the example wants. It prints a line for each example,
 # with what differs behind it, and a sum.
 # Status: 0 where all passed, 1 where one failed, 2 where nothing could be run.
@@ -39,6 +40,15 @@ check_stream() {
   fi
 }
 
+# Prints how what prepare_recording.py makes of the stream differs from what an example wants.
+check_recording() {
+  [ -f "$1/unpacked.ts" ] || return
+  python3 -B "$tools/prepare_recording.py" list "$1/stream.ts" 2>&1 | diff --unified --label "wanted list" --label list "$1/list" -
+  python3 -B "$tools/prepare_recording.py" unpack "$1/stream.ts" "$room/unpacked.ts" 2>&1 \
+    | diff --unified --label "wanted told" --label told "$1/told" -
+  cmp "$room/unpacked.ts" "$1/unpacked.ts" 2>&1
+}
+
 # Prints how what the program did differs from what an example wants.
 check_run() {
   local words status=0
@@ -58,7 +68,7 @@ check_run() {
 failed=0
 for name in "$@"; do
   if [ -d "$examples/$name" ]; then
-    differs=$(check_stream "$examples/$name"; check_run "$examples/$name")
+    differs=$(check_stream "$examples/$name"; check_recording "$examples/$name"; check_run "$examples/$name")
   else
     differs="there is no such example"
   fi
