@@ -149,6 +149,7 @@ class Transport(unittest.TestCase):
                 assembler, found = Assembler(), []
                 for packet in transport.section_packets(PID, transport.counters_from(15, count), section):
                     self.assertEqual(len(packet), PACKET_SIZE)
+                    self.assertTrue(transport.payload_of(packet))
                     found += assembler.push(packet)
                 self.assertEqual(found, [section])
 
@@ -168,6 +169,26 @@ class Transport(unittest.TestCase):
         rest = transport.dii_message(transport.Dii(1, 1, 1, [Module(1, 1, 1)]))[12:]
         for wrong in (rest + b"x", rest[:-1], rest[:18] + b"\x00\x02" + rest[20:], rest[:27] + b"\x01" + rest[28:]):
             self.assertIsNone(transport.read_dii(transport.section(0x3B, transport.message(0x1002, 1, wrong))))
+
+    def test_sections_are_those_of_runs_and_marks(self):
+        one, two = transport.section(0x3D, b"x" * 200), transport.section(0x3D, b"yy")
+        data = one + two
+        first, second = data[:183], data[183:]
+        begun = transport.packet(PID, 3, True, b"\x00" + first)
+        rows = [
+            ([begun, transport.packet(PID, 4, False, second)], [one, two]),
+            ([begun, begun, transport.packet(PID, 4, False, second)], [one, two]),
+            ([begun, transport.packet(PID, 5, False, second)], []),
+            ([transport.packet(PID, 4, False, second)], []),
+            ([begun, transport.packet(PID, 4, True, bytes([len(one) - 183]) + second)], [one, two]),
+            ([begun, transport.packet(PID, 4, True, b"\x00" + two)], [two]),
+            ([begun, transport.packet(PID, 4, True, b"\xb7" + second)], [one, two]),
+            ([begun, transport.packet(PID, 4, True, b"\xb8" + second), transport.packet(PID, 5, False, second)], []),
+            ([begun, transport.packet(PID, 4, False, one[183:] + b"\xff"), transport.packet(PID, 5, False, two)], [one]),
+        ]
+        for packets, wanted in rows:
+            assembler = Assembler()
+            self.assertEqual([section for packet in packets for section in assembler.push(packet)], wanted)
 
     def test_tables_are_read_as_they_are_made(self):
         streams = [ElementaryStream(2, 300, None), ElementaryStream(13, 512, 0x40, 7)]
@@ -305,6 +326,31 @@ class Unpacking(InFolder):
                 self.assertEqual(came, [transport.read_ddb(section) for section in sections[1:]])
                 self.assertEqual(self.lines(stream), [("skip", 0x40, 1, "compressed")])
 
+    def test_a_block_that_is_not_announced_does_not_count(self):
+        module, sent = compressed(1)
+        wrong = [
+            transport.ddb_section(2, 1, 1, 0, sent),
+            transport.ddb_section(1, 1, 2, 0, sent),
+            transport.ddb_section(1, 1, 1, 1, sent),
+            transport.ddb_section(1, 1, 1, 0, sent + b"x"),
+            transport.ddb_section(1, 1, 1, 0, sent[:-1]),
+            transport.with_header(blocks(module, sent)[0][:8], b"x"),
+        ]
+        rows = [transport.dii_section(1, 1, 100, [module]), *wrong]
+        stream, told = self.unpacked(packets_of(tables() + on(PID, rows)))
+        self.assertEqual(self.lines(stream), [("skip", 0x40, 1, "compressed")])
+        self.assertEqual(told.count("it never came whole"), 1)
+        self.assertIn("not complete", run("list", self.source)[1])
+        stream, told = self.unpacked(packets_of(tables() + on(PID, rows + blocks(module, sent))))
+        self.assertEqual((self.lines(stream), told), ([("module", 0x40, 1, 1, TEXT)], ""))
+        self.assertIn(", complete", run("list", self.source)[1])
+
+    def test_why_a_module_stays_is_told_once(self):
+        modules = [compressed(1, size=0xFFFFFF)[0], compressed(2, packed=b"no")[0]]
+        diis = [transport.dii_section(number, 1, 100, modules) for number in range(5)]
+        _, told = self.unpacked(packets_of(tables() + on(PID, [diis[0], *blocks(modules[1], b"no"), *diis])))
+        self.assertEqual(told.count("\n"), 2)
+
     def test_no_more_is_unpacked_than_a_receiver_takes(self):
         modules = [compressed(number, size=1 << 20)[0] for number in range(40)]
         plain = Module(50, 1, 1 << 20)
@@ -408,6 +454,25 @@ class Unpacking(InFolder):
             self.assertEqual(lines, [("module", 0x40, 1, 1, TEXT), ("gone", 0x40, 1), ("module", tag, 1, 1, TEXT)])
             self.assertEqual(told, "")
 
+    def test_a_component_with_another_tag_has_no_blocks_yet(self):
+        module, sent = compressed(1)
+        dii, parts = transport.dii_section(1, 1, 10, [module]), blocks(module, sent, 10)
+        other = on(PID, parts[:1]) + tables([ElementaryStream(DATA_STREAM, PID, 0x41)]) + on(PID, [dii, *parts[1:]])
+        stream, _ = self.unpacked(packets_of(tables() + on(PID, [dii, *parts]) + other))
+        lines = [("module", 0x40, 1, 1, TEXT), ("gone", 0x40, 1), ("skip", 0x41, 1, "compressed")]
+        self.assertEqual(self.lines(stream), lines)
+        stream, _ = self.unpacked(packets_of(tables() + on(PID, [dii, *parts]) + other + on(PID, parts[:1])))
+        self.assertEqual(self.lines(stream), [*lines[:2], ("module", 0x41, 1, 1, TEXT)])
+
+    def test_a_pmt_counts_once_its_service_is_named(self):
+        module, sent = compressed(1)
+        one, two = [transport.pmt_section(service, [ElementaryStream(DATA_STREAM, PID, 0x40)] * (service - 1)) for service in (1, 2)]
+        sections = [(0, transport.pat_section([(1, MAP_PID)])), (MAP_PID, one), (MAP_PID, two)]
+        sections += [(0, transport.pat_section([(2, MAP_PID)])), (MAP_PID, two)]
+        stream, told = self.unpacked(packets_of(sections + on(PID, [transport.dii_section(1, 1, 20, [module]), *blocks(module, sent, 20)])))
+        self.assertEqual(b"".join(transport.read_ddb(section).block for section in sections_on(PID, stream)[1:]), TEXT)
+        self.assertEqual(told, "")
+
     def test_two_services_may_share_a_component(self):
         module, sent = compressed(1)
         streams = [ElementaryStream(DATA_STREAM, PID, 0x40)]
@@ -427,7 +492,6 @@ class Unpacking(InFolder):
         for stream in streams:
             sections += on(stream.pid, [transport.dii_section(1, 1, 100, [module]), *blocks(module, sent)])
         stream, _ = self.unpacked(packets_of(sections))
-        self.assertEqual(len(self.lines(stream[: len(stream)]) if not PROGRAM else [0] * 17), 17)
         for component in streams:
             data = [transport.read_ddb(section).block for section in sections_on(component.pid, stream)[1:]]
             self.assertEqual(b"".join(data), TEXT)
@@ -529,7 +593,8 @@ class Generated(InFolder):
                 plain, packets = b"".join(packets_of_plan(plan, True)), packets_of_plan(plan, False)
                 dice = random.Random(number)
                 stream, _ = self.unpacked(framed(packets, dice.choice([188, 192, 204]), dice))
-                self.assertEqual(self.lines(stream), self.lines(plain))
+                # (lines with a module's bytes are long: what differs would take long to tell)
+                self.assertTrue(self.lines(stream) == self.lines(plain), "the modules differ")
                 if PROGRAM:
                     self.assertEqual(self.replay(stream)[:-1], self.replay(plain)[:-1])
                 unpacked += Model().read(plain) != Model().read(b"".join(packets))
