@@ -1,7 +1,7 @@
-"""Recordings for tests: each in two forms, with compressed modules and without compression, and what a stream holds by the rules of
-docs/FORMATS.md.
+"""Recordings for tests: small ones from sections, others in two forms, with compressed modules and without compression, and what a stream
+holds by the rules of docs/FORMATS.md.
 
-A recording is made from a plan, which a number settles: tables, one or two components, carousels that change, rounds of their modules, and
+Of the latter each is made from a plan, which a number settles: tables, one or two components, carousels that change, rounds of their modules, and
 what of them is damaged or lost. Both forms have the same DIIs and modules in the same order, and the same of them comes to harm. In the
 form without compression a module that can't be unpacked, or that never comes whole, is the compressed one.
 """
@@ -10,6 +10,7 @@ import random
 import zlib
 from typing import NamedTuple
 
+from measuring import stream_of
 from recordings import Assembler, pid_of
 from transport import (
     COMPRESSION_TYPE,
@@ -27,6 +28,7 @@ from transport import (
     is_intact,
     packet,
     pat_section,
+    payload_of,
     pmt_section,
     read_ddb,
     read_dii,
@@ -36,9 +38,53 @@ from transport import (
 
 SERVICE = 101
 MAP_PID = 496
-DATA_PIDS = [512, 513]
+PID = 512
+DATA_PIDS = [PID, 513]
 OTHER_PID = 300
 PAGE = b"""<bml><head><title>t</title></head><body style="width:960px;height:540px"><p>%d</p></body></bml>"""
+
+
+TEXT = b"sun and rain " * 60
+
+
+def compressed(number, data=TEXT, version=1, size=None, info=b"", packed=None):
+    """Returns a compressed module's entry and the bytes that are sent."""
+    sent = zlib.compress(data) if packed is None else packed
+    return Module(number, version, len(sent), info + compression_type(len(data) if size is None else size)), sent
+
+
+def blocks(module, sent, block_size=100, download=1):
+    """Returns the sections of a module's blocks, each of so many bytes of what is sent."""
+    places = range(0, len(sent), block_size)
+    return [ddb_section(download, module.number, module.version, at // block_size, sent[at : at + block_size]) for at in places]
+
+
+def tables(streams=(ElementaryStream(DATA_STREAM, PID, 0x40),), service=1):
+    return [(0, pat_section([(service, MAP_PID)])), (MAP_PID, pmt_section(service, list(streams)))]
+
+
+def on(pid, sections):
+    return [(pid, section) for section in sections]
+
+
+def packets_of(sections):
+    """Returns the packets of sections, each with its PID, that begin in packets of their own."""
+    data, count = stream_of(sections)
+    return [data[at * PACKET_SIZE : (at + 1) * PACKET_SIZE] for at in range(count)]
+
+
+def sections_on(pid, stream):
+    """Returns the sections of a PID in a stream of packets of 188 bytes."""
+    assembler, sections = Assembler(), []
+    for at in range(0, len(stream), PACKET_SIZE):
+        if pid_of(stream[at : at + PACKET_SIZE]) == pid:
+            sections += assembler.push(stream[at : at + PACKET_SIZE])
+    return sections
+
+
+def counters_on(pid, stream):
+    packets = [stream[at : at + PACKET_SIZE] for at in range(0, len(stream), PACKET_SIZE)]
+    return [packet[3] % 16 for packet in packets if pid_of(packet) == pid and payload_of(packet) is not None]
 
 
 class Content(NamedTuple):
@@ -85,10 +131,7 @@ class Event(NamedTuple):
 
 def sections_of(scene, content, compressed):
     """Returns the sections of a module's blocks."""
-    data, size = content.bytes_of(compressed), scene.block_size
-    return [
-        ddb_section(scene.download, content.number, content.version, at // size, data[at : at + size]) for at in range(0, len(data), size)
-    ]
+    return blocks(content, content.bytes_of(compressed), scene.block_size, scene.download)
 
 
 class Plan:

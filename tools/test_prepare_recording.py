@@ -24,58 +24,27 @@ import carousels
 import prepare_recording
 import recordings
 import transport
-from generated_recordings import MAP_PID, Model, Plan, framed, packets_of_plan
+from generated_recordings import (
+    MAP_PID,
+    PID,
+    TEXT,
+    Model,
+    Plan,
+    blocks,
+    compressed,
+    counters_on,
+    framed,
+    on,
+    packets_of,
+    packets_of_plan,
+    sections_on,
+    tables,
+)
 from recordings import Assembler, pid_of
 from transport import DATA_STREAM, PACKET_SIZE, Compression, ElementaryStream, Module
 
 PROGRAM = None  # with which recordings are replayed
 PLANS = 300
-PID = 512
-TEXT = b"sun and rain " * 60
-
-
-def compressed(number, data=TEXT, version=1, size=None, info=b"", packed=None):
-    """Returns a compressed module's entry and the bytes that are sent."""
-    sent = zlib.compress(data) if packed is None else packed
-    return Module(number, version, len(sent), info + transport.compression_type(len(data) if size is None else size)), sent
-
-
-def blocks(module, sent, block_size=100, download=1):
-    """Returns the sections of a module's blocks."""
-    places = range(0, len(sent), block_size)
-    return [transport.ddb_section(download, module.number, module.version, at // block_size, sent[at : at + block_size]) for at in places]
-
-
-def tables(streams=(ElementaryStream(DATA_STREAM, PID, 0x40),), service=1):
-    return [(0, transport.pat_section([(service, MAP_PID)])), (MAP_PID, transport.pmt_section(service, list(streams)))]
-
-
-def on(pid, sections):
-    return [(pid, section) for section in sections]
-
-
-def packets_of(sections):
-    """Returns the packets of sections, each with its PID, that begin in packets of their own."""
-    packets, counters = [], {}
-    for pid, section in sections:
-        taken = transport.counters_from(counters.get(pid, 0), transport.packets_taken(section))
-        packets += transport.section_packets(pid, taken, section)
-        counters[pid] = (taken[-1] + 1) % 16
-    return packets
-
-
-def sections_on(pid, stream):
-    """Returns the sections of a PID in a stream of packets of 188 bytes."""
-    assembler, sections = Assembler(), []
-    for at in range(0, len(stream), PACKET_SIZE):
-        if pid_of(stream[at : at + PACKET_SIZE]) == pid:
-            sections += assembler.push(stream[at : at + PACKET_SIZE])
-    return sections
-
-
-def counters_on(pid, stream):
-    packets = [stream[at : at + PACKET_SIZE] for at in range(0, len(stream), PACKET_SIZE)]
-    return [packet[3] % 16 for packet in packets if pid_of(packet) == pid and transport.payload_of(packet) is not None]
 
 
 def run(*words):
