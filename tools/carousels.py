@@ -22,7 +22,6 @@ from transport import (
     PACKET_SIZE,
     PAYLOAD_SIZE,
     ZLIB,
-    Ddb,
     compression_of,
     counters_from,
     ddb_message,
@@ -235,6 +234,7 @@ class CompressedModule(Acquisition):
         super().__init__(dii, module)
         self.size = compression_of(module.info).size
         self.header = b""  # of the section that carried its first block
+        self.first = None  # the DDB in it, without its bytes
         self.content = None  # what came of it; its bytes once it is unpacked
         self.is_open = True
         self.is_unpacked = False
@@ -245,7 +245,7 @@ class CompressedModule(Acquisition):
             return False
         if self.is_open:
             if self.content is None:
-                self.header, self.content = header, bytearray(self.module.size)
+                self.header, self.first, self.content = header, ddb._replace(block=b""), bytearray(self.module.size)
             at = ddb.number * self.key[1]
             self.content[at : at + len(ddb.block)] = ddb.block
         return self.is_whole()
@@ -273,9 +273,9 @@ class CompressedModule(Acquisition):
         for number in range(count):
             if self.is_unpacked or self.came[number]:
                 block = bytes(self.content[number * size : (number + 1) * size])
-                ddb = Ddb(self.key[0], self.module.number, self.module.version, number, block)
                 last = min(count - 1 - number // 256 * 256, 255)
-                yield with_header(self.header[:6] + bytes([number % 256, last]), ddb_message(ddb))
+                header = self.header[:6] + bytes([number % 256, last])
+                yield with_header(header, ddb_message(self.first._replace(number=number, block=block)))
 
 
 class Announcement:

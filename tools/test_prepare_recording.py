@@ -124,11 +124,13 @@ class Transport(unittest.TestCase):
 
     def test_messages_are_read_as_they_are_made(self):
         modules = [Module(1, 2, 3, b"\x01\x01x"), Module(4, 5, 6)]
-        dii = transport.Dii(0x80000002, 7, 100, modules, b"adapt", bytes(10) + b"\x00\x03abc", b"\x00\x02xy")
+        dii = transport.Dii(0x80000002, 7, 100, modules, b"adapt", bytes(10) + b"\x00\x03abc", b"\x00\x02xy", 0xFF)
         section = transport.section(0x3B, transport.dii_message(dii))
         self.assertEqual(transport.read_dii(section), dii)
         ddb = transport.Ddb(1, 2, 3, 4, b"block")
-        self.assertEqual(transport.read_ddb(transport.ddb_section(*ddb)), ddb)
+        self.assertEqual(transport.read_ddb(transport.ddb_section(*ddb[:5])), ddb)
+        ddb = ddb._replace(reserved=b"\xff\xfe")
+        self.assertEqual(transport.read_ddb(transport.section(0x3C, transport.ddb_message(ddb))), ddb)
         for made, read in [(transport.dii_message(dii), transport.read_dii), (transport.ddb_message(ddb), transport.read_ddb)]:
             for length in range(len(made)):
                 table_id = 0x3B if read is transport.read_dii else 0x3C
@@ -244,10 +246,13 @@ class Unpacking(InFolder):
         kept = b"\x01\x0atext/plain\xc0\x01y"
         module, sent = compressed(7, info=kept, version=9)
         plain = Module(8, 1, 3, b"\x01\x01x")
-        dii = transport.Dii(0x80010002, 5, 50, [module, plain], b"adapt", bytes(10) + b"\x00\x02ab", b"\x00\x01z")
+        dii = transport.Dii(0x80010002, 5, 50, [module, plain], b"adapt", bytes(10) + b"\x00\x02ab", b"\x00\x01z", 0xFF)
         event = transport.section(0x3D, b"event")
         sections = [transport.with_header(b"\x3b\xb0\x00\x00\x02\xc3\x00\x00", transport.dii_message(dii)), event]
-        sections += [*blocks(plain, b"sea", 50, 5), *blocks(module, sent, 50, 5)]
+        sections += blocks(plain, b"sea", 50, 5)
+        for section in blocks(module, sent, 50, 5):
+            ddb = transport.read_ddb(section)._replace(reserved=b"\xff\xff")
+            sections.append(transport.with_header(b"\x3c\xb0\x00\x00\x07\xd3\x00\x00", transport.ddb_message(ddb)))
         stream, told = self.unpacked(packets_of(tables() + on(PID, sections)))
         found = sections_on(PID, stream)
         self.assertEqual(told, "")
@@ -262,6 +267,9 @@ class Unpacking(InFolder):
         self.assertEqual(found[1:3], [event, sections[2]])
         made = [transport.read_ddb(section) for section in found[3:]]
         self.assertEqual([(ddb.download, ddb.module, ddb.version, ddb.number) for ddb in made], [(5, 7, 9, at) for at in range(16)])
+        self.assertEqual({(section[:2], section[3:6], section[7]) for section in found[3:]}, {(b"\x3c\xb0", b"\x00\x07\xd3", 15)})
+        self.assertEqual([section[6] for section in found[3:]], list(range(16)))
+        self.assertEqual({ddb.reserved for ddb in made}, {b"\xff\xff"})
         self.assertEqual(b"".join(ddb.block for ddb in made), TEXT)
         self.assertEqual(self.lines(stream), [("module", 0x40, 8, 1, b"sea"), ("module", 0x40, 7, 9, TEXT)])
 

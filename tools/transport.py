@@ -58,6 +58,7 @@ class Dii(NamedTuple):
     adaptation: bytes = b""
     fields: bytes = bytes(12)  # from windowSize up to the compatibility bytes
     private: bytes = bytes(2)  # privateDataLength and its bytes
+    reserved: int = 0  # the reserved byte of the message header
 
 
 class Ddb(NamedTuple):
@@ -68,6 +69,7 @@ class Ddb(NamedTuple):
     version: int
     number: int
     block: bytes
+    reserved: bytes = bytes(2)  # the reserved bytes of the message header and behind the version
 
 
 class Compression(NamedTuple):
@@ -124,10 +126,10 @@ def pmt_section(program, streams):
     return section(TABLE_PMT, body, extension=program, current_next=1)
 
 
-def message(message_id, identity, rest, adaptation=b""):
+def message(message_id, identity, rest, adaptation=b"", reserved=0):
     """Returns a message, whose header names its kind and its transactionId or downloadId."""
     length = len(adaptation) + len(rest)
-    return struct.pack(">BBHIBBH", 0x11, 0x03, message_id, identity, 0, len(adaptation), length) + adaptation + rest
+    return struct.pack(">BBHIBBH", 0x11, 0x03, message_id, identity, reserved, len(adaptation), length) + adaptation + rest
 
 
 def dii_message(dii):
@@ -135,7 +137,7 @@ def dii_message(dii):
     rest = struct.pack(">IH", dii.download, dii.block_size) + dii.fields + struct.pack(">H", len(dii.modules))
     for module in dii.modules:
         rest += struct.pack(">HIBB", module.number, module.size, module.version, len(module.info)) + module.info
-    return message(MESSAGE_DII[1], dii.transaction, rest + dii.private, dii.adaptation)
+    return message(MESSAGE_DII[1], dii.transaction, rest + dii.private, dii.adaptation, dii.reserved)
 
 
 def dii_section(transaction, download, block_size, modules):
@@ -145,7 +147,8 @@ def dii_section(transaction, download, block_size, modules):
 
 def ddb_message(ddb):
     """Returns the message of a DDB."""
-    return message(MESSAGE_DDB[1], ddb.download, struct.pack(">HBBH", ddb.module, ddb.version, 0, ddb.number) + ddb.block)
+    rest = struct.pack(">HBBH", ddb.module, ddb.version, ddb.reserved[1], ddb.number) + ddb.block
+    return message(MESSAGE_DDB[1], ddb.download, rest, reserved=ddb.reserved[0])
 
 
 def ddb_section(download, module, version, number, block):
@@ -281,15 +284,15 @@ def read_pmt(section_bytes):
 
 
 def read_message(kind, section_bytes):
-    """Returns the transactionId or downloadId of a message of that kind, its adaptation bytes and the rest."""
+    """Returns the transactionId or downloadId of a message of that kind, its reserved byte, its adaptation bytes and the rest."""
     table_id, message_id = kind
     body = section_bytes[8:-4]
     if section_bytes[0] != table_id or len(body) < 12:
         return None
-    *found, identity, _, adaptation, length = struct.unpack_from(">BBHIBBH", body)
+    *found, identity, reserved, adaptation, length = struct.unpack_from(">BBHIBBH", body)
     if found != [0x11, 0x03, message_id] or not adaptation <= length <= len(body) - 12:
         return None
-    return identity, body[12 : 12 + adaptation], body[12 + adaptation : 12 + length]
+    return identity, reserved, body[12 : 12 + adaptation], body[12 + adaptation : 12 + length]
 
 
 def read_modules(rest, at):
@@ -308,7 +311,7 @@ def read_dii(section_bytes):
     found = read_message(MESSAGE_DII, section_bytes)
     if found is None:
         return None
-    transaction, adaptation, rest = found
+    transaction, reserved, adaptation, rest = found
     try:
         download, block_size = struct.unpack_from(">IH", rest)
         fields_end = 18 + int.from_bytes(rest[16:18], "big")
@@ -318,17 +321,17 @@ def read_dii(section_bytes):
         return None
     if at + 2 + private_length != len(rest):
         return None
-    return Dii(transaction, download, block_size, modules, adaptation, rest[6:fields_end], rest[at:])
+    return Dii(transaction, download, block_size, modules, adaptation, rest[6:fields_end], rest[at:], reserved)
 
 
 def read_ddb(section_bytes):
     """Returns the DDB that a section carries."""
     found = read_message(MESSAGE_DDB, section_bytes)
-    if found is None or len(found[2]) < 6:
+    if found is None or len(found[3]) < 6:
         return None
-    download, _, rest = found
-    module, version, _, number = struct.unpack_from(">HBBH", rest)
-    return Ddb(download, module, version, number, rest[6:])
+    download, reserved, _, rest = found
+    module, version, its_reserved, number = struct.unpack_from(">HBBH", rest)
+    return Ddb(download, module, version, number, rest[6:], bytes([reserved, its_reserved]))
 
 
 def compression_of(info):
