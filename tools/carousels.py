@@ -285,11 +285,15 @@ class Announcement:
         self.came = section
         self.transaction = transaction
         self.modules = modules  # to unpack, by their numbers
+        self.unsettled = list(modules.values())
         self.written = None  # the section that is written, once it is settled
         self.last_place = NO_PLACE
 
     def is_open(self):
-        return any(module.is_open for module in self.modules.values())
+        """Whether a module is open; one that isn't is never asked again."""
+        while self.unsettled and not self.unsettled[-1].is_open:
+            self.unsettled.pop()
+        return bool(self.unsettled)
 
     def rewritten(self):
         """Returns the section that announces what was unpacked."""
@@ -440,11 +444,11 @@ class UnpackedComponent:
     def announce(self, section, dii):
         """Takes another DII: what is announced as before stays as it is, and what isn't is let go."""
         faults, before = faults_of(dii), self.modules
-        made = {number: CompressedModule(dii, module) for number, module in entries_of(dii).items() if number in faults}
-        self.refuse({module.key: (module.module, faults[number]) for number, module in made.items() if faults[number]})
+        keys = {number: (dii.download, dii.block_size, module) for number, module in entries_of(dii).items() if number in faults}
+        self.refuse({key: faults[number] for number, key in keys.items() if faults[number] is not None})
         self.modules = {
-            number: before[number] if number in before and before[number].key == module.key else module
-            for number, module in made.items()
+            number: before[number] if number in before and before[number].key == key else CompressedModule(dii, key[2])
+            for number, key in keys.items()
             if faults[number] is None
         }
         self.let_go([module for number, module in before.items() if self.modules.get(number) is not module])
@@ -459,9 +463,9 @@ class UnpackedComponent:
 
     def refuse(self, refused):
         """Says which modules of a DII can't be unpacked, where the DII before didn't announce them so."""
-        for key, (module, fault) in refused.items():
+        for key, fault in refused.items():
             if key not in self.refused:
-                self.say(module, fault)
+                self.say(key[2], fault)
         self.refused = refused
 
     def next_transaction(self):
