@@ -1,0 +1,14 @@
+pub mod RoleLemmas
+pub mod LevelLemmas
+pub mod SettleLemmas
+pub mod ReadLemmas
+pub mod FrontLemmas
+pub mod RightLemmas
+pub mod FillLemmas
+pub mod WholeLemmas
+pub mod StandLemmas
+pub mod JoinLemmas
+pub mod ClosingLemmas
+pub mod FormLemmas
+pub mod TakeLemmas
+pub mod RangeLemmas

@@ -1,0 +1,16 @@
+use Rattle.std.proofs.Common.{◌≡◌, ℕ, Bool, true, false, List, [], ◌∷◌, ◌++◌, Option, Some, None, length, refl, sym, ◌∙◌, ap, subst, arith}
+use Rattle.es_expressions.specs.Standings.{Grows, IsSingle, Stands, held}
+use Rattle.es_expressions.specs.declared.roles.Joint.TheVariants.{Close, KeyEnd, Colon}
+use Rattle.es_expressions.proofs.StandLemmas.{grows-refl, grows-trans}
+use Rattle.es_expressions.proofs.JoinLemmas.{taken-if, call-left, call-taken}
+use Rattle.es_expressions.proofs.TakeLemmas.{close-taken, key-taken, colon-taken, other-left, none-left, refuses-close, refuses-key, refuses-colon}
+use Rattle.es_expressions.proofs.joining.close.Goals as goal
+
+pub returns-in_default-clause-joins : goal.returns-in_default-clause-joins
+returns-in_default-clause-joins c = λ base. none-left Close c.args.nodes.now c.args.frames.now c.pop.new.self c.args.operand (λ _ _ _. refl) (c.in_default.ensures {u = tt}).0 (c.in_default.ensures {u = tt}).1 base c.args.token.now
+
+pub returns-clause-joins : goal.returns-clause-joins
+returns-clause-joins c = λ base. close-taken c.args.nodes.now c.completed.new.nodes c.args.frames.now c.pop.new.self c.in-Some.frame c.args.operand c.in_ok-whole.whole c.args.token.now (c.in-Some.ensures {u = tt}) c.in_ok-whole.ensures.grows c.in_ok-whole.ensures.completed base
+
+pub returns-then-not-is_closing-clause-joins : goal.returns-then-not-is_closing-clause-joins
+returns-then-not-is_closing-clause-joins c = λ base. other-left Close c.args.nodes.now c.args.frames.now c.pop.new.self c.push.new.self c.in-Some.frame c.args.operand (refuses-close c.in-Some.frame (sym c.is_closing.ensures ∙ c.if-not-is_closing.true)) (c.in-Some.ensures {u = tt}) c.in_ok-push.ensures base c.args.token.now

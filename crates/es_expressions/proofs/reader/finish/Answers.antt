@@ -1,0 +1,35 @@
+use Rattle.std.proofs.Common.{◌≡◌, ℕ, List, [], ◌∷◌, Option, Some, None, refl, sym, ◌∙◌, ap, subst, arith}
+use Rattle.es_expressions.specs.Standings.{Grows, Joins, held, IsSettledAs}
+use Rattle.es_expressions.specs.declared.operands.Operand.{Operand}
+use Rattle.es_expressions.specs.declared.places.Place.{Place}
+use Rattle.es_expressions.specs.declared.places.Place.TheVariants.{Before, Behind, Naming}
+use Rattle.es_expressions.specs.declared.places.Step.TheVariants.{Left, Taken}
+use Rattle.es_expressions.specs.declared.expressions.Found.{Found}
+use Rattle.es_expressions.proofs.FormLemmas.{if-one}
+use Rattle.es_expressions.proofs.StandLemmas.{grows-refl, grows-trans}
+use Rattle.es_expressions.proofs.JoinLemmas.{not-true, not-false}
+use Rattle.es_expressions.proofs.TakeLemmas.{Settling, empty-taken, empty-unlike, empty-other, empty-none, begins-whole, begins-left, sign-left, step-left-front, begins-empty, moves-before, moves-behind, moves-none, moves-name, moves-nameless, finds-none, finds-behind, finds-failed, finds-open, finds-whole}
+use Rattle.es_expressions.specs.Roles.{joint}
+use Rattle.es_expressions.specs.Machine.{State, finish, settled, reach, join}
+use Rattle.es_expressions.specs.Standings.{Moves, PlaceStands, IsFoundAs, Begins, IsTakenAs}
+use Rattle.es_expressions.specs.declared.places.Step.{Step}
+use Rattle.es_expressions.specs.declared.roles.Joint.{Joint}
+use Rattle.es_expressions.proofs.reader.finish.Goals as goal
+
+pub returns-in_default : goal.returns-in_default
+returns-in_default c = record { grows = grows-refl c.args.nodes.now; found = finds-none c.args.place c.args.nodes.now c.args.frames.now c.in_default.not-Behind }
+
+pub returns-in_default-2-clause-found : goal.returns-in_default-2-clause-found
+returns-in_default-2-clause-found c = subst (λ (p : Place). (s : State) → PlaceStands p c.args.nodes.now c.args.frames.now s → IsFoundAs c.settle.new.nodes None (finish s)) (sym c.in-Behind.is) (finds-behind (held c.args.nodes.now c.args.frames.now) c.in-Behind.operand c.settle.new.nodes None (λ fs e a k. finds-failed c.settle.new.nodes c.settle.new.frames (settled fs 0 e) (subst (λ (o : Option Operand). IsSettledAs c.settle.new.nodes o c.settle.new.frames (settled fs 0 e)) c.in_default-2.is (c.in_ok-whole.ensures.settled fs e a k))))
+
+pub returns-then-not-is_empty-clause-found : goal.returns-then-not-is_empty-clause-found
+returns-then-not-is_empty-clause-found c = subst (λ (p : Place). (s : State) → PlaceStands p c.args.nodes.now c.args.frames.now s → IsFoundAs c.settle.new.nodes None (finish s)) (sym c.in-Behind.is) (finds-behind (held c.args.nodes.now c.args.frames.now) c.in-Behind.operand c.settle.new.nodes None (λ fs e a k. finds-open c.settle.new.nodes c.in-Some.whole c.settle.new.frames (settled fs 0 e) (λ q. let t = c.is_empty.ensures.1 q in absurd (cc (t, c.if-not-is_empty.true))) (subst (λ (o : Option Operand). IsSettledAs c.settle.new.nodes o c.settle.new.frames (settled fs 0 e)) c.in-Some.is (c.in_ok-whole.ensures.settled fs e a k))))
+
+pub returns-clause-found : goal.returns-clause-found
+returns-clause-found c =
+    let f : Found = record { node = c.in_ok-single.single.node; height = c.in_ok-single.single.height; is_target = c.in-Some.whole.is_target } in
+    subst (λ (p : Place). (s : State) → PlaceStands p c.args.nodes.now c.args.frames.now s → IsFoundAs c.single.new.nodes (Some f) (finish s)) (sym c.in-Behind.is)
+    (finds-behind (held c.args.nodes.now c.args.frames.now) c.in-Behind.operand c.single.new.nodes (Some f) (λ fs e a k.
+    finds-whole c.settle.new.nodes c.single.new.nodes c.in-Some.whole c.settle.new.frames (settled fs 0 e) f (c.is_empty.ensures.0 c.if-not-is_empty.false)
+    (λ w h. let g = c.in_ok-single.ensures.single w h in record { tree = g.tree; height = g.height; target = h.target })
+    (subst (λ (o : Option Operand). IsSettledAs c.settle.new.nodes o c.settle.new.frames (settled fs 0 e)) c.in-Some.is (c.in_ok-whole.ensures.settled fs e a k))))

@@ -1,0 +1,10 @@
+pub mod Roles
+pub mod Trees
+pub mod Phrases
+pub mod Grammar
+pub mod Meaning
+pub mod Beginnings
+pub mod Nodes
+pub mod Machine
+pub mod Standings
+pub mod Stops
