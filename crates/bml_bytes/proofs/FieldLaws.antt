@@ -4,10 +4,11 @@ use Rattle.std.specs.Prelude.{◌&&◌}
 use Rattle.std.specs.List.{All, list_all}
 use Rattle.std.proofs.lemmas.Bool.Decides.{nat_tests}
 use Rattle.std.proofs.lemmas.Bool.{and_parts}
+use Rattle.std.proofs.lemmas.Option.{same_Some}
 use Rattle.std.proofs.lemmas.List.{take_at, drop_at, take-append-drop, length-append, length-take}
 use Rattle.std.proofs.lemmas.List.Elements.{All-head, All-tail, All-cons, All-nil}
 use Rattle.bml_bytes.specs.Codes.{AreBytes}
-use Rattle.bml_bytes.specs.Fields.{number_at, bytes_at}
+use Rattle.bml_bytes.specs.Fields.{byte_at, number_at, bytes_at}
 use Rattle.bml_bytes.specs.Numbers.{digits_in, number_in}
 use Rattle.bml_bytes.proofs.NumberLaws.{digits_in-below, digits_in-reads_back, length-digits_in, number_in-fits, number_in-reads_back}
 
@@ -104,3 +105,9 @@ unfolding bytes_at
 bytes_at-again text rest =
     let enough : length text ≤ length (text ++ rest) = let l = length-append text rest in omega arith in
     rw (at_most (length text) (length (text ++ rest)) enough, take_at text rest (length text) refl, drop_at text rest (length text) refl) refl
+
+-- a byte
+
+pub byte_at-parts : (bytes : List ℕ) (read : ℕ × List ℕ) → byte_at bytes ≡ Some read → bytes ≡ read.0 ∷ read.1
+byte_at-parts [] read e = absurd cc
+byte_at-parts (byte ∷ bytes) read e = ap (λ (y : ℕ × List ℕ). y.0 ∷ y.1) (same_Some (byte, bytes) read e)

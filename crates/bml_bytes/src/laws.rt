@@ -5,7 +5,7 @@ ghost use Rattle.std.specs.Prelude.{◌≡◌, ◌≢◌, ◌<◌, ◌≤◌, �
 ghost use Rattle.std.specs.Io.{StartsWith};
 ghost use Rattle.std.specs.List.{AllPass};
 ghost use Rattle.bml_bytes.specs.Codes.{AreBytes, bytes_of, codes};
-ghost use Rattle.bml_bytes.specs.Fields.{bytes_at, number_at};
+ghost use Rattle.bml_bytes.specs.Fields.{FieldLaws};
 ghost use Rattle.bml_bytes.specs.Numbers.{big_bytes, big_number, digits_in, number_in};
 ghost use Rattle.bml_bytes.specs.Numerals.{decimal_digits, decimal_field, decimal_number, is_decimal_digit};
 
@@ -43,16 +43,7 @@ pub fn law_of_big_numbers()
 
 /// What is read as a field stands in front of the bytes behind it, and what was written there is read again.
 pub fn law_of_fields()
-    ensures number { (width : ℕ) (bytes : List ℕ) (read : ℕ × List ℕ)
-        → number_at width bytes ≡ Some read →
-        (bytes ≡ big_bytes width read.0 ++ read.1) × (read.0 < 256 ^ width) }
-    ensures number_again { (width number : ℕ) (rest : List ℕ) → number < 256 ^ width →
-        number_at width (big_bytes width number ++ rest) ≡ Some (number, rest) }
-    ensures bytes { (count : ℕ) (bytes : List ℕ) (read : List ℕ × List ℕ)
-        → bytes_at count bytes ≡ Some read →
-        (bytes ≡ read.0 ++ read.1) × (length read.0 ≡ count) }
-    ensures bytes_again { (text rest : List ℕ) →
-        bytes_at (length text) (text ++ rest) ≡ Some (text, rest) }
+    ensures { FieldLaws }
 {}
 
 /// A number is printed in base ten as the one numeral that it has: digits, whose number it is, with no

@@ -1,16 +1,8 @@
 -- Fields of a message: a field that is read is what stands there, and what was written is read again.
 use Rattle.std.proofs.Common.{◌≡◌, ℕ, ◌^◌, ◌<◌, List, [], ◌∷◌, ◌++◌, length, Option, Some, None, refl, sym, ap, ◌∙◌, append_assoc, arith}
-use Rattle.bml_bytes.specs.Fields.{◌>>=◌, byte_at, number_at, bytes_at}
+use Rattle.bml_bytes.specs.Fields.{◌>>=◌, FieldLaws, byte_at, number_at, bytes_at}
 use Rattle.bml_bytes.specs.Numbers.{big_bytes}
 use Rattle.dsmcc_messages.specs.Reading.{short_bytes_at, long_bytes_at}
-
--- what is known of fields
-pub record FieldLaws : Type 0 where
-  pub number : (width : ℕ) (bytes : List ℕ) (read : ℕ × List ℕ) → number_at width bytes ≡ Some read → (bytes ≡ big_bytes width read.0 ++ read.1) × (read.0 < 256 ^ width)
-  pub number_again : (width number : ℕ) (rest : List ℕ) → number < 256 ^ width → number_at width (big_bytes width number ++ rest) ≡ Some (number, rest)
-  pub bytes : (count : ℕ) (bytes : List ℕ) (read : List ℕ × List ℕ) → bytes_at count bytes ≡ Some read → (bytes ≡ read.0 ++ read.1) × (length read.0 ≡ count)
-  pub bytes_again : (text rest : List ℕ) → bytes_at (length text) (text ++ rest) ≡ Some (text, rest)
-  pub count : (count number : ℕ) → length (big_bytes count number) ≡ count
 
 -- one text behind the other
 pub one_text : (a x b y c : List ℕ) → a ≡ x ++ b → b ≡ y ++ c → a ≡ (x ++ y) ++ c
@@ -26,18 +18,6 @@ pub bind_with : {A B P : Type 0} (o : Option A) (f : A → Option B) (y : B) →
 bind_with None f y e go = absurd cc
 bind_with (Some x) f y e go = go x refl e
 
-abbrev found : {A : Type 0} → A → Option A
-found x = Some x
-
-pub some_is : {A : Type 0} (x y : A) → found x ≡ found y → x ≡ y
-some_is x y e = cc
-
--- a byte
-
-pub byte_parts : (bytes : List ℕ) (x : ℕ × List ℕ) → byte_at bytes ≡ Some x → bytes ≡ x.0 ∷ x.1
-byte_parts [] x e = absurd cc
-byte_parts (b ∷ bytes) x e = ap (λ (y : ℕ × List ℕ). y.0 ∷ y.1) (some_is (b, bytes) x e)
-
 -- a number of bytes that is told
 pub bytes_told : (laws : FieldLaws) (count : ℕ) (text rest : List ℕ) → length text ≡ count → bytes_at count (text ++ rest) ≡ Some (text, rest)
 bytes_told laws count text rest e = ap (λ (n : ℕ). bytes_at n (text ++ rest)) (sym e) ∙ laws.bytes_again text rest
@@ -49,7 +29,7 @@ unfolding short_bytes_at
 short_bytes_parts laws bytes x e =
     let n = bind_some (byte_at bytes) (λ n. bytes_at n.0 n.1) x e in
     let second = laws.bytes n.0.0 n.0.1 x n.2 in
-    rw second.1 (byte_parts bytes n.0 n.1 ∙ ap (λ (rest : List ℕ). n.0.0 ∷ rest) second.0)
+    rw second.1 (laws.byte bytes n.0 n.1 ∙ ap (λ (rest : List ℕ). n.0.0 ∷ rest) second.0)
 
 pub short_bytes_again : (laws : FieldLaws) (text rest : List ℕ) → short_bytes_at (length text ∷ text ++ rest) ≡ Some (text, rest)
 unfolding short_bytes_at

@@ -1,13 +1,14 @@
 -- The header of a message: what is read is what stands there, and what was written is read again.
 use Rattle.std.proofs.Common.{◌≡◌, ℕ, zero, suc, ◌<◌, true, eqb, List, [], ◌∷◌, ◌++◌, length, get_or, Option, Some, refl, sym, ap, subst, ◌∙◌, append_assoc, arith}
 use Rattle.std.proofs.lemmas.Bool.{eqb-true, eq-eqb, and_parts, and_from}
-use Rattle.bml_bytes.specs.Fields.{◌>>=◌, byte_at, number_at, bytes_at}
+use Rattle.std.proofs.lemmas.Option.{same_Some}
+use Rattle.bml_bytes.specs.Fields.{FieldLaws, ◌>>=◌, byte_at, number_at, bytes_at}
 use Rattle.bml_bytes.specs.Numbers.{big_bytes}
 use Rattle.dsmcc_messages.specs.declared.message.MessageKind.{MessageKind}
 use Rattle.table_fields.specs.Sections.{body}
 use Rattle.dsmcc_messages.specs.Message.{kind_bytes, Agree, IsOfKind, Carries}
 use Rattle.dsmcc_messages.specs.Reading.{agree, is_of_kind, message_at}
-use Rattle.dsmcc_messages.proofs.Fields.{FieldLaws, bind_with, some_is, byte_parts, bytes_told}
+use Rattle.dsmcc_messages.proofs.Fields.{bind_with, bytes_told}
 
 -- the test of a kind
 
@@ -97,9 +98,9 @@ carries laws kind section x of_kind e =
     let t4 = laws.number 2 count.1 len len-is in
     let t5 = laws.bytes len.0 len.1 message message-is in
     let t6 = laws.bytes count.0 message.0 adaptation adaptation-is in
-    let same : kind_bytes kind ≡ front.0 = agree_same (kind_bytes kind) front.0 front.1 (omega (arith, laws.count 2 kind.message_id, t0.1)) (subst (λ (bytes : List ℕ). agree (kind_bytes kind) bytes ≡ true) t0.0 parts.1) in
+    let same : kind_bytes kind ≡ front.0 = agree_same (kind_bytes kind) front.0 front.1 (omega (arith, laws.number_bytes 2 kind.message_id, t0.1)) (subst (λ (bytes : List ℕ). agree (kind_bytes kind) bytes ≡ true) t0.0 parts.1) in
     let made : ℕ × List ℕ = (identifier.0, adaptation.1) in
-    subst (λ (y : ℕ × List ℕ). Carries kind section y.0 y.1) (some_is made x e6)
+    subst (λ (y : ℕ × List ℕ). Carries kind section y.0 y.1) (same_Some made x e6)
     (record {
       reserved = reserved.0;
       adaptation = adaptation.0;
@@ -108,7 +109,7 @@ carries laws kind section x of_kind e =
       message_fits = omega (arith, t4.1, t5.1, ap (length {A = ℕ}) t6.0);
       table = is.table;
       written = header_from kind identifier.0 reserved.0 count.0 len.0 (body section) front.0 front.1 identifier.1 reserved.1 count.1 len.1 message.0 message.1 adaptation.0 adaptation.1
-          t0.0 t1.0 (byte_parts identifier.1 reserved reserved-is) (byte_parts reserved.1 count count-is) t4.0 t5.0 t6.0 same t6.1 t5.1;
+          t0.0 t1.0 (laws.byte identifier.1 reserved reserved-is) (laws.byte reserved.1 count count-is) t4.0 t5.0 t6.0 same t6.1 t5.1;
     }))))))))
 
 -- what a header says is read from it
@@ -124,7 +125,7 @@ carries_again laws kind section identifier payload is =
     let regrouped : header_text kind identifier is.reserved is.adaptation payload is.behind ≡ kind_bytes kind ++ r0 = simp append_assoc in
     let whole : body section ≡ kind_bytes kind ++ r0 = is.written ∙ regrouped in
     let agrees : agree (kind_bytes kind) (body section) ≡ true = ap (agree (kind_bytes kind)) whole ∙ agree_front (kind_bytes kind) r0 in
-    let four : length (kind_bytes kind) ≡ 4 = omega (arith, laws.count 2 kind.message_id) in (
+    let four : length (kind_bytes kind) ≡ 4 = omega (arith, laws.number_bytes 2 kind.message_id) in (
       and_from _ _ (eq-eqb _ _ is.table) agrees,
       ap message_at whole
           ∙ rw (bytes_told laws 4 (kind_bytes kind) r0 four, laws.number_again 4 identifier r1 (omega (arith, is.identifier_fits)), laws.number_again 2 (length message) r4 (omega (arith, is.message_fits)), laws.bytes_again message is.behind, laws.bytes_again is.adaptation payload) refl,

@@ -2,12 +2,13 @@
 use Rattle.std.proofs.Common.{◌≡◌, ℕ, zero, suc, ◌^◌, ◌<◌, List, [], ◌∷◌, ◌++◌, length, Option, Some, refl, ap, subst, ◌∙◌, append_assoc, arith}
 use Rattle.std.specs.List.{All, flat_map, AllByRecursion}
 use Rattle.std.proofs.lemmas.List.Elements.{All-from_recursion, recursion_from_All}
+use Rattle.std.proofs.lemmas.Option.{same_Some}
 use Rattle.bml_bytes.specs.Numbers.{big_bytes}
 use Rattle.dsmcc_messages.specs.declared.entry.Entry.{Entry}
 use Rattle.dsmcc_messages.specs.Dii.{entry_bytes, EntryFits}
-use Rattle.bml_bytes.specs.Fields.{◌>>=◌, byte_at, number_at}
+use Rattle.bml_bytes.specs.Fields.{FieldLaws, ◌>>=◌, byte_at, number_at}
 use Rattle.dsmcc_messages.specs.Reading.{short_bytes_at, entry_at, entries_at, modules_at}
-use Rattle.dsmcc_messages.proofs.Fields.{FieldLaws, one_text, bind_some, some_is, byte_parts, short_bytes_parts, short_bytes_again}
+use Rattle.dsmcc_messages.proofs.Fields.{one_text, bind_some, short_bytes_parts, short_bytes_again}
 
 -- what is read behind each field of an entry
 abbrev behind_version : ℕ → ℕ → ℕ × List ℕ → Option (Entry × List ℕ)
@@ -28,13 +29,13 @@ entry_takes laws bytes x e =
     let info = bind_some (short_bytes_at version.0.1) (λ (info : List ℕ × List ℕ). Some (record { id = id.0.0; size = size.0.0; version = version.0.0; info = info.0 }, info.1)) x version.2 in
     let t0 = laws.number 2 bytes id.0 id.1 in
     let t1 = laws.number 4 id.0.1 size.0 size.1 in
-    let t2 = byte_parts size.0.1 version.0 version.1 in
+    let t2 = laws.byte size.0.1 version.0 version.1 in
     let t3 = short_bytes_parts laws version.0.1 info.0 info.1 in
     let numbers = one_text bytes (big_bytes 2 id.0.0) id.0.1 (big_bytes 4 size.0.0) size.0.1 t0.0 t1.0 in
     let others = one_text size.0.1 (version.0.0 ∷ []) version.0.1 (length info.0.0 ∷ info.0.0) info.0.1 t2 t3 in
     let whole = one_text bytes (big_bytes 2 id.0.0 ++ big_bytes 4 size.0.0) size.0.1 (version.0.0 ∷ length info.0.0 ∷ info.0.0) info.0.1 numbers others in
     let made : Entry × List ℕ = (record { id = id.0.0; size = size.0.0; version = version.0.0; info = info.0.0 }, info.0.1) in
-    subst (λ (y : Entry × List ℕ). (bytes ≡ (entry_bytes y.0) ++ y.1) × EntryFits y.0) (some_is made x info.2) (whole, record { id = omega (arith, t0.1); size = omega (arith, t1.1) })
+    subst (λ (y : Entry × List ℕ). (bytes ≡ (entry_bytes y.0) ++ y.1) × EntryFits y.0) (same_Some made x info.2) (whole, record { id = omega (arith, t0.1); size = omega (arith, t1.1) })
 
 pub entry_again : (laws : FieldLaws) (entry : Entry) (rest : List ℕ) → EntryFits entry → entry_at (entry_bytes entry ++ rest) ≡ Some (entry, rest)
 unfolding entry_at
@@ -47,7 +48,7 @@ pub entries_take : (laws : FieldLaws) (count : ℕ) (bytes : List ℕ) (x : List
     → (bytes ≡ (flat_map entry_bytes x.0) ++ x.1) × (length x.0 ≡ count) × AllByRecursion EntryFits x.0
 unfolding entries_at
 entries_take laws zero bytes x e =
-    subst (λ (y : List Entry × List ℕ). (bytes ≡ (flat_map entry_bytes y.0) ++ y.1) × (length y.0 ≡ 0) × AllByRecursion EntryFits y.0) (some_is ([], bytes) x e) (refl, refl, tt)
+    subst (λ (y : List Entry × List ℕ). (bytes ≡ (flat_map entry_bytes y.0) ++ y.1) × (length y.0 ≡ 0) × AllByRecursion EntryFits y.0) (same_Some ([], bytes) x e) (refl, refl, tt)
 entries_take laws (suc count) bytes x e =
     let first = bind_some (entry_at bytes) (λ (first : Entry × List ℕ). entries_at count first.1 >>= λ others. Some (first.0 ∷ others.0, others.1)) x e in
     let others = bind_some (entries_at count first.0.1) (λ (others : List Entry × List ℕ). Some (first.0.0 ∷ others.0, others.1)) x first.2 in
@@ -55,7 +56,7 @@ entries_take laws (suc count) bytes x e =
     let t1 = entries_take laws count first.0.1 others.0 others.1 in
     let both = one_text bytes (entry_bytes first.0.0) first.0.1 (flat_map entry_bytes others.0.0) others.0.1 t0.0 t1.0 in
     let made : List Entry × List ℕ = (first.0.0 ∷ others.0.0, others.0.1) in
-    subst (λ (y : List Entry × List ℕ). (bytes ≡ (flat_map entry_bytes y.0) ++ y.1) × (length y.0 ≡ suc count) × AllByRecursion EntryFits y.0) (some_is made x others.2)
+    subst (λ (y : List Entry × List ℕ). (bytes ≡ (flat_map entry_bytes y.0) ++ y.1) × (length y.0 ≡ suc count) × AllByRecursion EntryFits y.0) (same_Some made x others.2)
     (both, ap suc t1.1, (t0.1, t1.2))
 
 pub entries_again : (laws : FieldLaws) (entries : List Entry) (rest : List ℕ) → AllByRecursion EntryFits entries → entries_at (length entries) (flat_map entry_bytes entries ++ rest) ≡ Some (entries, rest)

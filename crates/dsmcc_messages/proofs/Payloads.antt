@@ -3,14 +3,15 @@ use Rattle.std.proofs.Common.{◌≡◌, ℕ, ◌^◌, ◌<◌, Bool, true, fals
 use Rattle.std.specs.List.{All, flat_map}
 use Rattle.std.proofs.lemmas.Bool.{eqb-true}
 use Rattle.std.proofs.lemmas.List.{append-nil, nil_from_length}
+use Rattle.std.proofs.lemmas.Option.{same_Some}
 use Rattle.bml_bytes.specs.Numbers.{big_bytes}
 use Rattle.dsmcc_messages.specs.declared.entry.Entry.{Entry}
 use Rattle.dsmcc_messages.specs.declared.dii.Dii.{Dii}
 use Rattle.dsmcc_messages.specs.Dii.{entry_bytes, EntryFits}
 use Rattle.dsmcc_messages.specs.Ddb.{DataBlock}
-use Rattle.bml_bytes.specs.Fields.{◌>>=◌, byte_at, number_at}
+use Rattle.bml_bytes.specs.Fields.{FieldLaws, ◌>>=◌, byte_at, number_at}
 use Rattle.dsmcc_messages.specs.Reading.{long_bytes_at, modules_at, sizes_at, indication_at, data_block_at}
-use Rattle.dsmcc_messages.proofs.Fields.{FieldLaws, one_text, bind_some, some_is, byte_parts, long_bytes_take, long_bytes_again}
+use Rattle.dsmcc_messages.proofs.Fields.{one_text, bind_some, long_bytes_take, long_bytes_again}
 use Rattle.dsmcc_messages.proofs.Modules.{modules_take, modules_again}
 
 -- a DDB's payload
@@ -45,14 +46,14 @@ block_takes laws message ddb e =
     let reserved = bind_some (byte_at version.0.1) (behind_reserved message.0 number.0.0 version.0.0) ddb version.2 in
     let place = bind_some (number_at 2 reserved.0.1) (block_of message.0 number.0.0 version.0.0) ddb reserved.2 in
     let t0 = laws.number 2 message.1 number.0 number.1 in
-    let t1 = byte_parts number.0.1 version.0 version.1 in
-    let t2 = byte_parts version.0.1 reserved.0 reserved.1 in
+    let t1 = laws.byte number.0.1 version.0 version.1 in
+    let t2 = laws.byte version.0.1 reserved.0 reserved.1 in
     let t3 = laws.number 2 reserved.0.1 place.0 place.1 in
     let pair = one_text number.0.1 (version.0.0 ∷ []) version.0.1 (reserved.0.0 ∷ []) reserved.0.1 t1 t2 in
     let front = one_text message.1 (big_bytes 2 number.0.0) number.0.1 (version.0.0 ∷ reserved.0.0 ∷ []) reserved.0.1 t0.0 pair in
     let whole = one_text message.1 (big_bytes 2 number.0.0 ++ version.0.0 ∷ reserved.0.0 ∷ []) reserved.0.1 (big_bytes 2 place.0.0) place.0.1 front t3.0 in
     let made : DataBlock = record { download = message.0; «module» = number.0.0; version = version.0.0; number = place.0.0; block = place.0.1 } in
-    subst (IsBlock message) (some_is made ddb place.2)
+    subst (IsBlock message) (same_Some made ddb place.2)
     (record { reserved = reserved.0.0; download = refl; module_fits = omega (arith, t0.1); number_fits = omega (arith, t3.1); written = whole })
 
 pub block_again : (laws : FieldLaws) (message : ℕ × List ℕ) (ddb : DataBlock) → IsBlock message ddb → data_block_at message ≡ Some ddb
@@ -122,8 +123,8 @@ sizes_take laws bytes x e =
     let h = bind_some (long_bytes_at g.0.1) (λ (compatibility : List ℕ × List ℕ). Some ((a.0.0, b.0.0), compatibility.1)) x g.2 in
     let ta = laws.number 4 bytes a.0 a.1 in
     let tb = laws.number 2 a.0.1 b.0 b.1 in
-    let tc = byte_parts b.0.1 c.0 c.1 in
-    let td = byte_parts c.0.1 d.0 d.1 in
+    let tc = laws.byte b.0.1 c.0 c.1 in
+    let td = laws.byte c.0.1 d.0 d.1 in
     let tf = laws.number 4 d.0.1 f.0 f.1 in
     let tg = laws.number 4 f.0.1 g.0 g.1 in
     let th = long_bytes_take laws g.0.1 h.0 h.1 in
@@ -134,7 +135,7 @@ sizes_take laws bytes x e =
     let t3 = one_text bytes (big_bytes 4 s.download ++ big_bytes 2 s.block_size ++ s.window_size ∷ s.ack_period ∷ []) d.0.1 (big_bytes 4 s.download_window) f.0.1 t2 tf.0 in
     let t4 = one_text bytes (big_bytes 4 s.download ++ big_bytes 2 s.block_size ++ s.window_size ∷ s.ack_period ∷ [] ++ big_bytes 4 s.download_window) f.0.1 (big_bytes 4 s.download_scenario) g.0.1 t3 tg.0 in
     let t5 = one_text bytes (big_bytes 4 s.download ++ big_bytes 2 s.block_size ++ s.window_size ∷ s.ack_period ∷ [] ++ big_bytes 4 s.download_window ++ big_bytes 4 s.download_scenario) g.0.1 (big_bytes 2 (length s.compatibility) ++ s.compatibility) h.0.1 t4 th.0 in
-    subst (AreSizes bytes) (some_is ((a.0.0, b.0.0), h.0.1) x h.2)
+    subst (AreSizes bytes) (same_Some ((a.0.0, b.0.0), h.0.1) x h.2)
     (record {
       sizes = s;
       fits = record { download = omega (arith, ta.1); block_size = omega (arith, tb.1); download_window = omega (arith, tf.1); download_scenario = omega (arith, tg.1); compatibility = th.1 };

@@ -11,9 +11,8 @@ use Rattle.table_fields.specs.Sections.{body}
 use Rattle.dsmcc_messages.specs.Message.{indication, data_block, IsOfKind, Carries}
 use Rattle.dsmcc_messages.specs.Dii.{IsDii, entry_bytes}
 use Rattle.dsmcc_messages.specs.Ddb.{DataBlock, IsDdb}
-use Rattle.bml_bytes.specs.Fields.{◌>>=◌}
+use Rattle.bml_bytes.specs.Fields.{◌>>=◌, FieldLaws}
 use Rattle.dsmcc_messages.specs.Reading.{is_of_kind, message_at, fields_in, indication_at, data_block_at, dii_in, ddb_in}
-use Rattle.dsmcc_messages.proofs.Fields.{FieldLaws}
 use Rattle.dsmcc_messages.proofs.Headers.{kind_from, kind_is, carries, carries_again}
 use Rattle.dsmcc_messages.proofs.Payloads.{Sizes, indication_text, indication_takes, indication_again, block_text, block_takes, block_again}
 

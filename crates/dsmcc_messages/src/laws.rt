@@ -8,7 +8,7 @@ ghost use Rattle.dsmcc_messages.specs.Dii.{IsDii};
 ghost use Rattle.dsmcc_messages.specs.Ddb.{DataBlock, IsDdb};
 ghost use Rattle.dsmcc_messages.specs.Reading.{ddb_in, dii_in};
 
-use bml_bytes::{TableFault, law_of_big_numbers, law_of_fields};
+use bml_bytes::{TableFault, law_of_fields};
 
 /// A section has at most one list of fields of a DII, and reading gives it.
 pub fn law_of_dii()
@@ -22,7 +22,6 @@ pub fn law_of_dii()
         IsOfKind indication section × ((dii : Dii) → ¬ IsDii section dii) }
 {
     law_of_fields();
-    law_of_big_numbers();
 }
 
 /// A section has at most one list of fields of a DDB, and reading gives it.
@@ -37,5 +36,4 @@ pub fn law_of_ddb()
         IsOfKind data_block section × ((ddb : DataBlock) → ¬ IsDdb section ddb) }
 {
     law_of_fields();
-    law_of_big_numbers();
 }

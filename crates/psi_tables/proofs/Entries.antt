@@ -1,13 +1,14 @@
 -- Numbers behind reserved bits, and the entries of a PAT: what is read is what stands there, and what was written is
 -- read again.
 use Rattle.std.proofs.Common.{◌≡◌, ℕ, ◌+◌, ◌-◌, ◌*◌, ◌/◌, ◌%◌, ◌^◌, ◌<◌, List, ◌++◌, length, Option, Some, refl, sym, ap, subst, ◌∙◌, append_assoc, arith}
-use Rattle.bml_bytes.specs.Fields.{◌>>=◌, number_at}
+use Rattle.std.proofs.lemmas.Option.{same_Some}
+use Rattle.bml_bytes.specs.Fields.{FieldLaws, ◌>>=◌, number_at}
 use Rattle.bml_bytes.specs.Numbers.{big_bytes}
 use Rattle.psi_tables.specs.declared.pat.PatEntry.{PatEntry}
 use Rattle.psi_tables.specs.Table.{IsNarrow}
 use Rattle.psi_tables.specs.Pat.{IsPatEntry}
 use Rattle.psi_tables.specs.Reading.{narrow_at, entry_at}
-use Rattle.psi_tables.proofs.Fields.{FieldLaws, one_text, bind_some, some_is, number_size}
+use Rattle.psi_tables.proofs.Fields.{one_text, bind_some, number_size}
 use Rattle.psi_tables.proofs.Items.{Shortens, ItemLaws}
 
 -- two bytes are reserved bits and a number of a width, and these are two bytes
@@ -31,7 +32,7 @@ narrow_takes laws width splits bytes x e =
     let n : ℕ = number.0.0 in
     let t = laws.number 2 bytes number.0 number.1 in
     let made : ℕ × List ℕ = (n % 2 ^ width, number.0.1) in
-    subst (λ (y : ℕ × List ℕ). (text : List ℕ) × (bytes ≡ text ++ y.1) × IsNarrow width y.0 text) (some_is made x number.2)
+    subst (λ (y : ℕ × List ℕ). (text : List ℕ) × (bytes ≡ text ++ y.1) × IsNarrow width y.0 text) (same_Some made x number.2)
     (big_bytes 2 n, t.0, record { reserved = n / 2 ^ width; reserved_fits = splits.high n t.1; number_fits = splits.low n; written = ap (big_bytes 2) (sym (splits.whole n)) })
 
 pub narrow_again : (laws : FieldLaws) (width : ℕ) (splits : Splits width) (number : ℕ) (text rest : List ℕ) → IsNarrow width number text → narrow_at width (text ++ rest) ≡ Some (number, rest)
@@ -47,7 +48,7 @@ unfolding narrow_at
 narrow_size width bytes x e =
     let number = bind_some (number_at 2 bytes) (λ (number : ℕ × List ℕ). Some (number.0 % 2 ^ width, number.1)) x e in
     let made : ℕ × List ℕ = (number.0.0 % 2 ^ width, number.0.1) in
-    subst (λ (y : ℕ × List ℕ). length y.1 + 2 ≡ length bytes) (some_is made x number.2) (number_size 2 bytes number.0 number.1)
+    subst (λ (y : ℕ × List ℕ). length y.1 + 2 ≡ length bytes) (same_Some made x number.2) (number_size 2 bytes number.0 number.1)
 
 -- an entry
 
@@ -64,7 +65,7 @@ entry_takes laws bytes x e =
     let pid = bind_some (narrow_at 13 program.0.1) (λ (pid : ℕ × List ℕ). Some (entry_of program.0.0 pid)) x program.2 in
     let t0 = laws.number 2 bytes program.0 program.1 in
     let t1 = narrow_takes laws 13 thirteen program.0.1 pid.0 pid.1 in
-    subst (λ (y : PatEntry × List ℕ). (text : List ℕ) × (bytes ≡ text ++ y.1) × IsPatEntry y.0 text) (some_is (entry_of program.0.0 pid.0) x pid.2)
+    subst (λ (y : PatEntry × List ℕ). (text : List ℕ) × (bytes ≡ text ++ y.1) × IsPatEntry y.0 text) (same_Some (entry_of program.0.0 pid.0) x pid.2)
     (big_bytes 2 program.0.0 ++ t1.0, one_text bytes (big_bytes 2 program.0.0) program.0.1 t1.0 pid.0.1 t0.0 t1.1, record { pid_bytes = t1.0; program_fits = omega (arith, t0.1); pid_written = t1.2; written = refl })
 
 pub entry_again : (laws : FieldLaws) (entry : PatEntry) (text rest : List ℕ) → IsPatEntry entry text → entry_at (text ++ rest) ≡ Some (entry, rest)
@@ -79,7 +80,7 @@ unfolding entry_at
 entry_shorter bytes x e =
     let program = bind_some (number_at 2 bytes) behind_program x e in
     let pid = bind_some (narrow_at 13 program.0.1) (λ (pid : ℕ × List ℕ). Some (entry_of program.0.0 pid)) x program.2 in
-    subst (λ (y : PatEntry × List ℕ). length y.1 < length bytes) (some_is (entry_of program.0.0 pid.0) x pid.2)
+    subst (λ (y : PatEntry × List ℕ). length y.1 < length bytes) (same_Some (entry_of program.0.0 pid.0) x pid.2)
     (omega (arith, number_size 2 bytes program.0 program.1, narrow_size 13 program.0.1 pid.0 pid.1))
 
 pub entry_shortens : Shortens entry_at

@@ -1,7 +1,8 @@
 -- Streams: what is read is what stands there, and what was written is read again.
 use Rattle.std.proofs.Common.{◌≡◌, ℕ, ◌<◌, ◌≤◌, List, [], ◌∷◌, ◌++◌, length, Option, Some, None, refl, sym, ap, subst, ◌∙◌, append_assoc, arith}
 use Rattle.std.specs.Prelude.{option_map}
-use Rattle.bml_bytes.specs.Fields.{◌>>=◌, byte_at, bytes_at}
+use Rattle.std.proofs.lemmas.Option.{same_Some}
+use Rattle.bml_bytes.specs.Fields.{FieldLaws, ◌>>=◌, byte_at, bytes_at}
 use Rattle.table_fields.specs.Descriptors.{Descriptor, AreDescriptors, descriptors_in}
 use Rattle.psi_tables.specs.declared.pmt.PmtStream.{PmtStream}
 use Rattle.psi_tables.specs.Table.{IsNarrow}
@@ -9,7 +10,7 @@ use Rattle.psi_tables.specs.Laid.{AreLaid}
 use Rattle.psi_tables.specs.Descriptor.{component_tag_in}
 use Rattle.psi_tables.specs.Pmt.{IsInfo, IsStream}
 use Rattle.psi_tables.specs.Reading.{narrow_at, info_at, items_in, component_in, stream_at, streams_in}
-use Rattle.psi_tables.proofs.Fields.{FieldLaws, one_text, bind_with, some_is, byte_parts, byte_size, bytes_size}
+use Rattle.psi_tables.proofs.Fields.{StreamLaws, one_text, bind_with, byte_size, bytes_size}
 use Rattle.psi_tables.proofs.Items.{Shortens, ItemLaws, items_laid, items_again}
 use Rattle.psi_tables.proofs.Entries.{thirteen, twelve, narrow_takes, narrow_again, narrow_size}
 
@@ -39,15 +40,15 @@ info_size bytes x e =
 
 tag_read : (read : Option (List Descriptor)) (component : Option ℕ) → option_map component_tag_in read ≡ Some component → (ds : List Descriptor) × (read ≡ Some ds) × (component ≡ component_tag_in ds)
 tag_read None component e = absurd cc
-tag_read (Some ds) component e = (ds, refl, sym (some_is (component_tag_in ds) component e))
+tag_read (Some ds) component e = (ds, refl, sym (same_Some (component_tag_in ds) component e))
 
-pub component_takes : (laws : FieldLaws) (info : List ℕ) (component : Option ℕ) → component_in info ≡ Some component → (ds : List Descriptor) × AreDescriptors info ds × (component ≡ component_tag_in ds)
+pub component_takes : (laws : StreamLaws) (info : List ℕ) (component : Option ℕ) → component_in info ≡ Some component → (ds : List Descriptor) × AreDescriptors info ds × (component ≡ component_tag_in ds)
 unfolding component_in
 component_takes laws info component e =
     let read = tag_read (descriptors_in info) component e in
     (read.0, (laws.descriptors info read.0).1 read.1, read.2)
 
-pub component_again : (laws : FieldLaws) (info : List ℕ) (ds : List Descriptor) → AreDescriptors info ds → component_in info ≡ Some (component_tag_in ds)
+pub component_again : (laws : StreamLaws) (info : List ℕ) (ds : List Descriptor) → AreDescriptors info ds → component_in info ≡ Some (component_tag_in ds)
 unfolding component_in
 component_again laws info ds laid = ap (option_map component_tag_in) ((laws.descriptors info ds).0 laid)
 
@@ -65,19 +66,19 @@ behind_pid kind pid = info_at pid.1 >>= behind_info kind pid.0
 abbrev behind_kind : ℕ × List ℕ → Option (PmtStream × List ℕ)
 behind_kind kind = narrow_at 13 kind.1 >>= behind_pid kind.0
 
-pub stream_takes : (laws : FieldLaws) (bytes : List ℕ) (x : PmtStream × List ℕ) → stream_at bytes ≡ Some x → (text : List ℕ) × (bytes ≡ text ++ x.1) × IsStream x.0 text
+pub stream_takes : (laws : StreamLaws) (bytes : List ℕ) (x : PmtStream × List ℕ) → stream_at bytes ≡ Some x → (text : List ℕ) × (bytes ≡ text ++ x.1) × IsStream x.0 text
 unfolding stream_at
 stream_takes laws bytes x e =
     bind_with (byte_at bytes) behind_kind x e (λ kind kind-is e0.
     bind_with (narrow_at 13 kind.1) (behind_pid kind.0) x e0 (λ pid pid-is e1.
     bind_with (info_at pid.1) (behind_info kind.0 pid.0) x e1 (λ info info-is e2.
     bind_with (component_in info.0) (λ (component : Option ℕ). Some (stream_of kind.0 pid.0 component info.1)) x e2 (λ component component-is e3.
-    let t0 = byte_parts bytes kind kind-is in
-    let t1 = narrow_takes laws 13 thirteen kind.1 pid pid-is in
-    let t2 = info_takes laws pid.1 info info-is in
+    let t0 = laws.fields.byte bytes kind kind-is in
+    let t1 = narrow_takes laws.fields 13 thirteen kind.1 pid pid-is in
+    let t2 = info_takes laws.fields pid.1 info info-is in
     let t3 = component_takes laws info.0 component component-is in
     let t4 = one_text kind.1 t1.0 pid.1 (t2.0 ++ info.0) info.1 t1.1 t2.1 in
-    subst (λ (y : PmtStream × List ℕ). (text : List ℕ) × (bytes ≡ text ++ y.1) × IsStream y.0 text) (some_is (stream_of kind.0 pid.0 component info.1) x e3) (
+    subst (λ (y : PmtStream × List ℕ). (text : List ℕ) × (bytes ≡ text ++ y.1) × IsStream y.0 text) (same_Some (stream_of kind.0 pid.0 component info.1) x e3) (
       kind.0 ∷ (t1.0 ++ (t2.0 ++ info.0)),
       one_text bytes (kind.0 ∷ []) kind.1 (t1.0 ++ (t2.0 ++ info.0)) info.1 t0 t4,
       record {
@@ -91,14 +92,14 @@ stream_takes laws bytes x e =
       },
     )))))
 
-pub stream_again : (laws : FieldLaws) (stream : PmtStream) (text rest : List ℕ) → IsStream stream text → stream_at (text ++ rest) ≡ Some (stream, rest)
+pub stream_again : (laws : StreamLaws) (stream : PmtStream) (text rest : List ℕ) → IsStream stream text → stream_at (text ++ rest) ≡ Some (stream, rest)
 unfolding stream_at
 stream_again laws stream text rest is =
     let info = is.info_written in
     let text_is : text ≡ stream.kind ∷ (is.pid_bytes ++ (info.length_bytes ++ info.bytes)) = is.written ∙ ap (λ (t : List ℕ). stream.kind ∷ (is.pid_bytes ++ t)) info.written in
     let whole : text ++ rest ≡ stream.kind ∷ (is.pid_bytes ++ (info.length_bytes ++ (info.bytes ++ rest))) = ap (λ (front : List ℕ). front ++ rest) text_is ∙ simp append_assoc in
     ap stream_at whole
-    ∙ rw (narrow_again laws 13 thirteen stream.pid is.pid_bytes (info.length_bytes ++ (info.bytes ++ rest)) is.pid_written, info_again laws info.bytes info.length_bytes rest info.length_written, component_again laws info.bytes is.descriptors info.laid, is.component) refl
+    ∙ rw (narrow_again laws.fields 13 thirteen stream.pid is.pid_bytes (info.length_bytes ++ (info.bytes ++ rest)) is.pid_written, info_again laws.fields info.bytes info.length_bytes rest info.length_written, component_again laws info.bytes is.descriptors info.laid, is.component) refl
 
 stream_shorter : (bytes : List ℕ) (x : PmtStream × List ℕ) → stream_at bytes ≡ Some x → length x.1 < length bytes
 unfolding stream_at
@@ -107,13 +108,13 @@ stream_shorter bytes x e =
     bind_with (narrow_at 13 kind.1) (behind_pid kind.0) x e0 (λ pid pid-is e1.
     bind_with (info_at pid.1) (behind_info kind.0 pid.0) x e1 (λ info info-is e2.
     bind_with (component_in info.0) (λ (component : Option ℕ). Some (stream_of kind.0 pid.0 component info.1)) x e2 (λ component component-is e3.
-    subst (λ (y : PmtStream × List ℕ). length y.1 < length bytes) (some_is (stream_of kind.0 pid.0 component info.1) x e3)
+    subst (λ (y : PmtStream × List ℕ). length y.1 < length bytes) (same_Some (stream_of kind.0 pid.0 component info.1) x e3)
     (omega (arith, byte_size bytes kind kind-is, narrow_size 13 kind.1 pid pid-is, info_size pid.1 info info-is))))))
 
 pub stream_shortens : Shortens stream_at
 stream_shortens = record { shorter = stream_shorter }
 
-pub stream_laws : (laws : FieldLaws) → ItemLaws stream_at IsStream
+pub stream_laws : (laws : StreamLaws) → ItemLaws stream_at IsStream
 stream_laws laws = record { takes = stream_takes laws; again = stream_again laws; short = stream_shortens }
 
 -- a PMT's body
@@ -136,14 +137,14 @@ behind_program_info info = component_in info.0 >>= λ component. items_in stream
 abbrev behind_pcr : ℕ × List ℕ → Option (List PmtStream)
 behind_pcr pcr = info_at pcr.1 >>= behind_program_info
 
-pub body_takes : (laws : FieldLaws) (bytes : List ℕ) (items : List PmtStream) → streams_in bytes ≡ Some items → IsBody bytes items
+pub body_takes : (laws : StreamLaws) (bytes : List ℕ) (items : List PmtStream) → streams_in bytes ≡ Some items → IsBody bytes items
 unfolding streams_in
 body_takes laws bytes items e =
     bind_with (narrow_at 13 bytes) behind_pcr items e (λ pcr pcr-is e0.
     bind_with (info_at pcr.1) behind_program_info items e0 (λ info info-is e1.
     bind_with (component_in info.0) (λ (component : Option ℕ). items_in stream_at info.1) items e1 (λ component component-is e2.
-    let t0 = narrow_takes laws 13 thirteen bytes pcr pcr-is in
-    let t1 = info_takes laws pcr.1 info info-is in
+    let t0 = narrow_takes laws.fields 13 thirteen bytes pcr pcr-is in
+    let t1 = info_takes laws.fields pcr.1 info info-is in
     let t2 = component_takes laws info.0 component component-is in
     record {
       pcr_pid = pcr.0;
@@ -157,10 +158,10 @@ body_takes laws bytes items e =
       written = t0.1 ∙ ap (λ (rest : List ℕ). t0.0 ++ rest) t1.1;
     })))
 
-pub body_again : (laws : FieldLaws) (bytes : List ℕ) (items : List PmtStream) → IsBody bytes items → streams_in bytes ≡ Some items
+pub body_again : (laws : StreamLaws) (bytes : List ℕ) (items : List PmtStream) → IsBody bytes items → streams_in bytes ≡ Some items
 unfolding streams_in
 body_again laws bytes items is =
     let info = is.info_written in
     let whole : bytes ≡ is.pcr_bytes ++ (info.length_bytes ++ (info.bytes ++ is.streams)) = is.written ∙ ap (λ (t : List ℕ). is.pcr_bytes ++ (t ++ is.streams)) info.written ∙ simp append_assoc in
     ap streams_in whole
-    ∙ rw (narrow_again laws 13 thirteen is.pcr_pid is.pcr_bytes (info.length_bytes ++ (info.bytes ++ is.streams)) is.pcr_written, info_again laws info.bytes info.length_bytes is.streams info.length_written, component_again laws info.bytes is.descriptors info.laid) (items_again stream_at IsStream (stream_laws laws) is.streams items is.laid)
+    ∙ rw (narrow_again laws.fields 13 thirteen is.pcr_pid is.pcr_bytes (info.length_bytes ++ (info.bytes ++ is.streams)) is.pcr_written, info_again laws.fields info.bytes info.length_bytes is.streams info.length_written, component_again laws info.bytes is.descriptors info.laid) (items_again stream_at IsStream (stream_laws laws) is.streams items is.laid)

@@ -3,7 +3,8 @@ use Rattle.std.proofs.Common.{◌≡◌, ◌≢◌, ◌↔◌, ℕ, ◌<◌, ◌
 use Rattle.std.specs.Prelude.{ok_or, option_map}
 use Rattle.std.proofs.lemmas.Bool.{eqb-true, eq-eqb, and_parts, and_from}
 use Rattle.std.proofs.lemmas.List.{take_at, take-append-drop}
-use Rattle.bml_bytes.specs.Fields.{number_at}
+use Rattle.std.proofs.lemmas.Option.{same_Some}
+use Rattle.bml_bytes.specs.Fields.{FieldLaws, number_at}
 use Rattle.bml_bytes.specs.Numbers.{big_bytes}
 use Rattle.bml_bytes.specs.declared.refusals.TableFault.{TableFault}
 use Rattle.bml_bytes.specs.declared.refusals.TableFault.TheVariants.{Kind, Short}
@@ -15,7 +16,7 @@ use Rattle.psi_tables.specs.Table.{association_table, map_table, extension, IsOf
 use Rattle.psi_tables.specs.Pat.{IsPat, IsPatEntry}
 use Rattle.psi_tables.specs.Pmt.{IsPmt}
 use Rattle.psi_tables.specs.Reading.{is_of_table, table_in, items_in, entry_at, streams_in, program_map, program_number, map_with_number, pat_in, pmt_in}
-use Rattle.psi_tables.proofs.Fields.{FieldLaws, bind_with, some_is}
+use Rattle.psi_tables.proofs.Fields.{StreamLaws, bind_with}
 use Rattle.psi_tables.proofs.Items.{items_laid, items_again}
 use Rattle.psi_tables.proofs.Entries.{entry_laws}
 use Rattle.psi_tables.proofs.StreamFields.{IsBody, body_takes, body_again}
@@ -86,14 +87,14 @@ named : (program : ℕ) (read : Option (List PmtStream)) (pmt : Pmt) → option_
 named program None pmt e = absurd cc
 named program (Some streams) pmt e =
     let made : Pmt = record { program = program; streams = streams } in
-    let is : made ≡ pmt = some_is made pmt e in
+    let is : made ≡ pmt = same_Some made pmt e in
     (ap (λ (p : Pmt). Some p.streams) is, ap (λ (p : Pmt). p.program) is)
 
 -- program_number
 
 number_read : (read : Option (ℕ × List ℕ)) (program : ℕ) → option_map (λ (number : ℕ × List ℕ). number.0) read ≡ Some program → (x : ℕ × List ℕ) × (read ≡ Some x) × (x.0 ≡ program)
 number_read None program e = absurd cc
-number_read (Some x) program e = (x, refl, some_is x.0 program e)
+number_read (Some x) program e = (x, refl, same_Some x.0 program e)
 
 number_takes : (laws : FieldLaws) (section : List ℕ) (program : ℕ) → program_number section ≡ Some program → (extension section ≡ big_bytes 2 program) × (program < 256 ^ 2)
 unfolding program_number
@@ -101,7 +102,7 @@ number_takes laws section program e =
     let read = number_read (number_at 2 (drop 3 section)) program e in
     let t = laws.number 2 (drop 3 section) read.0 read.1 in
     subst (λ (n : ℕ). (extension section ≡ big_bytes 2 n) × (n < 256 ^ 2)) read.2
-    (ap (take 2) t.0 ∙ take_at (big_bytes 2 read.0.0) read.0.1 2 (laws.count 2 read.0.0), t.1)
+    (ap (take 2) t.0 ∙ take_at (big_bytes 2 read.0.0) read.0.1 2 (laws.number_bytes 2 read.0.0), t.1)
 
 number_again : (laws : FieldLaws) (section : List ℕ) (program : ℕ) → program < 256 ^ 2 → extension section ≡ big_bytes 2 program → program_number section ≡ Some program
 unfolding program_number
@@ -110,14 +111,14 @@ number_again laws section program fits e =
     ap (λ (bytes : List ℕ). option_map (λ (number : ℕ × List ℕ). number.0) (number_at 2 bytes)) whole
     ∙ ap (option_map (λ (number : ℕ × List ℕ). number.0)) (laws.number_again 2 program (drop 2 (drop 3 section)) fits)
 
-pub pmt_takes : (laws : FieldLaws) (section : List ℕ) (pmt : Pmt) → pmt_in section ≡ Ok pmt → IsPmt section pmt
+pub pmt_takes : (laws : StreamLaws) (section : List ℕ) (pmt : Pmt) → pmt_in section ≡ Ok pmt → IsPmt section pmt
 unfolding program_map
 pmt_takes laws section pmt e =
     let read = fields_ok map_table (map_with_number section) section pmt e in
     bind_with (program_number section) (λ (program : ℕ). program_map program (body section)) pmt read.1 (λ program program-is e0.
     let parts = named program (streams_in (body section)) pmt e0 in
     let is = body_takes laws (body section) pmt.streams parts.0 in
-    let number = number_takes laws section program program-is in
+    let number = number_takes laws.fields section program program-is in
     record {
       pcr_pid = is.pcr_pid;
       pcr_bytes = is.pcr_bytes;
@@ -133,10 +134,10 @@ pmt_takes laws section pmt e =
       written = is.written;
     })
 
-pub pmt_again : (laws : FieldLaws) (section : List ℕ) (pmt : Pmt) → IsPmt section pmt → pmt_in section ≡ Ok pmt
+pub pmt_again : (laws : StreamLaws) (section : List ℕ) (pmt : Pmt) → IsPmt section pmt → pmt_in section ≡ Ok pmt
 unfolding program_map
 pmt_again laws section pmt is =
-    let number = number_again laws section pmt.program (omega (arith, is.program_fits)) is.program_written in
+    let number = number_again laws.fields section pmt.program (omega (arith, is.program_fits)) is.program_written in
     let front : IsBody (body section) pmt.streams = record { pcr_pid = is.pcr_pid; pcr_bytes = is.pcr_bytes; info = is.info; descriptors = is.descriptors; streams = is.streams; pcr_written = is.pcr_written; info_written = is.info_written; laid = is.laid; written = is.written } in
     let read : map_with_number section (body section) ≡ Some pmt = rw (number, body_again laws (body section) pmt.streams front) refl in
     fields_again map_table (map_with_number section) section pmt (table_from map_table section is.of_table) read

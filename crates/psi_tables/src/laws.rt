@@ -18,7 +18,7 @@ ghost use Rattle.psi_tables.specs.Reading.{pat_in, pmt_in};
 ghost use Rattle.psi_tables.specs.Service.{ServicesState, StandsFor, reads_table, wanted_pids, wants};
 
 use crate::services::Selection;
-use bml_bytes::{TableFault, law_of_big_numbers, law_of_fields};
+use bml_bytes::{TableFault, law_of_fields};
 use table_fields::law_of_descriptors;
 
 /// A section has at most one list of entries of a PAT, and reading gives it.
@@ -34,8 +34,6 @@ pub fn law_of_pat()
         × ((entries : List PatEntry) → ¬ IsPat section entries) }
 {
     law_of_fields();
-    law_of_descriptors();
-    law_of_big_numbers();
 }
 
 /// A section has at most one list of fields of a PMT, and reading gives it.
@@ -50,7 +48,6 @@ pub fn law_of_pmt()
 {
     law_of_fields();
     law_of_descriptors();
-    law_of_big_numbers();
 }
 
 /// The service is the one that the PAT names at the last place of the history where one counts, and the component

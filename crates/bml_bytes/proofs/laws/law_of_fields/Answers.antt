@@ -1,14 +1,6 @@
-use Rattle.bml_bytes.proofs.FieldLaws.{number_at-parts, number_at-again, bytes_at-parts, bytes_at-again}
+use Rattle.bml_bytes.proofs.FieldLaws.{byte_at-parts, number_at-parts, number_at-again, bytes_at-parts, bytes_at-again}
+use Rattle.bml_bytes.proofs.NumberLaws.{length-digits_in}
 use Rattle.bml_bytes.proofs.laws.law_of_fields.Goals as goal
 
-pub returns-clause-number : goal.returns-clause-number
-returns-clause-number c = number_at-parts
-
-pub returns-clause-number_again : goal.returns-clause-number_again
-returns-clause-number_again c = number_at-again
-
-pub returns-clause-bytes : goal.returns-clause-bytes
-returns-clause-bytes c = bytes_at-parts
-
-pub returns-clause-bytes_again : goal.returns-clause-bytes_again
-returns-clause-bytes_again c = bytes_at-again
+pub returns : goal.returns
+returns c = record { byte = byte_at-parts; number = number_at-parts; number_again = number_at-again; number_bytes = length-digits_in 256; bytes = bytes_at-parts; bytes_again = bytes_at-again }

@@ -1,12 +1,12 @@
 use Rattle.bml_bytes.specs.declared.refusals.TableFault.TheVariants.{Short}
 use Rattle.psi_tables.specs.Table.{map_table}
 use Rattle.psi_tables.specs.Reading.{map_with_number, pmt_in}
-use Rattle.psi_tables.proofs.Fields.{FieldLaws}
+use Rattle.psi_tables.proofs.Fields.{StreamLaws}
 use Rattle.psi_tables.proofs.TableLaws.{fields_kind, fields_short, pmt_takes, pmt_again, same_ok, not_both}
 use Rattle.psi_tables.proofs.laws.law_of_pmt.Goals as goal
 
-laws_of : goal.After-law_of_big_numbers → FieldLaws
-laws_of c = record { number = c.law_of_fields.ensures.number; number_again = c.law_of_fields.ensures.number_again; bytes = c.law_of_fields.ensures.bytes; bytes_again = c.law_of_fields.ensures.bytes_again; descriptors = c.law_of_descriptors.ensures.some; count = c.law_of_big_numbers.ensures.count }
+laws_of : goal.After-law_of_descriptors → StreamLaws
+laws_of c = record { fields = c.law_of_fields.ensures; descriptors = c.law_of_descriptors.ensures.some }
 
 pub returns-clause-one : goal.returns-clause-one
 returns-clause-one c = λ section pmt other is too. same_ok pmt other (pmt_in section) (pmt_again (laws_of c) section pmt is) (pmt_again (laws_of c) section other too)

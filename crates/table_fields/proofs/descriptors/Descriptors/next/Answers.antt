@@ -1,7 +1,7 @@
 use Rattle.std.proofs.Common.{◌≡◌, [], Some, None, sym, ◌∙◌}
 use Rattle.table_fields.specs.Borrowed.{descriptor_of}
 use Rattle.table_fields.specs.Descriptors.{descriptor_at}
-use Rattle.table_fields.proofs.DescriptorLemmas.{BytesLaws, some_behind, left_behind, none_left}
+use Rattle.table_fields.proofs.DescriptorLemmas.{some_behind, left_behind, none_left}
 use Rattle.table_fields.proofs.descriptors.Descriptors.next.Goals as goal
 
 pub returns-in_err-descriptor-clause-next : goal.returns-in_err-descriptor-clause-next
@@ -14,9 +14,9 @@ returns-in_err-descriptor-clause-none c =
 
 pub invariant_of-self : goal.invariant_of-self
 invariant_of-self c =
-    sym (some_behind (record { parts = c.law_of_fields.ensures.bytes; again = c.law_of_fields.ensures.bytes_again }) c.self.inside.left.now (descriptor_of c.in_ok-descriptor.descriptor) c.in_ok-descriptor.behind.now (sym c.in_ok-descriptor.ensures)) ∙ c.self.invariant
+    sym (some_behind c.law_of_fields.ensures c.self.inside.left.now (descriptor_of c.in_ok-descriptor.descriptor) c.in_ok-descriptor.behind.now (sym c.in_ok-descriptor.ensures)) ∙ c.self.invariant
 
 pub returns-clause-next : goal.returns-clause-next
 returns-clause-next c =
     sym c.self.view_is
-    ∙ left_behind (record { parts = c.law_of_fields.ensures.bytes; again = c.law_of_fields.ensures.bytes_again }) c.self.inside.left.now (descriptor_of c.in_ok-descriptor.descriptor) c.in_ok-descriptor.behind.now (sym c.in_ok-descriptor.ensures) c.self.invariant
+    ∙ left_behind c.law_of_fields.ensures c.self.inside.left.now (descriptor_of c.in_ok-descriptor.descriptor) c.in_ok-descriptor.behind.now (sym c.in_ok-descriptor.ensures) c.self.invariant

@@ -13,12 +13,12 @@ returns-in_err-_descriptor c =
 
 pub descriptors-smaller : goal.descriptors-smaller
 descriptors-smaller c =
-    descriptor_shorter (record { parts = c.law_of_fields.ensures.bytes; again = c.law_of_fields.ensures.bytes_again }) c.descriptors.rest.now (descriptor_of c.in_ok-_descriptor._descriptor, c.in_ok-_descriptor.behind.now) (sym c.in_ok-_descriptor.ensures)
+    descriptor_shorter c.law_of_fields.ensures c.descriptors.rest.now (descriptor_of c.in_ok-_descriptor._descriptor, c.in_ok-_descriptor.behind.now) (sym c.in_ok-_descriptor.ensures)
 
 pub descriptors-preserved : goal.descriptors-preserved
 descriptors-preserved c =
     c.descriptors.invariant
-    ∙ some_behind (record { parts = c.law_of_fields.ensures.bytes; again = c.law_of_fields.ensures.bytes_again }) c.descriptors.rest.now (descriptor_of c.in_ok-_descriptor._descriptor) c.in_ok-_descriptor.behind.now (sym c.in_ok-_descriptor.ensures)
+    ∙ some_behind c.law_of_fields.ensures c.descriptors.rest.now (descriptor_of c.in_ok-_descriptor._descriptor) c.in_ok-_descriptor.behind.now (sym c.in_ok-_descriptor.ensures)
 
 pub invariant_of-result : goal.invariant_of-result
 invariant_of-result c = c.descriptors.invariant ∙ some_at_end c.descriptors.rest.now (search rules)
