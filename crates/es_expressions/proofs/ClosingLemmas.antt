@@ -1,33 +1,22 @@
 -- Open forms that end: what the reader's closing comes to, in plain variables.
-use Rattle.std.proofs.Common.{◌≡◌, ◌≢◌, ℕ, suc, ◌+◌, ◌≤◌, ◌<◌, Bool, true, false, List, [], ◌∷◌, ◌++◌, length, Option, Some, None, refl, sym, ◌∙◌, ap, subst, arith, min, max}
-use Rattle.std.specs.Prelude.{nat_le, nat_lt}
-use Rattle.std.proofs.lemmas.Bool.{leb-true, le-leb, ltb-true, lt-ltb, le-ltb, ltb-false}
-use Rattle.std.proofs.lemmas.Option.{same_Some}
-use Rattle.es_expressions.specs.Roles.{front, joint, strength, strength_of, is_name}
+use Rattle.std.proofs.Common.{◌≡◌, ℕ, ◌≤◌, ◌<◌, true, false, List, [], ◌∷◌, Option, Some, None, refl, sym, ◌∙◌, ap, subst}
+use Rattle.std.specs.Prelude.{nat_lt}
+use Rattle.std.proofs.lemmas.Bool.{ltb-true, ltb-false}
+use Rattle.es_expressions.specs.Roles.{strength}
 use Rattle.es_expressions.specs.Phrases.{Phrase}
-use Rattle.es_expressions.specs.Phrases.Phrase.{Leaf, Group, Index, Member, CallEmpty, CallWith, NewPlain, NewEmpty, NewWith, Postfix, Signed, Stepped, Binary, Choice, Assign, Comma}
-use Rattle.es_expressions.specs.Grammar.{level, is_target, takes_links, takes_links_at}
+use Rattle.es_expressions.specs.Phrases.Phrase.{NewPlain, Signed, Stepped, Binary, Choice, Assign, Comma}
 use Rattle.es_expressions.specs.Nodes.{NodeRow}
-use Rattle.es_expressions.specs.Machine.{Opening, hole, edge, hole_of, edge_of, if_target, closed, reach, Operand as SpecOperand, operand, settled_by, settled, State, when, with_call, with_close, with_key_end, with_colon, join, with_empty, begin, joined, move, alone_in, finish}
-use Rattle.es_expressions.specs.Machine.Opening.{InGroup, InKey, InCall, InNew, InNewCall, InSigned, InStepped, InBinary, InChosen, InOther, InAssign, InComma}
-use Rattle.es_expressions.specs.Machine.State.{Before as SpecBefore, Behind as SpecBehind, Naming as SpecNaming}
-use Rattle.es_expressions.specs.Standings.{Grows, IsSingle, Stands, FrameStands, AreStanding, frame_hole, frame_edge, innermost_hole, innermost_edge, MayStand, IsSettledAs, PlaceStands, EndsAs, IsTakenAs, Held, held, Joins, Begins, Moves, Empties}
+use Rattle.es_expressions.specs.Machine.{Opening, edge, edge_of, if_target, closed, Operand as SpecOperand, settled}
+use Rattle.es_expressions.specs.Machine.Opening.{InNew, InSigned, InStepped, InBinary, InOther, InAssign, InComma}
+use Rattle.es_expressions.specs.Standings.{Grows, IsSingle, Stands, FrameStands, AreStanding, frame_edge, innermost_edge, MayStand, IsSettledAs, Held}
 use Rattle.es_expressions.specs.declared.lexemes.Lexeme.{Lexeme}
 use Rattle.es_expressions.specs.declared.lexemes.Symbol.{Symbol}
-use Rattle.es_expressions.specs.declared.roles.Front.{Front}
-use Rattle.es_expressions.specs.declared.roles.Front.TheVariants.{Whole, Group as GroupFront, Creation, Sign, Step as StepFront, Nothing as NoFront}
-use Rattle.es_expressions.specs.declared.roles.Joint.{Joint}
-use Rattle.es_expressions.specs.declared.roles.Joint.TheVariants.{Dot, Key as KeyJoint, Call as CallJoint, Step as StepJoint, Operator, Choice as ChoiceJoint, Assignment, Comma as CommaJoint, Close, KeyEnd, Colon, Nothing as NoJoint}
 use Rattle.es_expressions.specs.declared.operands.Single.{Single}
 use Rattle.es_expressions.specs.declared.operands.Operand.{Operand}
 use Rattle.es_expressions.specs.declared.frames.Frame.{Frame}
-use Rattle.es_expressions.specs.declared.frames.Frame.TheVariants.{Group as GroupFrame, Key, Call, New, NewCall, Signed as SignedFrame, Stepped as SteppedFrame, Binary as BinaryFrame, Chosen, Other, Assign as AssignFrame, Comma as CommaFrame}
-use Rattle.es_expressions.specs.declared.places.Place.{Place}
-use Rattle.es_expressions.specs.declared.places.Place.TheVariants.{Before, Behind, Naming}
-use Rattle.es_expressions.specs.declared.places.Step.{Step}
-use Rattle.es_expressions.specs.declared.places.Step.TheVariants.{Taken, Left}
-use Rattle.es_expressions.proofs.StandLemmas.{grows-refl, frames-grown, frame-grown, operand-grown, single-grown}
-use Rattle.es_expressions.proofs.SettleLemmas.{settled-closes, settled-stays, settled-fails, settle-cases}
+use Rattle.es_expressions.specs.declared.frames.Frame.TheVariants.{New, Signed as SignedFrame, Stepped as SteppedFrame, Binary as BinaryFrame, Other, Assign as AssignFrame, Comma as CommaFrame}
+use Rattle.es_expressions.proofs.StandLemmas.{frames-grown}
+use Rattle.es_expressions.proofs.SettleLemmas.{settled-closes, settled-stays, settled-fails}
 use Rattle.es_expressions.proofs.JoinLemmas.{edge-as, edges-as}
 use Rattle.es_expressions.proofs.StandLemmas.{grows-trans}
 

@@ -1,17 +1,15 @@
 -- What was read stands in front: a state has the tokens that led to it.
-use Rattle.std.proofs.Common.{◌≡◌, ◌≢◌, ℕ, suc, ◌+◌, ◌≤◌, ◌<◌, Bool, true, false, ◌⊎◌, inl, inr, List, [], ◌∷◌, ◌++◌, length, Option, Some, None, refl, sym, ◌∙◌, ap, subst, arith, append_assoc, append-nil, min}
-use Rattle.std.specs.Prelude.{nat_le, nat_lt, nat_eq, ◌&&◌, not}
-use Rattle.std.proofs.lemmas.Bool.{leb-true, le-leb, ltb-true, lt-ltb, le-ltb, ltb-false, eqb-true}
+use Rattle.std.proofs.Common.{◌≡◌, ℕ, Bool, true, false, List, [], ◌∷◌, ◌++◌, Some, refl, sym, ◌∙◌, ap}
+use Rattle.std.specs.Prelude.{nat_le, nat_lt}
 use Rattle.std.proofs.lemmas.Option.{same_Some}
-use Rattle.es_expressions.specs.Roles.{front, joint, strength, is_name}
+use Rattle.es_expressions.specs.Roles.{front, joint, is_name}
 use Rattle.es_expressions.specs.Phrases.{Phrase, spelled}
 use Rattle.es_expressions.specs.Phrases.Phrase.{Leaf, Group, Index, Member, CallEmpty, CallWith, NewPlain, NewEmpty, NewWith, Postfix, Signed, Stepped, Binary, Choice, Assign, Comma}
-use Rattle.es_expressions.specs.Grammar.{IsExpression, level, is_target, takes_links, takes_links_at}
-use Rattle.es_expressions.specs.Machine.{Opening, hole, edge, made_level, hole_of, edge_of, if_target, closed, reach, Operand, operand, settled_by, settled, State, behind, when, with_call, with_close, with_key_end, with_colon, join, with_empty, begin, joined, move, alone_in, finish, run_on, run, opened, ahead, in_front, IsOpen, AreOpen, Fits, IsRight, unwound, outer_edge}
+use Rattle.es_expressions.specs.Grammar.{level, is_target, takes_links}
+use Rattle.es_expressions.specs.Machine.{Opening, edge, hole_of, if_target, closed, reach, Operand, operand, settled, State, behind, when, with_call, with_close, with_key_end, with_colon, join, with_empty, begin, move, run, opened, ahead, in_front}
 use Rattle.es_expressions.specs.Machine.Opening.{InGroup, InKey, InCall, InNew, InNewCall, InSigned, InStepped, InBinary, InChosen, InOther, InAssign, InComma}
 use Rattle.es_expressions.specs.Machine.State.{Before, Behind, Naming}
 use Rattle.es_expressions.specs.declared.lexemes.Lexeme.{Lexeme}
-use Rattle.es_expressions.specs.declared.lexemes.Symbol.{Symbol}
 use Rattle.es_expressions.specs.declared.roles.Front.{Front}
 use Rattle.es_expressions.specs.declared.roles.Front.TheVariants.{Whole, Group as GroupFront, Creation, Sign, Step as StepFront, Nothing as NoFront}
 use Rattle.es_expressions.specs.declared.roles.Joint.{Joint}

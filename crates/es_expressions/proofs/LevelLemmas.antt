@@ -1,20 +1,11 @@
 -- Levels of expressions, and the edges of the forms that they leave open.
-use Rattle.std.proofs.Common.{◌≡◌, ◌≢◌, ℕ, suc, ◌+◌, ◌≤◌, ◌<◌, Bool, true, false, ◌⊎◌, inl, inr, List, [], ◌∷◌, ◌++◌, length, Option, Some, None, refl, sym, ◌∙◌, ap, subst, arith, append_assoc, append-nil, min}
-use Rattle.std.specs.Prelude.{nat_le, nat_lt, nat_eq, ◌&&◌, not}
-use Rattle.std.proofs.lemmas.Bool.{leb-true, le-leb, ltb-true, lt-ltb, le-ltb, ltb-false, eqb-true}
-use Rattle.std.proofs.lemmas.Option.{same_Some}
+use Rattle.std.proofs.Common.{◌≡◌, ◌≢◌, ℕ, ◌≤◌, ◌<◌, true, refl, arith, min}
 use Rattle.std.proofs.lemmas.Bool.Decides.{nat_tests}
-use Rattle.es_expressions.specs.Roles.{front, joint, strength, is_name}
-use Rattle.es_expressions.specs.Phrases.{Phrase, spelled}
-use Rattle.es_expressions.specs.Phrases.Phrase.{Leaf, Group, Index, Member, CallEmpty, CallWith, NewPlain, NewEmpty, NewWith, Postfix, Signed, Stepped, Binary, Choice, Assign, Comma}
+use Rattle.es_expressions.specs.Roles.{strength}
+use Rattle.es_expressions.specs.Phrases.{Phrase}
+use Rattle.es_expressions.specs.Phrases.Phrase.{Leaf, Index, Member, NewPlain, Postfix, Signed, Stepped, Binary, Choice, Assign, Comma}
 use Rattle.es_expressions.specs.Grammar.{IsExpression, level, is_target, takes_links, takes_links_at}
 use Rattle.es_expressions.specs.Machine.{outer_edge}
-use Rattle.es_expressions.specs.declared.lexemes.Lexeme.{Lexeme}
-use Rattle.es_expressions.specs.declared.lexemes.Symbol.{Symbol}
-use Rattle.es_expressions.specs.declared.roles.Front.{Front}
-use Rattle.es_expressions.specs.declared.roles.Front.TheVariants.{Whole, Group as GroupFront, Creation, Sign, Step as StepFront, Nothing as NoFront}
-use Rattle.es_expressions.specs.declared.roles.Joint.{Joint}
-use Rattle.es_expressions.specs.declared.roles.Joint.TheVariants.{Dot, Key, Call, Step as StepJoint, Operator, Choice as ChoiceJoint, Assignment, Comma as CommaJoint, Close, KeyEnd, Colon, Nothing as NoJoint}
 use Rattle.es_expressions.proofs.RoleLemmas.{joint-bounds, strength-bound}
 
 pub takes-from : (n : ℕ) → takes_links_at n ≡ true → (16 ≤ n) × (n ≢ 17)

@@ -6,9 +6,11 @@ pub mod FrontLemmas
 pub mod RightLemmas
 pub mod FillLemmas
 pub mod WholeLemmas
+pub mod EndLemmas
 pub mod StandLemmas
 pub mod JoinLemmas
 pub mod ClosingLemmas
 pub mod FormLemmas
 pub mod TakeLemmas
 pub mod RangeLemmas
+pub mod SourceLemmas

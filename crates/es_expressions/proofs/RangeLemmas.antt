@@ -1,6 +1,6 @@
 -- Tokens between two places, and where the reader stops among them.
-use Rattle.std.proofs.Common.{◌≡◌, ℕ, suc, ◌+◌, ◌-◌, ◌≤◌, ◌<◌, List, [], ◌∷◌, ◌++◌, length, inl, inr, Option, Some, None, refl, sym, ◌∙◌, ap, subst, arith, take, drop, get_or, length-drop}
-use Rattle.std.specs.Prelude.{slice_get, slice_range, Result, Ok, Err, IfOk, MatchOption}
+use Rattle.std.proofs.Common.{◌≡◌, ℕ, suc, ◌+◌, ◌-◌, ◌≤◌, ◌<◌, List, [], ◌∷◌, ◌++◌, length, inl, inr, Option, Some, None, refl, sym, ◌∙◌, ap, subst, arith, take, drop, length-drop}
+use Rattle.std.specs.Prelude.{slice_get, slice_range, MatchOption}
 use Rattle.std.proofs.lemmas.Option.{slice_get_within, slice_get_read, slice_get_cases, get_or_from_slice_get, same_Some}
 use Rattle.std.proofs.Math.Seq.{take-suc}
 use Rattle.std.proofs.lemmas.List.{get_or-drop}
@@ -9,17 +9,15 @@ use Rattle.es_expressions.specs.Nodes.{NodeRow}
 use Rattle.es_expressions.specs.Beginnings.{IsWhole, Begins, Tells, IsReading}
 use Rattle.es_expressions.specs.Machine.{State, run, move, finish}
 use Rattle.es_expressions.specs.Machine.State.{Before}
-use Rattle.es_expressions.specs.Standings.{Held, held, PlaceStands, EndsAs, IsTakenAs, Moves, IsFoundAs, Grows}
+use Rattle.es_expressions.specs.Standings.{Held, held, PlaceStands, IsTakenAs, Moves, IsFoundAs}
 use Rattle.es_expressions.specs.Stops.{IsAt, StopsAt}
 use Rattle.es_expressions.specs.declared.lexemes.Lexeme.{Lexeme}
 use Rattle.es_expressions.specs.declared.frames.Frame.{Frame}
 use Rattle.es_expressions.specs.declared.places.Place.{Place}
 use Rattle.es_expressions.specs.declared.places.Place.TheVariants.{Before as BeforePlace}
-use Rattle.es_expressions.specs.declared.places.Step.{Step}
 use Rattle.es_expressions.specs.declared.places.Step.TheVariants.{Taken, Left}
 use Rattle.es_expressions.specs.declared.expressions.Stop.{Stop}
 use Rattle.es_expressions.specs.declared.expressions.Found.{Found}
-use Rattle.es_expressions.specs.declared.expressions.Reading.{Reading}
 use Rattle.es_expressions.proofs.WholeLemmas.{read-more, read-begins, read-no-more, read-whole, read-none}
 
 take-more : (ys : List Lexeme) (n : ℕ) (x : Lexeme) → slice_get ys n ≡ Some x → take (suc n) ys ≡ take n ys ++ (x ∷ [])

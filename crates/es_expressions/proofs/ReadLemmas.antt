@@ -1,23 +1,20 @@
 -- Each expression is read, and leaves its last operand open.
-use Rattle.std.proofs.Common.{◌≡◌, ◌≢◌, ℕ, suc, ◌+◌, ◌≤◌, ◌<◌, Bool, true, false, ◌⊎◌, inl, inr, List, [], ◌∷◌, ◌++◌, length, Option, Some, None, refl, sym, ◌∙◌, ap, subst, arith, append_assoc, append-nil, min}
-use Rattle.std.specs.Prelude.{nat_le, nat_lt, nat_eq, ◌&&◌, not}
-use Rattle.std.proofs.lemmas.Bool.{leb-true, le-leb, ltb-true, lt-ltb, le-ltb, ltb-false, eqb-true}
-use Rattle.std.proofs.lemmas.Option.{same_Some}
+use Rattle.std.proofs.Common.{◌≡◌, ℕ, ◌≤◌, ◌<◌, true, List, [], ◌∷◌, Some, refl, ◌∙◌, ap, arith}
+use Rattle.std.proofs.lemmas.Bool.{le-leb}
 use Rattle.es_expressions.specs.Roles.{front, joint, strength, is_name}
 use Rattle.es_expressions.specs.Phrases.{Phrase, spelled}
 use Rattle.es_expressions.specs.Phrases.Phrase.{Leaf, Group, Index, Member, CallEmpty, CallWith, NewPlain, NewEmpty, NewWith, Postfix, Signed, Stepped, Binary, Choice, Assign, Comma}
-use Rattle.es_expressions.specs.Grammar.{IsExpression, level, is_target, takes_links, takes_links_at}
-use Rattle.es_expressions.specs.Machine.{Opening, hole, edge, made_level, hole_of, edge_of, if_target, closed, reach, Operand, operand, settled_by, settled, State, behind, when, with_call, with_close, with_key_end, with_colon, join, with_empty, begin, joined, move, alone_in, finish, run_on, run, opened, ahead, in_front, IsOpen, AreOpen, Fits, IsRight, unwound, outer_edge}
+use Rattle.es_expressions.specs.Grammar.{IsExpression, level, takes_links}
+use Rattle.es_expressions.specs.Machine.{Opening, hole_of, edge_of, reach, settled, State, behind, when, with_call, join, with_empty, begin, joined, move, run_on, run, unwound, outer_edge}
 use Rattle.es_expressions.specs.Machine.Opening.{InGroup, InKey, InCall, InNew, InNewCall, InSigned, InStepped, InBinary, InChosen, InOther, InAssign, InComma}
 use Rattle.es_expressions.specs.Machine.State.{Before, Behind, Naming}
 use Rattle.es_expressions.specs.declared.lexemes.Lexeme.{Lexeme}
-use Rattle.es_expressions.specs.declared.lexemes.Symbol.{Symbol}
 use Rattle.es_expressions.specs.declared.roles.Front.{Front}
 use Rattle.es_expressions.specs.declared.roles.Front.TheVariants.{Whole, Group as GroupFront, Creation, Sign, Step as StepFront, Nothing as NoFront}
 use Rattle.es_expressions.specs.declared.roles.Joint.{Joint}
-use Rattle.es_expressions.specs.declared.roles.Joint.TheVariants.{Dot, Key, Call, Step as StepJoint, Operator, Choice as ChoiceJoint, Assignment, Comma as CommaJoint, Close, KeyEnd, Colon, Nothing as NoJoint}
-use Rattle.es_expressions.proofs.RoleLemmas.{joint-bounds, strength-bound, close-front}
-use Rattle.es_expressions.proofs.LevelLemmas.{takes-from, takes-back, level-positive, edge-positive, edge-level, target-edge, target-level, target-links, links-edge, new-edge, spine-level}
+use Rattle.es_expressions.specs.declared.roles.Joint.TheVariants.{Dot, Key, Call, Step as StepJoint, Operator, Choice as ChoiceJoint, Assignment, Comma as CommaJoint, Close, KeyEnd, Colon}
+use Rattle.es_expressions.proofs.RoleLemmas.{joint-bounds, close-front}
+use Rattle.es_expressions.proofs.LevelLemmas.{takes-from, takes-back, level-positive, edge-positive, target-edge, target-level, links-edge, new-edge, spine-level}
 use Rattle.es_expressions.proofs.SettleLemmas.{settled-stays, spine, edge-hole, hole-bound}
 
 pub stepped : (base : ℕ) (t : Lexeme) (ts : List Lexeme) (s n : State) → move base s t ≡ Some n → run base (t ∷ ts) s ≡ run base ts n

@@ -1,18 +1,14 @@
 -- What the tables of roles say together.
-use Rattle.std.proofs.Common.{◌≡◌, ◌≢◌, ℕ, suc, ◌+◌, ◌≤◌, ◌<◌, Bool, true, false, ◌⊎◌, inl, inr, List, [], ◌∷◌, ◌++◌, length, Option, Some, None, refl, sym, ◌∙◌, ap, subst, arith, append_assoc, append-nil, min}
-use Rattle.std.specs.Prelude.{nat_le, nat_lt, nat_eq, ◌&&◌, not}
-use Rattle.std.proofs.lemmas.Bool.{leb-true, le-leb, ltb-true, lt-ltb, le-ltb, ltb-false, eqb-true}
-use Rattle.std.proofs.lemmas.Option.{same_Some}
+use Rattle.std.proofs.Common.{◌≡◌, ℕ, ◌≤◌, Bool, true, false, refl, arith}
 use Rattle.es_expressions.specs.Roles.{front, front_of, mark_front, joint, joint_of, mark_joint, unless_broken, strength, strength_of}
 use Rattle.es_lexer.specs.declared.punctuators.Punctuator.{Punctuator}
-use Rattle.es_lexer.specs.declared.punctuators.Punctuator.TheVariants.{OpenParenthesis, CloseParenthesis, Increment, LogicalOr, LogicalAnd, BitOr, BitXor, BitAnd, Equal, NotEqual, Less, Greater, LessOrEqual, GreaterOrEqual, ShiftLeft, ShiftRight, UnsignedShiftRight, Plus, Minus, Times, Divide, Remainder}
-use Rattle.es_expressions.specs.declared.lexemes.Symbol.TheVariants.{Name, Word, Mark, Number, Words}
+use Rattle.es_lexer.specs.declared.punctuators.Punctuator.TheVariants.{CloseParenthesis, LogicalOr, LogicalAnd, BitOr, BitXor, BitAnd, Equal, NotEqual, Less, Greater, LessOrEqual, GreaterOrEqual, ShiftLeft, ShiftRight, UnsignedShiftRight, Plus, Minus, Times, Divide, Remainder}
+use Rattle.es_expressions.specs.declared.lexemes.Symbol.TheVariants.{Mark}
 use Rattle.es_expressions.specs.declared.lexemes.Lexeme.{Lexeme}
 use Rattle.es_expressions.specs.declared.lexemes.Symbol.{Symbol}
-use Rattle.es_expressions.specs.declared.roles.Front.{Front}
-use Rattle.es_expressions.specs.declared.roles.Front.TheVariants.{Whole, Group as GroupFront, Creation, Sign, Step as StepFront, Nothing as NoFront}
+use Rattle.es_expressions.specs.declared.roles.Front.TheVariants.{Nothing as NoFront}
 use Rattle.es_expressions.specs.declared.roles.Joint.{Joint}
-use Rattle.es_expressions.specs.declared.roles.Joint.TheVariants.{Dot, Key, Call, Step as StepJoint, Operator, Choice as ChoiceJoint, Assignment, Comma as CommaJoint, Close, KeyEnd, Colon, Nothing as NoJoint}
+use Rattle.es_expressions.specs.declared.roles.Joint.TheVariants.{Step as StepJoint, Operator, Close}
 
 abbrev pub IsStrength : ℕ → Type 0
 IsStrength n = (4 ≤ n) × (n ≤ 13)

@@ -1,11 +1,11 @@
 -- What operands and frames stand for stays when nodes are added, and a new node stands for its form.
-use Rattle.std.proofs.Common.{◌≡◌, ◌≢◌, ℕ, zero, suc, ◌+◌, ◌-◌, ◌≤◌, ◌<◌, Bool, true, false, List, [], ◌∷◌, ◌++◌, length, Option, Some, None, refl, sym, ◌∙◌, ap, subst, arith, append_assoc, append-nil, min, max}
+use Rattle.std.proofs.Common.{◌≡◌, ℕ, zero, suc, ◌+◌, ◌≤◌, ◌<◌, Bool, true, false, List, [], ◌∷◌, ◌++◌, length, Option, Some, None, refl, sym, ◌∙◌, ap, subst, arith, append_assoc, append-nil, min, max}
 use Rattle.std.specs.Prelude.{slice_get, cond}
-use Rattle.std.proofs.lemmas.Option.{same_Some, slice_get_within}
+use Rattle.std.proofs.lemmas.Option.{slice_get_within}
 use Rattle.es_expressions.specs.Phrases.{Phrase, start_of, end_of}
-use Rattle.es_expressions.specs.Phrases.Phrase.{Leaf, Group, Index, Member, CallEmpty, CallWith, NewPlain, NewEmpty, NewWith, Postfix, Signed, Stepped, Binary, Choice, Assign, Comma}
+use Rattle.es_expressions.specs.Phrases.Phrase.{Leaf, Comma}
 use Rattle.es_expressions.specs.Grammar.{level, is_target}
-use Rattle.es_expressions.specs.Trees.{Tree, Trees, and_then, goes_on, depth, depth_with, deepest}
+use Rattle.es_expressions.specs.Trees.{Tree, Trees, and_then, is_beside, depth, depth_with, deepest}
 use Rattle.es_expressions.specs.Trees.Tree.{TreeOf}
 use Rattle.es_expressions.specs.Trees.Trees.{NoTrees, OneMore}
 use Rattle.es_expressions.specs.Meaning.{meaning, Meaning, alone, one, node, tree_of, parts_of}
@@ -13,7 +13,6 @@ use Rattle.es_expressions.specs.Nodes.{NodeRow, IsTreeAt, AreTreesAt}
 use Rattle.es_expressions.specs.Machine.{Opening}
 use Rattle.es_expressions.specs.Standings.{Grows, is_list, StandAt, IsSingle, ContentStands, Stands, FrameStands, AreStanding, noded}
 use Rattle.es_expressions.specs.Machine.Opening.{InGroup, InKey, InCall, InNew, InNewCall, InSigned, InStepped, InBinary, InChosen, InOther, InAssign, InComma}
-use Rattle.es_expressions.specs.declared.lexemes.Lexeme.{Lexeme}
 use Rattle.es_expressions.specs.declared.lexemes.Symbol.{Symbol}
 use Rattle.es_expressions.specs.declared.nodes.Node.{Node as TheNode}
 use Rattle.es_expressions.specs.declared.nodes.Form.{Form}
@@ -82,36 +81,49 @@ new-tree rows nd kids ns h = (ns, get-end rows (row nd ns), trees-grow kids rows
 
 -- Depths
 
-pub depth-of : (nd : TheNode) (kids : Trees) → depth (TreeOf nd kids) ≡ depth_with kids (goes_on nd.form)
-unfolding depth depth_with deepest
+pub depth-of : (nd : TheNode) (kids : Trees) → depth (TreeOf nd kids) ≡ depth_with kids nd.form 0
+unfolding depth depth_with
 depth-of nd kids = refl
 
 pub deepest-none : deepest NoTrees ≡ 0
-unfolding depth depth_with deepest
+unfolding deepest
 deepest-none = refl
 
 pub deepest-more : (t : Tree) (ts : Trees) → deepest (OneMore t ts) ≡ max (depth t) (deepest ts)
-unfolding depth depth_with deepest
+unfolding deepest
 deepest-more t ts = refl
 
-pub depth-more : (t : Tree) (ts : Trees) (chain : Bool) → depth_with (OneMore t ts) chain ≡ max (cond chain (depth t) (suc (depth t))) (suc (deepest ts))
-unfolding depth depth_with deepest
-depth-more t ts chain = refl
+pub depth-more : (t : Tree) (ts : Trees) (parent : Form) (n : ℕ) → depth_with (OneMore t ts) parent n ≡ max (cond (is_beside parent n) (depth t) (suc (depth t))) (depth_with ts parent (suc n))
+unfolding depth depth_with
+depth-more t ts parent n = refl
 
-pub depth-none : (chain : Bool) → depth_with NoTrees chain ≡ 1
-unfolding depth depth_with deepest
-depth-none chain = refl
+pub depth-none : (parent : Form) (n : ℕ) → depth_with NoTrees parent n ≡ 1
+unfolding depth depth_with
+depth-none parent n = refl
 
-pub depth-plain : (ts : Trees) → depth_with ts false ≡ suc (deepest ts)
-depth-plain NoTrees = depth-none false ∙ ap (λ n. suc n) (sym deepest-none)
-depth-plain (OneMore t ts) = let a = depth-more t ts false in let b = deepest-more t ts in omega arith
+-- the children of such a node are below it from this place on
+abbrev pub AllBelow : Form → ℕ → Type 0
+AllBelow parent n = (k : ℕ) → is_beside parent (k + n) ≡ false
+
+pub depth-plain : (ts : Trees) (parent : Form) (n : ℕ) → AllBelow parent n → depth_with ts parent n ≡ suc (deepest ts)
+depth-plain NoTrees parent n h = depth-none parent n ∙ ap (λ x. suc x) (sym deepest-none)
+depth-plain (OneMore t ts) parent n h =
+    let below : cond (is_beside parent n) (depth t) (suc (depth t)) ≡ suc (depth t) = ap (λ x. cond x (depth t) (suc (depth t))) (at 0 (omega arith)) in
+    let others = depth-plain ts parent (suc n) (λ k. at (suc k) (omega arith)) in
+    omega (arith, depth-more t ts parent n, deepest-more t ts)
+  where
+    at : (k : ℕ) {m : ℕ} → k + n ≡ m → is_beside parent m ≡ false
+    at k e = subst (λ x. is_beside parent x ≡ false) e (h k)
 
 pub depth-one : (t : Tree) → deepest (one t) ≡ depth t
 depth-one t = let a = deepest-more t NoTrees in omega (arith, deepest-none)
 
+depth-with-positive : (ts : Trees) (parent : Form) (n : ℕ) → 1 ≤ depth_with ts parent n
+depth-with-positive NoTrees parent n = omega (arith, depth-none parent n)
+depth-with-positive (OneMore t ts) parent n = omega (arith, depth-more t ts parent n, depth-with-positive ts parent (suc n))
+
 pub depth-positive : (t : Tree) → 1 ≤ depth t
-depth-positive (TreeOf nd NoTrees) = let a = depth-of nd NoTrees in let b = depth-none (goes_on nd.form) in omega arith
-depth-positive (TreeOf nd (OneMore t ts)) = let a = depth-of nd (OneMore t ts) in let b = depth-more t ts (goes_on nd.form) in omega arith
+depth-positive (TreeOf nd kids) = omega (arith, depth-of nd kids, depth-with-positive kids nd.form 0)
 
 pub deepest-and_then : (ts : Trees) (t : Tree) → deepest (and_then ts t) ≡ max (deepest ts) (depth t)
 deepest-and_then NoTrees t = let a = depth-one t in omega (arith, deepest-none)
@@ -197,7 +209,7 @@ single-of-node rows o n e c h =
     }
 
 list-depth : (e : Phrase) → is_list e ≡ true → depth (tree_of e) ≡ suc (deepest (parts_of e))
-list-depth e h = ap depth (list-tree e h) ∙ (depth-of (node CommaForm (start_of e) (end_of e) None) (parts_of e) ∙ depth-plain (parts_of e))
+list-depth e h = ap depth (list-tree e h) ∙ (depth-of (node CommaForm (start_of e) (end_of e) None) (parts_of e) ∙ depth-plain (parts_of e) CommaForm 0 (λ k. refl))
 
 pub node-same : (form : Form) (s t s' t' : ℕ) (k : Option Symbol) → s ≡ s' → t ≡ t' → node form s t k ≡ node form s' t' k
 node-same form s t s' t' k p q = ap (λ x. node form x t k) p ∙ ap (λ x. node form s' x k) q
@@ -223,7 +235,7 @@ parts-of-node rows n e h = subst (λ x. StandAt x rows (n ∷ [])) (sym (parts-a
 
 -- A new node
 
-pub made-stands : (rows after : List NodeRow) (o : Operand) (lev : ℕ) (target : Bool) (height : ℕ) (nd is : TheNode) (numbers : List ℕ) (kids : Trees) (e : Phrase) → o ≡ noded lev target height nd (length rows) → after ≡ rows ++ (row nd numbers ∷ []) → nd ≡ is → meaning e ≡ alone (TreeOf is kids) → is_list e ≡ false → lev ≡ level e → target ≡ is_target e → is.start ≡ start_of e → is.«end» ≡ end_of e → height ≡ min 65 (depth_with kids (goes_on is.form)) → StandAt kids rows numbers → Stands after o e
+pub made-stands : (rows after : List NodeRow) (o : Operand) (lev : ℕ) (target : Bool) (height : ℕ) (nd is : TheNode) (numbers : List ℕ) (kids : Trees) (e : Phrase) → o ≡ noded lev target height nd (length rows) → after ≡ rows ++ (row nd numbers ∷ []) → nd ≡ is → meaning e ≡ alone (TreeOf is kids) → is_list e ≡ false → lev ≡ level e → target ≡ is_target e → is.start ≡ start_of e → is.«end» ≡ end_of e → height ≡ min 65 (depth_with kids is.form 0) → StandAt kids rows numbers → Stands after o e
 made-stands rows after o lev target height nd is numbers kids e same added nodes m plain l t s u h k =
     let tree : tree_of e ≡ TreeOf is kids = ap (λ (x : Meaning). x.tree) m in
     let parts : parts_of e ≡ one (TreeOf is kids) = ap (λ (x : Meaning). x.parts) m in

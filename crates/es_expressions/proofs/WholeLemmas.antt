@@ -1,28 +1,17 @@
 -- What the states say of the tokens read: what goes on, what is whole, and that there is one tree.
-use Rattle.std.proofs.Common.{◌≡◌, ◌≢◌, ℕ, suc, ◌+◌, ◌≤◌, ◌<◌, Bool, true, false, ◌⊎◌, inl, inr, List, [], ◌∷◌, ◌++◌, length, Option, Some, None, refl, sym, ◌∙◌, ap, subst, arith, append_assoc, append-nil, min}
-use Rattle.std.specs.Prelude.{nat_le, nat_lt, nat_eq, ◌&&◌, not}
-use Rattle.std.proofs.lemmas.Bool.{leb-true, le-leb, ltb-true, lt-ltb, le-ltb, ltb-false, eqb-true}
+use Rattle.std.proofs.Common.{◌≡◌, ℕ, ◌≤◌, List, [], ◌∷◌, ◌++◌, Option, Some, None, refl, sym, ◌∙◌, ap, arith, append-nil}
 use Rattle.std.proofs.lemmas.Option.{same_Some}
-use Rattle.es_expressions.specs.Roles.{front, joint, strength, is_name}
-use Rattle.es_expressions.specs.Phrases.{Phrase, spelled}
-use Rattle.es_expressions.specs.Phrases.Phrase.{Leaf, Group, Index, Member, CallEmpty, CallWith, NewPlain, NewEmpty, NewWith, Postfix, Signed, Stepped, Binary, Choice, Assign, Comma}
-use Rattle.es_expressions.specs.Grammar.{IsExpression, level, is_target, takes_links, takes_links_at}
-use Rattle.es_expressions.specs.Machine.{Opening, hole, edge, made_level, hole_of, edge_of, if_target, closed, reach, Operand, operand, settled_by, settled, State, behind, when, with_call, with_close, with_key_end, with_colon, join, with_empty, begin, joined, move, alone_in, finish, run_on, run, opened, ahead, in_front, IsOpen, AreOpen, Fits, IsRight, unwound, outer_edge}
-use Rattle.es_expressions.specs.Machine.Opening.{InGroup, InKey, InCall, InNew, InNewCall, InSigned, InStepped, InBinary, InChosen, InOther, InAssign, InComma}
+use Rattle.es_expressions.specs.Phrases.{Phrase}
+use Rattle.es_expressions.specs.Grammar.{IsExpression}
+use Rattle.es_expressions.specs.Machine.{Opening, Operand, operand, settled, State, behind, move, alone_in, finish, run_on, run, in_front, IsRight, unwound}
 use Rattle.es_expressions.specs.Machine.State.{Before, Behind, Naming}
 use Rattle.es_expressions.specs.declared.lexemes.Lexeme.{Lexeme}
-use Rattle.es_expressions.specs.declared.lexemes.Symbol.{Symbol}
-use Rattle.es_expressions.specs.declared.roles.Front.{Front}
-use Rattle.es_expressions.specs.declared.roles.Front.TheVariants.{Whole, Group as GroupFront, Creation, Sign, Step as StepFront, Nothing as NoFront}
-use Rattle.es_expressions.specs.declared.roles.Joint.{Joint}
-use Rattle.es_expressions.specs.declared.roles.Joint.TheVariants.{Dot, Key, Call, Step as StepJoint, Operator, Choice as ChoiceJoint, Assignment, Comma as CommaJoint, Close, KeyEnd, Colon, Nothing as NoJoint}
 use Rattle.es_expressions.specs.Beginnings.{IsWhole, Begins}
-use Rattle.es_expressions.specs.Meaning.{tree_of}
 use Rattle.es_expressions.proofs.LevelLemmas.{edge-positive}
 use Rattle.es_expressions.proofs.SettleLemmas.{spine}
 use Rattle.es_expressions.proofs.ReadLemmas.{reads}
 use Rattle.es_expressions.proofs.FrontLemmas.{settled-front, run-front}
-use Rattle.es_expressions.proofs.RightLemmas.{IsSettled, settled-right, run-right}
+use Rattle.es_expressions.proofs.RightLemmas.{settled-right, run-right}
 use Rattle.es_expressions.proofs.FillLemmas.{Filled, fills-all}
 
 -- the state after these tokens
@@ -38,7 +27,7 @@ unfolding run
 run-append base [] us s = refl
 run-append base (t ∷ ts) us s = onward (move base s t) (λ n. run base ts n) (λ n. run base us n) (λ n. run base (ts ++ us) n) (λ n. run-append base ts us n)
 
-whole-run : (base : ℕ) → base ≤ 2 → (ts : List Lexeme) (e : Phrase) → IsWhole base ts e → HasRead base ts (behind (unwound e []))
+pub whole-run : (base : ℕ) → base ≤ 2 → (ts : List Lexeme) (e : Phrase) → IsWhole base ts e → HasRead base ts (behind (unwound e []))
 unfolding run
 whole-run base b ts e w = ap (λ x. run base x (Before [])) (sym w.is_spelled) ∙ reads base b e [] [] w.expression w.fits
 

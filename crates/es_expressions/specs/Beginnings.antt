@@ -1,6 +1,6 @@
 -- What is read of tokens as an expression (ECMA-262 second edition, section 11, in this profile): as long
 -- as it can be.
-use Rattle.std.specs.Prelude.{◌≡◌, ℕ, ◌+◌, ◌≤◌, ◌<◌, List, [], ◌++◌, length, Option, Some, MatchOption, slice_range, slice_get, min}
+use Rattle.std.specs.Prelude.{◌≡◌, ℕ, Bool, true, false, ◌+◌, ◌≤◌, ◌<◌, List, [], ◌++◌, length, MatchOption, slice_range, min}
 use Rattle.es_expressions.specs.Phrases.{Phrase, spelled}
 use Rattle.es_expressions.specs.Grammar.{IsExpression, level, is_target}
 use Rattle.es_expressions.specs.Trees.{depth}
@@ -9,6 +9,8 @@ use Rattle.es_expressions.specs.Meaning.{tree_of}
 use Rattle.es_expressions.specs.declared.lexemes.Lexeme.{Lexeme}
 use Rattle.es_expressions.specs.declared.expressions.Extent.{Extent}
 use Rattle.es_expressions.specs.declared.expressions.Extent.TheVariants.{WithCommas, WithoutCommas}
+use Rattle.es_expressions.specs.declared.roles.Joint.{Joint}
+use Rattle.es_expressions.specs.declared.roles.Joint.TheVariants.{Dot, Key, Call, Step, Operator, Choice, Assignment, Comma}
 use Rattle.es_expressions.specs.declared.expressions.Found.{Found}
 use Rattle.es_expressions.specs.declared.expressions.Reading.{Reading}
 
@@ -16,6 +18,19 @@ use Rattle.es_expressions.specs.declared.expressions.Reading.{Reading}
 abbrev pub least : Extent → ℕ
 least WithCommas = 1
 least WithoutCommas = 2
+
+-- whether a token that does this may go on with a whole expression, as `,` may only where a list with
+-- commas is read
+abbrev pub goes_on_with : Extent → Joint → Bool
+goes_on_with extent Dot = true
+goes_on_with extent Key = true
+goes_on_with extent Call = true
+goes_on_with extent Step = true
+goes_on_with extent (Operator n) = true
+goes_on_with extent Choice = true
+goes_on_with extent Assignment = true
+goes_on_with WithCommas Comma = true
+goes_on_with extent _ = false
 
 -- the tokens are those of an expression of at least this level
 pub record IsWhole (base : ℕ) (tokens : List Lexeme) (e : Phrase) : Type 0 where

@@ -5,11 +5,10 @@
 --   4 to 13 binary operators by strength, all from the left; 14 operators in front; 15 `++` and `--`
 --   behind; 16 calls and what is read of them; 17 `new` without arguments; 18 members of what is no call,
 --   `new` with arguments; 19 tokens and groups
-use Rattle.std.specs.Prelude.{◌≡◌, ℕ, suc, ◌≤◌, ◌<◌, Bool, true, false, ◌&&◌, nat_le, nat_eq, not, min}
+use Rattle.std.specs.Prelude.{◌≡◌, ℕ, suc, ◌≤◌, Bool, true, false, ◌&&◌, nat_le, nat_eq, not, min}
 use Rattle.es_expressions.specs.Roles.{front, joint, strength, is_name}
 use Rattle.es_expressions.specs.Phrases.{Phrase}
 use Rattle.es_expressions.specs.Phrases.Phrase.{Leaf, Group, Index, Member, CallEmpty, CallWith, NewPlain, NewEmpty, NewWith, Postfix, Signed, Stepped, Binary, Choice, Assign, Comma}
-use Rattle.es_expressions.specs.declared.lexemes.Lexeme.{Lexeme}
 use Rattle.es_expressions.specs.declared.roles.Front.TheVariants.{Whole, Group as GroupFront, Creation, Sign, Step as StepFront}
 use Rattle.es_expressions.specs.declared.roles.Joint.TheVariants.{Dot, Key, Call, Step as StepJoint, Operator, Choice as ChoiceJoint, Assignment, Comma as CommaJoint, Close, KeyEnd, Colon}
 

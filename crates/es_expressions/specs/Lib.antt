@@ -5,6 +5,7 @@ pub mod Grammar
 pub mod Meaning
 pub mod Beginnings
 pub mod Nodes
+pub mod Sources
 pub mod Machine
 pub mod Standings
 pub mod Stops

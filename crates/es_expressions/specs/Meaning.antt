@@ -1,16 +1,15 @@
 -- The tree that an expression means (this project's own). Parentheses are no node, and a whole list with
 -- commas is one node with its parts.
-use Rattle.std.specs.Prelude.{ℕ, Bool, true, false, Option, Some, None}
+use Rattle.std.specs.Prelude.{ℕ, Option, Some, None}
 use Rattle.es_expressions.specs.Phrases.{Phrase, start_of, end_of}
 use Rattle.es_expressions.specs.Phrases.Phrase.{Leaf, Group, Index, Member, CallEmpty, CallWith, NewPlain, NewEmpty, NewWith, Postfix, Signed, Stepped, Binary, Choice, Assign, Comma}
 use Rattle.es_expressions.specs.Trees.{Tree, Trees, and_then}
 use Rattle.es_expressions.specs.Trees.Tree.{TreeOf}
 use Rattle.es_expressions.specs.Trees.Trees.{NoTrees, OneMore}
 use Rattle.es_lexer.specs.declared.words.ReservedWord.{ReservedWord}
-use Rattle.es_lexer.specs.declared.words.ReservedWord.TheVariants.{This, Null, True, False}
+use Rattle.es_lexer.specs.declared.words.ReservedWord.TheVariants.{Null, True, False}
 use Rattle.es_expressions.specs.declared.lexemes.Symbol.{Symbol}
 use Rattle.es_expressions.specs.declared.lexemes.Symbol.TheVariants.{Name, Word, Mark, Number, Words}
-use Rattle.es_expressions.specs.declared.lexemes.Lexeme.{Lexeme}
 use Rattle.es_expressions.specs.declared.nodes.Node.{Node}
 use Rattle.es_expressions.specs.declared.nodes.Form.{Form}
 use Rattle.es_expressions.specs.declared.nodes.Form.TheVariants.{This as ThisForm, Name as NameForm, Null as NullForm, True as TrueForm, False as FalseForm, Number as NumberForm, Text as TextForm, Index as IndexForm, Member as MemberForm, Call as CallForm, New as NewForm, Postfix as PostfixForm, Prefix as PrefixForm, Binary as BinaryForm, Choice as ChoiceForm, Assignment as AssignmentForm, Comma as CommaForm}

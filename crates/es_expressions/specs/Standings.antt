@@ -1,5 +1,5 @@
 -- A device of the proofs: what the operands and frames that the code keeps stand for.
-use Rattle.std.specs.Prelude.{◌≡◌, ℕ, suc, ◌≤◌, Bool, true, false, List, [], ◌∷◌, ◌++◌, Option, Some, None, min}
+use Rattle.std.specs.Prelude.{◌≡◌, ℕ, suc, Bool, true, false, List, [], ◌∷◌, ◌++◌, Option, Some, None, min}
 use Rattle.es_expressions.specs.Roles.{strength, joint, front}
 use Rattle.es_expressions.specs.Phrases.{Phrase, start_of, end_of}
 use Rattle.es_expressions.specs.Phrases.Phrase.{CallEmpty as CallEmptyPhrase, NewEmpty as NewEmptyPhrase, Group as GroupPhrase, Index as IndexPhrase, CallWith as CallWithPhrase, NewWith as NewWithPhrase, Comma as CommaPhrase}

@@ -60,8 +60,9 @@ pub struct Stop {
 }
 
 /// Reads an expression from a place among tokens on, as long as it can be: each token that is read
-/// is one with which some expression goes on, and with the token at which it ends none does. Its
-/// nodes are pushed behind the others.
+/// is one with which some expression goes on, and with the token at which it ends none does. Where
+/// it succeeds, its nodes are added behind the others, which stay as they were. Where it finds no
+/// memory, nothing is said of the nodes.
 pub fn read_expression(
     tokens: &[Lexeme],
     start: usize,

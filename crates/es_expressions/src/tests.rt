@@ -2,73 +2,9 @@
 
 use crate::*;
 use bml_bytes::{NoMemory, Text, push_decimal};
-use es_lexer::{LexRefusal, Token, TokenKind, punctuator_of, reserved_word_of, tokens};
+use es_lexer::LexRefusal;
 use std::alloc::Global;
 use std::test::Fail;
-
-// The symbol of a token, by the codes that spell it.
-fn symbol_of(
-    alloc: Global,
-    kind: &TokenKind,
-    spelling: &[u16],
-) -> Result<Option<Symbol>, NoMemory> {
-    match kind {
-        TokenKind::Name => {
-            let name = Text::of_codes(alloc, spelling)?;
-            Ok(Some(Symbol::Name(name)))
-        }
-        TokenKind::Word => match reserved_word_of(spelling) {
-            Some(word) => Ok(Some(Symbol::Word(word))),
-            None => Ok(None),
-        },
-        TokenKind::Mark => match punctuator_of(spelling) {
-            Some(mark) => Ok(Some(Symbol::Mark(mark))),
-            None => Ok(None),
-        },
-        TokenKind::Number(number) => Ok(Some(Symbol::Number(*number))),
-        TokenKind::Words(words) => {
-            let words = words.share()?;
-            Ok(Some(Symbol::Words(words)))
-        }
-    }
-}
-
-fn push_lexeme(
-    alloc: Global,
-    codes: &[u16],
-    token: &Token,
-    lexemes: &mut Vec<Lexeme>,
-) -> Result<(), NoMemory> {
-    let (start, end) = (token.start, token.end);
-    if end < start || codes.len() < end {
-        return Ok(());
-    }
-    if let Some(symbol) = symbol_of(alloc, &token.kind, &codes[start..end])? {
-        let after_break = token.after_break;
-        lexemes.push(Lexeme {
-            symbol,
-            start,
-            end,
-            after_break,
-        })?;
-    }
-    Ok(())
-}
-
-fn lexemes_of(alloc: Global, bytes: &[u8]) -> Result<Vec<Lexeme>, NoMemory> {
-    let mut lexemes = Vec::new(alloc);
-    let text = Text::of_bytes(alloc, bytes)?;
-    match tokens(alloc, &text) {
-        Ok(found) => {
-            for token in &found {
-                push_lexeme(alloc, text.codes(), token, &mut lexemes)?;
-            }
-        }
-        Err(LexRefusal::Bad { .. }) => {}
-        Err(LexRefusal::NoMemory) => return Err(NoMemory),
-    }
-    Ok(lexemes)
-}
 
 fn letter_of(form: Form) -> u8 {
     match form {
@@ -99,18 +35,36 @@ fn push_found(nodes: &Nodes, found: Found, out: &mut Vec<u8>) -> Result<(), NoMe
     Ok(())
 }
 
-// The number of tokens that are read of a text, and where they are a whole expression a letter for
-// its form, its height, and `=` where it is a target.
-fn told(alloc: Global, bytes: &[u8]) -> Result<Vec<u8>, NoMemory> {
-    let lexemes = lexemes_of(alloc, bytes)?;
-    let mut nodes = Nodes::new(alloc);
-    let reading = read_expression(&lexemes, 0, Extent::WithCommas, &mut nodes)?;
-    let mut out = Vec::new(alloc);
-    if let Ok(end) = i64::try_from(reading.end) {
-        push_decimal(end, &mut out)?;
+fn push_count(count: usize, out: &mut Vec<u8>) -> Result<(), NoMemory> {
+    if let Ok(count) = i64::try_from(count) {
+        push_decimal(count, out)?;
     }
+    Ok(())
+}
+
+// The number of tokens that are read, and where they are a whole expression a letter for its form,
+// its height, and `=` where it is a target.
+fn push_reading(alloc: Global, lexemes: &[Lexeme], out: &mut Vec<u8>) -> Result<(), NoMemory> {
+    let mut nodes = Nodes::new(alloc);
+    let reading = read_expression(lexemes, 0, Extent::WithCommas, &mut nodes)?;
+    push_count(reading.end, out)?;
     if let Some(found) = reading.found {
-        push_found(&nodes, found, &mut out)?;
+        push_found(&nodes, found, out)?;
+    }
+    Ok(())
+}
+
+// What is read of a text, or `!` and the place at which it has no token.
+fn told(alloc: Global, bytes: &[u8]) -> Result<Vec<u8>, NoMemory> {
+    let text = Text::of_bytes(alloc, bytes)?;
+    let mut out = Vec::new(alloc);
+    match lexemes_of(alloc, &text) {
+        Ok(lexemes) => push_reading(alloc, &lexemes, &mut out)?,
+        Err(LexRefusal::Bad { place }) => {
+            out.push(b'!')?;
+            push_count(place, &mut out)?;
+        }
+        Err(LexRefusal::NoMemory) => return Err(NoMemory),
     }
     Ok(out)
 }
@@ -128,8 +82,9 @@ fn unlike(alloc: Global, cases: &[(&[u8], &[u8])]) -> Result<Option<usize>, NoMe
 
 #[test]
 fn whole_expressions(rt: HostRuntime) -> Result<(), Fail> {
-    let cases: [(&[u8], &[u8]); 18] = [
+    let cases: [(&[u8], &[u8]); 19] = [
         (b"a", b"1 n1="),
+        (b"this + 1 + 'a'", b"5 b2"),
         (b"(a)", b"3 n1"),
         (b"a - b - c", b"5 b2"),
         (b"a - (b - c)", b"7 b3"),
@@ -154,8 +109,9 @@ fn whole_expressions(rt: HostRuntime) -> Result<(), Fail> {
 
 #[test]
 fn where_reading_ends(rt: HostRuntime) -> Result<(), Fail> {
-    let cases: [(&[u8], &[u8]); 11] = [
+    let cases: [(&[u8], &[u8]); 12] = [
         (b"", b"0"),
+        (b"a #", b"!2"),
         (b"a +", b"2"),
         (b"(a", b"2"),
         (b"()", b"1"),

@@ -1,7 +1,7 @@
-use Rattle.std.proofs.Common.{◌≡◌, ℕ, List, [], ◌∷◌, Option, Some, None, refl, sym, ◌∙◌, ap, subst, arith}
-use Rattle.es_expressions.specs.Standings.{Grows, held}
+use Rattle.std.proofs.Common.{Option, Some, None, subst}
+use Rattle.es_expressions.specs.Standings.{held}
 use Rattle.es_expressions.specs.declared.operands.Operand.{Operand}
-use Rattle.es_expressions.proofs.StandLemmas.{grows-refl, grows-trans}
+use Rattle.es_expressions.proofs.StandLemmas.{grows-refl}
 use Rattle.es_expressions.proofs.ClosingLemmas.{Closing, starts-settling, keeps-settling, settles, fails}
 use Rattle.es_expressions.proofs.closing.settle.Goals as goal
 

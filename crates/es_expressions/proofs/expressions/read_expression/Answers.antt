@@ -1,15 +1,10 @@
-use Rattle.std.proofs.Common.{◌≡◌, ◌≤◌, arith, subst, sym}
+use Rattle.std.proofs.Common.{subst}
 use Rattle.es_expressions.specs.Beginnings.{least}
 use Rattle.es_expressions.specs.Standings.{held}
 use Rattle.es_expressions.specs.Stops.{StopsAt}
-use Rattle.es_expressions.specs.declared.expressions.Extent.{Extent}
-use Rattle.es_expressions.specs.declared.expressions.Extent.TheVariants.{WithCommas, WithoutCommas}
+use Rattle.es_expressions.proofs.EndLemmas.{least-bound}
 use Rattle.es_expressions.proofs.RangeLemmas.{is-reading}
 use Rattle.es_expressions.proofs.expressions.read_expression.Goals as goal
-
-least-bound : (extent : Extent) → least extent ≤ 2
-least-bound WithCommas = omega arith
-least-bound WithoutCommas = omega arith
 
 pub returns-clause-reading : goal.returns-clause-reading
 returns-clause-reading c =

@@ -1,11 +1,7 @@
-use Rattle.std.proofs.Common.{◌≡◌, ℕ, Bool, true, false, List, [], ◌∷◌, ◌++◌, Option, Some, None, length, refl, sym, ◌∙◌, ap, subst, arith, rules}
+use Rattle.std.proofs.Common.{◌≡◌, false, ◌∷◌, sym, ◌∙◌, ap, rules}
 use Rattle.es_expressions.specs.declared.frames.Frame.TheVariants.{Call}
 use Rattle.es_expressions.proofs.FormLemmas.{if-one}
-use Rattle.es_expressions.specs.Standings.{Grows, IsSingle, Stands, held}
-use Rattle.es_expressions.specs.declared.roles.Joint.TheVariants.{Close, KeyEnd, Colon}
-use Rattle.es_expressions.proofs.StandLemmas.{grows-refl, grows-trans}
 use Rattle.es_expressions.proofs.JoinLemmas.{taken-if, call-left, call-taken, called, called-other, is_new}
-use Rattle.es_expressions.proofs.TakeLemmas.{close-taken, key-taken, colon-taken, other-left, none-left, refuses-close, refuses-key, refuses-colon}
 use Rattle.es_expressions.proofs.joining.call.Goals as goal
 
 pub returns-then-not-takes_links-clause-joins : goal.returns-then-not-takes_links-clause-joins

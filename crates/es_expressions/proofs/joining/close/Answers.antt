@@ -1,9 +1,6 @@
-use Rattle.std.proofs.Common.{◌≡◌, ℕ, Bool, true, false, List, [], ◌∷◌, ◌++◌, Option, Some, None, length, refl, sym, ◌∙◌, ap, subst, arith}
-use Rattle.es_expressions.specs.Standings.{Grows, IsSingle, Stands, held}
-use Rattle.es_expressions.specs.declared.roles.Joint.TheVariants.{Close, KeyEnd, Colon}
-use Rattle.es_expressions.proofs.StandLemmas.{grows-refl, grows-trans}
-use Rattle.es_expressions.proofs.JoinLemmas.{taken-if, call-left, call-taken}
-use Rattle.es_expressions.proofs.TakeLemmas.{close-taken, key-taken, colon-taken, other-left, none-left, refuses-close, refuses-key, refuses-colon}
+use Rattle.std.proofs.Common.{refl, sym, ◌∙◌}
+use Rattle.es_expressions.specs.declared.roles.Joint.TheVariants.{Close}
+use Rattle.es_expressions.proofs.TakeLemmas.{close-taken, other-left, none-left, refuses-close}
 use Rattle.es_expressions.proofs.joining.close.Goals as goal
 
 pub returns-in_default-clause-joins : goal.returns-in_default-clause-joins

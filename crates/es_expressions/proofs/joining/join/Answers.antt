@@ -1,4 +1,4 @@
-use Rattle.std.proofs.Common.{◌≡◌, ℕ, List, [], refl, sym, subst}
+use Rattle.std.proofs.Common.{refl, sym, subst}
 use Rattle.es_expressions.specs.Standings.{Joins, held}
 use Rattle.es_expressions.specs.declared.places.Place.TheVariants.{Behind}
 use Rattle.es_expressions.specs.declared.places.Step.TheVariants.{Left}

@@ -1,9 +1,4 @@
-use Rattle.std.proofs.Common.{◌≡◌, ℕ, Bool, true, false, List, [], ◌∷◌, ◌++◌, Option, Some, None, length, refl, sym, ◌∙◌, ap, subst, arith}
-use Rattle.es_expressions.specs.Nodes.{NodeRow}
-use Rattle.es_expressions.specs.Standings.{Grows, IsSingle, Stands, held}
-use Rattle.es_expressions.specs.declared.places.Step.{Step}
-use Rattle.es_expressions.proofs.FormLemmas.{if-both, if-one}
-use Rattle.es_expressions.proofs.StandLemmas.{grows-refl, grows-trans}
+use Rattle.std.proofs.Common.{arith}
 use Rattle.es_expressions.proofs.JoinLemmas.{operator-left, operator-taken, taken-if}
 use Rattle.es_expressions.proofs.joining.operator.Goals as goal
 

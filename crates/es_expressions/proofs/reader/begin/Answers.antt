@@ -1,13 +1,5 @@
-use Rattle.std.proofs.Common.{◌≡◌, ℕ, List, [], ◌∷◌, Option, Some, None, refl, sym, ◌∙◌, ap, subst, arith}
-use Rattle.es_expressions.specs.Standings.{Grows, Joins, held, IsSettledAs}
-use Rattle.es_expressions.specs.declared.operands.Operand.{Operand}
-use Rattle.es_expressions.specs.declared.places.Place.{Place}
-use Rattle.es_expressions.specs.declared.places.Place.TheVariants.{Before, Behind, Naming}
-use Rattle.es_expressions.specs.declared.places.Step.TheVariants.{Left, Taken}
-use Rattle.es_expressions.proofs.FormLemmas.{if-one}
-use Rattle.es_expressions.proofs.StandLemmas.{grows-refl, grows-trans}
-use Rattle.es_expressions.proofs.JoinLemmas.{not-true, not-false}
-use Rattle.es_expressions.proofs.TakeLemmas.{Settling, empty-taken, empty-unlike, empty-other, empty-none, begins-whole, begins-left, sign-left, step-left-front, begins-empty, moves-before, moves-behind, moves-none, moves-name, moves-nameless, finds-none, finds-behind, finds-failed, finds-open, finds-whole}
+use Rattle.std.proofs.Common.{sym, ◌∙◌}
+use Rattle.es_expressions.proofs.TakeLemmas.{begins-whole, begins-left, sign-left, step-left-front}
 use Rattle.es_expressions.proofs.reader.begin.Goals as goal
 
 pub returns-then-not-is_within-clause-begins : goal.returns-then-not-is_within-clause-begins

@@ -1,19 +1,12 @@
-use Rattle.std.proofs.Common.{◌≡◌, ℕ, List, [], ◌∷◌, Option, Some, None, refl, sym, ◌∙◌, ap, subst, arith}
-use Rattle.es_expressions.specs.Standings.{Grows, Joins, held, IsSettledAs}
+use Rattle.std.proofs.Common.{Option, Some, None, sym, subst}
+use Rattle.es_expressions.specs.Standings.{held, IsSettledAs}
 use Rattle.es_expressions.specs.declared.operands.Operand.{Operand}
 use Rattle.es_expressions.specs.declared.places.Place.{Place}
-use Rattle.es_expressions.specs.declared.places.Place.TheVariants.{Before, Behind, Naming}
-use Rattle.es_expressions.specs.declared.places.Step.TheVariants.{Left, Taken}
 use Rattle.es_expressions.specs.declared.expressions.Found.{Found}
-use Rattle.es_expressions.proofs.FormLemmas.{if-one}
-use Rattle.es_expressions.proofs.StandLemmas.{grows-refl, grows-trans}
-use Rattle.es_expressions.proofs.JoinLemmas.{not-true, not-false}
-use Rattle.es_expressions.proofs.TakeLemmas.{Settling, empty-taken, empty-unlike, empty-other, empty-none, begins-whole, begins-left, sign-left, step-left-front, begins-empty, moves-before, moves-behind, moves-none, moves-name, moves-nameless, finds-none, finds-behind, finds-failed, finds-open, finds-whole}
-use Rattle.es_expressions.specs.Roles.{joint}
-use Rattle.es_expressions.specs.Machine.{State, finish, settled, reach, join}
-use Rattle.es_expressions.specs.Standings.{Moves, PlaceStands, IsFoundAs, Begins, IsTakenAs}
-use Rattle.es_expressions.specs.declared.places.Step.{Step}
-use Rattle.es_expressions.specs.declared.roles.Joint.{Joint}
+use Rattle.es_expressions.proofs.StandLemmas.{grows-refl}
+use Rattle.es_expressions.proofs.TakeLemmas.{finds-none, finds-behind, finds-failed, finds-open, finds-whole}
+use Rattle.es_expressions.specs.Machine.{State, finish, settled}
+use Rattle.es_expressions.specs.Standings.{PlaceStands, IsFoundAs}
 use Rattle.es_expressions.proofs.reader.finish.Goals as goal
 
 pub returns-in_default : goal.returns-in_default
