@@ -1,0 +1,15 @@
+pub mod Statements
+pub mod Grammar
+pub mod Meaning
+pub mod Levels
+pub mod Programs
+pub mod Openings
+pub mod Told
+pub mod Parts
+pub mod Simples
+pub mod Heads
+pub mod Fronts
+pub mod ExpressionFacts
+pub mod Standing
+pub mod Stops
+pub mod Sources

@@ -1,0 +1,32 @@
+//! What the definitions say of texts.
+
+ghost use Rattle.std.specs.Prelude.{◌≡◌, ℕ, List};
+ghost use Rattle.es_expressions.specs.declared.lexemes.Lexeme.{Lexeme};
+ghost use Rattle.es_reader.specs.Statements.{Item};
+ghost use Rattle.es_reader.specs.Grammar.{IsProgram};
+ghost use Rattle.es_reader.specs.Programs.{ToldProgram};
+ghost use Rattle.es_reader.specs.Sources.{AreLexemesOf, IsProgramOf, IsTooDeep, IsBad};
+
+use crate::laws::law_of_programs;
+use es_expressions::law_of_sources;
+use es_lexer::law_of_tokens;
+
+/// A text is at most one program, and bad at one place at most. No text is two of these: a program
+/// of at most 64 levels, one that is nested deeper, and bad.
+pub fn law_of_texts()
+    ensures program { (text : List ℕ) (lexemes others : List Lexeme) (items more : List Item)
+        → AreLexemesOf text lexemes → IsProgram lexemes items
+        → AreLexemesOf text others → IsProgram others more → items ≡ more }
+    ensures one_place { (text : List ℕ) (place other : ℕ)
+        → IsBad text place → IsBad text other → place ≡ other }
+    ensures not_bad { (text : List ℕ) (told : ToldProgram) (place : ℕ)
+        → IsProgramOf text told → IsBad text place → ⊥ }
+    ensures not_deep { (text : List ℕ) (told : ToldProgram)
+        → IsProgramOf text told → IsTooDeep text → ⊥ }
+    ensures deep_not_bad { (text : List ℕ) (place : ℕ)
+        → IsTooDeep text → IsBad text place → ⊥ }
+{
+    law_of_tokens();
+    law_of_sources();
+    law_of_programs();
+}
