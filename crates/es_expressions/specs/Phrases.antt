@@ -4,7 +4,8 @@ use Rattle.std.specs.Prelude.{ℕ, List, ◌∷◌}
 use Rattle.es_expressions.specs.declared.lexemes.Lexeme.{Lexeme}
 
 -- a token that is a whole operand; `(e)`; `b[e]`; `b.x`; `f()`; `f(e)`; `new f` without arguments,
--- `new f()`; `new f(e)`; `e++`; `-e`; `++e`; `a + b`; `a ? b : c`; `a = b`; `a, b`
+-- `new f()`; `new f(e)`; `e++`; `-e`; `++e`; `a + b`; a choice of two by a test;
+-- `a = b`; `a, b`
 pub data Phrase : Type 0 where
   Leaf : (token : Lexeme) → Phrase
   Group : (open_mark : Lexeme) → (inner : Phrase) → (close_mark : Lexeme) → Phrase

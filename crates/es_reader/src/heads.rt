@@ -34,8 +34,8 @@ pub struct HeadRead {
     pub behind: usize,
 }
 
-// A part of the head of a `for`: its node, how deep its nodes are nested, and the place of the token
-// behind it.
+// A part of the head of a `for`: its node, how deep its nodes are nested, and the place of the
+// token behind it.
 #[derive(Clone, Copy, Debug)]
 pub struct HeadPart {
     pub node: u32,

@@ -8,8 +8,8 @@ ghost use Rattle.es_reader.specs.Programs.{IsBadAt};
 
 use es_expressions::{law_of_ends, law_of_expressions};
 
-/// Tokens are those of at most one program. They have at most one place at which they can't go on to
-/// one, and none where they are one.
+/// Tokens are those of at most one program. They have at most one place at which they can't go on
+/// to one, and none where they are one.
 pub fn law_of_programs()
     ensures one { (tokens : List Lexeme) (items others : List Item)
         → IsProgram tokens items → IsProgram tokens others → items ≡ others }

@@ -3,16 +3,21 @@
 //! A program as it is written is a list of items with all of their tokens
 //! (`specs/Statements.antt`); which items are a program says `specs/Grammar.antt`, which trees they
 //! mean `specs/Meaning.antt`, and how many levels they have `specs/Levels.antt`. [`read_program`]
-//! gives the [`Program`] that a text is, or tells that it has more than 64 levels, or the place from
-//! which no program goes on (`specs/Sources.antt`); [`read_tokens`] does so for tokens
+//! gives the [`Program`] that a text is, or tells that it has more than 64 levels, or the place
+//! from which no program goes on (`specs/Sources.antt`); [`read_tokens`] does so for tokens
 //! (`specs/Programs.antt`). It looks at no token twice, but for the one behind a statement, and no
-//! function calls itself. `law_of_programs` and `law_of_texts` say that tokens and texts are at most
-//! one program or bad at one place and not both, `law_of_levels` that levels are those of the trees.
+//! function calls itself. `law_of_programs` and `law_of_texts` say that tokens and texts are at
+//! most one program or bad at one place and not both, `law_of_levels` that levels are those of the
+//! trees.
 #![tactic(auto)]
 
 mod declarations;
 mod faults;
 mod function_fronts;
+#[cfg(test)]
+mod function_tests;
+#[cfg(test)]
+mod head_tests;
 mod heads;
 mod heights;
 mod laws;
@@ -22,12 +27,16 @@ mod level_tests;
 mod marks;
 mod names;
 mod openings;
+#[cfg(test)]
+mod place_tests;
+#[cfg(test)]
+mod program_lines;
 mod programs;
 mod reader;
 mod simples;
 mod sources;
 #[cfg(test)]
-mod tests;
+mod statement_tests;
 mod text_laws;
 mod wholes;
 

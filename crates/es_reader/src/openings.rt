@@ -8,8 +8,8 @@ use es_expressions::Form;
 use std::alloc::Global;
 use std::marker::Model;
 
-/// An open form: its node's form and first code, its children so far, how deep these are nested, and
-/// whether what it holds stands in a loop.
+/// An open form: its node's form and first code, its children so far, how deep these are nested,
+/// and whether what it holds stands in a loop.
 #[derive(Debug, Drop)]
 pub struct OpenForm {
     pub kind: OpenKind,

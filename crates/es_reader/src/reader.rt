@@ -29,8 +29,8 @@ use es_expressions::{Form, Lexeme, Node, Nodes, Symbol, law_of_ends, law_of_expr
 use es_lexer::{Punctuator, ReservedWord};
 use std::alloc::Global;
 
-/// What tokens are: a program; one that is nested too deep; or Bad, with the place of the token with
-/// which no program goes on, or behind the last one.
+/// What tokens are: a program; one that is nested too deep; or Bad, with the place of the token
+/// with which no program goes on, or behind the last one.
 #[derive(Debug, Drop)]
 pub enum Reading {
     Whole(Program),
@@ -46,8 +46,8 @@ pub struct OpenFunction {
     pub body: Vec<u32>,
 }
 
-// What became of a form with a whole statement: it stays open, and the token behind is at this place;
-// or it ended, and is a whole statement.
+// What became of a form with a whole statement: it stays open, and the token behind is at this
+// place; or it ended, and is a whole statement.
 #[derive(Clone, Copy, Debug)]
 pub enum Joined {
     Open(usize),
@@ -55,8 +55,8 @@ pub enum Joined {
 }
 
 // What is read so far: the open forms and the function round them, the names that were declared in
-// it, the statements and functions of the program, and how deep all statements outside of open forms
-// are nested.
+// it, the statements and functions of the program, and how deep all statements outside of open
+// forms are nested.
 #[derive(Drop)]
 pub struct Reader {
     pub nodes: Nodes,
@@ -68,8 +68,8 @@ pub struct Reader {
     pub height: u8,
 }
 
-/// Reads tokens as a program. No token is looked at twice but for the one behind a statement, and no
-/// function calls itself.
+/// Reads tokens as a program. No token is looked at twice but for the one behind a statement, and
+/// no function calls itself.
 pub fn read_tokens(alloc: Global, tokens: &[Lexeme]) -> Result<Reading, NoMemory>
     ensures whole { IfOk result (λ outcome. (program : ToldProgram) → outcome ≡ Whole program
         → (items : List Item) × IsProgram tokens.now items
@@ -125,8 +125,8 @@ impl Reader {
         Ok(())
     }
 
-    // Reads what stands at the place: a statement, the beginning of one that holds others, or the end
-    // of a block or function. Gives the place of the token behind it.
+    // Reads what stands at the place: a statement, the beginning of one that holds others, or the
+    // end of a block or function. Gives the place of the token behind it.
     fn step(&mut self, tokens: &[Lexeme], place: usize) -> Result<usize, PartFault>
         requires reads { ReadsTo tokens.now place self.old }
         requires there { place < length tokens.now }
@@ -336,8 +336,8 @@ impl Reader {
         Ok(stated.behind)
     }
 
-    // Puts a whole statement into the innermost form, which stays open, or ends with it and is a whole
-    // statement then.
+    // Puts a whole statement into the innermost form, which stays open, or ends with it and is a
+    // whole statement then.
     fn join(
         &mut self,
         tokens: &[Lexeme],

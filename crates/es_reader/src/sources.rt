@@ -14,7 +14,8 @@ use std::alloc::Global;
 #[derive(Clone, Copy, Debug, PartialEq, Eq)]
 pub enum SyntaxFault {
     /// It is none. No token stands at this place; or, where the text has tokens, the first begins
-    /// here with which no program goes on, or the text ends here too early. Counted in codes, from 0.
+    /// here with which no program goes on, or the text ends here too early. Counted in codes, from
+    /// 0.
     Bad { place: usize },
     /// It is a program of more than 64 levels.
     TooDeep,

@@ -79,8 +79,8 @@ pub fn read_end(tokens: &[Lexeme], place: usize, end: usize) -> Result<Ended, Pa
     Err(PartFault::Bad(place))
 }
 
-/// The end of a `return` without a value, where one stands there: a line break ends it also in front
-/// of a `;`.
+/// The end of a `return` without a value, where one stands there: a line break ends it also in
+/// front of a `;`.
 pub fn return_end(tokens: &[Lexeme], place: usize, end: usize) -> Option<Ended>
     requires { place ≤ length tokens.now }
     ensures ended { IfSome result (IsReturnEndAt tokens.now place end) }
