@@ -124,6 +124,13 @@ fn ids_attributes_and_texts_change_one_by_one(rt: HostRuntime) {
     assert!(rt; says(tree.attribute_name(body, 0), b"id"));
     assert!(rt; says(tree.attribute_name(body, 1), b"class"));
     assert!(rt; tree.attribute_name(body, 2).is_none());
+    assert_eq!(rt; tree.attribute_count(body), 2);
+    assert_eq!(rt; tree.attribute_count(text), 0);
+    let entry = tree.attribute_at(body, 0);
+    assert!(rt; says(entry.map(|(name, _)| name), b"id"));
+    assert!(rt; says(entry.map(|(_, value)| value), b"b"));
+    assert!(rt; tree.attribute_at(body, 2).is_none());
+    assert!(rt; tree.attribute_at(text, 0).is_none());
 
     assert!(rt; tree.text(text).is_some());
     tree.set_text(text, word(&rt, alloc, b"z"));

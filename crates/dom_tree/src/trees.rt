@@ -1,6 +1,6 @@
 //! The tree of a document, and the walks over it.
 
-ghost use Rattle.std.specs.Prelude.{◌≡◌, ◌<◌, ◌≤◌, ◌+◌, ◌↔◌, ◌∷◌, Some, [], length, slice_get, option_map, option_copied, IsTrue, IfNone, IfSome, IsSomeAnd};
+ghost use Rattle.std.specs.Prelude.{◌≡◌, ◌<◌, ◌≤◌, ◌+◌, ◌↔◌, ◌∷◌, Some, None, [], length, slice_get, option_map, option_copied, MatchOption, IsTrue, IfNone, IfSome, IsSomeAnd};
 ghost use Rattle.std.specs.Bool.{OnTrue, OnFalse};
 ghost use Rattle.std.specs.Option.{option_map_or};
 ghost use Rattle.dom_tree.specs.Items.{IsElement, parent_of, tag_of, text_of, attributes_of, value_of};
@@ -182,6 +182,31 @@ impl Tree {
                 Some((name, _)) => Some(name),
                 None => None,
             },
+            NodeKind::Text(_) => None,
+        }
+    }
+
+    /// How many attributes an element has, and 0 of a text.
+    pub fn attribute_count(&self, node: NodeId) -> usize
+        requires { node.0 < length self.now }
+        ensures { result ≡ length (attributes_of self.now node.0) }
+    {
+        match &self.at(node).kind {
+            NodeKind::Element(element) => element.attributes.len(),
+            NodeKind::Text(_) => 0,
+        }
+    }
+
+    /// The name and the value of an element's attribute at a place in the order written, from 0.
+    /// None of a text and past the last attribute.
+    pub fn attribute_at(&self, node: NodeId, place: usize) -> Option<(&Text, &Text)>
+        requires { node.0 < length self.now }
+        ensures { MatchOption result (slice_get (attributes_of self.now node.0) place ≡ None)
+            (λ entry. slice_get (attributes_of self.now node.0) place
+            ≡ Some (record { name = entry.0.now; value = entry.1.now })) }
+    {
+        match &self.at(node).kind {
+            NodeKind::Element(element) => element.attributes.get_index(place),
             NodeKind::Text(_) => None,
         }
     }
