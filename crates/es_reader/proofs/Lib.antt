@@ -35,3 +35,4 @@ pub mod FrontBadLemmas
 pub mod LoopBadLemmas
 pub mod LevelLaws
 pub mod TextLemmas
+pub mod ReaderLemmas

@@ -13,3 +13,4 @@ pub mod ExpressionFacts
 pub mod Standing
 pub mod Stops
 pub mod Sources
+pub mod Readers

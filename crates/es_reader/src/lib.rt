@@ -45,4 +45,4 @@ pub use crate::level_laws::law_of_levels;
 pub use crate::programs::{FunctionDecl, Program};
 pub use crate::reader::{Reading, read_tokens};
 pub use crate::sources::{SyntaxFault, read_program};
-pub use crate::text_laws::law_of_texts;
+pub use crate::text_laws::{law_of_readers, law_of_texts};

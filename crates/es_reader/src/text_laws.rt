@@ -1,15 +1,16 @@
 //! What the definitions say of texts.
 
-ghost use Rattle.std.specs.Prelude.{◌≡◌, ℕ, List};
+ghost use Rattle.std.specs.Prelude.{◌≡◌, ℕ, List, Some, None};
 ghost use Rattle.es_expressions.specs.declared.lexemes.Lexeme.{Lexeme};
 ghost use Rattle.es_reader.specs.Statements.{Item};
 ghost use Rattle.es_reader.specs.Grammar.{IsProgram};
-ghost use Rattle.es_reader.specs.Programs.{ToldProgram};
+ghost use Rattle.es_reader.specs.Programs.{ToldProgram, Tells};
+ghost use Rattle.es_reader.specs.Readers.{Reader, IsReader, IsWritten};
 ghost use Rattle.es_reader.specs.Sources.{AreLexemesOf, IsProgramOf, IsTooDeep, IsBad};
 
 use crate::laws::law_of_programs;
 use es_expressions::law_of_sources;
-use es_lexer::law_of_tokens;
+use es_lexer::{law_of_spans, law_of_tokens};
 
 /// A text is at most one program, and bad at one place at most. No text is two of these: a program
 /// of at most 64 levels, one that is nested deeper, and bad.
@@ -27,6 +28,29 @@ pub fn law_of_texts()
         → IsTooDeep text → IsBad text place → ⊥ }
 {
     law_of_tokens();
+    law_of_sources();
+    law_of_programs();
+}
+
+/// A reader tells of each text the program that was read of it, and none of a text that was refused;
+/// so there is one at most. And there is something to be told of each text: none is neither a program
+/// of at most 64 levels, nor one of more, nor bad at some place.
+pub fn law_of_readers()
+    ensures program { (read : Reader) (text : List ℕ) (told : ToldProgram) → IsReader read
+        → IsProgramOf text told
+        → (items : List Item) × (read text ≡ Some items) × Tells items told }
+    ensures deep { (read : Reader) (text : List ℕ) → IsReader read
+        → IsTooDeep text → read text ≡ None }
+    ensures bad { (read : Reader) (text : List ℕ) (place : ℕ) → IsReader read
+        → IsBad text place → read text ≡ None }
+    ensures one { (read other : Reader) (text : List ℕ)
+        → IsReader read → IsReader other → read text ≡ other text }
+    ensures some { (text : List ℕ)
+        → ((items : List Item) → IsWritten text items → ⊥) → (IsTooDeep text → ⊥)
+        → ((place : ℕ) → IsBad text place → ⊥) → ⊥ }
+{
+    law_of_tokens();
+    law_of_spans();
     law_of_sources();
     law_of_programs();
 }
