@@ -1,3 +1,4 @@
 pub mod NeedLemmas
 pub mod GiftLemmas
 pub mod StyleLemmas
+pub mod ScriptLemmas

@@ -64,7 +64,7 @@ named_by-none base = refl
 abbrev names : Path → Item → Bool
 names base item = is_some (need_in base item)
 
-places_from-append : {A : Type 0} (test : A → Bool) (place : ℕ) (xs ys : List A) → places_from test place (xs ++ ys) ≡ places_from test place xs ++ places_from test (place + length xs) ys
+pub places_from-append : {A : Type 0} (test : A → Bool) (place : ℕ) (xs ys : List A) → places_from test place (xs ++ ys) ≡ places_from test place xs ++ places_from test (place + length xs) ys
 places_from-append test place [] ys = ap (λ (p : ℕ). places_from test p ys) (sym (add-zero place))
 places_from-append test place (x ∷ xs) ys =
     let shift : place + 1 + length xs ≡ place + suc (length xs) = omega arith in

@@ -25,7 +25,7 @@ range_more from (suc count) =
     let shift : from + 1 + count ≡ from + suc count = omega arith in
     ap (λ (l : List ℕ). from ∷ l) (range_more (from + 1) count ∙ ap (λ (n : ℕ). range_with_len (from + 1) count ++ n ∷ []) shift)
 
-range_next : (count : ℕ) → range_with_len 0 (count + 1) ≡ range_with_len 0 count ++ count ∷ []
+pub range_next : (count : ℕ) → range_with_len 0 (count + 1) ≡ range_with_len 0 count ++ count ∷ []
 range_next count =
     let from_zero : 0 + count ≡ count = omega arith in
     ap (range_with_len 0) (add-one count) ∙ range_more 0 count ∙ ap (λ (n : ℕ). range_with_len 0 count ++ n ∷ []) from_zero

@@ -1,27 +1,42 @@
 //! Documents that were read, and what is given for their needs.
 
-ghost use Rattle.std.specs.Prelude.{◌≡◌, ◌≢◌, ◌<◌, ◌↔◌, List, None, Ok, Err, IfOk, IsSome, MatchResult, OnErr, OnOk, length, option_copied, replicate, slice_get};
+ghost use Rattle.std.specs.Prelude.{◌≡◌, ◌≢◌, ◌<◌, ◌↔◌, List, None, Ok, Err, IfOk, IsSome, MatchResult, OnErr, OnOk, length, map, option_copied, replicate, slice_get};
 ghost use Rattle.bml_bytes.specs.Codes.{codes};
 ghost use Rattle.bml_reader.specs.Readings.{reading_of};
 ghost use Rattle.dom_tree.specs.Items.{Item};
 ghost use Rattle.document_load.specs.Drafts.{with_gift, draft_of};
 ghost use Rattle.document_load.specs.StyleTexts.{document_rules};
+ghost use Rattle.document_load.specs.Scripts.{AreScripts, sources_of};
+ghost use Rattle.document_load.specs.ScriptViews.{told_handler};
+ghost use Rattle.es_reader.specs.Readers.{Reader, IsReader};
 
 use crate::needs::{Needs, needs_of};
+use crate::scripts::{Handler, Scripts, scripts_of};
 use crate::style_texts::rules_of_styles;
 use bml_bytes::{NoMemory, Text};
 use bml_reader::{DocFault, read_document};
 use dom_tree::Tree;
+use es_reader::Program;
 use multipart_entities::Path;
 use std::alloc::Global;
 use std::marker::Model;
 use style_reader::Rules;
 
-/// A document: the tree of its nodes, and the rules of its style texts.
+/// A document: the tree of its nodes, the rules of its style texts, and its scripts.
 #[derive(Drop)]
 pub struct Document {
     pub tree: Tree,
     pub rules: Rules,
+
+    /// The programs of the script sources that are good, in document order. Those that no handler
+    /// names are the script elements'.
+    pub programs: Vec<Program>,
+
+    /// The handlers whose sources are good, in document order.
+    pub handlers: Vec<Handler>,
+
+    /// The numbers of the sources that are bad, ascending, where the first source has the number 1.
+    pub bad: Vec<u32>,
 }
 
 /// A document that was read, whose needs are waited for.
@@ -113,11 +128,14 @@ impl Draft {
         Ok(())
     }
 
-    /// The document with the tree that was read, and the rules of its style texts, a link that wasn't
-    /// given among them as an empty one. What was given for scripts isn't read at this stage.
+    /// The document with the tree that was read, the rules of its style texts, and its scripts. A
+    /// link or a script that wasn't given is an empty one.
     pub fn finish(self) -> Result<Document, NoMemory>
         ensures tree { IfOk result (λ document. document.tree ≡ self.items) }
         ensures rules { IfOk result (λ document. document.rules ≡ document_rules self) }
+        ensures scripts { IfOk result (λ document. (read : Reader) → IsReader read
+            → AreScripts read (sources_of self) document.programs.items
+            (map told_handler document.handlers.items) document.bad.items) }
     {
         let alloc = *self.given.allocator();
         let rules = rules_of_styles(
@@ -126,9 +144,22 @@ impl Draft {
             self.named.as_slice(),
             self.given.as_slice(),
         )?;
+        let Scripts {
+            programs,
+            handlers,
+            bad,
+        } = scripts_of(
+            alloc,
+            &self.tree,
+            self.named.as_slice(),
+            self.given.as_slice(),
+        )?;
         Ok(Document {
             tree: self.tree,
             rules,
+            programs,
+            handlers,
+            bad,
         })
     }
 }

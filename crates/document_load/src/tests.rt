@@ -10,7 +10,7 @@ use std::test::Fail;
 use style_reader::Rules;
 
 // What is read of the bytes of the document `/50/1234/doc.bml`.
-fn read(alloc: Global, bytes: &[u8]) -> Result<Draft, DocFault> {
+pub fn read(alloc: Global, bytes: &[u8]) -> Result<Draft, DocFault> {
     let path = Path {
         component: 0x50,
         module: 0x1234,
@@ -174,7 +174,8 @@ fn printed_rules(alloc: Global, rules: &Rules) -> Result<Vec<u8>, NoMemory> {
     Ok(out)
 }
 
-type Gifts = &'static [(usize, &'static [u8])];
+// Texts, each with the number of the need for which it is given.
+pub type Gifts = &'static [(usize, &'static [u8])];
 
 // A document, what is given for which of its needs, and its rules.
 const STYLED: [(&[u8], Gifts, &[u8]); 20] = [
@@ -285,7 +286,7 @@ const STYLED: [(&[u8], Gifts, &[u8]); 20] = [
     ),
 ];
 
-fn give_each(rt: &impl Abort, draft: &mut Draft, gifts: &[(usize, &[u8])]) {
+pub fn give_each(rt: &impl Abort, draft: &mut Draft, gifts: &[(usize, &[u8])]) {
     for (number, gift) in gifts {
         give(rt, draft, *number, gift);
     }

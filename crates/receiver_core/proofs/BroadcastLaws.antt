@@ -2,7 +2,7 @@
 use Rattle.std.proofs.Common.{◌≡◌, ◌≢◌, ℕ, suc, Bool, true, false, cond, List, [], ◌∷◌, ◌++◌, refl, sym, ap, ap₂, ◌∙◌, subst, append-nil, append_assoc, inl, inr}
 use Rattle.std.specs.Prelude.{zero, ◌⊎◌, AllPairs, Option, Some, None, Result, option_map}
 use Rattle.std.specs.List.{flat_map}
-use Rattle.document_load.specs.StyleTexts.{DocumentState}
+use Rattle.es_reader.specs.Readers.{Reader, IsReader}
 use Rattle.bml_reader.specs.declared.faults.DocFault.{DocFault}
 use Rattle.psi_tables.specs.declared.components.Component.{Component}
 use Rattle.psi_tables.specs.declared.pat.PatEntry.{PatEntry}
@@ -19,8 +19,8 @@ use Rattle.module_store.specs.Standing.{StoreState}
 use Rattle.module_store.specs.Standing as store
 use Rattle.receiver_core.specs.declared.startup.Startup.{Startup}
 use Rattle.receiver_core.specs.declared.startup.Startup.TheVariants as kept
-use Rattle.receiver_core.specs.Dispatches.{dispatch, dispatch_of, dispatches, load, loadable_reading, most_dispatches, next_and, turn, wanted_path}
-use Rattle.receiver_core.specs.Lines.{line_of_change, load_line}
+use Rattle.receiver_core.specs.Dispatches.{Loadable, dispatch, dispatch_of, dispatches, load, lines_of_load, loadable_reading, most_dispatches, next_and, turn, wanted_path}
+use Rattle.receiver_core.specs.Lines.{line_of_change}
 use Rattle.receiver_core.specs.Loading.{Loads, LoadsAs}
 use Rattle.receiver_core.specs.Broadcasts.{Dispatches, HasDispatched, HasTaken, HasTurned, Keeps, LeavesLooks, BroadcastState, StandsFor, Takes, Turns}
 use Rattle.receiver_core.proofs.MapLaws.{IsSameMap, looks_alike, none_gone, pids_of_map, pids_of_section, stands_still}
@@ -49,9 +49,10 @@ services_are state s stands = services_kept state s stands.keeps
 
 pub stands_first : (services : ServicesState) (before new : StoreState) (selection : Selection) → services.selection ≡ selection → services_of.StandsFor services [] → store.StandsFor before at_start
     → ((stored : Stored) → store.StandsFor before stored → store.StandsFor new (with_map services.map stored))
-    → (area : List ℕ) → StandsFor (record { services = services; store = new; startup = kept.Wanted }) (opening selection area)
-stands_first services before new selection same stands first sets area = record {
+    → (read : Reader) → IsReader read → (area : List ℕ) → StandsFor (record { services = services; store = new; startup = kept.Wanted }) (opening read selection area)
+stands_first services before new selection same stands first sets read right area = record {
   keeps = record {
+    reader = right;
     selection = same;
     services = stands;
     store = subst (λ (map : List Component). store.StandsFor new (with_map map at_start)) (stands.map ∙ ap (λ (x : Selection). map_of x []) same) (sets at_start first);
@@ -59,7 +60,7 @@ stands_first services before new selection same stands first sets area = record 
     start = refl;
     current = tt;
   };
-  done = nothing_at_first selection area;
+  done = nothing_at_first read selection area;
 }
 
 -- ---- a section that isn't read as a table
@@ -71,6 +72,7 @@ PassesUnread = (state : ServicesState) (history : List Handled) (handled : Handl
 
 pub handled_unread : PassesUnread → (state : BroadcastState) (s : State) (pid : ℕ) (section : List ℕ) → Keeps state s → reads_table state.services.selection state.services.service pid ≡ false → Keeps state (with_handled pid section s)
 handled_unread passing state s pid section stands unread = record {
+  reader = stands.reader;
   selection = stands.selection;
   services = passing state.services s.handled (record { pid = pid; section = section }) unread stands.services;
   store = stands.store;
@@ -109,6 +111,18 @@ start_kept pid section s = by (reads_table s.selection (services s).service pid)
     by : (table : Bool) → (cond table (step_of_table (with_handled pid section s)) (step_of_tag (tag_in (services s).map pid) section (with_handled pid section s))).state.start ≡ s.start
     by true = refl
     by false = start_by_tag (tag_in (services s).map pid) section (with_handled pid section s)
+
+read_by_tag : (tag : Option ℕ) (section : List ℕ) (now : State) → (step_of_tag tag section now).state.read ≡ now.read
+read_by_tag None section now = refl
+read_by_tag (Some component) section now = refl
+
+-- nor of which programs texts are
+read_kept : (pid : ℕ) (section : List ℕ) (s : State) → (step_of_section pid section s).state.read ≡ s.read
+read_kept pid section s = by (reads_table s.selection (services s).service pid)
+  where
+    by : (table : Bool) → (cond table (step_of_table (with_handled pid section s)) (step_of_tag (tag_in (services s).map pid) section (with_handled pid section s))).state.read ≡ s.read
+    by true = refl
+    by false = read_by_tag (tag_in (services s).map pid) section (with_handled pid section s)
 
 same_looks : (stored : Stored) → LooksAlike stored stored
 same_looks stored = record { looks = λ path. refl; start = refl }
@@ -172,6 +186,7 @@ table_taken old tables new startup went pid section same feeds sets told apart f
     let map_is : tables.map ≡ (services now).map = fed.map ∙ ap (λ (x : Selection). map_of x now.handled) asked in
     record {
       keeps = record {
+        reader = stands.reader;
         selection = asked;
         services = fed;
         store = subst (λ (map : List Component). store.StandsFor new (with_map map s.store)) map_is (sets s.store stands.store);
@@ -215,6 +230,7 @@ table_kept old tables pid section before same feeds unchanged apart stays = reco
       let none = none_gone (services now).map s.store unchanged_now in
       record {
         keeps = record {
+          reader = stands.reader;
           selection = same ∙ stands.selection;
           services = feeds s.handled stands.services;
           store = stands_still old.store s.store (services now).map unchanged_now stands.store;
@@ -249,6 +265,7 @@ data_taken passing old new startup changes pid component section unread feeds to
     let handled = handled_unread passing old s pid section stands unread in
     record {
       keeps = record {
+        reader = handled.reader;
         selection = handled.selection;
         services = handled.services;
         store = feeds s.store stands.store;
@@ -286,6 +303,7 @@ with_startup state startup = record { services = state.services; store = state.s
 -- what is kept of the same state, with another start document
 keeps_with : (state : BroadcastState) (s t : State) (startup : Startup) → Keeps state s → t ≡ record s { start = t.start } → start_of startup ≡ t.start → IsCurrent s.store startup → Keeps (with_startup state startup) t
 keeps_with state s t startup keeps same start current = subst (λ (x : State). Keeps (with_startup state startup) x) (sym same) (record {
+  reader = keeps.reader;
   selection = keeps.selection;
   services = keeps.services;
   store = keeps.store;
@@ -295,7 +313,7 @@ keeps_with state s t startup keeps same start current = subst (λ (x : State). K
 })
 
 -- what comes of what is there under the start path is what a dispatch makes of it
-dispatched_as : (old : BroadcastState) (startup : Startup) (text : List ℕ) (s : State) (reading : Option (Result DocumentState DocFault)) → Keeps old s → s.start ≡ Wanted → loadable_reading s.store (start_path s.store) ≡ reading
+dispatched_as : (old : BroadcastState) (startup : Startup) (text : List ℕ) (s : State) (reading : Option (Result Loadable DocFault)) → Keeps old s → s.start ≡ Wanted → loadable_reading s.read s.store (start_path s.store) ≡ reading
     → LoadsAs s.store reading startup text → HasDispatched (with_startup old startup) text s
 dispatched_as old startup text s None keeps wanted is loads =
     subst (λ (l : List ℕ). HasDispatched (with_startup old startup) l s) (sym loads.text_is)
@@ -303,16 +321,16 @@ dispatched_as old startup text s None keeps wanted is loads =
     (dispatch_wanted s wanted ∙ ap (option_map (load s (start_path s.store))) is))
 dispatched_as old startup text s (Some reading) keeps wanted is loads =
     let path = start_path s.store in
-    dispatched_to (with_startup old startup) text s (record { state = (load s path reading).state; text = load_line path reading ++ [] })
+    dispatched_to (with_startup old startup) text s (record { state = (load s path reading).state; text = lines_of_load path reading ++ [] })
     (one_of_most s (load s path reading) (dispatch_wanted s wanted ∙ ap (option_map (load s path)) is) (done_behind s path reading))
-    (keeps_with old s (load s path reading).state startup keeps refl loads.start_is loads.current) (done_behind s path reading) (loads.text_is ∙ sym (append-nil (load_line path reading)))
+    (keeps_with old s (load s path reading).state startup keeps refl loads.start_is loads.current) (done_behind s path reading) (loads.text_is ∙ sym (append-nil (lines_of_load path reading)))
 
 pub dispatched_by : (old : BroadcastState) (startup : Startup) (before after : List ℕ) → start_of old.startup ≡ Wanted → Loads old.store old.startup startup before after → Dispatches old (with_startup old startup) before after
 dispatched_by old startup before after wanted loads = record {
   text = loads.text;
   printed = loads.printed;
   dispatches_made = λ s keeps.
-      dispatched_as old startup loads.text s (loadable_reading s.store (start_path s.store)) keeps (sym keeps.start ∙ wanted) refl (loads.loads s.store keeps.store keeps.current);
+      dispatched_as old startup loads.text s (loadable_reading s.read s.store (start_path s.store)) keeps (sym keeps.start ∙ wanted) refl (loads.loads s.store keeps.store keeps.current s.read keeps.reader);
 }
 
 is_wanted : (start : Start) → (start ≡ Wanted) ⊎ (start ≢ Wanted)
@@ -356,7 +374,7 @@ turned_without old mid pid section before after takes leaves = record {
   turns = λ s stands.
       let taken = takes.takes s stands.keeps in
       let t = step_of_section pid section s in
-      let done = still_done s t.state (leaves.start s) (leaves.looks s stands.keeps) stands.done in
+      let done = still_done s t.state (read_kept pid section s) (leaves.start s) (leaves.looks s stands.keeps) stands.done in
       turned_to mid takes.text pid section s (record { state = t.state; text = [] }) (none_of_most t.state done) taken.keeps done (taken.text_is ∙ sym (append-nil t.text));
 }
 
@@ -378,13 +396,13 @@ turned_with old mid new pid section before between after takes made = record {
 abbrev KeepsWanted : State → State → Type 0
 KeepsWanted s now = (other : ℕ) → now.packets other ≡ cond (wants now other) (s.packets other) []
 
-keeps_loaded : (s now : State) (path : Path) (reading : Option (Result DocumentState DocFault)) (t : Step) → option_map (load now path) reading ≡ Some t → KeepsWanted s now → KeepsWanted s t.state
+keeps_loaded : (s now : State) (path : Path) (reading : Option (Result Loadable DocFault)) (t : Step) → option_map (load now path) reading ≡ Some t → KeepsWanted s now → KeepsWanted s t.state
 keeps_loaded s now path None t e k = absurd cc
 keeps_loaded s now path (Some reading) t e k = let same : load now path reading ≡ t = cc in subst (λ (x : Step). KeepsWanted s x.state) same (λ other. k other)
 
 keeps_dispatched : (s now : State) (path : Option Path) (t : Step) → dispatch_of now path ≡ Some t → KeepsWanted s now → KeepsWanted s t.state
 keeps_dispatched s now None t e k = absurd cc
-keeps_dispatched s now (Some path) t e k = keeps_loaded s now path (loadable_reading now.store path) t e k
+keeps_dispatched s now (Some path) t e k = keeps_loaded s now path (loadable_reading now.read now.store path) t e k
 
 keeps_dispatch : (s now : State) (t : Step) → dispatch now ≡ Some t → KeepsWanted s now → KeepsWanted s t.state
 unfolding dispatch
@@ -413,13 +431,13 @@ turn_packets pid section s = keeps_dispatches most_dispatches s (step_of_section
 
 -- ---- the area that a turn leaves
 
-area_loaded : (now : State) (path : Path) (reading : Option (Result DocumentState DocFault)) (t : Step) → option_map (load now path) reading ≡ Some t → t.state.area ≡ now.area
+area_loaded : (now : State) (path : Path) (reading : Option (Result Loadable DocFault)) (t : Step) → option_map (load now path) reading ≡ Some t → t.state.area ≡ now.area
 area_loaded now path None t e = absurd cc
 area_loaded now path (Some reading) t e = let same : load now path reading ≡ t = cc in subst (λ (x : Step). x.state.area ≡ now.area) same refl
 
 area_dispatched : (now : State) (path : Option Path) (t : Step) → dispatch_of now path ≡ Some t → t.state.area ≡ now.area
 area_dispatched now None t e = absurd cc
-area_dispatched now (Some path) t e = area_loaded now path (loadable_reading now.store path) t e
+area_dispatched now (Some path) t e = area_loaded now path (loadable_reading now.read now.store path) t e
 
 area_dispatch : (now : State) (t : Step) → dispatch now ≡ Some t → t.state.area ≡ now.area
 unfolding dispatch

@@ -1,46 +1,52 @@
 -- What the load of a document comes to.
-use Rattle.std.proofs.Common.{◌≡◌, ◌∙◌, ℕ, suc, ◌+◌, ◌<◌, Bool, true, false, cond, eqb, ◌&&◌, List, [], ◌∷◌, take, drop, refl, sym, ap, subst, append-nil, arith}
-use Rattle.std.specs.Prelude.{zero, AllPairs, Option, Some, None, Result, Ok, map, slice_get}
+use Rattle.std.proofs.Common.{◌≡◌, ◌∙◌, ℕ, suc, ◌+◌, ◌<◌, Bool, true, false, cond, eqb, ◌&&◌, List, [], ◌∷◌, take, drop, refl, sym, ap, ap₂, subst, append-nil, IfOk, arith}
+use Rattle.std.specs.Prelude.{zero, AllPairs, Option, Some, None, Result, Ok, Err, map, slice_get}
 use Rattle.std.proofs.lemmas.Bool.{eq-eqb}
 use Rattle.std.specs.Option.{option_map_or}
-use Rattle.document_load.specs.Drafts.{DraftState, with_gifts}
-use Rattle.document_load.specs.StyleTexts.{DocumentState, document_of}
+use Rattle.document_load.specs.Drafts.{DraftState, draft_of, with_gifts}
+use Rattle.document_load.specs.Scripts.{bad_numbers, sources_of}
+use Rattle.document_load.specs.StyleTexts.{document_of}
+use Rattle.es_reader.specs.Readers.{Reader}
+use Rattle.dom_tree.specs.Items.{Item}
 use Rattle.bml_reader.specs.declared.faults.DocFault.{DocFault}
+use Rattle.bml_reader.specs.Readings.{reading_of}
 use Rattle.multipart_entities.specs.declared.paths.Path.{Path}
 use Rattle.carousel_blocks.specs.declared.changes.Change.{Change}
 use Rattle.psi_tables.specs.declared.components.Component.{Component}
 use Rattle.psi_tables.specs.Components.{AreApart}
 use Rattle.module_store.specs.Resources.{Resource, look, start_component, start_path}
 use Rattle.module_store.specs.Resources.Resource.{Found, Waiting}
-use Rattle.module_store.specs.Standing.{StoreState}
+use Rattle.module_store.specs.Standing.{StandsFor, StoreState}
 use Rattle.module_store.specs.Staying.{tells_of, is_gone}
 use Rattle.module_store.specs.Store.{Stored, changes_by, with_section, gone_by, with_map}
 use Rattle.receiver_core.specs.declared.startup.Startup.{Startup}
 use Rattle.receiver_core.specs.declared.startup.Startup.TheVariants as kept
-use Rattle.receiver_core.specs.Dispatches.{are_settled, is_settled, loadable_reading, reading_in, start_after_load, once_settled, text_at}
-use Rattle.receiver_core.specs.Lines.{load_line}
+use Rattle.receiver_core.specs.Dispatches.{Loadable, are_settled, is_settled, lines_of_load, loadable_reading, reading_in, start_after_load, once_settled, text_at}
 use Rattle.receiver_core.specs.Loading.{Loads, LoadsAs, WaitsAt}
 use Rattle.receiver_core.specs.Pendings.{IsStart, PendingState}
 use Rattle.receiver_core.specs.Startups.{IsCurrent, startup_behind, is_told_by, is_gone_with}
 use Rattle.receiver_core.specs.State.Start.{Wanted}
 
 -- what a document that was read and is the one that is there comes to
-abbrev document_now : Stored → DraftState → DocumentState
-document_now stored draft = document_of (with_gifts (map (text_at stored) draft.needs) draft)
+abbrev loadable_of : Reader → DraftState → Loadable
+loadable_of read draft = record { document = document_of draft; bad = bad_numbers read (sources_of draft) }
 
-abbrev reading_now : Stored → DraftState → Option (Result DocumentState DocFault)
-reading_now stored draft = cond (are_settled stored draft.needs) (Some (Ok (document_now stored draft))) None
+abbrev loadable_now : Reader → Stored → DraftState → Loadable
+loadable_now read stored draft = loadable_of read (with_gifts (map (text_at stored) draft.needs) draft)
 
-loadable_pending : (stored : Stored) (pending : PendingState) → IsStart stored pending → loadable_reading stored (start_path stored) ≡ reading_now stored pending.draft
-loadable_pending stored pending is =
-    ap (loadable_reading stored) (sym is.path_is) ∙ ap (reading_in stored pending.path) is.found ∙ ap (once_settled stored pending.path) is.reading_is
-    ∙ ap (reading_now stored) (sym is.draft_is)
+abbrev reading_now : Reader → Stored → DraftState → Option (Result Loadable DocFault)
+reading_now read stored draft = cond (are_settled stored draft.needs) (Some (Ok (loadable_now read stored draft))) None
 
-waits_as : (stored : Stored) (pending : PendingState) (reading : Option (Result DocumentState DocFault)) → IsStart stored pending → reading ≡ None → LoadsAs stored reading (kept.Pending pending) []
+loadable_pending : (read : Reader) (stored : Stored) (pending : PendingState) → IsStart stored pending → loadable_reading read stored (start_path stored) ≡ reading_now read stored pending.draft
+loadable_pending read stored pending is =
+    ap (loadable_reading read stored) (sym is.path_is) ∙ ap (reading_in read stored pending.path) is.found ∙ ap (once_settled read stored pending.path) is.reading_is
+    ∙ ap (reading_now read stored) (sym is.draft_is)
+
+waits_as : (stored : Stored) (pending : PendingState) (reading : Option (Result Loadable DocFault)) → IsStart stored pending → reading ≡ None → LoadsAs stored reading (kept.Pending pending) []
 waits_as stored pending reading is none = record {
-  start_is = ap (λ (o : Option (Result DocumentState DocFault)). option_map_or start_after_load o Wanted) (sym none);
+  start_is = ap (λ (o : Option (Result Loadable DocFault)). option_map_or start_after_load o Wanted) (sym none);
   current = is;
-  text_is = ap (λ (o : Option (Result DocumentState DocFault)). option_map_or (load_line (start_path stored)) o []) (sym none);
+  text_is = ap (λ (o : Option (Result Loadable DocFault)). option_map_or (lines_of_load (start_path stored)) o []) (sym none);
 }
 
 -- wherever it waits, it is the same document
@@ -84,10 +90,35 @@ pub goes_on : (store : StoreState) (pending : PendingState) (place : ℕ) (befor
 goes_on store pending place before w = record {
   text = [];
   printed = sym (append-nil before);
-  loads = λ stored stands is.
-      waits_as stored (record { path = pending.path; draft = pending.draft; place = place }) (loadable_reading stored (start_path stored)) (moved stored pending place is)
-      (loadable_pending stored pending is ∙ ap (λ (b : Bool). cond b (Some (Ok (document_now stored pending.draft))) None) (unsettled_at stored pending.draft.needs place w.need w.is_there (w.waits stored stands)));
+  loads = λ stored stands is read right.
+      waits_as stored (record { path = pending.path; draft = pending.draft; place = place }) (loadable_reading read stored (start_path stored)) (moved stored pending place is)
+      (loadable_pending read stored pending is ∙ ap (λ (b : Bool). cond b (Some (Ok (loadable_now read stored pending.draft))) None) (unsettled_at stored pending.draft.needs place w.need w.is_there (w.waits stored stands)));
 }
+
+-- ---- the document that is found
+
+-- what was read under the start path is the one that is there
+pub is_read : (stored : Stored) (path : Path) (bytes : List ℕ) (draft : DraftState) (pending : PendingState) → pending.path ≡ path → pending.draft ≡ draft → path ≡ start_path stored → look stored path ≡ Found bytes
+    → ((items : List Item) × (reading_of bytes ≡ Ok items) × (draft ≡ draft_of path items)) → IsStart stored pending
+is_read stored path bytes draft pending path_is draft_is start found reading =
+    let items_are : pending.draft.items ≡ reading.0 = ap (λ (d : DraftState). d.items) (draft_is ∙ reading.2) in
+    record {
+      path_is = path_is ∙ start;
+      bytes = bytes;
+      found = ap (look stored) path_is ∙ found;
+      reading_is = reading.1 ∙ ap (λ (items : List Item). Ok items) (sym items_are);
+      draft_is = draft_is ∙ reading.2 ∙ ap₂ draft_of (sym path_is) (sym items_are);
+    }
+
+-- and what comes of it comes of what is wanted
+pub loads_read : {E : Type 0} (result : Result Startup E) (store : StoreState) (pending : PendingState) (before after : List ℕ) → ((stored : Stored) → StandsFor store stored → IsStart stored pending)
+    → IfOk result (λ startup. Loads store (kept.Pending pending) startup before after) → IfOk result (λ startup. Loads store kept.Wanted startup before after)
+loads_read (Ok startup) store pending before after is loads = record {
+  text = loads.text;
+  printed = loads.printed;
+  loads = λ stored stands wanted. loads.loads stored stands (is stored stands);
+}
+loads_read (Err error) store pending before after is loads = tt
 
 -- ---- a document that was read stays the one that is there
 

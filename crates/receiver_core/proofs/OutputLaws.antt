@@ -1,6 +1,7 @@
 -- What inputs print and leave behind others.
 use Rattle.std.proofs.Common.{◌≡◌, ℕ, List, [], ◌∷◌, ◌++◌, refl, sym, ap, ◌∙◌, append_assoc}
 use Rattle.psi_tables.specs.declared.services.Selection.{Selection}
+use Rattle.es_reader.specs.Readers.{Reader}
 use Rattle.receiver_core.specs.Fronts.{IsFront}
 use Rattle.receiver_core.specs.Outputs.{Piece, outputs, pieces_from, pieces_of, state_after, state_behind}
 use Rattle.receiver_core.specs.State.{Input, State, opening}
@@ -16,19 +17,19 @@ pub behind_one_more : (s : State) (inputs : List Input) (input : Input) → stat
 behind_one_more s [] input = refl
 behind_one_more s (x ∷ inputs) input = behind_one_more (state_after x s) inputs input
 
-pub no_outputs : (selection : Selection) (area : List ℕ) → outputs selection area [] ≡ []
+pub no_outputs : (read : Reader) (selection : Selection) (area : List ℕ) → outputs read selection area [] ≡ []
 unfolding outputs
-no_outputs selection area = refl
+no_outputs read selection area = refl
 
 -- what one input more prints
-pub outputs_one_more : (selection : Selection) (area : List ℕ) (inputs : List Input) (input : Input)
-    → outputs selection area (inputs ++ input ∷ []) ≡ outputs selection area inputs ++ (pieces_of input (state_behind (opening selection area) inputs) ++ [])
+pub outputs_one_more : (read : Reader) (selection : Selection) (area : List ℕ) (inputs : List Input) (input : Input)
+    → outputs read selection area (inputs ++ input ∷ []) ≡ outputs read selection area inputs ++ (pieces_of input (state_behind (opening read selection area) inputs) ++ [])
 unfolding outputs
-outputs_one_more selection area inputs input = pieces_from-append (opening selection area) inputs (input ∷ [])
+outputs_one_more read selection area inputs input = pieces_from-append (opening read selection area) inputs (input ∷ [])
 
-pub front_of_outputs : (selection : Selection) (area : List ℕ) (inputs further : List Input) → IsFront (outputs selection area inputs) (outputs selection area (inputs ++ further))
+pub front_of_outputs : (read : Reader) (selection : Selection) (area : List ℕ) (inputs further : List Input) → IsFront (outputs read selection area inputs) (outputs read selection area (inputs ++ further))
 unfolding outputs
-front_of_outputs selection area inputs further = record {
-  rest = pieces_from (state_behind (opening selection area) inputs) further;
-  joined = pieces_from-append (opening selection area) inputs further;
+front_of_outputs read selection area inputs further = record {
+  rest = pieces_from (state_behind (opening read selection area) inputs) further;
+  joined = pieces_from-append (opening read selection area) inputs further;
 }

@@ -10,6 +10,7 @@ use Rattle.psi_tables.specs.Service.{ServicesState, wants}
 use Rattle.section_demultiplexer.specs.Demultiplexing.{DemultiplexerState, GivesNext, HasGivenAll, has_room, is_followed, of_wanted, with_next}
 use Rattle.section_demultiplexer.specs.Demultiplexing as demultiplexing
 use Rattle.section_demultiplexer.specs.Laws.{SameLists}
+use Rattle.es_reader.specs.Readers.{Reader}
 use Rattle.receiver_core.specs.Broadcasts.{BroadcastState, HasTurned}
 use Rattle.receiver_core.specs.Broadcasts as broadcasts
 use Rattle.receiver_core.specs.Dispatches.{turn}
@@ -42,39 +43,39 @@ no_pieces pid waiting now none = ap (λ (l : List (List ℕ)). pieces_of_turns p
 no_turns : (pid : ℕ) (waiting : List (List ℕ)) (now : State) → waiting ≡ [] → state_behind_turns pid (filter is_intact waiting) now ≡ now
 no_turns pid waiting now none = ap (λ (l : List (List ℕ)). state_behind_turns pid (filter is_intact l) now) none
 
-pub front_of_standing : (selection : Selection) (area : List ℕ) (state : ReceiverState) (inputs : List Input) (given : List Piece) → StandsFor selection area state inputs given → IsFront given (outputs selection area inputs)
-front_of_standing selection area state inputs given s = record { rest = pieces_of_turns state.pid (filter is_intact state.waiting) s.now; joined = s.pieces }
+pub front_of_standing : (read : Reader) (selection : Selection) (area : List ℕ) (state : ReceiverState) (inputs : List Input) (given : List Piece) → StandsFor read selection area state inputs given → IsFront given (outputs read selection area inputs)
+front_of_standing read selection area state inputs given s = record { rest = pieces_of_turns state.pid (filter is_intact state.waiting) s.now; joined = s.pieces }
 
-given_at_rest : (selection : Selection) (area : List ℕ) (state : ReceiverState) (inputs : List Input) (given : List Piece) → StandsFor selection area state inputs given → state.waiting ≡ [] → outputs selection area inputs ≡ given
-given_at_rest selection area state inputs given s none = s.pieces ∙ ap (λ (l : List Piece). given ++ l) (no_pieces state.pid state.waiting s.now none) ∙ append-nil given
+given_at_rest : (read : Reader) (selection : Selection) (area : List ℕ) (state : ReceiverState) (inputs : List Input) (given : List Piece) → StandsFor read selection area state inputs given → state.waiting ≡ [] → outputs read selection area inputs ≡ given
+given_at_rest read selection area state inputs given s none = s.pieces ∙ ap (λ (l : List Piece). given ++ l) (no_pieces state.pid state.waiting s.now none) ∙ append-nil given
 
-state_at_rest : (selection : Selection) (area : List ℕ) (state : ReceiverState) (inputs : List Input) (given : List Piece) (s : StandsFor selection area state inputs given) → state.waiting ≡ []
-    → state_behind (opening selection area) inputs ≡ s.now
-state_at_rest selection area state inputs given s none = s.left ∙ no_turns state.pid state.waiting s.now none
+state_at_rest : (read : Reader) (selection : Selection) (area : List ℕ) (state : ReceiverState) (inputs : List Input) (given : List Piece) (s : StandsFor read selection area state inputs given) → state.waiting ≡ []
+    → state_behind (opening read selection area) inputs ≡ s.now
+state_at_rest read selection area state inputs given s none = s.left ∙ no_turns state.pid state.waiting s.now none
 
-pub all_given : (selection : Selection) (area : List ℕ) (state : ReceiverState) (inputs : List Input) (given : List Piece) → StandsFor selection area state inputs given → IsIdle state → given ≡ outputs selection area inputs
-all_given selection area state inputs given s idle = sym (given_at_rest selection area state inputs given s (idle s.unspent))
+pub all_given : (read : Reader) (selection : Selection) (area : List ℕ) (state : ReceiverState) (inputs : List Input) (given : List Piece) → StandsFor read selection area state inputs given → IsIdle state → given ≡ outputs read selection area inputs
+all_given read selection area state inputs given s idle = sym (given_at_rest read selection area state inputs given s (idle s.unspent))
 
 -- what one input more prints, and what it leaves
-next_pieces : (selection : Selection) (area : List ℕ) (state : ReceiverState) (inputs : List Input) (given : List Piece) (s : StandsFor selection area state inputs given) (input : Input) → state.waiting ≡ []
-    → outputs selection area (inputs ++ input ∷ []) ≡ given ++ pieces_of input s.now
-next_pieces selection area state inputs given s input none =
-    outputs_one_more selection area inputs input
-    ∙ ap₂ (λ (before : List Piece) (now : State). before ++ (pieces_of input now ++ [])) (given_at_rest selection area state inputs given s none) (state_at_rest selection area state inputs given s none)
+next_pieces : (read : Reader) (selection : Selection) (area : List ℕ) (state : ReceiverState) (inputs : List Input) (given : List Piece) (s : StandsFor read selection area state inputs given) (input : Input) → state.waiting ≡ []
+    → outputs read selection area (inputs ++ input ∷ []) ≡ given ++ pieces_of input s.now
+next_pieces read selection area state inputs given s input none =
+    outputs_one_more read selection area inputs input
+    ∙ ap₂ (λ (before : List Piece) (now : State). before ++ (pieces_of input now ++ [])) (given_at_rest read selection area state inputs given s none) (state_at_rest read selection area state inputs given s none)
     ∙ ap (λ (l : List Piece). given ++ l) (append-nil (pieces_of input s.now))
 
-next_state : (selection : Selection) (area : List ℕ) (state : ReceiverState) (inputs : List Input) (given : List Piece) (s : StandsFor selection area state inputs given) (input : Input) → state.waiting ≡ []
-    → state_behind (opening selection area) (inputs ++ input ∷ []) ≡ state_after input s.now
-next_state selection area state inputs given s input none =
-    behind_one_more (opening selection area) inputs input ∙ ap (state_after input) (state_at_rest selection area state inputs given s none)
+next_state : (read : Reader) (selection : Selection) (area : List ℕ) (state : ReceiverState) (inputs : List Input) (given : List Piece) (s : StandsFor read selection area state inputs given) (input : Input) → state.waiting ≡ []
+    → state_behind (opening read selection area) (inputs ++ input ∷ []) ≡ state_after input s.now
+next_state read selection area state inputs given s input none =
+    behind_one_more (opening read selection area) inputs input ∙ ap (state_after input) (state_at_rest read selection area state inputs given s none)
 
-pub stands_first : (selection : Selection) (area : List ℕ) (d : DemultiplexerState) (b : BroadcastState) → d.waiting ≡ [] → demultiplexing.StandsFor d (λ pid. []) (λ pid. [])
-    → broadcasts.StandsFor b (opening selection area) → StandsFor selection area (seen d b area false) [] []
-stands_first selection area d b none assembled stands = record {
-  now = opening selection area;
-  left = sym (no_turns d.pid d.waiting (opening selection area) none);
-  pieces = no_outputs selection area ∙ sym (no_pieces d.pid d.waiting (opening selection area) none);
-  services_are = services_are b (opening selection area) stands;
+pub stands_first : (read : Reader) (selection : Selection) (area : List ℕ) (d : DemultiplexerState) (b : BroadcastState) → d.waiting ≡ [] → demultiplexing.StandsFor d (λ pid. []) (λ pid. [])
+    → broadcasts.StandsFor b (opening read selection area) → StandsFor read selection area (seen d b area false) [] []
+stands_first read selection area d b none assembled stands = record {
+  now = opening read selection area;
+  left = sym (no_turns d.pid d.waiting (opening read selection area) none);
+  pieces = no_outputs read selection area ∙ sym (no_pieces d.pid d.waiting (opening read selection area) none);
+  services_are = services_are b (opening read selection area) stands;
   area_is = refl;
   unspent = refl;
   kept = record { broadcast = stands; sections = λ pid. []; assembled = assembled };
@@ -83,13 +84,13 @@ stands_first selection area d b none assembled stands = record {
 -- ---- a wish to see the display
 
 pub shows : (state : ReceiverState) → state.waiting ≡ [] → Shows (display_of (start_of state.kept.broadcast.startup)) state state
-shows state none selection area inputs given s =
+shows state none read selection area inputs given s =
     let text = display_of (start_of state.kept.broadcast.startup) in
     record {
       now = s.now;
-      left = next_state selection area state inputs given s Show none ∙ sym (no_turns state.pid state.waiting s.now none);
+      left = next_state read selection area state inputs given s Show none ∙ sym (no_turns state.pid state.waiting s.now none);
       pieces =
-          next_pieces selection area state inputs given s Show none
+          next_pieces read selection area state inputs given s Show none
           ∙ ap₂ (λ (t a : List ℕ). given ++ record { text = t; area = a } ∷ []) (ap display_of (sym s.kept.broadcast.keeps.start)) (sym s.area_is)
           ∙ sym (append-nil (given ++ record { text = text; area = state.area } ∷ []))
           ∙ ap (λ (l : List Piece). (given ++ record { text = text; area = state.area } ∷ []) ++ l) (sym (no_pieces state.pid state.waiting s.now none));
@@ -99,16 +100,16 @@ shows state none selection area inputs given s =
       kept = s.kept;
     }
 
-pub displays : (state : ReceiverState) (selection : Selection) (area : List ℕ) (inputs : List Input) (given : List Piece) (s : StandsFor selection area state inputs given)
+pub displays : (state : ReceiverState) (read : Reader) (selection : Selection) (area : List ℕ) (inputs : List Input) (given : List Piece) (s : StandsFor read selection area state inputs given)
     → display_of (start_of state.kept.broadcast.startup) ≡ display_of s.now.start
-displays state selection area inputs given s = ap display_of s.kept.broadcast.keeps.start
+displays state read selection area inputs given s = ap display_of s.kept.broadcast.keeps.start
 
 -- ---- a packet
 
 -- the state with one packet more is one for the same broadcast
 same_broadcast : (b : BroadcastState) (s : State) (packet : List ℕ) → broadcasts.StandsFor b s → broadcasts.StandsFor b (with_packet packet s)
 same_broadcast b s packet p = record {
-  keeps = record { selection = p.keeps.selection; services = p.keeps.services; store = p.keeps.store; pids = p.keeps.pids; start = p.keeps.start; current = p.keeps.current };
+  keeps = record { reader = p.keeps.reader; selection = p.keeps.selection; services = p.keeps.services; store = p.keeps.store; pids = p.keeps.pids; start = p.keeps.start; current = p.keeps.current };
   done = same_dispatch s packet p.done;
 }
 
@@ -144,7 +145,7 @@ sections_if w packet s e = ap (λ (x : Bool). cond x (completed_by (s.packets (p
 -- a packet of a PID that isn't wanted
 pub passes_packet : SameLists → (d : DemultiplexerState) (b : BroadcastState) (a : List ℕ) (spent : Bool) (packet : List ℕ) → (spent ≡ false → d.waiting ≡ []) → wants b.services (pid_of packet) ≡ false
     → Takes (Packet packet) (seen d b a spent) (seen d b a spent)
-passes_packet same d b a spent packet idle off selection area inputs given s =
+passes_packet same d b a spent packet idle off read selection area inputs given s =
     let state = seen d b a spent in
     let now = with_packet packet s.now in
     let none = idle s.unspent in
@@ -153,10 +154,10 @@ passes_packet same d b a spent packet idle off selection area inputs given s =
     record {
       now = now;
       left =
-          next_state selection area state inputs given s (Packet packet) none ∙ no_turns (pid_of packet) (sections_by packet s.now) now nothing
+          next_state read selection area state inputs given s (Packet packet) none ∙ no_turns (pid_of packet) (sections_by packet s.now) now nothing
           ∙ sym (no_turns d.pid d.waiting now none);
       pieces =
-          next_pieces selection area state inputs given s (Packet packet) none
+          next_pieces read selection area state inputs given s (Packet packet) none
           ∙ ap (λ (l : List Piece). given ++ l) (no_pieces (pid_of packet) (sections_by packet s.now) now nothing ∙ sym (no_pieces d.pid d.waiting now none));
       services_are = s.services_are;
       area_is = s.area_is;
@@ -169,8 +170,8 @@ passes_packet same d b a spent packet idle off selection area inputs given s =
     }
 
 pub passes_sections : (d : DemultiplexerState) (b : BroadcastState) (a : List ℕ) (spent : Bool) (packet : List ℕ) → (spent ≡ false → d.waiting ≡ []) → wants b.services (pid_of packet) ≡ false
-    → (selection : Selection) (area : List ℕ) (inputs : List Input) (given : List Piece) (s : StandsFor selection area (seen d b a spent) inputs given) → d.waiting ≡ sections_by packet s.now
-passes_sections d b a spent packet idle off selection area inputs given s =
+    → (read : Reader) (selection : Selection) (area : List ℕ) (inputs : List Input) (given : List Piece) (s : StandsFor read selection area (seen d b a spent) inputs given) → d.waiting ≡ sections_by packet s.now
+passes_sections d b a spent packet idle off read selection area inputs given s =
     idle s.unspent ∙ sym (sections_if false packet s.now (wanted_by b s.now (pid_of packet) false s.kept.broadcast off))
 
 -- what a packet that is handed in does
@@ -190,7 +191,7 @@ completes_sections old new b packet now given is on stands assembled =
 
 pub takes_packet : SameLists → (old new : DemultiplexerState) (b : BroadcastState) (a : List ℕ) (spent : Bool) (packet : List ℕ) → (spent ≡ false → old.waiting ≡ []) → wants b.services (pid_of packet) ≡ true
     → HasRoomFor old b packet → (has_room old (pid_of packet) ≡ true → IsHandedIn old new packet) → Takes (Packet packet) (seen old b a spent) (seen new b a spent)
-takes_packet same old new b a spent packet idle on room hands selection area inputs given s =
+takes_packet same old new b a spent packet idle on room hands read selection area inputs given s =
     let state = seen old b a spent in
     let now = with_packet packet s.now in
     let none = idle s.unspent in
@@ -199,10 +200,10 @@ takes_packet same old new b a spent packet idle on room hands selection area inp
     record {
       now = now;
       left =
-          next_state selection area state inputs given s (Packet packet) none
+          next_state read selection area state inputs given s (Packet packet) none
           ∙ ap₂ (λ (p : ℕ) (l : List (List ℕ)). state_behind_turns p (filter is_intact l) now) (sym is.pid) (sym all);
       pieces =
-          next_pieces selection area state inputs given s (Packet packet) none
+          next_pieces read selection area state inputs given s (Packet packet) none
           ∙ ap₂ (λ (p : ℕ) (l : List (List ℕ)). given ++ pieces_of_turns p (filter is_intact l) now) (sym is.pid) (sym all);
       services_are = s.services_are;
       area_is = s.area_is;
@@ -218,8 +219,8 @@ takes_packet same old new b a spent packet idle on room hands selection area inp
 
 pub takes_sections : (old new : DemultiplexerState) (b : BroadcastState) (a : List ℕ) (spent : Bool) (packet : List ℕ) → wants b.services (pid_of packet) ≡ true
     → HasRoomFor old b packet → (has_room old (pid_of packet) ≡ true → IsHandedIn old new packet)
-    → (selection : Selection) (area : List ℕ) (inputs : List Input) (given : List Piece) (s : StandsFor selection area (seen old b a spent) inputs given) → new.waiting ≡ sections_by packet s.now
-takes_sections old new b a spent packet on room hands selection area inputs given s =
+    → (read : Reader) (selection : Selection) (area : List ℕ) (inputs : List Input) (given : List Piece) (s : StandsFor read selection area (seen old b a spent) inputs given) → new.waiting ≡ sections_by packet s.now
+takes_sections old new b a spent packet on room hands read selection area inputs given s =
     completes_sections old new b packet s.now s.kept.sections (hands (room s.now s.kept.sections s.kept.broadcast s.kept.assembled)) on s.kept.broadcast s.kept.assembled
 
 -- ---- the next section
@@ -230,7 +231,7 @@ no_turn old new b a spent text over = record {
   none = over.none;
   left = over.left;
   silent = refl;
-  stays = λ selection area inputs given s. record {
+  stays = λ read selection area inputs given s. record {
     now = s.now;
     left = s.left ∙ no_turns old.pid old.waiting s.now over.none ∙ sym (no_turns new.pid new.waiting s.now over.left);
     pieces = s.pieces ∙ ap (λ (l : List Piece). given ++ l) (no_pieces old.pid old.waiting s.now over.none ∙ sym (no_pieces new.pid new.waiting s.now over.left));
@@ -257,7 +258,7 @@ passes_damaged old new b a spent section text gives damaged =
       next = gives.next;
       damaged = damaged;
       silent = refl;
-      stays = λ selection area inputs given s. record {
+      stays = λ read selection area inputs given s. record {
         now = s.now;
         left = s.left ∙ ap₂ (λ (p : ℕ) (l : List (List ℕ)). state_behind_turns p l s.now) (sym gives.pid) same;
         pieces = s.pieces ∙ ap₂ (λ (p : ℕ) (l : List (List ℕ)). given ++ pieces_of_turns p l s.now) (sym gives.pid) same;
@@ -297,7 +298,7 @@ rest_pieces false pid rest s e = by (filter is_intact rest)
 -- what a turn makes of the state that a receiver stands for
 turned : SameLists → (old between new : DemultiplexerState) (b c : BroadcastState) (a : List ℕ) (spent still : Bool) (section text : List ℕ) → GivesNext old between section → is_intact section ≡ true → IsFollowed between new c.services
     → ((s : State) → broadcasts.StandsFor b s → HasTurned c text (turn old.pid section s)) → wants b.services old.pid ≡ true → still ≡ false → Gives text (seen old b a spent) (seen new c a still)
-turned same old between new b c a spent still section text gives intact follows turns wanted unspent selection area inputs given s =
+turned same old between new b c a spent still section text gives intact follows turns wanted unspent read selection area inputs given s =
     let t = turn old.pid section s.now in
     let made = turns s.now s.kept.broadcast in
     let is : c.services ≡ services t.state = services_are c t.state made.stands in

@@ -7,6 +7,7 @@ use Rattle.module_store.specs.Resources.{LooksAlike}
 use Rattle.module_store.specs.Standing.{StoreState}
 use Rattle.module_store.specs.Standing as store
 use Rattle.module_store.specs.Store.{pid_of}
+use Rattle.es_reader.specs.Readers.{IsReader}
 use Rattle.receiver_core.specs.declared.startup.Startup.{Startup}
 use Rattle.receiver_core.specs.Dispatches.{dispatch, dispatches, most_dispatches}
 use Rattle.receiver_core.specs.Startups.{IsCurrent, start_of}
@@ -20,6 +21,7 @@ pub record BroadcastState : Type 0 where
 
 -- what is kept is what there is to be kept of the state
 pub record Keeps (state : BroadcastState) (s : State) : Type 0 where
+  pub reader : IsReader s.read
   pub selection : state.services.selection ≡ s.selection
   pub services : services_of.StandsFor state.services s.handled
   pub store : store.StandsFor state.store s.store

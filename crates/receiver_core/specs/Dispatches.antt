@@ -10,9 +10,11 @@ use Rattle.multipart_entities.specs.declared.paths.Path.{Path}
 use Rattle.module_store.specs.Resources.{Resource, look, start_path}
 use Rattle.module_store.specs.Resources.Resource.{Found, Waiting, Missing}
 use Rattle.module_store.specs.Store.{Stored}
+use Rattle.es_reader.specs.Readers.{Reader}
 use Rattle.document_load.specs.Needs.{needs_of}
+use Rattle.document_load.specs.Scripts.{bad_scripts}
 use Rattle.document_load.specs.StyleTexts.{DocumentState, loaded_document}
-use Rattle.receiver_core.specs.Lines.{load_line}
+use Rattle.receiver_core.specs.Lines.{load_lines, refuse_line}
 use Rattle.receiver_core.specs.State.{Start, State}
 use Rattle.receiver_core.specs.State.Start.{Wanted, Refused, Loaded}
 use Rattle.receiver_core.specs.Turns.{Step, step_of_section}
@@ -37,27 +39,38 @@ text_found Missing = None
 abbrev pub text_at : Stored → Path → Option (List ℕ)
 text_at stored need = text_found (look stored need)
 
+-- for each need what is found of it now
+abbrev pub gifts_in : Stored → Path → List Item → List (Option (List ℕ))
+gifts_in stored path items = map (text_at stored) (needs_of path items)
+
+-- a document that can be loaded, and the numbers of its bad scripts
+pub record Loadable : Type 0 where
+  pub document : DocumentState
+  pub bad : List ℕ
+
 -- the document with these nodes, for each of whose needs what is found now is given
-abbrev pub document_in : Stored → Path → List Item → DocumentState
-document_in stored path items =
-    loaded_document path items (map (text_at stored) (needs_of path items))
+abbrev pub loadable_in : Reader → Stored → Path → List Item → Loadable
+loadable_in read stored path items = record {
+  document = loaded_document path items (gifts_in stored path items);
+  bad = bad_scripts read path items (gifts_in stored path items);
+}
 
 -- A document is loaded once none of its needs is waited for, and one that is refused has no needs.
-abbrev pub once_settled : Stored → Path → Result (List Item) DocFault
-    → Option (Result DocumentState DocFault)
-once_settled stored path (Ok items) =
-    if are_settled stored (needs_of path items) then Some (Ok (document_in stored path items))
+abbrev pub once_settled : Reader → Stored → Path → Result (List Item) DocFault
+    → Option (Result Loadable DocFault)
+once_settled read stored path (Ok items) =
+    if are_settled stored (needs_of path items) then Some (Ok (loadable_in read stored path items))
     else None
-once_settled stored path (Err fault) = Some (Err fault)
+once_settled read stored path (Err fault) = Some (Err fault)
 
-abbrev pub reading_in : Stored → Path → Resource → Option (Result DocumentState DocFault)
-reading_in stored path (Found bytes) = once_settled stored path (reading_of bytes)
-reading_in stored path Waiting = None
-reading_in stored path Missing = None
+abbrev pub reading_in : Reader → Stored → Path → Resource → Option (Result Loadable DocFault)
+reading_in read stored path (Found bytes) = once_settled read stored path (reading_of bytes)
+reading_in read stored path Waiting = None
+reading_in read stored path Missing = None
 
 -- what is there under a path to be loaded: a document, or why it is refused
-abbrev pub loadable_reading : Stored → Path → Option (Result DocumentState DocFault)
-loadable_reading stored path = reading_in stored path (look stored path)
+abbrev pub loadable_reading : Reader → Stored → Path → Option (Result Loadable DocFault)
+loadable_reading read stored path = reading_in read stored path (look stored path)
 
 -- ---- one dispatch
 
@@ -68,17 +81,25 @@ wanted_path Refused stored = None
 wanted_path (Loaded document) stored = None
 
 -- what becomes of the start document by its load
-abbrev pub start_after_load : Result DocumentState DocFault → Start
-start_after_load (Ok document) = Loaded document
+abbrev pub start_after_load : Result Loadable DocFault → Start
+start_after_load (Ok loadable) = Loaded loadable.document
 start_after_load (Err fault) = Refused
 
-abbrev pub load : State → Path → Result DocumentState DocFault → Step
-load s path reading =
-    record { state = record s { start = start_after_load reading }; text = load_line path reading }
+-- its lines
+abbrev pub lines_of_load : Path → Result Loadable DocFault → List ℕ
+lines_of_load path (Ok loadable) = load_lines path loadable.bad
+lines_of_load path (Err fault) = refuse_line path fault
+
+abbrev pub load : State → Path → Result Loadable DocFault → Step
+load s path reading = record {
+  state = record s { start = start_after_load reading };
+  text = lines_of_load path reading;
+}
 
 abbrev pub dispatch_of : State → Option Path → Option Step
 dispatch_of s None = None
-dispatch_of s (Some path) = option_map (load s path) (loadable_reading s.store path)
+dispatch_of s (Some path) =
+    option_map (load s path) (loadable_reading s.read s.store path)
 
 -- The next dispatch loads the document that is wanted, where it can be loaded. Else there is none.
 unfoldable pub dispatch : State → Option Step

@@ -1,13 +1,13 @@
 -- The lines that the turns of a receiver print, each with the line feed that ends it. This
 -- project's own. Numbers of a component and of a version have two hexadecimal digits, that of a
 -- module four, and other numbers are decimal.
-use Rattle.std.specs.Prelude.{ℕ, List, [], ◌++◌, codes, Result, Ok, Err}
+use Rattle.std.specs.Prelude.{ℕ, List, [], ◌++◌, codes}
+use Rattle.std.specs.List.{flat_map}
 use Rattle.std.specs.Option.{option_map_or}
 use Rattle.bml_bytes.specs.Numerals.{decimal_digits, hex_digits}
 use Rattle.bml_reader.specs.declared.faults.DocFault.{DocFault}
 use Rattle.bml_reader.specs.declared.faults.DocFault.TheVariants.{Malformed, WrongRoot, TooDeep, TooManyNodes, NoMemory}
 use Rattle.multipart_entities.specs.declared.paths.Path.{Path}
-use Rattle.document_load.specs.StyleTexts.{DocumentState}
 use Rattle.multipart_entities.specs.Paths.{path_text}
 use Rattle.carousel_blocks.specs.declared.standing.SkipCause.{SkipCause}
 use Rattle.carousel_blocks.specs.declared.standing.SkipCause.TheVariants.{Compressed, Large}
@@ -51,8 +51,18 @@ fault_name TooDeep = codes "TooDeep"
 fault_name TooManyNodes = codes "TooManyNodes"
 fault_name NoMemory = codes "NoMemory"
 
--- the document at this path was loaded, or refused for this fault
-abbrev pub load_line : Path → Result DocumentState DocFault → List ℕ
-load_line path (Ok document) = codes "load " ++ (path_text path ++ codes "\n")
-load_line path (Err fault) =
+-- a script of the document at this path is bad; the first has the number 1
+abbrev pub bad_script_line : Path → ℕ → List ℕ
+bad_script_line path number =
+    codes "badscript "
+    ++ (path_text path ++ (codes " " ++ (decimal_digits number ++ codes "\n")))
+
+-- the document at this path was loaded, and of its scripts those with these numbers are bad
+abbrev pub load_lines : Path → List ℕ → List ℕ
+load_lines path bad =
+    codes "load " ++ (path_text path ++ (codes "\n" ++ flat_map (bad_script_line path) bad))
+
+-- it was refused for this fault
+abbrev pub refuse_line : Path → DocFault → List ℕ
+refuse_line path fault =
     codes "refuse " ++ (path_text path ++ (codes " " ++ (fault_name fault ++ codes "\n")))

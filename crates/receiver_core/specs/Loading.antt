@@ -8,11 +8,10 @@ use Rattle.module_store.specs.Resources.{look, start_path}
 use Rattle.module_store.specs.Resources.Resource.{Waiting}
 use Rattle.module_store.specs.Standing.{ForStored, StoreState}
 use Rattle.module_store.specs.Store.{Stored}
-use Rattle.document_load.specs.StyleTexts.{DocumentState}
+use Rattle.es_reader.specs.Readers.{Reader, IsReader}
 use Rattle.receiver_core.specs.declared.startup.Startup.{Startup}
 use Rattle.receiver_core.specs.declared.startup.Startup.TheVariants as kept
-use Rattle.receiver_core.specs.Dispatches.{loadable_reading, start_after_load}
-use Rattle.receiver_core.specs.Lines.{load_line}
+use Rattle.receiver_core.specs.Dispatches.{Loadable, lines_of_load, loadable_reading, start_after_load}
 use Rattle.receiver_core.specs.Startups.{IsCurrent, start_of}
 use Rattle.receiver_core.specs.State.Start.{Wanted}
 
@@ -28,15 +27,15 @@ KnowsItsPlace store (kept.Pending pending) = WaitsAt store pending.draft.needs p
 KnowsItsPlace store _ = Unit {0}
 
 -- what comes of a reading under the start path, where there is one, and the line that tells it
-pub record LoadsAs (stored : Stored) (reading : Option (Result DocumentState DocFault))
+pub record LoadsAs (stored : Stored) (reading : Option (Result Loadable DocFault))
     (startup : Startup) (text : List ℕ) : Type 0 where
   pub start_is : start_of startup ≡ option_map_or start_after_load reading Wanted
   pub current : IsCurrent stored startup
-  pub text_is : text ≡ option_map_or (load_line (start_path stored)) reading []
+  pub text_is : text ≡ option_map_or (lines_of_load (start_path stored)) reading []
 
 -- A text was printed, and what was kept of a document that is wanted became this.
 pub record Loads (store : StoreState) (old new : Startup) (before after : List ℕ) : Type 0 where
   pub text : List ℕ
   pub printed : after ≡ before ++ text
-  pub loads : ForStored store (λ stored. IsCurrent stored old
-      → LoadsAs stored (loadable_reading stored (start_path stored)) new text)
+  pub loads : ForStored store (λ stored. IsCurrent stored old → (read : Reader) → IsReader read
+      → LoadsAs stored (loadable_reading read stored (start_path stored)) new text)

@@ -6,6 +6,7 @@ use Rattle.ts_sections.specs.Sections.{completed_by}
 use Rattle.ts_sections.specs.Intact.{is_intact}
 use Rattle.display_list.specs.Show.{clock_line}
 use Rattle.psi_tables.specs.declared.services.Selection.{Selection}
+use Rattle.es_reader.specs.Readers.{Reader}
 use Rattle.receiver_core.specs.State.{Input, Packet, Show, Start, State, opening, wants}
 use Rattle.receiver_core.specs.State.Start.{Wanted, Refused, Loaded}
 use Rattle.receiver_core.specs.Dispatches.{turn}
@@ -89,5 +90,5 @@ state_behind s [] = s
 state_behind s (input ∷ inputs) = state_behind (state_after input s) inputs
 
 -- what inputs print from the start, with that area
-unfoldable pub outputs : Selection → List ℕ → List Input → List Piece
-outputs selection area inputs = pieces_from (opening selection area) inputs
+unfoldable pub outputs : Reader → Selection → List ℕ → List Input → List Piece
+outputs read selection area inputs = pieces_from (opening read selection area) inputs

@@ -4,6 +4,7 @@ use Rattle.std.specs.Prelude.{◌≡◌, ℕ, Bool, true, false, if◌then◌els
 use Rattle.ts_sections.specs.Intact.{is_intact}
 use Rattle.psi_tables.specs.declared.services.Selection.{Selection}
 use Rattle.psi_tables.specs.Service.{ServicesState, wants}
+use Rattle.es_reader.specs.Readers.{Reader}
 use Rattle.receiver_core.specs.Keeping.{KeptState, Keeps}
 use Rattle.receiver_core.specs.Outputs.{Piece, display_of, outputs, pieces_of_turns, state_behind, state_behind_turns}
 use Rattle.receiver_core.specs.State.{Input, Show, State, opening, services}
@@ -25,12 +26,12 @@ pub record ReceiverState : Type 0 where
 -- The inputs came, and these pieces were given so far. What the turns so far left is one state, and
 -- with the turns of the sections that are waiting it is the state that the inputs leave, and what
 -- was given is all that they print.
-pub record StandsFor (selection : Selection) (area : List ℕ) (state : ReceiverState)
+pub record StandsFor (read : Reader) (selection : Selection) (area : List ℕ) (state : ReceiverState)
     (inputs : List Input) (given : List Piece) : Type 0 where
   pub now : State
-  pub left : state_behind (opening selection area) inputs
+  pub left : state_behind (opening read selection area) inputs
       ≡ state_behind_turns state.pid (filter is_intact state.waiting) now
-  pub pieces : outputs selection area inputs
+  pub pieces : outputs read selection area inputs
       ≡ given ++ pieces_of_turns state.pid (filter is_intact state.waiting) now
   pub services_are : state.services ≡ services now
   pub area_is : state.area ≡ now.area
@@ -55,35 +56,38 @@ sections_left state = length state.waiting
 -- a fact of each state for which the receiver stands
 abbrev pub ForState : ReceiverState → (State → Type 0) → Type 0
 ForState state Fact =
-    (selection : Selection) (area : List ℕ) (inputs : List Input) (given : List Piece)
-    → (stood : StandsFor selection area state inputs given) → Fact stood.now
+    (read : Reader) (selection : Selection) (area : List ℕ) (inputs : List Input)
+    (given : List Piece)
+    → (stood : StandsFor read selection area state inputs given) → Fact stood.now
 
 -- for whatever a receiver stood, it stands for it still
 abbrev pub Stays : ReceiverState → ReceiverState → Type 0
 Stays old new =
-    (selection : Selection) (area : List ℕ) (inputs : List Input) (given : List Piece)
-    → StandsFor selection area old inputs given → StandsFor selection area new inputs given
+    (read : Reader) (selection : Selection) (area : List ℕ) (inputs : List Input)
+    (given : List Piece) → StandsFor read selection area old inputs given
+    → StandsFor read selection area new inputs given
 
 -- it stands for one input more
 abbrev pub Takes : Input → ReceiverState → ReceiverState → Type 0
 Takes input old new =
-    (selection : Selection) (area : List ℕ) (inputs : List Input) (given : List Piece)
-    → StandsFor selection area old inputs given
-    → StandsFor selection area new (inputs ++ input ∷ []) given
+    (read : Reader) (selection : Selection) (area : List ℕ) (inputs : List Input)
+    (given : List Piece) → StandsFor read selection area old inputs given
+    → StandsFor read selection area new (inputs ++ input ∷ []) given
 
 -- it gave one piece more: this text, with its area
 abbrev pub Gives : List ℕ → ReceiverState → ReceiverState → Type 0
 Gives text old new =
-    (selection : Selection) (area : List ℕ) (inputs : List Input) (given : List Piece)
-    → StandsFor selection area old inputs given
-    → StandsFor selection area new inputs (given ++ record { text = text; area = new.area } ∷ [])
+    (read : Reader) (selection : Selection) (area : List ℕ) (inputs : List Input)
+    (given : List Piece) → StandsFor read selection area old inputs given
+    → StandsFor read selection area new inputs
+    (given ++ record { text = text; area = new.area } ∷ [])
 
 -- it was asked to show, and gave this text for that
 abbrev pub Shows : List ℕ → ReceiverState → ReceiverState → Type 0
 Shows text old new =
-    (selection : Selection) (area : List ℕ) (inputs : List Input) (given : List Piece)
-    → StandsFor selection area old inputs given
-    → StandsFor selection area new (inputs ++ Show ∷ [])
+    (read : Reader) (selection : Selection) (area : List ℕ) (inputs : List Input)
+    (given : List Piece) → StandsFor read selection area old inputs given
+    → StandsFor read selection area new (inputs ++ Show ∷ [])
     (given ++ record { text = text; area = new.area } ∷ [])
 
 -- No section was waiting: nothing is printed, and nothing done.

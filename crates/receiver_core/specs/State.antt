@@ -6,6 +6,7 @@ use Rattle.psi_tables.specs.Service.{ServicesState}
 use Rattle.psi_tables.specs.Service as services_of
 use Rattle.module_store.specs.Store.{Stored}
 use Rattle.module_store.specs.Store as store
+use Rattle.es_reader.specs.Readers.{Reader}
 use Rattle.document_load.specs.StyleTexts.{DocumentState}
 
 -- the next packet of the stream, of whatever PID, or the wish to see what is displayed
@@ -21,7 +22,8 @@ pub data Start : Type 0 where
   Loaded : DocumentState → Start
 
 pub record State : Type 0 where
-  -- which service is asked for
+  -- which programs texts are, and which service is asked for: neither changes
+  pub read : Reader
   pub selection : Selection
   -- the intact sections handled so far, each with the PID on which it came
   pub handled : List Handled
@@ -46,8 +48,9 @@ abbrev pub wants : State → ℕ → Bool
 wants s pid = services_of.wants (services s) pid
 
 -- before the first input, with that area: with a data PID its component is there at once
-abbrev pub opening : Selection → List ℕ → State
-opening selection area = record {
+abbrev pub opening : Reader → Selection → List ℕ → State
+opening read selection area = record {
+  read = read;
   selection = selection;
   handled = [];
   packets = λ pid. [];

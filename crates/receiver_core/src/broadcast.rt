@@ -3,6 +3,7 @@
 ghost use Rattle.std.specs.Prelude.{◌≡◌, ◌≤◌, ◌++◌, ℕ, List, false, length, IfOk, OnOk};
 ghost use Rattle.std.specs.Io.{StartsWith};
 ghost use Rattle.psi_tables.specs.Service.{reads_table};
+ghost use Rattle.es_reader.specs.Readers.{Reader, IsReader};
 ghost use Rattle.receiver_core.specs.Outputs.{display_of};
 ghost use Rattle.receiver_core.specs.Dispatches.{turn};
 ghost use Rattle.receiver_core.specs.Broadcasts.{Dispatches, LeavesLooks, StandsFor, Takes, Turns};
@@ -41,8 +42,8 @@ impl Broadcast {
     /// The service or the data that is asked for, before the first section. It keeps the allocator;
     /// with a data PID it takes memory for its component.
     pub fn new(alloc: Global, selection: Selection) -> Result<Broadcast, NoMemory>
-        ensures { IfOk result
-            (λ broadcast. (area : List ℕ) → StandsFor broadcast (opening selection area)) }
+        ensures { IfOk result (λ broadcast. (read : Reader) → IsReader read → (area : List ℕ)
+            → StandsFor broadcast (opening read selection area)) }
     {
         let services = Services::new(alloc, selection);
         let mut store = Store::new(alloc);

@@ -5,6 +5,7 @@ ghost use Rattle.psi_tables.specs.declared.components.Component.{Component};
 ghost use Rattle.psi_tables.specs.declared.services.Selection.{Selection};
 ghost use Rattle.psi_tables.specs.Components.{AreApart};
 ghost use Rattle.module_store.specs.Store.{Stored, changes_by, with_section, gone_by, with_map};
+ghost use Rattle.es_reader.specs.Readers.{Reader};
 ghost use Rattle.receiver_core.specs.declared.startup.Startup.{Startup};
 ghost use Rattle.receiver_core.specs.Fronts.{IsFront};
 ghost use Rattle.receiver_core.specs.Outputs.{Piece, outputs};
@@ -17,20 +18,25 @@ use module_store::{law_of_found_resources, law_of_start_paths};
 /// Without inputs nothing is printed; further inputs add pieces behind those so far, and change
 /// none.
 pub fn law_of_outputs()
-    ensures none { (selection : Selection) (area : List ℕ) → outputs selection area [] ≡ [] }
-    ensures more { (selection : Selection) (area : List ℕ) (inputs further : List Input)
-        → IsFront (outputs selection area inputs) (outputs selection area (inputs ++ further)) }
+    ensures none { (read : Reader) (selection : Selection) (area : List ℕ)
+        → outputs read selection area [] ≡ [] }
+    ensures more { (read : Reader) (selection : Selection) (area : List ℕ)
+        (inputs further : List Input)
+        → IsFront (outputs read selection area inputs)
+        (outputs read selection area (inputs ++ further)) }
 {}
 
 /// What a receiver gave so far is a front of what its inputs come to, and all of it once no turn is
 /// still to come.
 pub fn law_of_receivers()
-    ensures front { (selection : Selection) (area : List ℕ) (state : ReceiverState)
-        (inputs : List Input) (given : List Piece) → StandsFor selection area state inputs given
-        → IsFront given (outputs selection area inputs) }
-    ensures all { (selection : Selection) (area : List ℕ) (state : ReceiverState)
-        (inputs : List Input) (given : List Piece) → StandsFor selection area state inputs given
-        → IsIdle state → given ≡ outputs selection area inputs }
+    ensures front { (read : Reader) (selection : Selection) (area : List ℕ)
+        (state : ReceiverState) (inputs : List Input) (given : List Piece)
+        → StandsFor read selection area state inputs given
+        → IsFront given (outputs read selection area inputs) }
+    ensures all { (read : Reader) (selection : Selection) (area : List ℕ)
+        (state : ReceiverState) (inputs : List Input) (given : List Piece)
+        → StandsFor read selection area state inputs given
+        → IsIdle state → given ≡ outputs read selection area inputs }
 {}
 
 /// A document that was read stays the one that is there, until a change of its module is told.

@@ -3,12 +3,13 @@
 //!
 //! [`Receiver`] puts the sections of the wanted PIDs together, follows the tables of the service
 //! that is asked for, and acquires the modules of its data carousels (ISO/IEC 13818-1, 13818-6;
-//! ARIB STD-B24, volume 3); it loads the start document once its bytes are found and nothing that it
-//! needs is waited for, with what is found of its needs (volume 2), and shows it by its styles. Its
-//! contract names the whole list of inputs: what it prints for them is `specs/Outputs`, whatever it
-//! keeps. [`law_of_outputs`] and [`law_of_receivers`] say what the layer above builds on: more
-//! inputs only add pieces, and the pieces given so far are the first of those that the inputs come
-//! to.
+//! ARIB STD-B24, volume 3); it loads the start document once its bytes are found and nothing that
+//! it needs is waited for, with what is found of its needs (volume 2), tells which of its scripts
+//! are bad, and shows it by its styles. No script runs yet. Its contract names the whole list of
+//! inputs: what it prints for them is `specs/Outputs`, whatever it keeps. Which scripts are
+//! programs is told by a reader of programs that is right by their grammar. [`law_of_outputs`] and
+//! [`law_of_receivers`] say what the layer above builds on: more inputs only add pieces, and the
+//! pieces given so far are the first of those that the inputs come to.
 #![tactic(auto)]
 
 mod broadcast;

@@ -1,11 +1,10 @@
 //! The lines that the turns of a receiver print. Each call stops in the middle of a line where it
 //! finds no memory.
 
-ghost use Rattle.std.specs.Prelude.{◌≡◌, ◌++◌, codes, Err, OnOk};
+ghost use Rattle.std.specs.Prelude.{◌≡◌, ◌++◌, OnOk};
 ghost use Rattle.std.specs.Io.{StartsWith};
 ghost use Rattle.std.specs.List.{flat_map};
-ghost use Rattle.multipart_entities.specs.Paths.{path_text};
-ghost use Rattle.receiver_core.specs.Lines.{cause_name, delivery_fields, fault_name, line_of_change, line_with, load_line, module_fields};
+ghost use Rattle.receiver_core.specs.Lines.{bad_script_line, cause_name, delivery_fields, fault_name, line_of_change, line_with, load_lines, module_fields, refuse_line};
 
 use bml_bytes::{NoMemory, law_of_fronts, push_count, push_hex, push_line_end, push_word};
 use bml_reader::DocFault;
@@ -43,26 +42,52 @@ pub fn push_gone_lines(gone: &[(u8, Change)], out: &mut Vec<u8>) -> Result<(), N
     Ok(())
 }
 
-/// Appends the line of the document at a path that was loaded.
-pub fn push_load_line(path: &Path, out: &mut Vec<u8>) -> Result<(), NoMemory>
-    ensures ok { OnOk result
-        (out.new.items ≡ out.old.items ++ (codes "load " ++ (path_text path.now ++ codes "\n"))) }
+/// Appends the line of the document at a path that was loaded, and the lines of its bad scripts,
+/// which have these numbers.
+pub fn push_load_lines(path: &Path, bad: &[u32], out: &mut Vec<u8>) -> Result<(), NoMemory>
+    ensures ok { OnOk result (out.new.items ≡ out.old.items ++ load_lines path.now bad.now) }
     ensures grows { StartsWith out.new.items out.old.items }
 {
+    law_of_fronts();
     push_word("load ", out)?;
     path.push(out)?;
-    push_line_end(out)
+    push_line_end(out)?;
+    push_bad_script_lines(path, bad, out)
 }
 
 /// Appends the line of the document at a path that was refused.
 pub fn push_refuse_line(path: &Path, fault: DocFault, out: &mut Vec<u8>) -> Result<(), NoMemory>
-    ensures ok { OnOk result (out.new.items ≡ out.old.items ++ load_line path.now (Err fault)) }
+    ensures ok { OnOk result (out.new.items ≡ out.old.items ++ refuse_line path.now fault) }
     ensures grows { StartsWith out.new.items out.old.items }
 {
     push_word("refuse ", out)?;
     path.push(out)?;
     push_word(" ", out)?;
     push_word(name_of_fault(fault), out)?;
+    push_line_end(out)
+}
+
+// The lines of the bad scripts with these numbers, in their order.
+fn push_bad_script_lines(path: &Path, bad: &[u32], out: &mut Vec<u8>) -> Result<(), NoMemory>
+    ensures ok { OnOk result
+        (out.new.items ≡ out.old.items ++ flat_map (bad_script_line path.now) bad.now) }
+    ensures grows { StartsWith out.new.items out.old.items }
+{
+    law_of_fronts();
+    'lines: for number in bad {
+        push_bad_script_line(path, *number, out)?;
+    }
+    Ok(())
+}
+
+fn push_bad_script_line(path: &Path, number: u32, out: &mut Vec<u8>) -> Result<(), NoMemory>
+    ensures ok { OnOk result (out.new.items ≡ out.old.items ++ bad_script_line path.now number) }
+    ensures grows { StartsWith out.new.items out.old.items }
+{
+    push_word("badscript ", out)?;
+    path.push(out)?;
+    push_word(" ", out)?;
+    push_count(u64::from(number), out)?;
     push_line_end(out)
 }
 
@@ -208,11 +233,14 @@ mod tests {
             module: 0,
             name: Text::of_bytes(rt.alloc(), b"a b")?,
         };
-        push_load_line(&path, &mut out)?;
+        push_load_lines(&path, &[], &mut out)?;
+        push_load_lines(&path, &[1, 4294967295], &mut out)?;
         push_refuse_line(&path, DocFault::WrongRoot, &mut out)?;
         let expected: &[u8] = b"module 40 0001 01 10\nmodule ab fffe ff 4294967295\n\
             gone 0c 0203\nskip 41 0000 compressed\nskip 41 00ff large\n\
-            load /40/0000/a%20b\nrefuse /40/0000/a%20b WrongRoot\n";
+            load /40/0000/a%20b\nload /40/0000/a%20b\n\
+            badscript /40/0000/a%20b 1\nbadscript /40/0000/a%20b 4294967295\n\
+            refuse /40/0000/a%20b WrongRoot\n";
         assert_eq!(rt; out.as_slice(), expected);
         Ok(())
     }

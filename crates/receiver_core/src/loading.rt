@@ -5,7 +5,7 @@ ghost use Rattle.std.specs.Prelude.{◌≡◌, IfOk, length};
 ghost use Rattle.receiver_core.specs.declared.startup.Startup.TheVariants as kept;
 ghost use Rattle.receiver_core.specs.Loading.{KnowsItsPlace, Loads};
 
-use crate::lines::{push_load_line, push_refuse_line};
+use crate::lines::push_refuse_line;
 use crate::pending::Pending;
 use crate::startup::Startup;
 use bml_bytes::NoMemory;
@@ -15,7 +15,7 @@ use module_store::{Look, Store};
 use std::alloc::Global;
 
 /// Reads the start document, where it is found, and loads it, where nothing that it needs is waited
-/// for. Appends the line of a document that is loaded or refused.
+/// for. Appends the lines of a document that is loaded or refused.
 pub fn load(alloc: Global, store: &Store, out: &mut Vec<u8>) -> Result<Startup, NoMemory>
     ensures loads { IfOk result
         (λ startup. Loads store.now kept.Wanted startup out.old.items out.new.items) }

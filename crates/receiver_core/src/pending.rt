@@ -8,7 +8,7 @@ ghost use Rattle.receiver_core.specs.declared.startup.Startup.TheVariants as kep
 ghost use Rattle.receiver_core.specs.Gifts.{GivesFound, with_found};
 ghost use Rattle.receiver_core.specs.Loading.{KnowsItsPlace, Loads, WaitsAt};
 
-use crate::lines::push_load_line;
+use crate::lines::push_load_lines;
 use crate::shown::Shown;
 use crate::startup::Startup;
 use bml_bytes::NoMemory;
@@ -60,7 +60,7 @@ impl Pending {
     }
 
     /// Loads the document with what is found of its needs, where none of them is waited for, and
-    /// appends its line. Else it goes on waiting.
+    /// appends its lines. Else it goes on waiting.
     pub fn load(self, alloc: Global, store: &Store, out: &mut Vec<u8>) -> Result<Startup, NoMemory>
         ensures loads { IfOk result
             (λ startup. Loads store.now (kept.Pending self) startup out.old.items out.new.items) }
@@ -78,8 +78,8 @@ impl Pending {
         }
         give_all_found(store, &mut draft)?;
         let document = draft.finish()?;
+        push_load_lines(&path, document.bad.as_slice(), out)?;
         let shown = Shown::new(alloc, document)?;
-        push_load_line(&path, out)?;
         Ok(Startup::Loaded(shown))
     }
 

@@ -5,6 +5,7 @@ ghost use Rattle.std.specs.Prelude.{IsErr, Ok};
 ghost use Rattle.std.specs.Io.{StartsWith};
 ghost use Rattle.ts_packets.specs.Packet.{pid_of};
 ghost use Rattle.psi_tables.specs.Service.{wants as wants_by};
+ghost use Rattle.es_reader.specs.Readers.{Reader, IsReader};
 ghost use Rattle.receiver_core.specs.Outputs.{sections_by};
 ghost use Rattle.receiver_core.specs.State.{Packet as APacket};
 
@@ -58,7 +59,8 @@ impl Receiver {
     /// A receiver of the service or the data that is asked for, with this persistent area, to which
     /// nothing came.
     pub fn new(alloc: Global, selection: Selection, area: AreaBytes) -> Result<Receiver, NoMemory>
-        ensures stands { IfOk result (λ receiver. StandsFor selection area receiver [] []) }
+        ensures stands { IfOk result (λ receiver. (read : Reader) → IsReader read
+            → StandsFor read selection area receiver [] []) }
         ensures idle { IfOk result (λ receiver. IsIdle receiver) }
         ensures unspent { IfOk result (λ receiver. receiver.spent ≡ false) }
         ensures area { IfOk result (λ receiver. receiver.area ≡ area) }

@@ -40,7 +40,7 @@ impl Shown {
         ensures items { IfOk result (λ shown. shown.items ≡ document.tree) }
         ensures rules { IfOk result (λ shown. shown.rules ≡ document.rules) }
     {
-        let Document { tree, rules } = document;
+        let Document { tree, rules, .. } = document;
         let styles = Styles::new(alloc, &tree, rules)?;
         Ok(Shown {
             tree,

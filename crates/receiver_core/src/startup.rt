@@ -33,7 +33,7 @@ pub enum Startup {
 
 impl Startup {
     /// Loads the document, where it is wanted, is found, and nothing that it needs is waited for;
-    /// or refuses it. Appends the line that tells it.
+    /// or refuses it. Appends the lines that tell it.
     pub fn dispatch(
         self,
         alloc: Global,

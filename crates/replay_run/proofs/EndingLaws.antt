@@ -1,7 +1,7 @@
 -- How a replay ends, over plain values.
-use Rattle.std.proofs.Common.{◌≡◌, ℕ, ◌≤◌, List, [], ◌∷◌, ◌++◌, map, refl, sym, ap, ◌∙◌, subst}
+use Rattle.std.proofs.Common.{◌≡◌, ℕ, ◌≤◌, List, [], ◌∷◌, ◌++◌, refl, sym, ap, ◌∙◌, subst}
 use Rattle.std.proofs.Common.{append_assoc, append-nil, Option, Some, None, Result, Ok, Err, OnOk}
-use Rattle.std.proofs.Common.{IfErr, arith, inl, inr}
+use Rattle.std.proofs.Common.{IfErr, inl, inr}
 use Rattle.std.specs.Io.KnownBytes.{Appends}
 use Rattle.std.proofs.KnownBytes.{Appends-nil}
 use Rattle.bml_ports.specs.declared.outside.Port.TheVariants.{Stream, Notes}
@@ -9,6 +9,7 @@ use Rattle.bml_ports.specs.declared.outside.Port.{Port}
 use Rattle.bml_ports.specs.Worlds.{WorldState, PortState}
 use Rattle.ts_packets.specs.Packets.{packets_of}
 use Rattle.psi_tables.specs.declared.services.Selection.{Selection}
+use Rattle.es_reader.specs.Readers.{Reader, IsReader}
 use Rattle.receiver_core.specs.Fronts.{IsFront, front_of_self, front_of_append, front_of_front}
 use Rattle.receiver_core.specs.Fronts.{front_of_concat, front_of_map}
 use Rattle.receiver_core.specs.Outputs.{Piece, outputs, texts_of}
@@ -27,7 +28,7 @@ use Rattle.replay_run.specs.Midway.{StopsIn}
 use Rattle.replay_run.specs.RecordProgress.{RecordState, IsAt, IsBadBehind, IsWhole, LeavesItems}
 use Rattle.replay_run.specs.Outside.{Outside, Account, account}
 use Rattle.replay_run.specs.Play.{inputs_of, packet_count}
-use Rattle.replay_run.specs.Progress.{Replay, Moment, IsMidway, IsBetween}
+use Rattle.replay_run.specs.Progress.{Replay, Moment, IsBetween}
 use Rattle.replay_run.specs.Record.{items_before_bad, first_bad}
 use Rattle.replay_run.specs.Replaying.{StopsLine, StopsOpening, OnlyReadsBoth, outcome_of}
 use Rattle.replay_run.specs.Output.{WritesPieces, WritesBytes, bytes_of}
@@ -41,18 +42,23 @@ use Rattle.replay_run.proofs.WritingLaws.{appends_from, appends_more, bytes-appe
 
 -- what is known of receivers
 pub record ReceiverLaws : Type 0 where
-  pub more : (selection : Selection) (area : List ℕ) (inputs further : List Input)
-      → IsFront (outputs selection area inputs) (outputs selection area (inputs ++ further))
-  pub front : (selection : Selection) (area : List ℕ) (state : ReceiverState) (inputs : List Input)
-      (given : List Piece)
-      → StandsFor selection area state inputs given → IsFront given (outputs selection area inputs)
-  pub all : (selection : Selection) (area : List ℕ) (state : ReceiverState) (inputs : List Input)
-      (given : List Piece)
-      → StandsFor selection area state inputs given → IsIdle state → given ≡ outputs selection area inputs
+  pub more : (read : Reader) (selection : Selection) (area : List ℕ) (inputs further : List Input)
+      → IsFront (outputs read selection area inputs)
+      (outputs read selection area (inputs ++ further))
+  pub front : (read : Reader) (selection : Selection) (area : List ℕ) (state : ReceiverState)
+      (inputs : List Input) (given : List Piece)
+      → StandsFor read selection area state inputs given
+      → IsFront given (outputs read selection area inputs)
+  pub all : (read : Reader) (selection : Selection) (area : List ℕ) (state : ReceiverState)
+      (inputs : List Input) (given : List Piece)
+      → StandsFor read selection area state inputs given → IsIdle state
+      → given ≡ outputs read selection area inputs
 
--- what a run is of: the service or data that is asked for, the area at its start, the stream, the
--- record, and what the outside told before it
+-- what a run is of: which programs texts are, the service or data that is asked for, the area at its
+-- start, the stream, the record, and what the outside told before it
 pub record Course : Type 0 where
+  pub read : Reader
+  pub right : IsReader read
   pub selection : Selection
   pub area : List ℕ
   pub stream : List ℕ
@@ -61,6 +67,7 @@ pub record Course : Type 0 where
 
 abbrev pub replay_of : Course → Replay
 replay_of run = record {
+  read = run.read;
   selection = run.selection;
   area = run.area;
   stream = run.stream;
@@ -68,7 +75,7 @@ replay_of run = record {
 }
 
 abbrev pub means : Course → Meaning
-means run = replay_meaning run.selection run.area run.stream run.notes
+means run = replay_meaning run.read run.selection run.area run.stream run.notes
 
 -- it ends as it should
 abbrev pub Ends : Course → Outside → Status → Type 0
@@ -86,22 +93,24 @@ front_of_items stream notes items front =
 front_of_given : ReceiverLaws → (run : Course) (receiver : ReceiverState) (inputs : List Input)
     (given : List Piece)
     → IsFront inputs (replay_inputs run.stream run.notes)
-    → StandsFor run.selection run.area receiver inputs given
+    → StandsFor run.read run.selection run.area receiver inputs given
     → IsFront given (means run).pieces
 unfolding replay_pieces
 front_of_given laws run receiver inputs given front stands =
     let all = replay_inputs run.stream run.notes in
-    let first : IsFront given (outputs run.selection run.area inputs) =
-    laws.front run.selection run.area receiver inputs given stands in
-    let more : IsFront (outputs run.selection run.area inputs) (outputs run.selection run.area all) =
-    subst (λ l. IsFront (outputs run.selection run.area inputs) (outputs run.selection run.area l))
-    (sym front.joined) (laws.more run.selection run.area inputs front.rest) in
-    let last = last_pieces (first_bad run.notes) (end_piece run.selection run.area all) in
-    front_of_front given (outputs run.selection run.area all)
-    (replay_pieces run.selection run.area run.stream run.notes)
-    (front_of_front given (outputs run.selection run.area inputs)
-    (outputs run.selection run.area all) first more)
-    (front_of_append (outputs run.selection run.area all) last)
+    let first : IsFront given (outputs run.read run.selection run.area inputs) =
+    laws.front run.read run.selection run.area receiver inputs given stands in
+    let more : IsFront (outputs run.read run.selection run.area inputs)
+    (outputs run.read run.selection run.area all) =
+    subst (λ l. IsFront (outputs run.read run.selection run.area inputs)
+    (outputs run.read run.selection run.area l))
+    (sym front.joined) (laws.more run.read run.selection run.area inputs front.rest) in
+    let last = last_pieces (first_bad run.notes) (end_piece run.read run.selection run.area all) in
+    front_of_front given (outputs run.read run.selection run.area all)
+    (replay_pieces run.read run.selection run.area run.stream run.notes)
+    (front_of_front given (outputs run.read run.selection run.area inputs)
+    (outputs run.read run.selection run.area all) first more)
+    (front_of_append (outputs run.read run.selection run.area all) last)
 
 -- pieces that were written stand in front of all
 writes_in_front : (old new : Option (List ℕ)) (pieces all : List Piece) → IsFront pieces all
@@ -144,7 +153,7 @@ between_pieces : ReceiverLaws → (run : Course) (now : Moment) (items : List Re
 between_pieces laws run now items front b = record {
   whole = b.given;
   front = front_of_given laws run now.receiver _ b.given
-      (front_of_items run.stream run.notes items front) b.stands;
+      (front_of_items run.stream run.notes items front) (b.stands run.right);
   appended = b.wrote;
 }
 
@@ -181,7 +190,7 @@ ends_in_item laws status run behind items front within s =
     (front_of_items run.stream run.notes items front) in
     leaves_in_front status run behind s.given
     (front_of_given laws run s.receiver s.inputs s.given some
-    s.stands) within s.leaves
+    (s.stands run.right)) within s.leaves
 
 -- ---- the record stops the replay
 
@@ -208,11 +217,12 @@ ends_bad laws line run now behind items bad told within idle b =
     let inputs = inputs_of packets items in
     let all = replay_inputs run.stream run.notes in
     let pieces : (means run).pieces ≡ b.given =
-    ap (λ n. outputs run.selection run.area all
-    ++ last_pieces n (end_piece run.selection run.area all)) bad.number
-    ∙ append-nil (outputs run.selection run.area all)
-    ∙ ap (λ l. outputs run.selection run.area (inputs_of packets l)) bad.items_are
-    ∙ sym (laws.all run.selection run.area now.receiver inputs b.given b.stands idle) in
+    ap (λ n. outputs run.read run.selection run.area all
+    ++ last_pieces n (end_piece run.read run.selection run.area all)) bad.number
+    ∙ append-nil (outputs run.read run.selection run.area all)
+    ∙ ap (λ l. outputs run.read run.selection run.area (inputs_of packets l)) bad.items_are
+    ∙ sym (laws.all run.read run.selection run.area now.receiver inputs b.given
+    (b.stands run.right) idle) in
     record {
       same = ap status_behind bad.number;
       within = record { stream = within; notes = bad.within };
@@ -262,15 +272,16 @@ all_bytes laws run now left items whole idle b =
     let packets = packets_of run.stream in
     let inputs = inputs_of packets items in
     let all = replay_inputs run.stream run.notes in
-    let printed = outputs run.selection run.area all in
-    let last = end_piece run.selection run.area all in
+    let printed = outputs run.read run.selection run.area all in
+    let last = end_piece run.read run.selection run.area all in
     ap (λ n. bytes_of (printed ++ last_pieces n last)) good.0
     ∙ bytes-append printed (last ∷ [])
     ∙ ap (λ l. bytes_of printed ++ l) (append-nil last.text)
-    ∙ ap (λ l. bytes_of (outputs run.selection run.area (inputs_of packets l))
+    ∙ ap (λ l. bytes_of (outputs run.read run.selection run.area (inputs_of packets l))
     ++ end_line (packet_count (inputs_of packets l))) good.1
     ∙ ap (λ l. bytes_of l ++ end_line (packet_count inputs))
-    (sym (laws.all run.selection run.area now.receiver inputs b.given b.stands idle))
+    (sym (laws.all run.read run.selection run.area now.receiver inputs b.given
+    (b.stands run.right) idle))
     ∙ ap (λ n. bytes_of b.given ++ end_line n) (sym b.packets)
 
 -- it was written
@@ -329,7 +340,7 @@ ends_in_line laws NoMemory run now behind items whole within kept idle b =
     record {
       whole = b.given;
       front = front_of_given laws run now.receiver _ b.given
-          (front_of_items run.stream run.notes items front) b.stands;
+          (front_of_items run.stream run.notes items front) (b.stands run.right);
       appended = subst (λ l. Appends run.before.sink.written behind.sink.written l)
           (append-nil (bytes_of b.given))
           (appends_more run.before.sink.written now.written behind.sink.written

@@ -1,12 +1,12 @@
 -- The steps of a replay, over plain values.
 use Rattle.std.proofs.Common.{◌≡◌, ℕ, ◌+◌, true, false, List, [], ◌∷◌, ◌++◌, drop, refl, sym, ap}
-use Rattle.std.proofs.Common.{◌∙◌, subst, append_assoc, append-nil, length, Option, Some, arith}
+use Rattle.std.proofs.Common.{◌∙◌, subst, append_assoc, append-nil, length, Option, Some}
 use Rattle.std.proofs.Common.{length-append, drop-drop}
 use Rattle.std.proofs.KnownBytes.{Appends-nil}
 use Rattle.std.specs.Io.KnownBytes.{Appends}
 use Rattle.ts_packets.specs.Cutter.{CutterState, Gives}
 use Rattle.ts_packets.specs.Packets.{packets_of}
-use Rattle.psi_tables.specs.declared.services.Selection.{Selection}
+use Rattle.es_reader.specs.Readers.{IsReader}
 use Rattle.receiver_core.specs.Outputs.{Piece}
 use Rattle.receiver_core.specs.Receiving.{ReceiverState, StandsFor}
 use Rattle.receiver_core.specs.State.{Input, Packet}
@@ -51,8 +51,8 @@ pub midway_packet : (replay : Replay) (now : Moment) (inputs : List Input) (ahea
     (cutter : CutterState) (receiver : ReceiverState) (packet : List ℕ)
     → Gives now.cutter (packet ∷ []) cutter → cutter.ended ≡ now.cutter.ended
     → ((inputs : List Input) (given : List Piece)
-    → StandsFor replay.selection replay.area now.receiver inputs given
-    → StandsFor replay.selection replay.area receiver (inputs ++ Packet packet ∷ []) given)
+    → StandsFor replay.read replay.selection replay.area now.receiver inputs given
+    → StandsFor replay.read replay.selection replay.area receiver (inputs ++ Packet packet ∷ []) given)
     → IsMidway replay now inputs ahead
     → IsMidway replay (behind_packet now cutter receiver) (with_packets inputs 1 ahead)
     (drop 1 ahead)
@@ -72,7 +72,7 @@ midway_packet replay now inputs ahead cutter receiver packet gives ended pushed 
       ended = λ e. m.ended (sym ended ∙ e);
       ahead_is = refl;
       packets = ap (λ n. n + 1) m.packets ∙ sym (packet_count-packet inputs packet);
-      stands = pushed inputs m.given m.stands;
+      stands = λ right. pushed inputs m.given (m.stands right);
       wrote = m.wrote;
     })
 
@@ -80,8 +80,8 @@ midway_packet replay now inputs ahead cutter receiver packet gives ended pushed 
 pub midway_pieces : (replay : Replay) (now : Moment) (inputs more : List Input)
     (ahead : List (List ℕ))
     (receiver : ReceiverState) (pieces : List Piece) (written : Option (List ℕ))
-    → ((given : List Piece) → StandsFor replay.selection replay.area now.receiver inputs given
-    → StandsFor replay.selection replay.area receiver more (given ++ pieces))
+    → ((given : List Piece) → StandsFor replay.read replay.selection replay.area now.receiver inputs given
+    → StandsFor replay.read replay.selection replay.area receiver more (given ++ pieces))
     → packet_count more ≡ packet_count inputs
     → ((start : List ℕ) → now.written ≡ Some start → written ≡ Some (start ++ bytes_of pieces))
     → IsMidway replay now inputs ahead
@@ -96,7 +96,7 @@ midway_pieces replay now inputs more ahead receiver pieces written gave count ap
   ended = m.ended;
   ahead_is = m.ahead_is;
   packets = m.packets ∙ sym count;
-  stands = gave m.given m.stands;
+  stands = λ right. gave m.given (m.stands right);
   wrote = subst (λ l. Appends replay.first written l) (sym (bytes-append m.given pieces))
       (appends_more replay.first now.written written (bytes_of m.given)
       (bytes_of pieces) m.wrote appended);
@@ -162,7 +162,8 @@ midway_end replay now inputs ahead cutter left gave held m =
 pub between_start : (replay : Replay) (now : Moment)
     → now.left ≡ Some replay.stream → now.written ≡ replay.first
     → now.cutter.held ≡ [] → now.cutter.ended ≡ false → now.bytes ≡ 0 → now.packets ≡ 0
-    → (zeros : List ℕ) → zeros ≡ replay.area → StandsFor replay.selection zeros now.receiver [] []
+    → (zeros : List ℕ) → zeros ≡ replay.area
+    → (IsReader replay.read → StandsFor replay.read replay.selection zeros now.receiver [] [])
     → IsBetween replay now []
 between_start replay now l w held open_end bytes packets zeros same stands =
     let none = no_items (packets_of replay.stream) in
@@ -178,7 +179,8 @@ between_start replay now l w held open_end bytes packets zeros same stands =
       ended = λ e. let clash : true ≡ false = sym e ∙ open_end in cc;
       ahead_is = ap (λ l. packets_of (l ++ replay.stream)) held ∙ sym none.1;
       packets = packets;
-      stands = subst (λ area. StandsFor replay.selection area now.receiver [] []) same stands;
+      stands = λ right. subst
+          (λ area. StandsFor replay.read replay.selection area now.receiver [] []) same (stands right);
       wrote = subst (λ o. Appends replay.first o []) (sym w) (Appends-nil replay.first);
     })
 

@@ -8,7 +8,6 @@ use Rattle.bml_ports.specs.declared.outside.Port.{Port}
 use Rattle.bml_ports.specs.Counters.{Counts}
 use Rattle.bml_ports.specs.Worlds.{WorldState, PortState, port_of}
 use Rattle.ts_packets.specs.Packets.{packets_of, packets_after}
-use Rattle.psi_tables.specs.declared.services.Selection.{Selection}
 use Rattle.receiver_core.specs.Fronts.{IsFront, front_of_self, front_of_front}
 use Rattle.receiver_core.specs.Outputs.{Piece}
 use Rattle.receiver_core.specs.Receiving.{ReceiverState, StandsFor}
@@ -208,8 +207,8 @@ short_bytes (Some start) (Some told) new given pieces cut a =
 pub stops_short : (replay : Replay) (now : Moment) (told : Outside) (inputs more : List Input)
     (ahead : List (List ℕ))
     (receiver : ReceiverState) (pieces : List Piece)
-    → ((given : List Piece) → StandsFor replay.selection replay.area now.receiver inputs given
-    → StandsFor replay.selection replay.area receiver more (given ++ pieces))
+    → ((given : List Piece) → StandsFor replay.read replay.selection replay.area now.receiver inputs given
+    → StandsFor replay.read replay.selection replay.area receiver more (given ++ pieces))
     → told.world.stream.left ≡ now.left
     → ((start : List ℕ) → now.written ≡ Some start → CutShort start told.sink.written
     (bytes_of pieces))
@@ -221,7 +220,7 @@ stops_short replay now told inputs more ahead receiver pieces gave left cut with
   front = front_of_self more;
   receiver = receiver;
   given = m.given ++ pieces;
-  stands = gave m.given m.stands;
+  stands = λ right. gave m.given (m.stands right);
   leaves = (
     subst (λ l. GaveAtMost stream_limit (file replay.stream l)) (sym left)
         (midway_within replay now inputs ahead stream_limit within m),

@@ -1,5 +1,5 @@
 -- Laws of what writes leave.
-use Rattle.std.proofs.Common.{◌≡◌, ℕ, ◌-◌, List, [], ◌∷◌, ◌++◌, refl, sym, ap, ◌∙◌, append_assoc, ◌⊎◌, inl, inr, map, subst}
+use Rattle.std.proofs.Common.{◌≡◌, ℕ, ◌-◌, List, [], ◌∷◌, ◌++◌, refl, sym, ap, ◌∙◌, append_assoc, ◌⊎◌, inl, inr, subst}
 use Rattle.std.proofs.Common.{append-nil, length, take, drop, Option, Some, None, take-append-drop}
 use Rattle.std.specs.List.{concat}
 use Rattle.std.specs.Io.KnownBytes.{Appends}
@@ -7,6 +7,7 @@ use Rattle.std.proofs.lemmas.List.{take_rest}
 use Rattle.std.proofs.lemmas.List.{map-append}
 use Rattle.std.proofs.lemmas.List.Folds.{concat-append}
 use Rattle.psi_tables.specs.declared.services.Selection.{Selection}
+use Rattle.es_reader.specs.Readers.{Reader}
 use Rattle.receiver_core.specs.Outputs.{Piece, texts_of}
 use Rattle.receiver_core.specs.Receiving.{ReceiverState, StandsFor, PassesDamaged, MakesTurn}
 use Rattle.receiver_core.specs.State.{Input}
@@ -72,8 +73,9 @@ bytes-append pieces more =
 pub record Turned (old new : ReceiverState) (before after : List ℕ) : Type 0 where
   pub pieces : List Piece
   pub printed : after ≡ before ++ bytes_of pieces
-  pub gives : (selection : Selection) (area : List ℕ) (inputs : List Input) (given : List Piece)
-      → StandsFor selection area old inputs given → StandsFor selection area new inputs (given ++ pieces)
+  pub gives : (read : Reader) (selection : Selection) (area : List ℕ) (inputs : List Input)
+      (given : List Piece)
+      → StandsFor read selection area old inputs given → StandsFor read selection area new inputs (given ++ pieces)
 
 -- none for a damaged section, and one for a turn
 pub turned_by : (old new : ReceiverState) (before after : List ℕ)
@@ -81,9 +83,9 @@ pub turned_by : (old new : ReceiverState) (before after : List ℕ)
 turned_by old new before after (inl damaged) = record {
   pieces = [];
   printed = damaged.silent ∙ sym (append-nil before);
-  gives = λ selection area inputs given stands.
-      subst (λ l. StandsFor selection area new inputs l) (sym (append-nil given))
-      (damaged.stays selection area inputs given stands);
+  gives = λ read selection area inputs given stands.
+      subst (λ l. StandsFor read selection area new inputs l) (sym (append-nil given))
+      (damaged.stays read selection area inputs given stands);
 }
 turned_by old new before after (inr turn) = record {
   pieces = record { text = turn.text; area = new.area } ∷ [];

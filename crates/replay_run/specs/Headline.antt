@@ -1,6 +1,7 @@
 -- The headline: what a run writes is what its words, the stream and the record mean. This project's
 -- own.
 use Rattle.std.specs.Prelude.{ℕ, List, Option}
+use Rattle.es_reader.specs.Readers.{Reader, IsReader}
 use Rattle.replay_run.specs.declared.status.Status.{Status}
 use Rattle.replay_run.specs.Ending.{EndsAs}
 use Rattle.replay_run.specs.Meaning.{meaning_of}
@@ -12,5 +13,6 @@ use Rattle.replay_run.specs.Words.{CommandWords}
 -- stream and the record says. What it says of the bytes written holds where the sink tells them.
 abbrev pub RunMeans : Option CommandWords → Outside → Outside → Status → Type 0
 RunMeans command before behind status =
-    (stream notes : List ℕ) → HasFiles command before.world stream notes
-    → EndsAs (meaning_of command stream notes) (account stream notes before behind) status
+    (read : Reader) → IsReader read
+    → (stream notes : List ℕ) → HasFiles command before.world stream notes
+    → EndsAs (meaning_of read command stream notes) (account stream notes before behind) status

@@ -1,8 +1,10 @@
 -- What a run means: its words, the whole stream and the whole record fix the pieces of its output,
--- with the area behind each, and how it ends. This project's own.
+-- with the area behind each, and how it ends. Which programs the scripts in the stream are is told
+-- by a reader of programs, of which there is one. This project's own.
 use Rattle.std.specs.Prelude.{ℕ, List, [], ◌∷◌, ◌++◌, replicate, Option, Some, None}
 use Rattle.ts_packets.specs.Packets.{packets_of}
 use Rattle.psi_tables.specs.declared.services.Selection.{Selection}
+use Rattle.es_reader.specs.Readers.{Reader}
 use Rattle.receiver_core.specs.Outputs.{Piece, outputs, state_behind}
 use Rattle.receiver_core.specs.State.{Input, opening}
 use Rattle.replay_run.specs.declared.status.Status.{Status}
@@ -28,13 +30,13 @@ abbrev pub replay_inputs : List ℕ → List ℕ → List Input
 replay_inputs stream notes = inputs_of (packets_of stream) (items_before_bad notes)
 
 -- the area that inputs leave of the area at the start
-abbrev pub area_behind : Selection → List ℕ → List Input → List ℕ
-area_behind selection area inputs = (state_behind (opening selection area) inputs).area
+abbrev pub area_behind : Reader → Selection → List ℕ → List Input → List ℕ
+area_behind read selection area inputs = (state_behind (opening read selection area) inputs).area
 
 -- how many packets were taken, behind these inputs
-abbrev pub end_piece : Selection → List ℕ → List Input → Piece
-end_piece selection area inputs =
-    record { text = end_line (packet_count inputs); area = area_behind selection area inputs }
+abbrev pub end_piece : Reader → Selection → List ℕ → List Input → Piece
+end_piece read selection area inputs =
+    record { text = end_line (packet_count inputs); area = area_behind read selection area inputs }
 
 -- which is the last piece, where no line of the record is bad
 abbrev pub last_pieces : Option ℕ → Piece → List Piece
@@ -42,27 +44,30 @@ last_pieces None piece = piece ∷ []
 last_pieces (Some line) piece = []
 
 -- the pieces of a replay from an area: what a receiver with that area prints, and the last one
-unfoldable pub replay_pieces : Selection → List ℕ → List ℕ → List ℕ → List Piece
-replay_pieces selection area stream notes =
+unfoldable pub replay_pieces : Reader → Selection → List ℕ → List ℕ → List ℕ
+    → List Piece
+replay_pieces read selection area stream notes =
     let inputs = replay_inputs stream notes in
-    outputs selection area inputs ++ last_pieces (first_bad notes) (end_piece selection area inputs)
+    outputs read selection area inputs
+    ++ last_pieces (first_bad notes) (end_piece read selection area inputs)
 
 abbrev pub status_behind : Option ℕ → Status
 status_behind None = Done
 status_behind (Some line) = BadRecord line
 
 -- the meaning of a replay of the service or data that is asked for, from an area
-abbrev pub replay_meaning : Selection → List ℕ → List ℕ → List ℕ → Meaning
-replay_meaning selection area stream notes = record {
-  pieces = replay_pieces selection area stream notes;
+abbrev pub replay_meaning : Reader → Selection → List ℕ → List ℕ → List ℕ → Meaning
+replay_meaning read selection area stream notes = record {
+  pieces = replay_pieces read selection area stream notes;
   status = status_behind (first_bad notes);
 }
 
 -- the meaning of a command; nothing is kept yet, so a replay starts with an empty area
-abbrev pub meaning_of : Option CommandWords → List ℕ → List ℕ → Meaning
-meaning_of None stream notes = record { pieces = []; status = Usage }
-meaning_of (Some request) stream notes = replay_meaning request.selection empty_area stream notes
+abbrev pub meaning_of : Reader → Option CommandWords → List ℕ → List ℕ → Meaning
+meaning_of read None stream notes = record { pieces = []; status = Usage }
+meaning_of read (Some request) stream notes =
+    replay_meaning read request.selection empty_area stream notes
 
 -- the meaning of words, a stream and a record
-abbrev pub meaning : List (List ℕ) → List ℕ → List ℕ → Meaning
-meaning words stream notes = meaning_of (command words) stream notes
+abbrev pub meaning : Reader → List (List ℕ) → List ℕ → List ℕ → Meaning
+meaning read words stream notes = meaning_of read (command words) stream notes

@@ -3,6 +3,7 @@ use Rattle.std.specs.Prelude.{◌≡◌, ℕ, ◌+◌, ◌-◌, ◌*◌, Bool, t
 use Rattle.std.specs.Prelude.{Option, Some, None}
 use Rattle.ts_packets.specs.Cutter.{CutterState}
 use Rattle.bml_ports.specs.Worlds.{WorldState}
+use Rattle.es_reader.specs.Readers.{IsReader}
 use Rattle.receiver_core.specs.Fronts.{IsFront}
 use Rattle.receiver_core.specs.Outputs.{Piece}
 use Rattle.receiver_core.specs.Receiving.{ReceiverState, StandsFor}
@@ -68,7 +69,8 @@ pub record StopsIn (status : Status) (replay : Replay) (told : Outside)
   pub front : IsFront inputs all
   pub receiver : ReceiverState
   pub given : List Piece
-  pub stands : StandsFor replay.selection replay.area receiver inputs given
+  pub stands : IsReader replay.read
+      → StandsFor replay.read replay.selection replay.area receiver inputs given
   pub leaves : LeavesPackets status (file replay.stream told.world.stream.left)
       replay.first told.sink.written given
 

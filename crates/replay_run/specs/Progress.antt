@@ -5,6 +5,7 @@ use Rattle.std.specs.Io.KnownBytes.{Appends}
 use Rattle.ts_packets.specs.Cutter.{CutterState}
 use Rattle.ts_packets.specs.Packets.{packets_of}
 use Rattle.psi_tables.specs.declared.services.Selection.{Selection}
+use Rattle.es_reader.specs.Readers.{Reader, IsReader}
 use Rattle.receiver_core.specs.Outputs.{Piece}
 use Rattle.receiver_core.specs.Receiving.{ReceiverState, StandsFor}
 use Rattle.receiver_core.specs.State.{Input}
@@ -13,9 +14,10 @@ use Rattle.replay_run.specs.Output.{bytes_of}
 use Rattle.replay_run.specs.Outside.{Outside}
 use Rattle.replay_run.specs.Play.{inputs_of, packets_left, packet_count}
 
--- what a replay is of: the service or data that is asked for, the area at the start, the stream, and
--- what the sink told at the start
+-- what a replay is of: which programs texts are, the service or data that is asked for, the area at
+-- the start, the stream, and what the sink told at the start
 pub record Replay : Type 0 where
+  pub read : Reader
   pub selection : Selection
   pub area : List ℕ
   pub stream : List ℕ
@@ -34,7 +36,8 @@ pub record Moment : Type 0 where
   pub written : Option (List ℕ)
 
 -- These inputs came to the receiver, all pieces that it gave for them so far are written, and these
--- packets are ahead.
+-- packets are ahead. By a reader of programs that is right the receiver stands for this; the rest
+-- hangs on no reader.
 pub record IsMidway (replay : Replay) (now : Moment) (inputs : List Input)
     (ahead : List (List ℕ)) : Type 0 where
   pub taken : List ℕ
@@ -46,7 +49,8 @@ pub record IsMidway (replay : Replay) (now : Moment) (inputs : List Input)
   pub ended : now.cutter.ended ≡ true → rest ≡ []
   pub ahead_is : packets_of (now.cutter.held ++ rest) ≡ ahead
   pub packets : now.packets ≡ packet_count inputs
-  pub stands : StandsFor replay.selection replay.area now.receiver inputs given
+  pub stands : IsReader replay.read
+      → StandsFor replay.read replay.selection replay.area now.receiver inputs given
   pub wrote : Appends replay.first now.written (bytes_of given)
 
 -- Between two items: the inputs and the packets ahead are those of the items so far.
@@ -56,11 +60,12 @@ IsBetween replay now items =
     (packets_left (packets_of replay.stream) items)
 
 -- A replay begins with an area: where the stream is told, nothing came yet, and nothing is written
--- but what the sink tells.
+-- but what the sink tells. This is so whatever programs are read.
 abbrev pub StartsReplay : Selection → List ℕ → Outside → Moment → Type 0
 StartsReplay selection area told now =
-    (stream : List ℕ) → told.world.stream.left ≡ Some stream
+    (read : Reader) (stream : List ℕ) → told.world.stream.left ≡ Some stream
     → IsBetween (record {
+      read = read;
       selection = selection;
       area = area;
       stream = stream;

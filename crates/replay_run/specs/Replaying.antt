@@ -4,15 +4,17 @@ use Rattle.bml_ports.specs.declared.outside.Port.{Port}
 use Rattle.bml_ports.specs.Counters.{FaultedSince}
 use Rattle.bml_ports.specs.Worlds.{WorldState, port_of, other_port}
 use Rattle.psi_tables.specs.declared.services.Selection.{Selection}
+use Rattle.es_reader.specs.Readers.{Reader, IsReader}
 use Rattle.replay_run.specs.declared.status.Status.{Status}
 use Rattle.replay_run.specs.declared.status.Status.TheVariants.{Done, Usage, BadRecord, OpenFault}
 use Rattle.replay_run.specs.declared.status.Status.TheVariants.{ReadFault, WriteFault, KeepFault}
 use Rattle.replay_run.specs.declared.status.Status.TheVariants.{BadArea, TooLong, NoMemory}
 use Rattle.replay_run.specs.Causes.{ReadFaulted, WriteFaulted}
-use Rattle.replay_run.specs.Ending.{EndsAs}
+use Rattle.replay_run.specs.Ending.{EndsAs, IsBeyond}
 use Rattle.replay_run.specs.Meaning.{empty_area, replay_meaning}
 use Rattle.replay_run.specs.Opening.{bytes_under}
-use Rattle.replay_run.specs.Outside.{Outside, account}
+use Rattle.replay_run.specs.Outside.{Account, Outside, account}
+use Rattle.replay_run.specs.Record.{first_bad}
 use Rattle.replay_run.specs.Stopping.{IsReadOn}
 use Rattle.replay_run.specs.Writing.{WritesOn, WritesShort}
 
@@ -90,14 +92,38 @@ StopsLine TooLong old new line = ⊥
 -- Where the files are told, the replay ends as its meaning says.
 abbrev pub ReplayEnds : Selection → List ℕ → Outside → Outside → Status → Type 0
 ReplayEnds selection area before behind status =
-    (stream notes : List ℕ)
+    (read : Reader) → IsReader read → (stream notes : List ℕ)
     → before.world.stream.left ≡ Some stream → before.world.notes.left ≡ Some notes
-    → EndsAs (replay_meaning selection area stream notes) (account stream notes before behind) status
+    → EndsAs (replay_meaning read selection area stream notes)
+    (account stream notes before behind) status
 
 -- The same of a replay of two files under their names.
 abbrev pub RunEnds : Selection → List ℕ → List ℕ → Outside → Outside → Status → Type 0
 RunEnds selection stream_name notes_name before behind status =
+    (read : Reader) → IsReader read → (stream notes : List ℕ)
+    → bytes_under before.world stream_name ≡ Some stream
+    → bytes_under before.world notes_name ≡ Some notes
+    → EndsAs (replay_meaning read selection empty_area stream notes)
+    (account stream notes before behind) status
+
+-- What a status says of the files, and this hangs on no reader of programs: that line is the first
+-- bad one of the record, or a file is too long.
+abbrev pub HasReason : Account → Status → Type 0
+HasReason run (BadRecord line) = first_bad run.notes.bytes ≡ Some line
+HasReason run TooLong = IsBeyond run
+HasReason run _ = Unit {0}
+
+-- Where the files are told, this holds of a replay.
+abbrev pub ReplayHasReason : Outside → Outside → Status → Type 0
+ReplayHasReason before behind status =
+    (stream notes : List ℕ)
+    → before.world.stream.left ≡ Some stream → before.world.notes.left ≡ Some notes
+    → HasReason (account stream notes before behind) status
+
+-- And of a replay of two files under their names.
+abbrev pub RunHasReason : List ℕ → List ℕ → Outside → Outside → Status → Type 0
+RunHasReason stream_name notes_name before behind status =
     (stream notes : List ℕ)
     → bytes_under before.world stream_name ≡ Some stream
     → bytes_under before.world notes_name ≡ Some notes
-    → EndsAs (replay_meaning selection empty_area stream notes) (account stream notes before behind) status
+    → HasReason (account stream notes before behind) status

@@ -11,8 +11,8 @@ ghost use Rattle.replay_run.specs.Meaning.{empty_area};
 ghost use Rattle.replay_run.specs.Opening.{LeavesRest, StopsAtOpening, bytes_under};
 ghost use Rattle.replay_run.specs.Outside.{outside};
 ghost use Rattle.replay_run.specs.Replaying.{outcome_of, LacksName, OnlyOpens, OnlyReadsBoth};
-ghost use Rattle.replay_run.specs.Replaying.{ReplayEnds, RunEnds, StopsLine, StopsOpening};
-ghost use Rattle.replay_run.specs.Replaying.{StopsReplay};
+ghost use Rattle.replay_run.specs.Replaying.{ReplayEnds, ReplayHasReason, RunEnds, RunHasReason};
+ghost use Rattle.replay_run.specs.Replaying.{StopsLine, StopsOpening, StopsReplay};
 ghost use Rattle.replay_run.specs.Stopping.{StopsTurns};
 ghost use Rattle.replay_run.specs.Writing.{WritesOn};
 
@@ -62,6 +62,9 @@ pub fn play_record<W: World, S: Sink>(
     ensures ends { ReplayEnds selection empty_area
         (outside (W.told world.old) (S.told out.old)) (outside (W.told world.new) (S.told out.new))
         (outcome_of result) }
+    ensures reason { ReplayHasReason
+        (outside (W.told world.old) (S.told out.old)) (outside (W.told world.new) (S.told out.new))
+        (outcome_of result) }
 {
     law_of_outputs();
     law_of_receivers();
@@ -109,6 +112,9 @@ pub fn replay<W: World, S: Sink>(
         (outside (W.told world.new) (S.told out.new))) }
     ensures obeyed { IfErr result (λ status. status ≢ Status.Usage) }
     ensures ends { RunEnds selection stream.now notes.now
+        (outside (W.told world.old) (S.told out.old)) (outside (W.told world.new) (S.told out.new))
+        (outcome_of result) }
+    ensures reason { RunHasReason stream.now notes.now
         (outside (W.told world.old) (S.told out.old)) (outside (W.told world.new) (S.told out.new))
         (outcome_of result) }
     ensures left { (stream_bytes notes_bytes : List ℕ)

@@ -7,8 +7,8 @@ ghost use Rattle.replay_run.specs.Completeness.{IsUnhindered};
 ghost use Rattle.replay_run.specs.Headline.{RunMeans};
 ghost use Rattle.replay_run.specs.Opening.{AsksInOrder, AsksOnly, HasFiles, IsUnasked};
 ghost use Rattle.replay_run.specs.Opening.{LacksItsFile, LeavesFiles, StopsAtOpening};
-ghost use Rattle.replay_run.specs.Outside.{outside};
-ghost use Rattle.replay_run.specs.Replaying.{outcome_of};
+ghost use Rattle.replay_run.specs.Outside.{account, outside};
+ghost use Rattle.replay_run.specs.Replaying.{outcome_of, HasReason};
 ghost use Rattle.replay_run.specs.Words.{command};
 
 use crate::replay::replay;
@@ -86,6 +86,10 @@ fn obey<W: World, S: Sink>(
     ensures headline { RunMeans (Some (command_seen command.entry))
         (outside (W.told world.old) (S.told out.old)) (outside (W.told world.new) (S.told out.new))
         result }
+    ensures reason { (stream notes : List ℕ)
+        → HasFiles (Some (command_seen command.entry)) (W.told world.old) stream notes
+        → HasReason (account stream notes (outside (W.told world.old) (S.told out.old))
+        (outside (W.told world.new) (S.told out.new))) result }
     ensures missing { LacksItsFile (Some (command_seen command.entry)) (W.told world.old)
         → StopsAtOpening result (S.told out.old) (S.told out.new) }
     ensures obeyed { result ≢ Status.Usage }

@@ -8,9 +8,9 @@ use std::alloc::Global;
 use std::test::Fail;
 use test_streams::Stream;
 
-// What the stream of a document, taken whole and then shown, has to print: its module's line, these lines, and
-// the last one.
-fn printed(alloc: Global, document: &[u8], lines: &[u8]) -> Result<Vec<u8>, Fail> {
+/// What the stream of a document, taken whole and then shown, has to print: its module's line, these lines, and
+/// the last one.
+pub fn printed(alloc: Global, document: &[u8], lines: &[u8]) -> Result<Vec<u8>, Fail> {
     let size = i64::try_from(document.len())?;
     let packets = i64::try_from(document.chunks(100).count())?.wrapping_add(1);
     let mut text = Vec::from_slice(alloc, b"module 40 0000 01 ")?;

@@ -26,6 +26,8 @@ mod records;
 #[cfg(test)]
 mod runs;
 #[cfg(test)]
+mod scripts;
+#[cfg(test)]
 mod services;
 #[cfg(test)]
 mod shuffled_blocks;

@@ -1,4 +1,5 @@
 use Rattle.std.proofs.Common.{◌≡◌, ◌≤◌, ℕ, ◌-◌, ◌*◌, List, Some}
+use Rattle.es_reader.specs.Readers.{Reader}
 use Rattle.receiver_core.specs.Receiving.{IsIdle}
 use Rattle.replay_run.specs.declared.record.RecordItem.{RecordItem}
 use Rattle.replay_run.specs.Files.{stream_limit, record_limit}
@@ -20,11 +21,12 @@ invariant-items g l = record {
   notes_readable : progress.IsReadable l.items.reader (g.W.World.told l.world);
   reads : OnlyReadsBoth (g.W.World.told l.initial.world) (g.W.World.told l.world);
   later : (g.S.Sink.told l.initial.out).writes.faults ≤ (g.S.Sink.told l.out).writes.faults;
-  goes : (stream notes : List ℕ)
+  goes : (read : Reader) (stream notes : List ℕ)
       → (g.W.World.told l.initial.world).stream.left ≡ Some stream
       → (g.W.World.told l.initial.world).notes.left ≡ Some notes
       → (items : List RecordItem)
       × IsBetween (record {
+        read = read;
         selection = l.fn.selection;
         area = empty_area;
         stream = stream;

@@ -7,4 +7,4 @@ pub returns-in_err-open-2-clause-ends : goal.returns-in_err-open-2-clause-ends
 returns-in_err-open-2-clause-ends g c =
     let p = err_from_is_err_and c.from_residual-in_err-open-2.result
     c.from_residual-in_err-open-2.ensures.1 in
-    rw (p.1, p.2) (λ stream notes s n. ends_unopened _ _ _ _ _ _ refl c.in_err-open-2.ensures.cause)
+    rw (p.1, p.2) (λ read right stream notes s n. ends_unopened _ _ _ _ _ _ refl c.in_err-open-2.ensures.cause)

@@ -20,6 +20,6 @@ pub returns-in-Some-clause-complete : goal.returns-in-Some-clause-complete
 returns-in-Some-clause-complete g c = λ stream notes some files free.
     let same = subst (λ o. HasFiles o (g.W.World.told c.args.world.now) stream notes)
     (sym c.in-Some.ensures) files in
-    comes_to_end c.obey.result _ _ stream notes _ _ (c.obey.ensures.headline stream notes same)
+    comes_to_end c.obey.result stream notes _ _ (c.obey.ensures.reason stream notes same)
     c.obey.ensures.cause
     c.obey.ensures.obeyed free

@@ -4,10 +4,11 @@ use Rattle.replay_run.proofs.ProgressLaws.{between_start}
 use Rattle.replay_run.proofs.player.Player.new.Goals as goal
 
 pub returns-clause-start : goal.returns-clause-start
-returns-clause-start c = λ told stream left. between_start (record {
+returns-clause-start c = λ told read stream left. between_start (record {
+  read = read;
   selection = c.args.selection;
   area = empty_area;
   stream = stream;
   first = told.sink.written;
 }) _ left refl c.new.ensures.held c.new.ensures.ended refl refl
-    _ c.zeros.ensures c.in_ok-new.ensures.stands
+    _ c.zeros.ensures (c.in_ok-new.ensures.stands read)

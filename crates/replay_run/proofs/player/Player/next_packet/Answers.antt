@@ -7,14 +7,14 @@ pub returns-then-not-wants-clause-handled : goal.returns-then-not-wants-clause-h
 returns-then-not-wants-clause-handled g c = λ world replay inputs ahead m.
     midway_packet replay _ inputs ahead _ _ _ c.skip_packet.ensures.gives c.skip_packet.ensures.ended
     (c.wants.ensures.passes (search rules) c.requires.idle _ (sym c.front_pid.ensures)
-    replay.selection replay.area) m
+    replay.read replay.selection replay.area) m
 
 pub returns-clause-handled : goal.returns-clause-handled
 returns-clause-handled g c = on_ok_weaker c.turns.result
     (λ goes world replay inputs ahead m. goes world replay _ _
     (midway_packet replay _ inputs ahead _ _ _
     c.take_packet-packet.ensures.gives c.take_packet-packet.ensures.ended
-    (c.wanted_packet.ensures.taken replay.selection replay.area) m))
+    (c.wanted_packet.ensures.taken replay.read replay.selection replay.area) m))
     c.turns.ensures.goes
 
 pub returns-clause-stopped : goal.returns-clause-stopped
@@ -22,4 +22,4 @@ returns-clause-stopped g c = MatchResult-weaker c.turns.result c.turns.ensures.s
     (λ status stops world replay inputs ahead m. stops world replay _ _
     (midway_packet replay _ inputs ahead _ _ _
     c.take_packet-packet.ensures.gives c.take_packet-packet.ensures.ended
-    (c.wanted_packet.ensures.taken replay.selection replay.area) m))
+    (c.wanted_packet.ensures.taken replay.read replay.selection replay.area) m))

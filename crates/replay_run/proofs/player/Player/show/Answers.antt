@@ -20,7 +20,7 @@ returns-clause-handled g c =
     on_ok_weaker c.write_piece.result
     (λ whole world replay inputs ahead m.
     midway_pieces replay _ inputs (inputs ++ Display ∷ []) ahead _ pieces _
-    (shown.shows c.requires.idle replay.selection replay.area inputs) (packet_count-show inputs)
+    (shown.shows c.requires.idle replay.read replay.selection replay.area inputs) (packet_count-show inputs)
     (λ start e. whole start e ∙ ap (λ l. Some (start ++ l)) same) m)
     c.write_piece.ensures.whole
 
@@ -34,7 +34,7 @@ returns-clause-stopped g c =
     (λ short world replay inputs ahead m.
     stops_short replay _ (outside world (g.S.Sink.told c.write_piece.new.out)) inputs
     (inputs ++ Display ∷ []) ahead _ pieces
-    (shown.shows c.requires.idle replay.selection replay.area inputs) refl
+    (shown.shows c.requires.idle replay.read replay.selection replay.area inputs) refl
     (λ start e. subst (λ l. CutShort start (g.S.Sink.told c.write_piece.new.out).written l) same (short start e))
     c.requires.within m)
 

@@ -24,7 +24,7 @@ turns-preserved g c =
     record {
       goes = λ world replay inputs ahead m.
           midway_pieces replay _ inputs inputs ahead _ turned.pieces _
-          (turned.gives replay.selection replay.area inputs) refl
+          (turned.gives replay.read replay.selection replay.area inputs) refl
           (λ start e. c.in_ok-write_piece-in-true.ensures.whole start e ∙ ap (λ l. Some (start ++ l)) same)
           (c.turns.invariant.goes world replay inputs ahead m);
       bytes = c.turns.invariant.bytes;
@@ -43,7 +43,7 @@ returns-in_err-write_piece-in-true-clause-stops g c =
     made_alone _ _ _ _ c.deref.ensures.value turned.printed c.clear.ensures.items in
     rw (p.1, p.2, c.in_err-write_piece-in-true.ensures.fault) (λ world replay inputs ahead m.
     stops_short replay _ (outside world (g.S.Sink.told c.write_piece.new.out)) inputs inputs ahead _
-    turned.pieces (turned.gives replay.selection replay.area inputs) refl
+    turned.pieces (turned.gives replay.read replay.selection replay.area inputs) refl
     (λ start e. subst (λ l. CutShort start (g.S.Sink.told c.write_piece.new.out).written l) same
     (c.in_err-write_piece-in-true.ensures.short start e))
     (rw c.turns.invariant.bytes c.requires) (c.turns.invariant.goes world replay inputs ahead m))
@@ -51,7 +51,8 @@ returns-in_err-write_piece-in-true-clause-stops g c =
 pub returns-in-false-clause-goes : goal.returns-in-false-clause-goes
 returns-in-false-clause-goes g c = λ world replay inputs ahead m.
     midway_pieces replay _ inputs inputs ahead c.section_turn.new.self [] _
-    (λ given s. subst (λ l. StandsFor replay.selection replay.area c.section_turn.new.self inputs l)
+    (λ given s. subst (λ l. StandsFor replay.read replay.selection replay.area c.section_turn.new.self inputs l)
     (sym (append-nil given))
-    ((c.in_ok-section_turn.ensures.over (ap Ok c.in-false.is)).stays replay.selection replay.area inputs given s)) refl
+    ((c.in_ok-section_turn.ensures.over (ap Ok c.in-false.is)).stays replay.read replay.selection replay.area
+    inputs given s)) refl
     (λ start e. e ∙ ap Some (sym (append-nil start))) (c.turns.invariant.goes world replay inputs ahead m)

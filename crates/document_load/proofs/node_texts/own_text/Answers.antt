@@ -1,7 +1,7 @@
 use Rattle.std.proofs.Common.{ap, length, ◌∙◌}
 use Rattle.dom_tree.specs.NodeNumbers.{number_of}
 use Rattle.document_load.proofs.StyleLemmas.{AreChildren-law, JoinsChildren-within, JoinsChildren-more, JoinsChildren-end, fewer-left}
-use Rattle.document_load.proofs.style_texts.own_text.Goals as goal
+use Rattle.document_load.proofs.node_texts.own_text.Goals as goal
 
 pub push_child_text-requires : goal.push_child_text-requires
 push_child_text-requires c = JoinsChildren-within c.args.tree.now c.args.node.0 _ _ _ (AreChildren-law c.args.tree.now c.args.node.0 c.law_of_children.ensures.hang c.law_of_parents.ensures.within c.law_of_children.ensures.next) c.children.invariant (ap number_of c.in-Some.is)

@@ -1,7 +1,7 @@
 use Rattle.std.proofs.Common.{arith}
 use Rattle.document_load.proofs.GiftLemmas.{no_gift}
-use Rattle.document_load.proofs.style_texts.gift_at.Goals as goal
-use Rattle.document_load.proofs.style_texts.gift_at.Goals.{else-place-named-via-then-place-named+else-named-place, else-place-named-via-else-place-named}
+use Rattle.document_load.proofs.node_texts.gift_at.Goals as goal
+use Rattle.document_load.proofs.node_texts.gift_at.Goals.{else-place-named-via-then-place-named+else-named-place, else-place-named-via-else-place-named}
 
 pub returns-else-place-named-clause-gift : goal.returns-else-place-named-clause-gift
 returns-else-place-named-clause-gift c =

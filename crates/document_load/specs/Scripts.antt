@@ -1,0 +1,113 @@
+-- The scripts of a document: their sources, which of these are programs, and which handlers there
+-- are (BML, ARIB STD-B24, volume 2; HTML 4, 18.2.1 and 18.2.3; which elements and attributes count
+-- is this project's own profile).
+use Rattle.std.specs.Prelude.{◌≡◌, ℕ, suc, Bool, if◌then◌else◌, List, [], ◌∷◌, ◌++◌, length, map, filter, Option, Some, None, option_map, option_to_list, slice_get, codes}
+use Rattle.std.specs.List.{AllZip, filter_map, flat_map, list_any, range_with_len}
+use Rattle.std.specs.Option.{is_some, is_none, option_map_or}
+use Rattle.bml_bytes.specs.Words.{is_same}
+use Rattle.dom_tree.specs.Items.{Attribute, Content, Item, value_in}
+use Rattle.dom_tree.specs.Items.Content.{Element, Text}
+use Rattle.dom_tree.specs.Walks.{places}
+use Rattle.multipart_entities.specs.declared.paths.Path.{Path}
+use Rattle.es_reader.specs.Programs.{ToldProgram, Tells}
+use Rattle.es_reader.specs.Readers.{Reader}
+use Rattle.es_reader.specs.Statements.{Item as ProgramItem}
+use Rattle.document_load.specs.Drafts.{DraftState, draft_of, with_gifts}
+use Rattle.document_load.specs.StyleTexts.{given_for, own_text}
+
+-- ---- sources
+
+-- the attributes whose values are scripts
+abbrev pub handler_names : List (List ℕ)
+handler_names =
+    codes "onload" ∷ codes "onunload" ∷ codes "onkeydown" ∷ codes "onkeyup" ∷ codes "onclick"
+    ∷ codes "onfocus" ∷ codes "onblur" ∷ codes "onoccur" ∷ []
+
+-- names compare by case
+abbrev pub is_handler_name : List ℕ → Bool
+is_handler_name name = list_any (is_same name) handler_names
+
+-- a source: the node that has it; the attribute's name, where it is the value of one; its text
+pub record Source : Type 0 where
+  pub node : ℕ
+  pub handler : Option (List ℕ)
+  pub text : List ℕ
+
+-- The text of a `script` element: where it has `src`, what was given for the need that this names,
+-- if anything; else the text in the element itself.
+abbrev pub script_text : List Attribute → List ℕ → List ℕ → List ℕ
+script_text attributes own gift = if is_some (value_in attributes (codes "src")) then gift else own
+
+abbrev pub script_source : ℕ → List ℕ → List ℕ → List ℕ → List Attribute → List Source
+script_source node tag own gift attributes =
+    if is_same tag (codes "script")
+    then record { node = node; handler = None; text = script_text attributes own gift } ∷ []
+    else []
+
+abbrev pub handler_source : ℕ → Attribute → Option Source
+handler_source node attribute =
+    if is_handler_name attribute.name
+    then Some (record { node = node; handler = Some attribute.name; text = attribute.value })
+    else None
+
+-- the sources of an element: its script, where it is one, and then its handlers in the order written
+abbrev pub sources_by : ℕ → List ℕ → List ℕ → Content → List Source
+sources_by node own gift (Element tag attributes) =
+    script_source node tag own gift attributes ++ filter_map (handler_source node) attributes
+sources_by node own gift (Text text) = []
+
+abbrev pub sources_at : List Item → ℕ → List ℕ → List Source
+sources_at items node gift =
+    option_map_or (λ item. sources_by node (own_text items node) gift item.content)
+    (slice_get items node) []
+
+-- those of all elements, in document order, wherever they stand
+unfoldable pub script_sources : List Item → List ℕ → List (Option (List ℕ)) → List Source
+script_sources items named given =
+    flat_map (λ node. sources_at items node (given_for named given node))
+    (range_with_len 0 (length items))
+
+abbrev pub sources_of : DraftState → List Source
+sources_of draft = script_sources draft.items draft.named draft.given
+
+-- ---- programs, by a reader of programs
+
+-- the programs of the good sources, in their order
+abbrev pub programs_by : Reader → List Source → List (List ProgramItem)
+programs_by read sources = filter_map (λ source. read source.text) sources
+
+-- the numbers of the bad ones, where the first source has the number 1
+abbrev pub bad_numbers : Reader → List Source → List ℕ
+bad_numbers read sources = map suc (places (λ source. is_none (read source.text)) sources)
+
+-- a handler: its element, the name of its attribute, and the place of its program among the programs
+pub record HandlerState : Type 0 where
+  pub node : ℕ
+  pub name : List ℕ
+  pub program : ℕ
+
+abbrev pub handler_with : ℕ → Source → Option HandlerState
+handler_with program source =
+    option_map (λ name. record { node = source.node; name = name; program = program }) source.handler
+
+-- those among good sources, whose programs have the places from this one on
+abbrev pub handlers_from : ℕ → List Source → List HandlerState
+handlers_from program [] = []
+handlers_from program (source ∷ good) =
+    option_to_list (handler_with program source) ++ handlers_from (suc program) good
+
+abbrev pub handlers_by : Reader → List Source → List HandlerState
+handlers_by read sources = handlers_from 0 (filter (λ source. is_some (read source.text)) sources)
+
+-- what is told of the scripts of a document with these sources
+pub record AreScripts (read : Reader) (sources : List Source) (programs : List ToldProgram)
+    (handlers : List HandlerState) (bad : List ℕ) : Type 0 where
+  pub programs_are : AllZip Tells (programs_by read sources) programs
+  pub handlers_are : handlers ≡ handlers_by read sources
+  pub bad_are : bad ≡ bad_numbers read sources
+
+-- the numbers of the bad sources of the document with these nodes at a path, for whose needs this
+-- was given, in their order
+abbrev pub bad_scripts : Reader → Path → List Item → List (Option (List ℕ)) → List ℕ
+bad_scripts read path items gifts =
+    bad_numbers read (sources_of (with_gifts gifts (draft_of path items)))
