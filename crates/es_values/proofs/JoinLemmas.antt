@@ -1,16 +1,16 @@
 -- The text of an array and its length.
-use Rattle.std.proofs.Common.{◌≡◌, ℕ, zero, suc, ◌+◌, ◌-◌, ◌*◌, ◌^◌, ◌<◌, ◌≤◌, Bool, true, false, List, [], ◌∷◌, ◌++◌, length, take, refl, sym, ◌∙◌, ap, arith, add-one, append_assoc, length-append, ◌⊎◌, inl, inr}
-use Rattle.std.specs.Prelude.{nat_lt, nat_eq, ◌&&◌, if◌then◌else◌, min, slice_get, Option, Some, None, unwrap_or, map}
+use Rattle.std.proofs.Common.{◌≡◌, ℕ, zero, suc, ◌+◌, ◌-◌, ◌*◌, ◌^◌, ◌<◌, ◌≤◌, Bool, true, false, List, [], ◌∷◌, ◌++◌, length, take, refl, sym, ◌∙◌, ap, arith, add-one, append_assoc, length-append, ◌⊎◌, inl, inr, subst, lit<}
+use Rattle.std.specs.Prelude.{nat_lt, nat_eq, ◌&&◌, if◌then◌else◌, min, slice_get, Option, Some, None, unwrap_or, map, codes}
 use Rattle.std.specs.Option.{option_map_or}
 use Rattle.std.specs.Map.{lookup}
-use Rattle.std.specs.List.{IsDistinct, AllByRecursion}
+use Rattle.std.specs.List.{IsDistinct, AllByRecursion, AllPass}
 use Rattle.std.specs.Cmp.Lexicographic.{bytes_decides}
 use Rattle.std.proofs.lemmas.Bool.Decides.{nat_tests}
-use Rattle.bml_bytes.specs.Numerals.{decimal_digits, decimal_number}
+use Rattle.bml_bytes.specs.Numerals.{decimal_digits, decimal_number, is_decimal_digit}
 use Rattle.bml_bytes.specs.Words.{is_same}
 use Rattle.es_values.specs.declared.values.Value.{Value}
 use Rattle.es_values.specs.declared.values.Value.TheVariants.{Undefined}
-use Rattle.es_values.specs.Heaps.{index_of}
+use Rattle.es_values.specs.Heaps.{index_of, is_length}
 use Rattle.es_values.specs.Conversions.{element_text, joined, separator_at, text_at}
 use Rattle.es_values.specs.Lengths.{element_codes, elements_codes, texts_length}
 use Rattle.es_values.proofs.ListSteps.{take-next, take-all}
@@ -120,7 +120,7 @@ texts-other p ps (suc k) h =
     ap (λ n. n + length (text_at (p ∷ ps) k)) (texts-other p ps k (λ j small. h j (omega arith)))
     ∙ ap (λ text. texts_length ps k + length text) (text_at-by p ps k false (h k below))
 
-digits-other : ((n : ℕ) → decimal_number (decimal_digits n) ≡ n) → (k i : ℕ) → (k ≡ i → ⊥) → is_same (decimal_digits k) (decimal_digits i) ≡ false
+pub digits-other : ((n : ℕ) → decimal_number (decimal_digits n) ≡ n) → (k i : ℕ) → (k ≡ i → ⊥) → is_same (decimal_digits k) (decimal_digits i) ≡ false
 digits-other back k i h = by (is_same (decimal_digits k) (decimal_digits i)) refl
   where
     by : (t : Bool) → is_same (decimal_digits k) (decimal_digits i) ≡ t → t ≡ false
@@ -168,7 +168,7 @@ none-among : (q : List ℕ) (ps : List (List ℕ × Value)) → AllByRecursion (
 none-among q [] h = refl
 none-among q (p ∷ ps) h = ap (λ b. if b then Some p.1 else lookup (is_same q) ps) h.0 ∙ none-among q ps h.1
 
-distinct-parts : (k : List ℕ) (ks : List (List ℕ)) → IsDistinct is_same (k ∷ ks) → AllByRecursion (λ y. is_same k y ≡ false) ks × IsDistinct is_same ks
+pub distinct-parts : (k : List ℕ) (ks : List (List ℕ)) → IsDistinct is_same (k ∷ ks) → AllByRecursion (λ y. is_same k y ≡ false) ks × IsDistinct is_same ks
 unfolding IsDistinct
 distinct-parts k ks h = h
 
@@ -210,3 +210,14 @@ codes-all back (p ∷ ps) count small h =
 pub codes-total : ((n : ℕ) → decimal_number (decimal_digits n) ≡ n) → (ps : List (List ℕ × Value)) (count at-end total : ℕ) → length ps ≤ at-end → count ≤ 2147483647 → IsDistinct is_same (map (λ p. p.0) ps) → total ≡ min (elements_codes count (take at-end ps)) (2 ^ 64 - 1) → total ≡ min (texts_length ps count) (2 ^ 64 - 1)
 codes-total back ps count at-end total long small distinct h =
     h ∙ (ap (λ l. min (elements_codes count l) (2 ^ 64 - 1)) (take-all at-end ps long) ∙ ap (λ n. min n (2 ^ 64 - 1)) (sym (codes-all back ps count small distinct)))
+
+-- no number's decimal text is `length`
+pub not-length : ((n : ℕ) → AllPass is_decimal_digit (decimal_digits n)) → (n : ℕ) → is_length (decimal_digits n) ≡ false
+not-length digits n = by (is_length (decimal_digits n)) refl
+  where
+    by : (t : Bool) → is_length (decimal_digits n) ≡ t → t ≡ false
+    by true h =
+        let same : decimal_digits n ≡ codes "length" = (bytes_decides (decimal_digits n) (codes "length")).0 h in
+        let letter : is_decimal_digit 108 ≡ true = subst (AllPass is_decimal_digit) same (digits n) 0 0 (lit< tt) in
+        absurd (cc letter)
+    by false h = refl

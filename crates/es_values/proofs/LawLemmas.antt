@@ -35,10 +35,10 @@ wrapped-turn z = sym (int_wrap-add_right w32 z (pos (2 ^ 32))) ∙ (ap (λ y. in
 
 -- Properties
 
-same-itself : (a : List ℕ) → is_same a a ≡ true
+pub same-itself : (a : List ℕ) → is_same a a ≡ true
 same-itself a = (bytes_decides a a).1 refl
 
-other-way : (a b : List ℕ) → is_same a b ≡ false → is_same b a ≡ false
+pub other-way : (a b : List ℕ) → is_same a b ≡ false → is_same b a ≡ false
 other-way a b h = by (is_same b a) refl
   where
     by : (t : Bool) → is_same b a ≡ t → t ≡ false
@@ -107,14 +107,14 @@ count-put heap object name v = length-set heap object (put_in heap (object_at he
 
 -- Functions
 
-or-cases : (a b : Bool) → (a || b) ≡ true → (a ≡ true) ⊎ (b ≡ true)
+pub or-cases : (a b : Bool) → (a || b) ≡ true → (a ≡ true) ⊎ (b ≡ true)
 or-cases true b h = inl refl
 or-cases false b h = inr h
 
-or-left : (a b : Bool) → a ≡ true → (a || b) ≡ true
+pub or-left : (a b : Bool) → a ≡ true → (a || b) ≡ true
 or-left a b h = ap (λ t. t || b) h
 
-or-right : (a b : Bool) → b ≡ true → (a || b) ≡ true
+pub or-right : (a b : Bool) → b ≡ true → (a || b) ≡ true
 or-right true b h = refl
 or-right false b h = h
 
@@ -136,7 +136,7 @@ read-of number o name h = by (is_array_length o name) h
     by true k = absurd (cc k)
     by false k = read-in number o.properties name k
 
-held-at : (number : ℕ) (heap : List ObjectState) (i : ℕ) → function_in number (object_at heap i).properties ≡ true → holds_function number heap ≡ true
+pub held-at : (number : ℕ) (heap : List ObjectState) (i : ℕ) → function_in number (object_at heap i).properties ≡ true → holds_function number heap ≡ true
 held-at number [] i h = h
 held-at number (o ∷ heap) zero h = or-left (function_in number o.properties) (holds_function number heap) h
 held-at number (o ∷ heap) (suc i) h = or-right (function_in number o.properties) (holds_function number heap) (held-at number heap i h)
@@ -187,7 +187,7 @@ function-length number o NotANumber h = h
 function-length number o (Whole (negsuc k)) h = h
 function-length number o (Whole (pos k)) h = function-cut number k o.properties h
 
-set-holds : (number : ℕ) (heap : List ObjectState) (i : ℕ) (o : ObjectState) (x : Bool) → (function_in number o.properties ≡ true → (function_in number (object_at heap i).properties || x) ≡ true) → holds_function number (slice_set heap i o) ≡ true → (holds_function number heap || x) ≡ true
+pub set-holds : (number : ℕ) (heap : List ObjectState) (i : ℕ) (o : ObjectState) (x : Bool) → (function_in number o.properties ≡ true → (function_in number (object_at heap i).properties || x) ≡ true) → holds_function number (slice_set heap i o) ≡ true → (holds_function number heap || x) ≡ true
 set-holds number [] i o x f h = absurd (cc h)
 set-holds number (a ∷ heap) zero o x f h =
     elim (or-cases (function_in number o.properties) (holds_function number heap) h) [
@@ -219,7 +219,7 @@ function-put heap object number name v h =
     by true k = or-left (function_in number (object_at heap object).properties) (is_function number v) (function-length number (object_at heap object) (number_of heap v) k)
     by false k = function-inserted number (object_at heap object).properties name v k
 
-or-nothing : (a : Bool) → (a || false) ≡ true → a ≡ true
+pub or-nothing : (a : Bool) → (a || false) ≡ true → a ≡ true
 or-nothing true h = refl
 or-nothing false h = h
 

@@ -1,5 +1,7 @@
+pub mod ArrayLemmas
 pub mod DecimalLemmas
 pub mod DigitLemmas
+pub mod HeldLemmas
 pub mod JoinLemmas
 pub mod LawLemmas
 pub mod ListSteps

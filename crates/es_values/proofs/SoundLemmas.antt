@@ -29,11 +29,14 @@ live-weaker m n (Host b) h l = tt
 object-weaker : (m n : ℕ) (o : ObjectState) → m ≤ n → AreLiveAmong m o → AreLiveAmong n o
 object-weaker m n o h l = All-weaker (λ p. IsLiveAmong m p.1) (λ p. IsLiveAmong n p.1) (λ p. live-weaker m n p.1 h) o.properties l
 
+pub sound-add : (heap : List ObjectState) (o : ObjectState) → IsSound heap → AreLiveAmong (length heap) o → IsSound (heap ++ o ∷ [])
+sound-add heap o h l =
+    let n = length (heap ++ o ∷ []) in
+    let more : length heap ≤ n = omega (arith, length-append heap (o ∷ [])) in
+    All-push (AreLiveAmong n) heap o (All-weaker (AreLiveAmong (length heap)) (AreLiveAmong n) (λ x. object-weaker (length heap) n x more) heap h) (object-weaker (length heap) n o more l)
+
 pub sound-new : (heap : List ObjectState) (array : Bool) → IsSound heap → IsSound (heap ++ new_object array ∷ [])
-sound-new heap array h =
-    let n = length (heap ++ new_object array ∷ []) in
-    let more : length heap ≤ n = omega (arith, length-append heap (new_object array ∷ [])) in
-    All-push (AreLiveAmong n) heap (new_object array) (All-weaker (AreLiveAmong (length heap)) (AreLiveAmong n) (λ o. object-weaker (length heap) n o more) heap h) (All-nil (λ p. IsLiveAmong n p.1))
+sound-new heap array h = sound-add heap (new_object array) h (All-nil (λ p. IsLiveAmong (length heap) p.1))
 
 pub sound-set : (heap : List ObjectState) (i : ℕ) (o : ObjectState) → IsSound heap → AreLiveAmong (length heap) o → IsSound (set heap i o)
 sound-set heap i o h l =

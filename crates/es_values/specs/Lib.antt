@@ -9,3 +9,4 @@ pub mod Charges
 pub mod Hosts
 pub mod Lengths
 pub mod Capped
+pub mod Arrays

@@ -1,6 +1,7 @@
 //! The heap of a script's objects.
 
-ghost use Rattle.std.specs.Prelude.{◌≡◌, ◌<◌, ◌≤◌, ◌++◌, ◌∷◌, [], is_some, length, IfOk, OnOk, OnErr};
+ghost use Rattle.std.specs.Prelude.{◌≡◌, ◌<◌, ◌≤◌, ◌++◌, ◌∷◌, [], is_some, length, All, IfOk, OnOk, OnErr};
+ghost use Rattle.es_values.specs.Arrays.{array_of, elements_of, turned_object, with_first_elements};
 ghost use Rattle.es_values.specs.Heaps.{IsLive, IsSound, has_property, is_array_length, names_of, new_object, object_at, value_of, with_length, with_object, with_property, without_property};
 ghost use Rattle.es_values.specs.Operators.{with_put};
 
@@ -66,6 +67,20 @@ impl Heap {
         let object = self.len();
         let alloc = *self.objects.allocator();
         self.objects.push(Object::new(alloc, array))?;
+        Ok(object)
+    }
+
+    /// Adds an array with these values as its elements, and gives its number. An array of more than
+    /// 2,147,483,647 elements takes more memory than there is.
+    pub fn add_array(&mut self, elements: Vec<Value>) -> Result<u64, NoMemory>
+        requires { All (IsLive self.old) elements.items }
+        ensures added { OnOk result (self.new ≡ self.old ++ array_of elements.items ∷ []) }
+        ensures number { IfOk result (λ object. object ≡ length self.old) }
+        ensures err { OnErr result (self.new ≡ self.old) }
+    {
+        let object = self.len();
+        let array = Object::of_elements(self.allocator(), elements)?;
+        self.objects.push(array)?;
         Ok(object)
     }
 
@@ -136,6 +151,52 @@ impl Heap {
         self.objects[object as usize].remove(name)
     }
 
+    /// Whether there is a property of this name that `remove` would take away.
+    pub fn has(&self, object: u64, name: &Text) -> bool
+        requires { object < length self.now }
+        ensures { result ≡ has_property (object_at self.now object) name.now }
+    {
+        self.object(object).has(name)
+    }
+
+    /// The elements of an array, in ascending place and without those that are missing; none of another
+    /// object. It takes time for each place below the array's length.
+    pub fn elements(&self, object: u64) -> Result<Vec<Value>, NoMemory>
+        requires { object < length self.now }
+        ensures elements { IfOk result
+            (λ elements. elements.items ≡ elements_of (object_at self.now object)) }
+        ensures live { IfOk result (λ elements. All (IsLive self.now) elements.items) }
+    {
+        self.is_sound();
+        self.object(object).elements()
+    }
+
+    /// Makes these values the first elements of an object, and takes all its other elements away. A name
+    /// that stands keeps its place, and new ones go last. The length stays.
+    pub fn set_elements(&mut self, object: u64, elements: Vec<Value>) -> Result<(), NoMemory>
+        requires object { object < length self.old }
+        requires live { All (IsLive self.old) elements.items }
+        ensures ok { OnOk result (self.new ≡ with_object self.old object
+            (with_first_elements (object_at self.old object) elements.items)) }
+        ensures err { OnErr result (self.new ≡ self.old) }
+        ensures objects { length self.new ≡ length self.old }
+    {
+        self.objects[object as usize].set_elements(elements)
+    }
+
+    /// Lets the elements of an array change places from its ends to its middle. A missing one is missing
+    /// at the other place behind it. It takes time for each place below the array's length, and of
+    /// another object nothing changes.
+    pub fn reverse(&mut self, object: u64) -> Result<(), NoMemory>
+        requires { object < length self.old }
+        ensures ok { OnOk result (self.new ≡ with_object self.old object
+            (turned_object (object_at self.old object))) }
+        ensures err { OnErr result (self.new ≡ self.old) }
+        ensures objects { length self.new ≡ length self.old }
+    {
+        self.objects[object as usize].reverse()
+    }
+
     /// The names of an object's properties, in order of insertion. An array's `length` isn't among them.
     pub fn names(&self, object: u64) -> Result<Vec<Text>, NoMemory>
         requires { object < length self.now }
@@ -144,7 +205,8 @@ impl Heap {
         self.object(object).names()
     }
 
-    pub(crate) fn allocator(&self) -> Global {
+    /// What its objects are allocated by.
+    pub fn allocator(&self) -> Global {
         *self.objects.allocator()
     }
 

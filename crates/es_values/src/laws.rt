@@ -1,17 +1,19 @@
 //! What the definitions of this crate say together. Each function is a law: its contract is what it is
 //! for, and it does nothing when it runs.
 
-ghost use Rattle.std.specs.Prelude.{◌≡◌, ◌<◌, ◌≤◌, ◌^◌, ◌++◌, ◌||◌, ◌+ℤ◌, ℕ, ℤ, pos, List, [], ◌∷◌, Bool, Some, true, false, FitsSigned, is_some, length};
+ghost use Rattle.std.specs.Prelude.{◌≡◌, ◌<◌, ◌≤◌, ◌^◌, ◌++◌, ◌||◌, ◌+ℤ◌, ℕ, ℤ, pos, List, [], ◌∷◌, All, Bool, Some, true, false, FitsSigned, is_some, length};
 ghost use Rattle.std.specs.Int.{w32};
 ghost use Rattle.std.specs.List.{list_any};
 ghost use Rattle.std.specs.Map.{lookup};
 ghost use Rattle.bml_bytes.specs.Numerals.{decimal_digits};
 ghost use Rattle.bml_bytes.specs.Words.{is_same};
+ghost use Rattle.es_values.specs.declared.numbers.Num.{Num};
 ghost use Rattle.es_values.specs.declared.values.Value.{Value};
+ghost use Rattle.es_values.specs.Arrays.{array_of, elements_of, turned_object, with_first_elements};
 ghost use Rattle.es_values.specs.Numbers.{wrapped};
 ghost use Rattle.es_values.specs.Objects.{ObjectState};
 ghost use Rattle.es_values.specs.Values.{is_function};
-ghost use Rattle.es_values.specs.Heaps.{IsLive, IsSound, holds_function, index_of, is_array_length, names_of, new_object, object_at, value_of, with_property, without_property, with_object};
+ghost use Rattle.es_values.specs.Heaps.{IsLive, IsSound, holds_function, index_of, is_array_length, is_length, names_of, new_object, object_at, value_of, with_length, with_property, without_property, with_object};
 ghost use Rattle.es_values.specs.Operators.{with_put};
 
 use bml_bytes::law_of_decimals;
@@ -24,12 +26,14 @@ pub fn law_of_wrapping()
     ensures turn { (z : ℤ) → wrapped (z +ℤ pos (2 ^ 32)) ≡ wrapped z }
 {}
 
-/// The names that are indices are exactly the decimal texts of 0 to 2,147,483,646.
+/// The names that are indices are exactly the decimal texts of 0 to 2,147,483,646. No number's
+/// decimal text is `length`.
 pub fn law_of_indices()
     ensures digits { (index : ℕ) → index < 2147483647
         → index_of (decimal_digits index) ≡ Some index }
     ensures text { (name : List ℕ) (index : ℕ) → index_of name ≡ Some index →
         (name ≡ decimal_digits index) × (index < 2147483647) }
+    ensures others { (number : ℕ) → is_length (decimal_digits number) ≡ false }
 {
     law_of_decimals();
 }
@@ -49,11 +53,14 @@ pub fn law_of_properties()
         ≡ is_some (lookup (is_same name) object.properties) }
 {}
 
-/// A put to a sound heap of a value that is live in it leaves a sound heap with as many objects, and what
-/// is read there is live. What is live in a heap is live in each that has as many objects or more.
+/// A new object leaves a sound heap sound. A put to it of a value that is live in it leaves a sound
+/// heap with as many objects, and what is read there is live. What is live in a heap is live in
+/// each that has as many objects or more.
 pub fn law_of_live_values()
     ensures stays { (heap more : List ObjectState) (value : Value) → length heap ≤ length more
         → IsLive heap value → IsLive more value }
+    ensures added { (heap : List ObjectState) (array : Bool) → IsSound heap
+        → IsSound (heap ++ new_object array ∷ []) }
     ensures read { (heap : List ObjectState) (object : ℕ) (name : List ℕ) → IsSound heap
         → IsLive heap (value_of (object_at heap object) name) }
     ensures put { (heap : List ObjectState) (object : ℕ) (name : List ℕ) (value : Value)
@@ -77,4 +84,45 @@ pub fn law_of_functions()
         → holds_function number heap ≡ true }
     ensures added { (heap : List ObjectState) (array : Bool) (number : ℕ)
         → holds_function number (heap ++ new_object array ∷ []) ≡ holds_function number heap }
+{}
+
+/// A sound heap stays sound where an array is added that is made of live values or of a length
+/// alone, and where the elements of one become live values or are turned round. Each element of an
+/// array of a sound heap is live.
+pub fn law_of_arrays()
+    ensures made { (heap : List ObjectState) (values : List Value) → IsSound heap
+        → All (IsLive heap) values → IsSound (heap ++ array_of values ∷ []) }
+    ensures empty { (heap : List ObjectState) (size : Num) → IsSound heap
+        → IsSound (heap ++ with_length (new_object true) size ∷ []) }
+    ensures elements { (heap : List ObjectState) (object : ℕ) → IsSound heap
+        → All (IsLive heap) (elements_of (object_at heap object)) }
+    ensures set { (heap : List ObjectState) (object : ℕ) (values : List Value) → IsSound heap
+        → All (IsLive heap) values → IsSound
+        (with_object heap object (with_first_elements (object_at heap object) values)) }
+    ensures turned { (heap : List ObjectState) (object : ℕ) → IsSound heap
+        → IsSound (with_object heap object (turned_object (object_at heap object))) }
+{}
+
+/// Where an array is added that is made of values, or its elements become values, the heap holds no
+/// functions but those that it held and those among the values. Where it is made of a length alone,
+/// or its elements are turned round, no function comes in. A heap holds what the elements of its
+/// arrays are.
+pub fn law_of_array_functions()
+    ensures made { (heap : List ObjectState) (number : ℕ) (values : List Value)
+        → holds_function number (heap ++ array_of values ∷ []) ≡ true
+        → (holds_function number heap || list_any (is_function number) values) ≡ true }
+    ensures empty { (heap : List ObjectState) (number : ℕ) (size : Num)
+        → holds_function number (heap ++ with_length (new_object true) size ∷ []) ≡ true
+        → holds_function number heap ≡ true }
+    ensures elements { (heap : List ObjectState) (object number : ℕ)
+        → list_any (is_function number) (elements_of (object_at heap object)) ≡ true
+        → holds_function number heap ≡ true }
+    ensures set { (heap : List ObjectState) (object number : ℕ) (values : List Value)
+        → holds_function number
+        (with_object heap object (with_first_elements (object_at heap object) values)) ≡ true
+        → (holds_function number heap || list_any (is_function number) values) ≡ true }
+    ensures turned { (heap : List ObjectState) (object number : ℕ)
+        → holds_function number
+        (with_object heap object (turned_object (object_at heap object))) ≡ true
+        → holds_function number heap ≡ true }
 {}

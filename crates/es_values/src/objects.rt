@@ -3,19 +3,21 @@
 ghost use Rattle.std.specs.Prelude.{◌≡◌, ◌+◌, ◌-◌, ◌<◌, ◌≤◌, ◌^◌, ◌++◌, ℕ, List, Some, None, pos, length, max, min, unwrap_or, IfOk, OnOk, OnErr};
 ghost use Rattle.std.specs.Option.{ForSome, option_map_or};
 ghost use Rattle.es_values.specs.declared.numbers.Num.TheVariants.{Whole};
+ghost use Rattle.es_values.specs.Arrays.{array_of, elements_of, turned_object, with_elements, with_first_elements};
 ghost use Rattle.es_values.specs.Objects.{IsWithinLength};
 ghost use Rattle.es_values.specs.Heaps.{cut_count as spec_cut_count, has_property, is_array_length, names_of, new_object, value_of, with_length, with_property, without_property};
 ghost use Rattle.es_values.specs.Capped.{capped, saturated};
 ghost use Rattle.es_values.specs.Charges.{join_charge};
 ghost use Rattle.es_values.specs.Conversions.{join_of, object_text};
 
+use crate::arrays::{MOST_ELEMENTS, elements, turned};
 use crate::numbers::Num;
 use crate::properties::{
     count_from, cut, joined_charge, joined_length, names, property_value, push_elements,
 };
-use crate::texts::index_of_name;
+use crate::texts::{index_name, index_of_name};
 use crate::values::Value;
-use bml_bytes::{NoMemory, Text};
+use bml_bytes::{NoMemory, Text, law_of_decimals};
 use indexmap::IndexMap;
 use std::alloc::Global;
 use std::marker::Model;
@@ -48,6 +50,19 @@ impl Object {
             length: if array { Some(0) } else { None },
             properties: IndexMap::new(alloc),
         }
+    }
+
+    // An array with these values as its elements.
+    pub fn of_elements(alloc: Global, elements: Vec<Value>) -> Result<Object, NoMemory>
+        ensures array { IfOk result (λ array. array ≡ array_of elements.items) }
+        ensures few { OnOk result (length elements.items ≤ 2147483647) }
+    {
+        if elements.len() > MOST_ELEMENTS {
+            return Err(NoMemory);
+        }
+        let mut array = Object::new(alloc, true);
+        array.put_elements(elements)?;
+        Ok(array)
     }
 
     pub fn array_length(&self) -> Option<u32>
@@ -123,6 +138,47 @@ impl Object {
         self.properties.shift_remove(name).is_some()
     }
 
+    // Whether there is a property of this name that can go.
+    pub fn has(&self, name: &Text) -> bool
+        ensures { result ≡ has_property self.now name.now }
+    {
+        !self.is_array_length(name) && self.properties.contains_key(name)
+    }
+
+    // The elements of an array, in ascending place.
+    pub fn elements(&self) -> Result<Vec<Value>, NoMemory>
+        ensures { IfOk result (λ elements. elements.items ≡ elements_of self.now) }
+    {
+        match self.length {
+            Some(length) => elements(&self.properties, length),
+            None => Ok(Vec::new(*self.properties.allocator())),
+        }
+    }
+
+    // Makes these values the first elements, and takes all other elements away.
+    pub fn set_elements(&mut self, elements: Vec<Value>) -> Result<(), NoMemory>
+        ensures ok { OnOk result (self.new ≡ with_first_elements self.old elements.items) }
+        ensures err { OnErr result (self.new ≡ self.old) }
+    {
+        law_of_decimals();
+        let count = elements.len();
+        let mut array = Object::of_elements(*self.properties.allocator(), elements)?;
+        self.properties.append(&mut array.properties)?;
+        cut(&mut self.properties, count as u32);
+        Ok(())
+    }
+
+    // Turns the elements of an array round.
+    pub fn reverse(&mut self) -> Result<(), NoMemory>
+        ensures ok { OnOk result (self.new ≡ turned_object self.old) }
+        ensures err { OnErr result (self.new ≡ self.old) }
+    {
+        if let Some(length) = self.length {
+            self.properties = turned(&self.properties, length)?;
+        }
+        Ok(())
+    }
+
     pub fn names(&self) -> Result<Vec<Text>, NoMemory>
         ensures { IfOk result (λ names. names.items ≡ names_of self.now) }
     {
@@ -160,6 +216,21 @@ impl Object {
             Some(length) => joined_length(&self.properties, length, 1),
             None => 15,
         }
+    }
+
+    // Puts the values as the first elements.
+    fn put_elements(&mut self, elements: Vec<Value>) -> Result<(), NoMemory>
+        requires { length elements.items ≤ 2147483647 }
+        ensures { OnOk result (self.new ≡ with_elements self.old 0 elements.items) }
+    {
+        let alloc = *self.properties.allocator();
+        let mut place = 0;
+        for element in elements {
+            let name = index_name(alloc, place)?;
+            self.put(name, element)?;
+            place += 1;
+        }
+        Ok(())
     }
 
     fn length_number(&self) -> Num

@@ -161,7 +161,7 @@ fn push_separator(place: u32, separator: &[u16], out: &mut Vec<u16>) -> Result<(
 }
 
 // The property at a place in the order of insertion.
-fn property_at(properties: &IndexMap<Text, Value>, place: usize) -> (&Text, &Value)
+pub fn property_at(properties: &IndexMap<Text, Value>, place: usize) -> (&Text, &Value)
     requires { place < length properties.now.entries }
     ensures { slice_get properties.now.entries place ≡ Some (result.0.now, result.1.now) }
 {
