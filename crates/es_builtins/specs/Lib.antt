@@ -1,0 +1,10 @@
+pub mod Rows
+pub mod Numerals
+pub mod Texts
+pub mod Arrays
+pub mod Functions
+pub mod Methods
+pub mod Keeping
+pub mod Fronts
+pub mod Tills
+pub mod Sorting

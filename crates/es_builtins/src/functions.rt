@@ -1,0 +1,127 @@
+//! The built-in functions, and the names of what is built in.
+
+ghost use Rattle.std.specs.Prelude.{◌≡◌, IfOk};
+ghost use Rattle.bml_bytes.specs.Words.{is_same};
+ghost use Rattle.es_builtins.specs.Functions.{all_functions, first_with, function_member as spec_function_member, function_name, function_number, function_of, number_member as spec_number_member, other_named as spec_other_named, value_named as spec_value_named};
+
+use bml_bytes::Text;
+use es_values::{HostRef, Num, Value};
+
+/// A function that is built in.
+#[derive(Clone, Copy, Debug, PartialEq, Eq)]
+pub enum BuiltIn {
+    Object,
+    Array,
+    String,
+    Number,
+    Boolean,
+    IsNan,
+    ParseInt,
+}
+
+impl BuiltIn {
+    /// The function of a number, where there is one: 0 to 6.
+    pub fn of_number(number: u64) -> Option<BuiltIn>
+        ensures { result ≡ function_of number }
+    {
+        match number {
+            0 => Some(BuiltIn::Object),
+            1 => Some(BuiltIn::Array),
+            2 => Some(BuiltIn::String),
+            3 => Some(BuiltIn::Number),
+            4 => Some(BuiltIn::Boolean),
+            5 => Some(BuiltIn::IsNan),
+            6 => Some(BuiltIn::ParseInt),
+            _ => None,
+        }
+    }
+
+    /// The function of a name, where there is one.
+    pub fn of_name(name: &Text) -> Option<BuiltIn>
+        ensures { result ≡ first_with (λ function. is_same name.now (function_name function))
+            all_functions }
+    {
+        if name.is_word("Object") {
+            Some(BuiltIn::Object)
+        } else if name.is_word("Array") {
+            Some(BuiltIn::Array)
+        } else if name.is_word("String") {
+            Some(BuiltIn::String)
+        } else if name.is_word("Number") {
+            Some(BuiltIn::Number)
+        } else if name.is_word("Boolean") {
+            Some(BuiltIn::Boolean)
+        } else if name.is_word("isNaN") {
+            Some(BuiltIn::IsNan)
+        } else if name.is_word("parseInt") {
+            Some(BuiltIn::ParseInt)
+        } else {
+            None
+        }
+    }
+
+    /// Its number.
+    pub fn number(self) -> u64
+        ensures { result ≡ function_number self }
+    {
+        match self {
+            BuiltIn::Object => 0,
+            BuiltIn::Array => 1,
+            BuiltIn::String => 2,
+            BuiltIn::Number => 3,
+            BuiltIn::Boolean => 4,
+            BuiltIn::IsNan => 5,
+            BuiltIn::ParseInt => 6,
+        }
+    }
+}
+
+/// What a built-in name means: one of the seven functions, `NaN`, `document` or `browser`; None of
+/// every other name. This takes no memory.
+pub fn value_named(name: &Text) -> Option<Value>
+    ensures { result ≡ spec_value_named name.now }
+{
+    match BuiltIn::of_name(name) {
+        Some(function) => Some(Value::Function(function.number())),
+        None => other_named(name),
+    }
+}
+
+fn other_named(name: &Text) -> Option<Value>
+    ensures { result ≡ spec_other_named name.now }
+{
+    if name.is_word("NaN") {
+        Some(Value::Number(Num::NotANumber))
+    } else if name.is_word("document") {
+        Some(Value::Host(HostRef::Document))
+    } else if name.is_word("browser") {
+        Some(Value::Host(HostRef::Browser))
+    } else {
+        None
+    }
+}
+
+/// A member of a function that is read: `Number` has `NaN`, `MAX_VALUE` and `MIN_VALUE`, and every
+/// other is Undefined. This takes no memory.
+pub fn function_member(number: u64, name: &Text) -> Value
+    ensures { result ≡ spec_function_member number name.now }
+{
+    match BuiltIn::of_number(number) {
+        Some(BuiltIn::Number) => number_member(name),
+        _ => Value::Undefined,
+    }
+}
+
+fn number_member(name: &Text) -> Value
+    ensures { result ≡ spec_number_member name.now }
+{
+    if name.is_word("NaN") {
+        Value::Number(Num::NotANumber)
+    } else if name.is_word("MAX_VALUE") {
+        Value::Number(Num::Whole(i32::MAX))
+    } else if name.is_word("MIN_VALUE") {
+        Value::Number(Num::Whole(1))
+    } else {
+        Value::Undefined
+    }
+}

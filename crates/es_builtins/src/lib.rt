@@ -1,0 +1,43 @@
+//! The built-in functions and methods of scripts (ECMA-262 second edition, 15, in this profile).
+//!
+//! The definitions are a table, one row for each: `specs/Functions.antt` has the functions, and
+//! `specs/Methods.antt` the methods by the kind of value that they are called of. A row says what
+//! is charged, which value is given and which heap is left (`specs/Rows.antt`). [`call_function`],
+//! [`construct`] and [`call_method`] do exactly what the row says: the steps are taken before
+//! anything is done, and where fewer are left nothing is done. [`law_of_rows`] says what all rows
+//! keep, and [`law_of_sorting`] what the order of `sort` is.
+#![tactic(auto)]
+
+mod arguments;
+#[cfg(test)]
+mod array_tests;
+mod arrays;
+mod built;
+mod calls;
+mod function_rows;
+#[cfg(test)]
+mod function_tests;
+mod functions;
+mod laws;
+mod method_rows;
+#[cfg(test)]
+mod method_tests;
+mod methods;
+#[cfg(test)]
+mod name_tests;
+mod numerals;
+mod parts;
+mod separators;
+mod sorting;
+mod text_rows;
+#[cfg(test)]
+mod text_tests;
+mod texts;
+mod tills;
+#[cfg(test)]
+mod told_calls;
+
+pub use crate::built::Built;
+pub use crate::calls::{call_function, call_method, construct};
+pub use crate::functions::{function_member, value_named};
+pub use crate::laws::{law_of_rows, law_of_sorting};
