@@ -1,0 +1,11 @@
+pub mod Syntax
+pub mod Sources
+pub mod Worlds
+pub mod Endings
+pub mod Actions
+pub mod Members
+pub mod Operations
+pub mod Calls
+pub mod Rows
+pub mod Evaluation
+pub mod Bounds

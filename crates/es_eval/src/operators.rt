@@ -1,0 +1,32 @@
+//! Operators of scripts.
+
+/// A binary operator that reads both of its operands (ECMA-262 second edition, 11.5 to 11.10).
+#[derive(Clone, Copy, Debug, PartialEq, Eq)]
+pub enum Operator {
+    Times,
+    Divide,
+    Remainder,
+    Plus,
+    Minus,
+    ShiftLeft,
+    ShiftRight,
+    UnsignedShiftRight,
+    Less,
+    Greater,
+    LessOrEqual,
+    GreaterOrEqual,
+    Equal,
+    NotEqual,
+    BitAnd,
+    BitXor,
+    BitOr,
+}
+
+/// An operator in front of a value (11.4.6 to 11.4.9).
+#[derive(Clone, Copy, Debug, PartialEq, Eq)]
+pub enum Sign {
+    Plus,
+    Minus,
+    Complement,
+    Not,
+}
