@@ -16,8 +16,9 @@ ghost use Rattle.es_builtins.specs.Sorting.{sort_key};
 
 use es_values::{law_of_array_functions, law_of_arrays, law_of_functions, law_of_live_values};
 
-/// A row keeps each object, leaves a sound heap, and gives a value that lives in it. No function comes
-/// into the heap or out of it that wasn't in the heap, among the arguments or what was called.
+/// A row keeps each object, leaves a sound heap, and gives a value that lives in it. No function
+/// comes into the heap or out of it that wasn't in the heap, among the arguments or what was
+/// called.
 pub fn law_of_rows()
     ensures functions { (heap : List ObjectState) (number : ℕ) (arguments : List Value)
         → IsSound heap → All (IsLive heap) arguments

@@ -6,8 +6,8 @@ use Rattle.es_eval.specs.declared.operators.Sign.{Sign}
 
 mutual
   -- `this`; `null`; `true`; `1`; `"t"`; `x`; `b[k]`; `b.x`; `f(a, b)`; `new f(a, b)`; `-a`; `typeof a`;
-  -- `void a`; `delete a`; `++x` and `x--`; `a + b`; `a && b`; `a || b`; `a ? b : c`; `x = a`; `x += a`;
-  -- `a, b, c`
+  -- `void a`; `delete a`; `++x` and `x--`; `a + b`; `a && b`; `a || b`; a choice of two by a test; `x = a`;
+  -- `x += a`; `a, b, c`
   pub data Expression : Type 0 where
     This : Expression
     Null : Expression

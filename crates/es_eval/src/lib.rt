@@ -6,8 +6,8 @@
 //! what is charged, and what stops; operators, members and calls have theirs in
 //! `specs/Operations.antt`, `specs/Members.antt` and `specs/Calls.antt`. `specs/Evaluation.antt`
 //! gives each statement and each node of an expression its step, and runs programs. A run is a tree
-//! of what it asks its host (`specs/Worlds.antt`), and `specs/Endings.antt` says how it may end with
-//! one. [`law_of_bounds`] says that the bound which makes the recursion end is never met, and
+//! of what it asks its host (`specs/Worlds.antt`), and `specs/Endings.antt` says how it may end
+//! with one. [`law_of_bounds`] says that the bound which makes the recursion end is never met, and
 //! [`law_of_steps`] that no run makes steps.
 #![tactic(auto)]
 

@@ -32,9 +32,9 @@ pub fn law_of_texts()
     law_of_programs();
 }
 
-/// A reader tells of each text the program that was read of it, and none of a text that was refused;
-/// so there is one at most. And there is something to be told of each text: none is neither a program
-/// of at most 64 levels, nor one of more, nor bad at some place.
+/// A reader tells of each text the program that was read of it, and none of a text that was
+/// refused; so there is one at most. And there is something to be told of each text: none is
+/// neither a program of at most 64 levels, nor one of more, nor bad at some place.
 pub fn law_of_readers()
     ensures program { (read : Reader) (text : List ℕ) (told : ToldProgram) → IsReader read
         → IsProgramOf text told

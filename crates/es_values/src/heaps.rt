@@ -12,9 +12,10 @@ use bml_bytes::{NoMemory, Text};
 use std::alloc::Global;
 use std::marker::Model;
 
-/// The objects of a script. An object is named by its number, which is its place among them, and none
-/// ever goes. Contracts see the list of the objects, each with its length, where it is an array, and its
-/// properties in order of insertion. (ECMA-262 second edition, 8.6 and 15.4, in this profile.)
+/// The objects of a script. An object is named by its number, which is its place among them, and
+/// none ever goes. Contracts see the list of the objects, each with its length, where it is an
+/// array, and its properties in order of insertion. (ECMA-262 second edition, 8.6 and 15.4, in this
+/// profile.)
 #[derive(Drop)]
 pub struct Heap {
     objects: Vec<Object>,
@@ -49,8 +50,8 @@ impl Heap {
         self.objects.len() as u64
     }
 
-    /// Each object that a property names is one of the heap's. What is held is always so; this tells a
-    /// caller.
+    /// Each object that a property names is one of the heap's. What is held is always so; this
+    /// tells a caller.
     pub fn is_sound(&self)
         ensures { IsSound self.now }
     {
@@ -108,8 +109,8 @@ impl Heap {
         self.object(object).is_array_length(name)
     }
 
-    /// The value of a property: of an array's `length` its length, and Undefined where there is no such
-    /// property.
+    /// The value of a property: of an array's `length` its length, and Undefined where there is no
+    /// such property.
     pub fn get(&self, object: u64, name: &Text) -> Result<Value, NoMemory>
         requires { object < length self.now }
         ensures value { IfOk result
@@ -120,9 +121,10 @@ impl Heap {
         self.object(object).get(name)
     }
 
-    /// Gives a property a value. One that is there keeps its place, and a new one goes last. An element
-    /// at the length of an array or past it makes the array longer. For the name `length` of an array the
-    /// value becomes a number: a length, and then the elements past it go, or else nothing is done.
+    /// Gives a property a value. One that is there keeps its place, and a new one goes last. An
+    /// element at the length of an array or past it makes the array longer. For the name `length`
+    /// of an array the value becomes a number: a length, and then the elements past it go, or else
+    /// nothing is done.
     pub fn put(&mut self, object: u64, name: &Text, value: Value) -> Result<(), NoMemory>
         requires object { object < length self.old }
         requires value { IsLive self.old value }
@@ -159,8 +161,8 @@ impl Heap {
         self.object(object).has(name)
     }
 
-    /// The elements of an array, in ascending place and without those that are missing; none of another
-    /// object. It takes time for each place below the array's length.
+    /// The elements of an array, in ascending place and without those that are missing; none of
+    /// another object. It takes time for each place below the array's length.
     pub fn elements(&self, object: u64) -> Result<Vec<Value>, NoMemory>
         requires { object < length self.now }
         ensures elements { IfOk result
@@ -171,8 +173,8 @@ impl Heap {
         self.object(object).elements()
     }
 
-    /// Makes these values the first elements of an object, and takes all its other elements away. A name
-    /// that stands keeps its place, and new ones go last. The length stays.
+    /// Makes these values the first elements of an object, and takes all its other elements away. A
+    /// name that stands keeps its place, and new ones go last. The length stays.
     pub fn set_elements(&mut self, object: u64, elements: Vec<Value>) -> Result<(), NoMemory>
         requires object { object < length self.old }
         requires live { All (IsLive self.old) elements.items }
@@ -184,9 +186,9 @@ impl Heap {
         self.objects[object as usize].set_elements(elements)
     }
 
-    /// Lets the elements of an array change places from its ends to its middle. A missing one is missing
-    /// at the other place behind it. It takes time for each place below the array's length, and of
-    /// another object nothing changes.
+    /// Lets the elements of an array change places from its ends to its middle. A missing one is
+    /// missing at the other place behind it. It takes time for each place below the array's length,
+    /// and of another object nothing changes.
     pub fn reverse(&mut self, object: u64) -> Result<(), NoMemory>
         requires { object < length self.old }
         ensures ok { OnOk result (self.new ≡ with_object self.old object
@@ -197,7 +199,8 @@ impl Heap {
         self.objects[object as usize].reverse()
     }
 
-    /// The names of an object's properties, in order of insertion. An array's `length` isn't among them.
+    /// The names of an object's properties, in order of insertion. An array's `length` isn't among
+    /// them.
     pub fn names(&self, object: u64) -> Result<Vec<Text>, NoMemory>
         requires { object < length self.now }
         ensures { IfOk result (λ names. names.items ≡ names_of (object_at self.now object)) }

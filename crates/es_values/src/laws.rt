@@ -1,5 +1,5 @@
-//! What the definitions of this crate say together. Each function is a law: its contract is what it is
-//! for, and it does nothing when it runs.
+//! What the definitions of this crate say together. Each function is a law: its contract is what it
+//! is for, and it does nothing when it runs.
 
 ghost use Rattle.std.specs.Prelude.{◌≡◌, ◌<◌, ◌≤◌, ◌^◌, ◌++◌, ◌||◌, ◌+ℤ◌, ℕ, ℤ, pos, List, [], ◌∷◌, All, Bool, Some, true, false, FitsSigned, is_some, length};
 ghost use Rattle.std.specs.Int.{w32};
@@ -18,8 +18,8 @@ ghost use Rattle.es_values.specs.Operators.{with_put};
 
 use bml_bytes::law_of_decimals;
 
-/// What is left of a number in 32 bits fits them, is the number where that fits, and is the same for a
-/// number and one that is 2^32 more.
+/// What is left of a number in 32 bits fits them, is the number where that fits, and is the same
+/// for a number and one that is 2^32 more.
 pub fn law_of_wrapping()
     ensures fits { (z : ℤ) → FitsSigned w32 (wrapped z) }
     ensures same { (z : ℤ) → FitsSigned w32 z → wrapped z ≡ z }
@@ -38,9 +38,9 @@ pub fn law_of_indices()
     law_of_decimals();
 }
 
-/// A property that is put, for a name other than an array's length, is there with its value, and every
-/// other name but `length` has the value that it had. The names that are listed are exactly those that
-/// a look-up finds.
+/// A property that is put, for a name other than an array's length, is there with its value, and
+/// every other name but `length` has the value that it had. The names that are listed are exactly
+/// those that a look-up finds.
 pub fn law_of_properties()
     ensures put { (object : ObjectState) (name : List ℕ) (value : Value)
         → is_array_length object name ≡ false
@@ -69,8 +69,8 @@ pub fn law_of_live_values()
         → length (with_put heap object name value) ≡ length heap }
 {}
 
-/// A function is read only where the heap holds it, and the heap holds no other than before and those that
-/// are put.
+/// A function is read only where the heap holds it, and the heap holds no other than before and
+/// those that are put.
 pub fn law_of_functions()
     ensures read { (heap : List ObjectState) (object number : ℕ) (name : List ℕ)
         → is_function number (value_of (object_at heap object) name) ≡ true

@@ -185,8 +185,8 @@ impl Object {
         names(&self.properties)
     }
 
-    // Appends the elements' texts, with the separator between them, and nothing of an object that is no
-    // array.
+    // Appends the elements' texts, with the separator between them, and nothing of an object that
+    // is no array.
     pub fn push_joined(&self, separator: &[u16], out: &mut Vec<u16>) -> Result<(), NoMemory>
         ensures { OnOk result (out.new.items ≡ out.old.items ++ join_of self.now separator.now) }
     {

@@ -77,8 +77,8 @@ pub fn push_elements(
     Ok(())
 }
 
-// How many codes that appends with a separator of so many, or the greatest number of 64 bits where there
-// are more.
+// How many codes that appends with a separator of so many, or the greatest number of 64 bits where
+// there are more.
 pub fn joined_length(properties: &IndexMap<Text, Value>, count: u32, separator: usize) -> u64
     requires { count ≤ 2147483647 }
     ensures { (text : List ℕ) → length text ≡ separator
@@ -102,8 +102,8 @@ pub fn joined_charge(properties: &IndexMap<Text, Value>, count: u32, separator: 
     begun_sixteens(codes.saturating_add(u64::from(count)))
 }
 
-// How many codes the texts of the first elements have. This reads the properties and not the places, of
-// which there may be many more.
+// How many codes the texts of the first elements have. This reads the properties and not the
+// places, of which there may be many more.
 fn elements_length(properties: &IndexMap<Text, Value>, count: u32) -> u64
     requires { count ≤ 2147483647 }
     ensures { result ≡ min (texts_length properties.now.entries count) (2 ^ 64 - 1) }

@@ -8,8 +8,8 @@ use std::alloc::Global;
 use std::test::Fail;
 use test_streams::Stream;
 
-/// What the stream of a document, taken whole and then shown, has to print: its module's line, these lines, and
-/// the last one.
+/// What the stream of a document, taken whole and then shown, has to print: its module's line,
+/// these lines, and the last one.
 pub fn printed(alloc: Global, document: &[u8], lines: &[u8]) -> Result<Vec<u8>, Fail> {
     let size = i64::try_from(document.len())?;
     let packets = i64::try_from(document.chunks(100).count())?.wrapping_add(1);

@@ -1,10 +1,13 @@
-//! Tests that cross crates: whole runs over ports in memory, of streams that `test_streams` writes, or whose sections
-//! are written out by hand from ISO/IEC 13818-1 and ISO/IEC 13818-6. It has no code of its own.
+//! Tests that cross crates: whole runs over ports in memory, of streams that `test_streams` writes,
+//! or whose sections are written out by hand from ISO/IEC 13818-1 and ISO/IEC 13818-6. It has no
+//! code of its own.
 //!
-//! Each status that a run can end with but `NoMemory` is reached: `Usage` in `commands`, `Done` in most, `BadRecord`, `OpenFault`,
-//! `ReadFault` and `WriteFault` in `faults`, `TooLong` in `long_records`; `KeepFault` and `BadArea` are none yet, since
-//! nothing is kept. All have ample memory, and compare what was answered and written, so a layer that answers `NoMemory`
-//! fails here.
+//! Each status that a run can end with but `NoMemory` is reached: `Usage` in `commands`, `Done` in
+//! most, `BadRecord`, `OpenFault`,
+//! `ReadFault` and `WriteFault` in `faults`, `TooLong` in `long_records`; `KeepFault` and `BadArea`
+//! are none yet, since
+//! nothing is kept. All have ample memory, and compare what was answered and written, so a layer
+//! that answers `NoMemory` fails here.
 #![tactic(auto)]
 
 #[cfg(test)]

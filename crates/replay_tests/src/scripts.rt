@@ -6,9 +6,9 @@ use replay_run::Status;
 use std::test::Fail;
 use test_streams::{DOCUMENT, Entry, Sent, Stream};
 
-// Script elements and handlers, good and bad: a number past the largest one, a program, an element whose `src` is
-// missing and whose own text isn't read; handlers, and attributes that are none, since names compare by case; and once
-// more a script element.
+// Script elements and handlers, good and bad: a number past the largest one, a program, an element
+// whose `src` is missing and whose own text isn't read; handlers, and attributes that are none,
+// since names compare by case; and once more a script element.
 const MIXED: &[u8] =
     b"<bml><head><script><![CDATA[var n = 2147483648;]]></script><script>var n = 1;</script><script src=\"/40/0001\">(</script></head><body onload=\"n = ;\" onunload=\"n = 2;\" ONCLICK=\"(\"><p onkeydown=\"f(\" title=\"(\" onclick=\"f();\">a</p><script>(</script></body></bml>";
 
