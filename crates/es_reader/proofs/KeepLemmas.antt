@@ -11,7 +11,7 @@ use Rattle.es_reader.specs.Statements.Item.{Function, Single}
 use Rattle.es_reader.specs.Grammar.{Setting, behind_head, parameter_names}
 use Rattle.es_reader.specs.Meaning.{with_head, statement_tree, statement_trees}
 use Rattle.es_reader.specs.Levels.{levels, all_levels, item_levels, program_levels}
-use Rattle.es_reader.specs.Programs.{ToldFunction, IsFunctionOf, AreTreesOf, AreFunctionsOf, top_trees, functions_of, var_names, all_var_names}
+use Rattle.es_reader.specs.Programs.{ToldFunction, IsFunctionOf, AreTreesOf, AreFunctionsOf, top_trees, functions_of, var_names, all_var_names, outer_names}
 use Rattle.es_reader.specs.Openings.{Opening, Outer, place_in}
 use Rattle.es_reader.specs.Openings.Opening.{InBlock, InHead, InElse}
 use Rattle.es_reader.specs.Openings.Outer.{InProgram, InFunction}
@@ -39,7 +39,7 @@ pub open-grows : (function : Option OpenFunction) (rows after : List NodeRow) (o
 open-grows None rows after (InProgram done) g h = tt
 open-grows None rows after (InFunction done front body) g h = absurd h
 open-grows (Some f) rows after (InProgram done) g h = absurd h
-open-grows (Some f) rows after (InFunction done front body) g h = record { name = h.name; parameters = h.parameters; differ = h.differ; body = trees-grow (statement_trees body) rows after f.body.items g h.body }
+open-grows (Some f) rows after (InFunction done front body) g h = record { name = h.name; parameters = h.parameters; differ = h.differ; body = trees-grow (statement_trees body) rows after f.body.items g h.body; outer = h.outer }
 
 pub functions-grow : (ds : List Declared) (rows after : List NodeRow) (told : List ToldFunction) → MayGrow rows after → AreFunctionsOf ds rows told → AreFunctionsOf ds after told
 functions-grow [] rows after [] g h = tt
@@ -115,19 +115,31 @@ program-levels-then (x ∷ is) i = let h = program-levels-then is i in omega ari
 
 -- names
 
-pub names-then : (names after : List (List ℕ)) (os : List Opening) (outer : Outer) (more : List (List ℕ)) → NamesStand names os outer [] → after ≡ with_names names more → NamesStand after os outer more
-names-then names after os (InProgram done) more h e = tt
-names-then names after os (InFunction done front body) more h e =
-    e ∙ (ap (λ x. with_names x more) h ∙ (sym (with-more (parameter_names front.parameters) (names_inside os body ++ []) more)
-    ∙ ap (λ x. with_names (parameter_names front.parameters) (x ++ more)) (append-nil (names_inside os body))))
+more-behind : (known xs names after more : List (List ℕ)) → names ≡ with_names known (xs ++ []) → after ≡ with_names names more → after ≡ with_names known (xs ++ more)
+more-behind known xs names after more h e =
+    e ∙ (ap (λ x. with_names x more) h ∙ (sym (with-more known (xs ++ []) more) ∙ ap (λ x. with_names known (x ++ more)) (append-nil xs)))
 
-pub names-same : (names : List (List ℕ)) (os now : List Opening) (outer : Outer) (more less : List (List ℕ)) → ((body : Statements) → names_inside os body ++ more ≡ names_inside now body ++ less) → NamesStand names os outer more → NamesStand names now outer less
-names-same names os now (InProgram done) more less f h = tt
-names-same names os now (InFunction done front body) more less f h = h ∙ ap (λ x. with_names (parameter_names front.parameters) x) (f body)
+pub names-then : (names after : List (List ℕ)) (os : List Opening) (outer : Outer) (more : List (List ℕ)) → NamesStand names os outer [] → after ≡ with_names names more → NamesStand after os outer more
+names-then names after os (InProgram done) more h e = more-behind [] (names_inside os (outer_names done)) names after more h e
+names-then names after os (InFunction done front body) more h e = more-behind (parameter_names front.parameters) (names_inside os (all_var_names body)) names after more h e
+
+pub names-same : (names : List (List ℕ)) (os now : List Opening) (outer : Outer) (more less : List (List ℕ)) → ((front : List (List ℕ)) → names_inside os front ++ more ≡ names_inside now front ++ less) → NamesStand names os outer more → NamesStand names now outer less
+names-same names os now (InProgram done) more less f h = h ∙ ap (λ x. with_names [] x) (f (outer_names done))
+names-same names os now (InFunction done front body) more less f h = h ∙ ap (λ x. with_names (parameter_names front.parameters) x) (f (all_var_names body))
 
 pub all-names-then : (done : Statements) (s : Statement) → all_var_names (and_then done s) ≡ all_var_names done ++ var_names s
 all-names-then NoStatements s = append-nil (var_names s)
 all-names-then (OneMore d done) s = ap (λ x. var_names d ++ x) (all-names-then done s) ∙ sym (append_assoc (var_names d) (all_var_names done) (var_names s))
+
+pub outer-single : (is : List Item) (s : Statement) → outer_names (is ++ (Single s ∷ [])) ≡ outer_names is ++ var_names s
+outer-single [] s = append-nil (var_names s)
+outer-single (Function d ∷ is) s = outer-single is s
+outer-single (Single x ∷ is) s = ap (λ y. var_names x ++ y) (outer-single is s) ∙ sym (append_assoc (var_names x) (outer_names is) (var_names s))
+
+pub outer-function : (is : List Item) (d : Declared) → outer_names (is ++ (Function d ∷ [])) ≡ outer_names is
+outer-function [] d = refl
+outer-function (Function x ∷ is) d = outer-function is d
+outer-function (Single x ∷ is) d = ap (λ y. var_names x ++ y) (outer-function is d)
 
 -- whether what is inside stands in a loop
 

@@ -20,7 +20,7 @@ use Rattle.es_reader.specs.Statements.Item.{Function, Single}
 use Rattle.es_reader.specs.Grammar.{Setting, setting, IsMark, IsWord, behind_head, is_if, NoElse, parameter_names, IsProgram}
 use Rattle.es_reader.specs.Meaning.{head_form, head_start, with_head, statement_tree, statement_trees, statement_end}
 use Rattle.es_reader.specs.Levels.{program_levels}
-use Rattle.es_reader.specs.Programs.{AreTreesOf, AreFunctionsOf, IsFunctionOf, Tells, ToldFunction, ToldProgram, top_trees, functions_of, var_names, all_var_names, head_names, simple_names}
+use Rattle.es_reader.specs.Programs.{AreTreesOf, AreFunctionsOf, IsFunctionOf, Tells, ToldFunction, ToldProgram, top_trees, functions_of, var_names, all_var_names, outer_names, head_names, simple_names}
 use Rattle.es_reader.specs.Openings.{Opening, Front, Outer, place_in}
 use Rattle.es_reader.specs.Openings.Opening.{InBlock, InHead, InElse}
 use Rattle.es_reader.specs.Openings.Outer.{InProgram, InFunction}
@@ -46,11 +46,11 @@ use Rattle.es_reader.proofs.Uniqueness.{declared_of}
 use Rattle.es_reader.proofs.Standing.{stands-first, ended-simple, stands-head, stands-block, ended-block, stands-front, stands-function, stands-in-block, stands-in-function, stands-in-program, ended-head, stands-else, ended-else, is-program}
 use Rattle.es_reader.proofs.RangeLemmas.{drop-there, there-of}
 use Rattle.es_reader.proofs.TreeLemmas.{row, pushed-tree, trees-grow}
-use Rattle.es_reader.proofs.NameLemmas.{locals-are}
-use Rattle.es_reader.proofs.KeepLemmas.{forms-grow, open-grows, functions-grow, statements-then, with-head-then, tops-then, top-function, functions-single, functions-then, all-levels-then, program-levels-then, names-then, names-same, all-names-then, loop-inside}
+use Rattle.es_reader.proofs.NameLemmas.{locals-are, names-once}
+use Rattle.es_reader.proofs.KeepLemmas.{forms-grow, open-grows, functions-grow, statements-then, with-head-then, tops-then, top-function, functions-single, functions-then, all-levels-then, program-levels-then, names-then, names-same, all-names-then, outer-single, outer-function, loop-inside}
 
-pub reads-first : (tokens : List Lexeme) (reader : Reader) → reader.forms ≡ [] → reader.function ≡ None → reader.top.items ≡ [] → reader.functions.items ≡ [] → reader.height ≡ 0 → ReadsTo tokens 0 reader
-reads-first tokens reader f o t g h = record {
+pub reads-first : (tokens : List Lexeme) (reader : Reader) → reader.forms ≡ [] → reader.function ≡ None → reader.names ≡ [] → reader.top.items ≡ [] → reader.functions.items ≡ [] → reader.height ≡ 0 → ReadsTo tokens 0 reader
+reads-first tokens reader f o n t g h = record {
   within = omega arith;
   openings = [];
   outer = InProgram [];
@@ -58,7 +58,7 @@ reads-first tokens reader f o t g h = record {
   keeps = record {
     forms = subst (λ (x : List OpenForm). FormsStand x reader.nodes [] (InProgram [])) (sym f) tt;
     function = subst (λ (x : Option OpenFunction). MayBeOpen x reader.nodes (InProgram [])) (sym o) tt;
-    names = tt;
+    names = n;
     top = subst (λ (x : List ℕ). AreTreesOf (top_trees []) reader.nodes x) (sym t) tt;
     functions = subst (λ (x : List FunctionDecl). AreFunctionsOf (functions_of []) reader.nodes (map told_function x)) (sym g) tt;
     height = h;
@@ -132,7 +132,7 @@ head-opened tokens place before middle after head r hs g f o t fs tall p =
                 k.forms,
               ));
           function = subst (λ (fn : Option OpenFunction). MayBeOpen fn after.nodes r.outer) (sym p.function) (subst (λ (rows : List NodeRow). MayBeOpen middle.function rows r.outer) (sym p.nodes) k.function);
-          names = names-same after.names r.openings (InHead h ∷ r.openings) r.outer (head_names h) [] (λ body. sym (append-nil (names_inside r.openings body ++ head_names h)))
+          names = names-same after.names r.openings (InHead h ∷ r.openings) r.outer (head_names h) [] (λ names. sym (append-nil (names_inside r.openings names ++ head_names h)))
               (subst (λ (ns : List (List ℕ)). NamesStand ns r.openings r.outer (head_names h)) (sym p.names) k.names);
           top = subst (λ x. AreTreesOf (top_trees (items_of_outer r.outer)) after.nodes x.items) (sym p.top) (subst (λ (rows : List NodeRow). AreTreesOf (top_trees (items_of_outer r.outer)) rows middle.top.items) (sym p.nodes) k.top);
           functions = subst (λ x. AreFunctionsOf (functions_of (items_of_outer r.outer)) after.nodes (map told_function x.items)) (sym p.functions) (subst (λ (rows : List NodeRow). AreFunctionsOf (functions_of (items_of_outer r.outer)) rows (map told_function middle.functions.items)) (sym p.nodes) k.functions);
@@ -172,7 +172,7 @@ block-opened tokens place before after form t r there pushed fk ff fs fc fh fl n
                 k.forms,
               ));
           function = subst (λ (fn : Option OpenFunction). MayBeOpen fn after.nodes r.outer) (sym o) (subst (λ (rows : List NodeRow). MayBeOpen before.function rows r.outer) (sym n) k.function);
-          names = names-same after.names r.openings (InBlock token NoStatements ∷ r.openings) r.outer [] [] (λ body. sym (append-nil (names_inside r.openings body ++ [])))
+          names = names-same after.names r.openings (InBlock token NoStatements ∷ r.openings) r.outer [] [] (λ names. sym (append-nil (names_inside r.openings names ++ [])))
               (subst (λ (ns : List (List ℕ)). NamesStand ns r.openings r.outer []) (sym m) k.names);
           top = subst (λ x. AreTreesOf (top_trees (items_of_outer r.outer)) after.nodes x.items) (sym tp) (subst (λ (rows : List NodeRow). AreTreesOf (top_trees (items_of_outer r.outer)) rows before.top.items) (sym n) k.top);
           functions = subst (λ x. AreFunctionsOf (functions_of (items_of_outer r.outer)) after.nodes (map told_function x.items)) (sym fns) (subst (λ (rows : List NodeRow). AreFunctionsOf (functions_of (items_of_outer r.outer)) rows (map told_function before.functions.items)) (sym n) k.functions);
@@ -184,9 +184,9 @@ block-opened tokens place before after form t r there pushed fk ff fs fc fh fl n
 -- functions
 
 pub function-opened : (tokens : List Lexeme) (place : ℕ) (before after : Reader) (function : OpenFunction) (front : FrontRead) → ReadsTo tokens place before → before.forms ≡ [] → is_some before.function ≡ false
-    → (f : Front) × IsFrontAt tokens place f front → after.function ≡ Some function → function.name ≡ front.name → function.parameters ≡ front.parameters → function.body.items ≡ [] → after.names ≡ front.names
+    → (f : Front) × IsFrontAt tokens place f front → after.function ≡ Some function → function.name ≡ front.name → function.parameters ≡ front.parameters → function.body.items ≡ [] → function.outer ≡ before.names → after.names ≡ front.names
     → after.nodes ≡ before.nodes → after.forms ≡ before.forms → after.top ≡ before.top → after.functions ≡ before.functions → after.height ≡ before.height → GoesTo tokens place front.behind after
-function-opened tokens place before after function front r none closed fs fn nm ps bd ns nd fo tp fc tall = of r.openings r.outer r.stands r.keeps
+function-opened tokens place before after function front r none closed fs fn nm ps bd ou ns nd fo tp fc tall = of r.openings r.outer r.stands r.keeps
   where
     of : (os : List Opening) (outer : Outer) → (ExpressionFacts → Stands os outer tokens place) → Keeps before os outer [] → GoesTo tokens place front.behind after
     of (o ∷ os) outer s k = absurd (subst (λ (x : List OpenForm). FormsStand x before.nodes (o ∷ os) outer) none k.forms)
@@ -208,7 +208,13 @@ function-opened tokens place before after function front r none closed fs fn nm 
             keeps = record {
               forms = subst (λ (y : List OpenForm). FormsStand y after.nodes [] (InFunction done f NoStatements)) (sym (fo ∙ none)) tt;
               function = subst (λ (y : Option OpenFunction). MayBeOpen y after.nodes (InFunction done f NoStatements)) (sym fn)
-                  (record { name = nm ∙ x.name; parameters = ps ∙ x.parameters; differ = x.is.differ; body = subst (λ (y : List ℕ). AreTreesOf (statement_trees NoStatements) after.nodes y) (sym bd) tt });
+                  (record {
+                    name = nm ∙ x.name;
+                    parameters = ps ∙ x.parameters;
+                    differ = x.is.differ;
+                    body = subst (λ (y : List ℕ). AreTreesOf (statement_trees NoStatements) after.nodes y) (sym bd) tt;
+                    outer = ou ∙ (k.names ∙ ap (λ xs. with_names [] xs) (append-nil (outer_names done)));
+                  });
               names = ns ∙ x.names;
               top = subst (λ y. AreTreesOf (top_trees done) after.nodes y.items) (sym tp) (subst (λ (rows : List NodeRow). AreTreesOf (top_trees done) rows before.top.items) (sym nd) k.top);
               functions = subst (λ y. AreFunctionsOf (functions_of done) after.nodes (map told_function y.items)) (sym fc) (subst (λ (rows : List NodeRow). AreFunctionsOf (functions_of done) rows (map told_function before.functions.items)) (sym nd) k.functions);
@@ -225,9 +231,9 @@ map-more [] x = refl
 map-more (y ∷ xs) x = ap (λ z. told_function y ∷ z) (map-more xs x)
 
 pub function-closed : (tokens : List Lexeme) (place : ℕ) (before after : Reader) (function : OpenFunction) (decl : FunctionDecl) → ReadsTo tokens place before → IsThere (IsMark CloseBrace) tokens place → before.forms ≡ [] → before.function ≡ Some function
-    → after.function ≡ None → after.functions.items ≡ before.functions.items ++ (decl ∷ []) → decl.name ≡ function.name → decl.locals.items ≡ before.names → decl.parameters ≡ function.parameters → decl.body ≡ function.body
+    → after.function ≡ None → after.functions.items ≡ before.functions.items ++ (decl ∷ []) → decl.name ≡ function.name → decl.locals.items ≡ before.names → decl.parameters ≡ function.parameters → decl.body ≡ function.body → after.names ≡ function.outer
     → after.nodes ≡ before.nodes → after.forms ≡ before.forms → after.top ≡ before.top → after.height ≡ before.height → GoesTo tokens place (place + 1) after
-function-closed tokens place before after function decl r there none opened fn fd nm lc ps bd nd fo tp tall = of r.openings r.outer r.stands r.keeps
+function-closed tokens place before after function decl r there none opened fn fd nm lc ps bd ou nd fo tp tall = of r.openings r.outer r.stands r.keeps
   where
     of : (os : List Opening) (outer : Outer) → (ExpressionFacts → Stands os outer tokens place) → Keeps before os outer [] → GoesTo tokens place (place + 1) after
     of (o ∷ os) outer s k = absurd (subst (λ (x : List OpenForm). FormsStand x before.nodes (o ∷ os) outer) none k.forms)
@@ -236,7 +242,7 @@ function-closed tokens place before after function decl r there none opened fn f
         let token = there.0 in
         let declared : Declared = declared_of front body token in
         let within : place + 1 ≤ length tokens = let l = slice_get_within tokens place token there.1 in omega arith in
-        let f : FunctionStands function before.nodes front body = subst (λ (x : Option OpenFunction). MayBeOpen x before.nodes (InFunction done front body)) opened k.function in
+        let f : FunctionStands function before.nodes done front body = subst (λ (x : Option OpenFunction). MayBeOpen x before.nodes (InFunction done front body)) opened k.function in
         let is : IsFunctionOf declared before.nodes (told_function decl) = record {
           name = nm ∙ f.name;
           locals = lc ∙ (k.names ∙ (ap (λ xs. with_names (parameter_names front.parameters) xs) (append-nil (all_var_names body)) ∙ locals-are (parameter_names front.parameters) (all_var_names body) f.differ));
@@ -253,7 +259,7 @@ function-closed tokens place before after function decl r there none opened fn f
             keeps = record {
               forms = subst (λ (y : List OpenForm). FormsStand y after.nodes [] (InProgram (done ++ (Function declared ∷ [])))) (sym (fo ∙ none)) tt;
               function = subst (λ (y : Option OpenFunction). MayBeOpen y after.nodes (InProgram (done ++ (Function declared ∷ [])))) (sym fn) tt;
-              names = tt;
+              names = ou ∙ (f.outer ∙ ap (λ xs. with_names [] xs) (sym (append-nil (outer_names (done ++ (Function declared ∷ []))) ∙ outer-function done declared)));
               top = subst (λ (x : Trees). AreTreesOf x after.nodes after.top.items) (sym (top-function done declared)) (subst (λ y. AreTreesOf (top_trees done) after.nodes y.items) (sym tp) (subst (λ (rows : List NodeRow). AreTreesOf (top_trees done) rows before.top.items) (sym nd) k.top));
               functions = subst (λ (y : List ToldFunction). AreFunctionsOf (functions_of (done ++ (Function declared ∷ []))) after.nodes y) (sym (ap (λ x. map told_function x) fd ∙ map-more before.functions.items decl))
                   (subst (λ (rows : List NodeRow). AreFunctionsOf (functions_of (done ++ (Function declared ∷ []))) rows (map told_function before.functions.items ++ (told_function decl ∷ []))) (sym nd) (functions-then done declared before.nodes (map told_function before.functions.items) (told_function decl) k.functions is));
@@ -283,15 +289,16 @@ put-in tokens stated held before after h none empty p nd fn nm tp fc tall = of h
     inside done front body None (Some f) third e m x = absurd x
     inside done front body (Some g) None third e m x = absurd x
     inside done front body (Some g) (Some f) third e m x =
-        let w : FunctionStands g held.nodes front body = subst (λ (y : Option OpenFunction). MayBeOpen y held.nodes (InFunction done front body)) (sym e) m in (
+        let w : FunctionStands g held.nodes done front body = subst (λ (y : Option OpenFunction). MayBeOpen y held.nodes (InFunction done front body)) (sym e) m in (
           record {
             name = x.0 ∙ w.name;
             parameters = x.1 ∙ w.parameters;
             differ = w.differ;
             body = subst (λ (ns : List ℕ). AreTreesOf (statement_trees (and_then body s)) after.nodes ns) (sym x.2)
                 (statements-then body s after.nodes g.body.items stated.node (subst (λ (rows : List NodeRow). AreTreesOf (statement_trees body) rows g.body.items) (sym same-nodes) w.body) tree);
+            outer = x.3 ∙ w.outer;
           },
-          x.3,
+          x.4,
         )
 
     outside : (done : List Item) (one other third : Option OpenFunction) → one ≡ third → MayBeOpen third held.nodes (InProgram done) → HasOneMore stated.node one other before.top.items after.top.items
@@ -312,7 +319,7 @@ put-in tokens stated held before after h none empty p nd fn nm tp fc tall = of h
           keeps = record {
             forms = subst (λ (y : List OpenForm). FormsStand y after.nodes [] (InProgram (done ++ (Single s ∷ [])))) (sym (p.forms ∙ empty)) tt;
             function = x.0;
-            names = tt;
+            names = p.names ∙ (nm ∙ (k.names ∙ ap (λ ns. with_names [] ns) (sym (append-nil (outer_names (done ++ (Single s ∷ []))) ∙ outer-single done s))));
             top = subst (λ (ns : List ℕ). AreTreesOf (top_trees (done ++ (Single s ∷ []))) after.nodes ns) (sym (x.1 ∙ ap (λ y. y.items ++ (stated.node ∷ [])) tp))
                 (tops-then done s after.nodes held.top.items stated.node (subst (λ (rows : List NodeRow). AreTreesOf (top_trees done) rows held.top.items) (sym same-nodes) k.top) tree);
             functions = subst (λ (ds : List Declared). AreFunctionsOf ds after.nodes (map told_function after.functions.items)) (sym (functions-single done s))
@@ -347,7 +354,7 @@ same-form : (f g : Form) (a b c d : ℕ) → f ≡ g → a ≡ b → c ≡ d →
 same-form f g a b c d p q r = ap (λ x. node x a c None) p ∙ (ap (λ x. node g x c None) q ∙ ap (λ x. node g b x None) r)
 
 keeps-as : (held after : Reader) (os now : List Opening) (outer : Outer) (more less : List (List ℕ)) → Keeps held os outer more → MayGrow held.nodes after.nodes → FormsStand after.forms after.nodes now outer
-    → ((body : Statements) → names_inside os body ++ more ≡ names_inside now body ++ less) → after.function ≡ held.function → after.names ≡ held.names → after.top ≡ held.top → after.functions ≡ held.functions → after.height ≡ held.height → Keeps after now outer less
+    → ((front : List (List ℕ)) → names_inside os front ++ more ≡ names_inside now front ++ less) → after.function ≡ held.function → after.names ≡ held.names → after.top ≡ held.top → after.functions ≡ held.functions → after.height ≡ held.height → Keeps after now outer less
 keeps-as held after os now outer more less k g forms names o n t fs h = record {
   forms = forms;
   function = subst (λ (x : Option OpenFunction). MayBeOpen x after.nodes outer) (sym o) (open-grows held.function held.nodes after.nodes outer g k.function);
@@ -396,7 +403,7 @@ in-block tokens stated held after form now rest h fs block grew fk ff st fc fh f
                 },
                 all.1,
               )))
-              (λ body. names-block (names_inside os body) (all_var_names done) (var_names s) (all_var_names (and_then done s)) (all-names-then done s)) fn nm tp fns tall;
+              (λ names. names-block (names_inside os names) (all_var_names done) (var_names s) (all_var_names (and_then done s)) (all-names-then done s)) fn nm tp fns tall;
         }
 
 if-of : (h : Head) → head_form h ≡ IfForm → is_if h ≡ true
@@ -448,7 +455,7 @@ else-opened tokens stated held after form now rest h fs block if_form there grew
                 },
                 all.1,
               )))
-              (λ body. names-block (names_inside os body) (head_names head) (var_names s) (head_names head ++ var_names s) refl) fn nm tp fns tall;
+              (λ names. names-block (names_inside os names) (head_names head) (var_names s) (head_names head ++ var_names s) refl) fn nm tp fns tall;
         }
 
 pub head-ended : (tokens : List Lexeme) (stated whole : Stated) (held middle after : Reader) (form now : OpenForm) (rest : List OpenForm) → Holds tokens stated held → held.forms ≡ form ∷ rest → form.kind ≡ HeadKind → (form.form ≡ IfForm → IsThere (IsWord Else) tokens stated.behind → ⊥)
@@ -476,7 +483,7 @@ head-ended tokens stated whole held middle after form now rest h fs block nothin
           ends = λ facts. subst (λ n. Ended os outer tokens (Headed head s) n) (sym p.behind_is) (ended-head os outer tokens stated.behind head s (e facts) (no-else head tokens stated.behind (drop stated.behind tokens) refl (λ i. nothing (f.is ∙ i))));
           keeps = keeps-as held after (InHead head ∷ os) os outer (var_names s) (head_names head ++ var_names s) k (record { more = _; added = grown })
               (subst (λ (x : List OpenForm). FormsStand x after.nodes os outer) (sym (p.forms ∙ mf)) (forms-grow rest held.nodes after.nodes os outer (record { more = _; added = grown }) all.1))
-              (λ body. append_assoc (names_inside os body) (head_names head) (var_names s)) (p.function ∙ fn) (p.names ∙ nm) (p.top ∙ tp) (p.functions ∙ fns) (p.tall ∙ tall);
+              (λ names. append_assoc (names_inside os names) (head_names head) (var_names s)) (p.function ∙ fn) (p.names ∙ nm) (p.top ∙ tp) (p.functions ∙ fns) (p.tall ∙ tall);
           tree = pushed-tree held.nodes after.nodes (node now.form now.start stated.«end» None) (node (head_form head) (head_start head) (statement_end s) None) (with_head head (one (statement_tree s))) now.children.items whole.node
               (subst (λ (ns : List ℕ). AreTreesOf (with_head head (one (statement_tree s))) held.nodes ns) (sym fc) (with-head-then head NoTrees (statement_tree s) held.nodes form.children.items stated.node f.trees h.tree))
               (p.node ∙ ap (λ x. length x) nd) grown (same-form now.form (head_form head) now.start (head_start head) stated.«end» (statement_end s) (ff ∙ f.is) (st ∙ f.start) h.stops);
@@ -544,7 +551,7 @@ block-ended tokens place whole held middle after form now rest t r there fs bloc
           ends = λ facts. subst (λ n. Ended os outer tokens (Block o done token) n) (sym p.behind_is) (ended-block facts os outer tokens place (place + 1) o done token (e facts) within there.2 (sym (drop-there tokens place token there.1)));
           keeps = keeps-as held after (InBlock o done ∷ os) os outer [] (all_var_names done) k (record { more = _; added = grown })
               (subst (λ (x : List OpenForm). FormsStand x after.nodes os outer) (sym (p.forms ∙ mf)) (forms-grow rest held.nodes after.nodes os outer (record { more = _; added = grown }) all.1))
-              (λ body. append-nil (names_inside os body ++ all_var_names done)) (p.function ∙ fn) (p.names ∙ nm) (p.top ∙ tp) (p.functions ∙ fns) (p.tall ∙ tall);
+              (λ names. append-nil (names_inside os names ++ all_var_names done)) (p.function ∙ fn) (p.names ∙ nm) (p.top ∙ tp) (p.functions ∙ fns) (p.tall ∙ tall);
           tree = pushed-tree held.nodes after.nodes (node now.form now.start (slice_index_or tokens place t).«end» None) (node BlockForm o.start token.«end» None) (statement_trees done) now.children.items whole.node
               (subst (λ (ns : List ℕ). AreTreesOf (statement_trees done) held.nodes ns) (sym fc) f.trees)
               (p.node ∙ ap (λ x. length x) nd) grown (same-form now.form BlockForm now.start o.start (slice_index_or tokens place t).«end» token.«end» (ff ∙ f.is) (st ∙ f.start) stop);
@@ -569,7 +576,7 @@ kept-at tokens place held after r past none closed fo nd fn nm tp fns tall = of 
       items = done;
       is = λ facts. is-program done tokens place (s facts) (drop_of_length-le tokens past);
       keeps = keeps-as held after [] [] (InProgram done) [] [] k (grows-same held.nodes after.nodes nd)
-          (subst (λ (y : List OpenForm). FormsStand y after.nodes [] (InProgram done)) (sym (fo ∙ none)) tt) (λ body. refl) fn nm tp fns tall;
+          (subst (λ (y : List OpenForm). FormsStand y after.nodes [] (InProgram done)) (sym (fo ∙ none)) tt) (λ names. refl) fn nm tp fns tall;
     }
 
 pub setting-is : (a b : Bool) (p : Setting) → a ≡ p.in_loop → b ≡ p.in_function → setting a b ≡ p
@@ -587,6 +594,7 @@ whole-told tokens reader outcome k o program e =
       record {
         top = subst (λ (rows : List NodeRow). AreTreesOf (top_trees k.items) rows program.top) (sym w.1) (subst (λ (ns : List ℕ). AreTreesOf (top_trees k.items) reader.nodes ns) (sym w.2) k.keeps.top);
         functions = subst (λ (rows : List NodeRow). AreFunctionsOf (functions_of k.items) rows program.functions) (sym w.1) (subst (λ (fs : List ToldFunction). AreFunctionsOf (functions_of k.items) reader.nodes fs) (sym w.3) k.keeps.functions);
+        variables = w.4 ∙ (k.keeps.names ∙ (ap (λ xs. with_names [] xs) (append-nil (outer_names k.items)) ∙ names-once (outer_names k.items)));
       },
     )
 

@@ -50,6 +50,9 @@ with-on : (known xs ys : List (List ℕ)) → with_names known (xs ++ ys) ≡ wi
 with-on known [] ys = refl
 with-on known (x ∷ xs) ys = with-on (with_name known x) xs ys
 
+pub names-once : (xs : List (List ℕ)) → with_names [] xs ≡ new_names [] xs
+names-once xs = with-new xs [] [] (λ x. refl)
+
 pub locals-are : (ps xs : List (List ℕ)) → IsDistinct is_same ps → with_names ps xs ≡ new_names [] (ps ++ xs)
 locals-are ps xs d =
-    ap (λ ns. with_names ns xs) (sym (with-distinct ps [] d)) ∙ (sym (with-on [] ps xs) ∙ with-new (ps ++ xs) [] [] (λ x. refl))
+    ap (λ ns. with_names ns xs) (sym (with-distinct ps [] d)) ∙ (sym (with-on [] ps xs) ∙ names-once (ps ++ xs))

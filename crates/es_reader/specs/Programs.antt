@@ -73,6 +73,12 @@ abbrev mutual
   all_var_names NoStatements = []
   all_var_names (OneMore first others) = var_names first ++ all_var_names others
 
+-- the names of the `var`s that stand in no function
+abbrev pub outer_names : List Item → List (List ℕ)
+outer_names [] = []
+outer_names (Function declared ∷ items) = outer_names items
+outer_names (Single statement ∷ items) = var_names statement ++ outer_names items
+
 abbrev pub is_among : List ℕ → List (List ℕ) → Bool
 is_among name [] = false
 is_among name (other ∷ others) = is_same name other || is_among name others
@@ -83,9 +89,9 @@ new_names known [] = []
 new_names known (name ∷ names) =
     cond (is_among name known) (new_names known names) (name ∷ new_names (name ∷ known) names)
 
--- What is told of a program: its nodes, the numbers of its statements' nodes in the order of the text, and its
--- functions, each with its name, the parameters and then the names of its `var`s, each once, how many of these are
--- parameters, and the numbers of its statements' nodes.
+-- What is told of a program: its nodes, the numbers of its statements' nodes in the order of the text, its functions,
+-- each with its name, the parameters and then the names of its `var`s, each once, how many of these are parameters,
+-- and the numbers of its statements' nodes; and the names of the `var`s outside of functions, each once.
 
 pub record ToldFunction : Type 0 where
   pub name : List ℕ
@@ -97,6 +103,7 @@ pub record ToldProgram : Type 0 where
   pub rows : List NodeRow
   pub top : List ℕ
   pub functions : List ToldFunction
+  pub variables : List (List ℕ)
 
 -- the trees have these numbers, one by one
 abbrev pub AreTreesOf : Trees → List NodeRow → List ℕ → Type 0
@@ -132,3 +139,4 @@ functions_of (Single statement ∷ items) = functions_of items
 pub record Tells (items : List Item) (told : ToldProgram) : Type 0 where
   pub top : AreTreesOf (top_trees items) told.rows told.top
   pub functions : AreFunctionsOf (functions_of items) told.rows told.functions
+  pub variables : told.variables ≡ new_names [] (outer_names items)

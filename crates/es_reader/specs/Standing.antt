@@ -15,7 +15,7 @@ use Rattle.es_reader.specs.Statements.{Statement, Statements, Item, spelled}
 use Rattle.es_reader.specs.Grammar.{Setting, name_of, parameter_names, IsWord, IsMark, IsStatement, IsProgram}
 use Rattle.es_reader.specs.Meaning.{head_form, head_start, with_head, statement_tree, statement_trees, statement_end}
 use Rattle.es_reader.specs.Levels.{head_levels, levels, all_levels, program_levels}
-use Rattle.es_reader.specs.Programs.{head_names, var_names, all_var_names, AreTreesOf, AreFunctionsOf, top_trees, functions_of}
+use Rattle.es_reader.specs.Programs.{head_names, var_names, all_var_names, outer_names, AreTreesOf, AreFunctionsOf, top_trees, functions_of}
 use Rattle.es_reader.specs.Openings.{Opening, Front, Outer, place_in, written, AreRead, MayCome, MayFollow, Leads}
 use Rattle.es_reader.specs.Openings.Opening.{InBlock, InHead, InElse}
 use Rattle.es_reader.specs.Openings.Outer.{InProgram, InFunction}
@@ -91,28 +91,31 @@ abbrev pub levels_of_outer : Outer → ℕ
 levels_of_outer (InProgram done) = program_levels done
 levels_of_outer (InFunction done front body) = max (program_levels done) (all_levels body)
 
-pub record FunctionStands (function : OpenFunction) (rows : List NodeRow) (front : Front) (statements : Statements) : Type 0 where
+-- what is kept of the open function, and of the names in front of it
+pub record FunctionStands (function : OpenFunction) (rows : List NodeRow) (done : List Item) (front : Front) (statements : Statements) : Type 0 where
   pub name : function.name ≡ name_of front.name.symbol
   pub parameters : function.parameters ≡ length (parameter_names front.parameters)
   pub differ : IsDistinct is_same (parameter_names front.parameters)
   pub body : AreTreesOf (statement_trees statements) rows function.body.items
+  pub outer : function.outer ≡ with_names [] (outer_names done)
 
 abbrev pub MayBeOpen : Option OpenFunction → List NodeRow → Outer → Type 0
 MayBeOpen None rows (InProgram done) = Unit {0}
-MayBeOpen (Some function) rows (InFunction done front body) = FunctionStands function rows front body
+MayBeOpen (Some function) rows (InFunction done front body) = FunctionStands function rows done front body
 MayBeOpen None rows (InFunction done front body) = ⊥
 MayBeOpen (Some function) rows (InProgram done) = ⊥
 
--- the names that are declared in the open function, as far as it is read
-abbrev pub names_inside : List Opening → Statements → List (List ℕ)
-names_inside [] body = all_var_names body
-names_inside (opening ∷ openings) body = names_inside openings body ++ names_of_opening opening
+-- the names that are declared in front of the open forms, and then in them
+abbrev pub names_inside : List Opening → List (List ℕ) → List (List ℕ)
+names_inside [] front = front
+names_inside (opening ∷ openings) front = names_inside openings front ++ names_of_opening opening
 
--- the names are those of the open function, and these more
+-- the names are those of the open function, or where none is open of the program, and these more
 abbrev pub NamesStand : List (List ℕ) → List Opening → Outer → List (List ℕ) → Type 0
-NamesStand names openings (InProgram done) more = Unit {0}
+NamesStand names openings (InProgram done) more =
+    names ≡ with_names [] (names_inside openings (outer_names done) ++ more)
 NamesStand names openings (InFunction done front body) more =
-    names ≡ with_names (parameter_names front.parameters) (names_inside openings body ++ more)
+    names ≡ with_names (parameter_names front.parameters) (names_inside openings (all_var_names body) ++ more)
 
 -- what is kept of a program
 pub record Keeps (reader : Reader) (openings : List Opening) (outer : Outer) (more : List (List ℕ)) : Type 0 where
@@ -215,7 +218,7 @@ abbrev pub HasOneMore : ℕ → Option OpenFunction → Option OpenFunction → 
 HasOneMore node None None before after = after ≡ before ++ (node ∷ [])
 HasOneMore node (Some one) (Some other) before after =
     (other.name ≡ one.name) × (other.parameters ≡ one.parameters)
-    × (other.body.items ≡ one.body.items ++ (node ∷ [])) × (after ≡ before)
+    × (other.body.items ≡ one.body.items ++ (node ∷ [])) × (other.outer ≡ one.outer) × (after ≡ before)
 HasOneMore node (Some one) None before after = ⊥
 HasOneMore node None (Some other) before after = ⊥
 
@@ -230,7 +233,7 @@ pub record Puts (node height : ℕ) (before after : Reader) : Type 0 where
 abbrev pub IsOutcome : Reader → Reading → Type 0
 IsOutcome reader (Whole program) =
     (reader.height ≤ 64) × (program.rows ≡ reader.nodes) × (program.top ≡ reader.top.items)
-    × (program.functions ≡ map told_function reader.functions.items)
+    × (program.functions ≡ map told_function reader.functions.items) × (program.variables ≡ reader.names)
 IsOutcome reader TooDeep = 65 ≤ reader.height
 IsOutcome reader (Bad place) = ⊥
 

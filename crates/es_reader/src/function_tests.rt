@@ -65,3 +65,41 @@ fn locals_each_once_in_order(rt: HostRuntime) {
     ];
     read_each(&rt, rt.alloc(), Detail::Forms, &cases);
 }
+
+#[test]
+fn variables_each_once_in_order(rt: HostRuntime) {
+    let cases: [(&[u8], &[u8]); 5] = [
+        (b"", b""),
+        (b"a=b;for(c in d);", b""),
+        (b"var a,b=c,a;var b,d", b"a b d"),
+        (
+            b"{var a;{{var b}}}if(c)var d;else var a,e;while(f)var g",
+            b"a b d e g",
+        ),
+        (b"for(var a=b,c;;)for(var d in a)var e,c", b"a c d e"),
+    ];
+    read_each(&rt, rt.alloc(), Detail::Variables, &cases);
+}
+
+#[test]
+fn variables_without_those_of_functions(rt: HostRuntime) {
+    let cases: [(&[u8], &[u8]); 5] = [
+        (b"function f(a){var b}", b""),
+        (
+            b"function f(){var a}function g(){for(var b;;);}{var c}",
+            b"c",
+        ),
+        (
+            b"var a;function f(b){var c,d}var e;function g(e){var a,f}",
+            b"a e",
+        ),
+        // A name may be a variable and a local, whichever comes first.
+        (
+            b"var a;function f(b){var a,c}var c,a;function g(){var d}var b",
+            b"a c b",
+        ),
+        // A function's own name is none, unless a `var` has it too.
+        (b"function f(){}function g(){}var g", b"g"),
+    ];
+    read_each(&rt, rt.alloc(), Detail::Variables, &cases);
+}

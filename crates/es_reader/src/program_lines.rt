@@ -1,4 +1,5 @@
-//! Programs as lines for the tests: their trees and functions, or where they go wrong.
+//! Programs as lines for the tests: their trees and functions, or the names of their `var`s outside of
+//! functions, or where they go wrong.
 
 use crate::*;
 use bml_bytes::{NoMemory, Text, push_count, push_word};
@@ -9,11 +10,13 @@ use std::process::Abort;
 // More than a line here has of statements, of functions and of steps through a tree.
 const MOST: u32 = 1_000;
 
-// What is printed of a program: its nodes, or its nodes with their places.
+// What is printed of a program: its nodes, its nodes with their places, or the names of its `var`s
+// outside of functions.
 #[derive(Clone, Copy)]
 pub enum Detail {
     Forms,
     Places,
+    Variables,
 }
 
 // A node on the way through a tree, and the place of its child that comes next.
@@ -175,12 +178,29 @@ fn push_program(program: &Program, detail: Detail, out: &mut Vec<u8>) -> Result<
     Ok(())
 }
 
+// The names of the `var`s outside of functions.
+fn push_variables(program: &Program, out: &mut Vec<u8>) -> Result<(), NoMemory> {
+    for place in 0..MOST {
+        let Some(name) = program.variable(place) else {
+            break;
+        };
+        if 0 < place {
+            out.push(b' ')?;
+        }
+        name.push_bytes(out)?;
+    }
+    Ok(())
+}
+
 // A line for a text: its program, `deep`, or `bad` and the place.
 fn line_of(alloc: Global, bytes: &[u8], detail: Detail) -> Result<Vec<u8>, NoMemory> {
     let mut out = Vec::new(alloc);
     let text = Text::of_bytes(alloc, bytes)?;
     match read_program(alloc, &text) {
-        Ok(program) => push_program(&program, detail, &mut out)?,
+        Ok(program) => match detail {
+            Detail::Variables => push_variables(&program, &mut out)?,
+            _ => push_program(&program, detail, &mut out)?,
+        },
         Err(SyntaxFault::Bad { place }) => {
             push_word("bad ", &mut out)?;
             push_count(place as u64, &mut out)?;

@@ -18,13 +18,14 @@ pub struct FunctionDecl {
     pub body: Vec<u32>,
 }
 
-/// A program: the nodes of its statements, by number, and its functions. Contracts see what is told
-/// of it.
+/// A program: the nodes of its statements, by number, its functions, and the names of the `var`s
+/// that stand in none. Contracts see what is told of it.
 #[derive(Debug, Drop)]
 pub struct Program {
     nodes: Nodes,
     top: Vec<u32>,
     functions: Vec<FunctionDecl>,
+    variables: Vec<Text>,
 }
 
 impl Model for Program {
@@ -38,20 +39,28 @@ impl Model for Program {
       rows = program.nodes;
       top = program.top.items;
       functions = map told_function program.functions.items;
+      variables = program.variables.items;
     } };
 }
 
 impl Program {
     // A program of its parts.
-    pub(crate) fn of(nodes: Nodes, top: Vec<u32>, functions: Vec<FunctionDecl>) -> Program
+    pub(crate) fn of(
+        nodes: Nodes,
+        top: Vec<u32>,
+        functions: Vec<FunctionDecl>,
+        variables: Vec<Text>,
+    ) -> Program
         ensures rows { result.rows ≡ nodes }
         ensures top { result.top ≡ top.items }
         ensures functions { result.functions ≡ map told_function functions.items }
+        ensures variables { result.variables ≡ variables.items }
     {
         Program {
             nodes,
             top,
             functions,
+            variables,
         }
     }
 
@@ -72,6 +81,22 @@ impl Program {
         children.get(place as usize).copied()
     }
 
+    /// The numbers of a node's children, in the order of the text, and None past the last node.
+    pub fn children(&self, number: u32) -> Option<&[u32]>
+        ensures { option_map (λ children. children.now) result
+            ≡ option_map (λ row. row.children) (slice_get self.now.rows number) }
+    {
+        self.nodes.children(number)
+    }
+
+    /// The numbers of its statements' nodes, in the order of the text and without those of
+    /// functions.
+    pub fn statements(&self) -> &[u32]
+        ensures { result.now ≡ self.now.top }
+    {
+        self.top.as_slice()
+    }
+
     /// The number of a statement's node, in the order of the text and without those of functions,
     /// and None past the last one.
     pub fn top(&self, place: u32) -> Option<u32>
@@ -80,11 +105,33 @@ impl Program {
         self.top.get(place as usize).copied()
     }
 
+    /// Its functions, in the order of the text.
+    pub fn functions(&self) -> &[FunctionDecl]
+        ensures { map told_function result.now ≡ self.now.functions }
+    {
+        self.functions.as_slice()
+    }
+
     /// A function, in the order of the text, and None past the last one.
     pub fn function(&self, place: u32) -> Option<&FunctionDecl>
         ensures { option_map (λ function. told_function function.now) result
             ≡ slice_get self.now.functions place }
     {
         self.functions.get(place as usize)
+    }
+
+    /// The names of the `var`s that stand in no function, each once, in the order of the text.
+    pub fn variables(&self) -> &[Text]
+        ensures { result.now ≡ self.now.variables }
+    {
+        self.variables.as_slice()
+    }
+
+    /// The name of a `var` that stands in no function, each once, in the order of the text, and None
+    /// past the last one.
+    pub fn variable(&self, place: u32) -> Option<&Text>
+        ensures { option_map (λ name. name.now) result ≡ slice_get self.now.variables place }
+    {
+        self.variables.get(place as usize)
     }
 }

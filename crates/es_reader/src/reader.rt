@@ -28,6 +28,7 @@ use bml_bytes::{NoMemory, Text};
 use es_expressions::{Form, Lexeme, Node, Nodes, Symbol, law_of_ends, law_of_expressions};
 use es_lexer::{Punctuator, ReservedWord};
 use std::alloc::Global;
+use std::mem;
 
 /// What tokens are: a program; one that is nested too deep; or Bad, with the place of the token
 /// with which no program goes on, or behind the last one.
@@ -38,12 +39,14 @@ pub enum Reading {
     Bad(usize),
 }
 
-// The function that is open: its name, how many parameters it has, and its statements so far.
-#[derive(Debug, Drop)]
+// The function that is open: its name, how many parameters it has, its statements so far, and the
+// names that were declared in front of it, outside of functions.
+#[derive(Drop)]
 pub struct OpenFunction {
     pub name: Text,
     pub parameters: u32,
     pub body: Vec<u32>,
+    pub outer: Names,
 }
 
 // What became of a form with a whole statement: it stays open, and the token behind is at this
@@ -55,8 +58,8 @@ pub enum Joined {
 }
 
 // What is read so far: the open forms and the function round them, the names that were declared in
-// it, the statements and functions of the program, and how deep all statements outside of open
-// forms are nested.
+// it or, where none is open, outside of functions, the statements and functions of the program, and
+// how deep all statements outside of open forms are nested.
 #[derive(Drop)]
 pub struct Reader {
     pub nodes: Nodes,
@@ -84,7 +87,7 @@ pub fn read_tokens(alloc: Global, tokens: &[Lexeme]) -> Result<Reading, NoMemory
     law_of_ends();
     let mut reader = Reader::new(alloc);
     match reader.read_all(tokens) {
-        Ok(()) => Ok(reader.finish()),
+        Ok(()) => reader.finish(),
         Err(PartFault::Bad(place)) => Ok(Reading::Bad(place)),
         Err(PartFault::NoMemory) => Err(NoMemory),
     }
@@ -253,8 +256,8 @@ impl Reader {
             name: front.name,
             parameters: front.parameters,
             body: Vec::new(alloc),
+            outer: mem::replace(&mut self.names, front.names),
         });
-        self.names = front.names;
         Ok(front.behind)
     }
 
@@ -288,9 +291,11 @@ impl Reader {
         let Some(function) = self.function.take() else {
             return Err(PartFault::Bad(place));
         };
+        let locals = self.names.texts()?;
+        self.names = function.outer;
         self.functions.push(FunctionDecl {
             name: function.name,
-            locals: self.names.texts()?,
+            locals,
             parameters: function.parameters,
             body: function.body,
         })?;
@@ -387,13 +392,15 @@ impl Reader {
     }
 
     // The program, where it isn't nested too deep.
-    fn finish(self) -> Reading
-        ensures { IsOutcome self result }
+    fn finish(self) -> Result<Reading, NoMemory>
+        ensures { IfOk result (IsOutcome self) }
     {
         if 64 < self.height {
-            return Reading::TooDeep;
+            return Ok(Reading::TooDeep);
         }
-        Reading::Whole(Program::of(self.nodes, self.top, self.functions))
+        let variables = self.names.texts()?;
+        let program = Program::of(self.nodes, self.top, self.functions, variables);
+        Ok(Reading::Whole(program))
     }
 }
 

@@ -8,7 +8,7 @@ use Rattle.es_reader.proofs.reader.Reader.open_function.Goals as goal
 pub returns-clause-goes : goal.returns-clause-goes
 returns-clause-goes c =
     function-opened c.args.tokens.now c.args.place c.args.self.now _ _ c.in_ok-front.front c.requires.reads (c.is_empty.ensures.0 (search rules)) (search rules)
-    (c.in_ok-front.ensures {u = tt}).front refl refl refl c.new.ensures.items refl refl refl refl refl refl
+    (c.in_ok-front.ensures {u = tt}).front refl refl refl c.new.ensures.items c.replace.ensures.value c.replace.ensures.after refl refl refl refl refl
 
 pub returns-then-is_some-clause-bad : goal.returns-then-is_some-clause-bad
 returns-then-is_some-clause-bad c = function-in-function c.args.tokens.now c.args.place c.args.self.now c.requires.reads c.requires.there (search rules)
