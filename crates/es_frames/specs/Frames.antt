@@ -1,7 +1,7 @@
 -- The control stack of a script that runs: the calls that are open, each with its names and with the items of
 -- work that it still has. The last one stands in front of the list, and so does the item put last. (This
 -- project's own.)
-use Rattle.std.specs.Prelude.{◌≡◌, ℕ, Bool, false, ◌||◌, List, [], ◌∷◌, map, Option, Some, None, slice_get, slice_set}
+use Rattle.std.specs.Prelude.{ℕ, List, [], ◌∷◌, map, Option, Some, None, slice_get, slice_set}
 use Rattle.std.specs.List.{position}
 use Rattle.std.specs.Option.{option_map, option_map_or}
 use Rattle.bml_bytes.specs.Words.{is_same}
@@ -17,15 +17,6 @@ pub record Frame (W : Type 0) : Type 0 where
 -- a new one: each name is Undefined, and there is no item
 abbrev pub new_frame : {W : Type 0} → List (List ℕ) → Value → Frame W
 new_frame names this = record { this = this; slots = map (λ name. (name, Undefined)) names; items = [] }
-
--- names that differ
-abbrev pub is_among : List ℕ → List (List ℕ) → Bool
-is_among name [] = false
-is_among name (other ∷ rest) = is_same name other || is_among name rest
-
-abbrev pub AreDistinct : List (List ℕ) → Type 0
-AreDistinct [] = Unit {0}
-AreDistinct (name ∷ rest) = (is_among name rest ≡ false) × AreDistinct rest
 
 -- What the last frame has
 

@@ -5,7 +5,7 @@ ghost use Rattle.std.specs.Option.{option_copied};
 ghost use Rattle.std.specs.List.{position};
 ghost use Rattle.bml_bytes.specs.Words.{is_same};
 ghost use Rattle.es_values.specs.declared.values.Value.TheVariants.{Undefined};
-ghost use Rattle.es_frames.specs.Frames.{AreDistinct, below_last, new_frame, next_item, place_of as spec_place_of, slots_of, this_of, value_at, with_item, with_value, with_value_in, without_item};
+ghost use Rattle.es_frames.specs.Frames.{below_last, new_frame, next_item, place_of as spec_place_of, slots_of, this_of, value_at, with_item, with_value, with_value_in, without_item};
 
 use bml_bytes::{NoMemory, Text};
 use es_values::Value;
@@ -61,7 +61,6 @@ impl<W: Drop> Frames<W> {
 
     /// Adds a frame with this `this`, in which each of the names is Undefined.
     pub fn push(&mut self, names: &[Text], this: Value) -> Result<(), NoMemory>
-        requires names { AreDistinct names.now }
         requires count { length names.now < 2 ^ 32 }
         requires depth { length self.old ≤ 64 }
         ensures ok { OnOk result (self.new ≡ new_frame names.now this ∷ self.old) }
