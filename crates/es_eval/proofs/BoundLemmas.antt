@@ -87,7 +87,7 @@ all-alike functions (suc room) (suc n) (suc m) h l =
 
 -- ---- what a bound that is enough gives
 
-agree-onward : {A : Type 0} {left : ℕ} {next other : Next A} → Agree left next other
+pub agree-onward : {A : Type 0} {left : ℕ} {next other : Next A} → Agree left next other
     → Onward false left next other
 agree-onward agree = record {
   on = λ x w h. record { run = agree.on x w h; ends = λ asked. cc };
@@ -100,7 +100,7 @@ expressions-bound functions n m e w next other h l agree =
     (((all-alike functions (enough w.left) n m h l).expressions w.left e (omega arith)).same false w
     (omega arith) next other (agree-onward agree)).run
 
-need-enough : (left : ℕ) (task : Task) → need left task ≤ enough left
+pub need-enough : (left : ℕ) (task : Task) → need left task ≤ enough left
 need-enough left (Do statement) = omega arith
 need-enough left (Turn test update body) = omega arith
 need-enough left (Visit visitor object names body) = omega arith

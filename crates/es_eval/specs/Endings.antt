@@ -31,3 +31,14 @@ MayEnd {H} reads writes calls (Calls base name arguments heap go) h outcome_afte
     × calls h base name arguments heap answer next heap_after × IsAnswer heap_after answer
     × KeepsHeap heap arguments heap_after
     × MayEnd reads writes calls (go answer heap_after) next outcome_after w_after h_after
+
+-- The run may end so with what is left of a script: its globals and objects.
+abbrev pub EndsWith : {H : Type 0}
+    → (H → HostRef → List ℕ → Value → H → Type 0)
+    → (H → HostRef → List ℕ → Value → List ObjectState → H → Type 0)
+    → (H → HostRef → List ℕ → List Value → List ObjectState → HostAnswer → H
+    → List ObjectState → Type 0)
+    → Run → H → Outcome → List (List ℕ × Value) → List ObjectState → H → Type 0
+EndsWith {H} reads writes calls run h outcome globals heap h_after =
+    (w : World) × (w.globals ≡ globals) × (w.heap ≡ heap)
+    × MayEnd reads writes calls run h outcome w h_after

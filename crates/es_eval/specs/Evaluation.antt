@@ -1,7 +1,7 @@
 -- Evaluation of programs (ECMA-262 second edition, 10 to 14, in this profile): the rows, with a step for each
 -- statement and each node of an expression. A bound makes the recursion end; a script that is within its
 -- steps never meets it.
-use Rattle.std.specs.Prelude.{ℕ, zero, suc, ◌+◌, ◌*◌, List, [], ◌∷◌, ◌++◌, length, map, Option, Some, None, is_some, if◌then◌else◌}
+use Rattle.std.specs.Prelude.{ℕ, zero, suc, ◌+◌, ◌*◌, List, [], ◌∷◌, ◌++◌, length, map, take, slice_get, Option, Some, None, is_some, if◌then◌else◌}
 use Rattle.std.specs.List.{flat_map, sum_by}
 use Rattle.std.specs.Option.{option_map_or}
 use Rattle.es_values.specs.declared.values.Value.{Value}
@@ -110,6 +110,13 @@ unfoldable pub program_run : List Program → List Program → Program → List 
     → List ObjectState → ℕ → Run
 program_run programs before program globals heap budget =
     program_run_by (enough budget) programs before program globals heap budget
+
+-- the program at a place among programs
+unfoldable pub run_at : List Program → ℕ → List (List ℕ × Value) → List ObjectState → ℕ → Run
+run_at programs place globals heap budget =
+    option_map_or
+    (λ program. program_run programs (take place programs) program globals heap budget)
+    (slice_get programs place) (Over AtEnd (world globals heap budget))
 
 -- a global that is called without arguments
 unfoldable pub global_run_by : ℕ → List Program → List ℕ → List (List ℕ × Value)

@@ -9,3 +9,12 @@ pub mod Calls
 pub mod Rows
 pub mod Evaluation
 pub mod Bounds
+pub mod Codes
+pub mod Numbers
+pub mod Shapes
+pub mod Unbounded
+pub mod Calculations
+pub mod Works
+pub mod Machines
+pub mod Soundness
+pub mod Decoding

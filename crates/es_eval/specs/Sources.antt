@@ -1,26 +1,22 @@
--- Which programs texts are, as they are evaluated: what is written, without its tokens. (This project's
--- own, for lack of one in the standards.)
-use Rattle.std.specs.Prelude.{ℕ, Bool, true, false, ℤ, pos, List, [], ◌∷◌, ◌++◌, Option, Some, None, option_map, length}
+-- Which programs texts are, as they are evaluated: what the trees mean that the grammar gives them, form by
+-- form. A tree with fewer parts than its form has is no program's, and means `this` or nothing. (This
+-- project's own, for lack of one in the standards.)
+use Rattle.std.specs.Prelude.{ℕ, Bool, true, false, ℤ, List, [], ◌∷◌, ◌++◌, Option, Some, None, length, map}
 use Rattle.es_lexer.specs.declared.punctuators.Punctuator.{Punctuator}
 use Rattle.es_lexer.specs.declared.punctuators.Punctuator.TheVariants as mark
 use Rattle.es_lexer.specs.declared.words.ReservedWord.{ReservedWord}
 use Rattle.es_lexer.specs.declared.words.ReservedWord.TheVariants as word
-use Rattle.es_expressions.specs.Phrases.{Phrase}
-use Rattle.es_expressions.specs.Phrases.Phrase.{Assign as PhraseAssign, Binary as PhraseBinary, CallEmpty as PhraseCallEmpty, CallWith as PhraseCallWith, Choice as PhraseChoice, Comma as PhraseComma, Group as PhraseGroup, Index as PhraseIndex, Leaf as PhraseLeaf, Member as PhraseMember, NewEmpty as PhraseNewEmpty, NewPlain as PhraseNewPlain, NewWith as PhraseNewWith, Postfix as PhrasePostfix, Signed as PhraseSigned, Stepped as PhraseStepped}
-use Rattle.es_expressions.specs.declared.lexemes.Lexeme.{Lexeme}
+use Rattle.es_expressions.specs.Trees.{Tree, Trees}
+use Rattle.es_expressions.specs.Trees.Tree.{TreeOf}
+use Rattle.es_expressions.specs.Trees.Trees.{NoTrees, OneMore as OneMoreTree}
 use Rattle.es_expressions.specs.declared.lexemes.Symbol.{Symbol}
 use Rattle.es_expressions.specs.declared.lexemes.Symbol.TheVariants as symbol
+use Rattle.es_expressions.specs.declared.nodes.Form.{Form}
+use Rattle.es_expressions.specs.declared.nodes.Form.TheVariants as form
 use Rattle.es_reader.specs.Grammar.{name_of, parameter_names}
-use Rattle.es_reader.specs.Programs.{all_var_names, new_names, var_names}
+use Rattle.es_reader.specs.Meaning.{statement_trees}
+use Rattle.es_reader.specs.Programs.{all_var_names, functions_of, new_names, outer_names, top_trees}
 use Rattle.es_reader.specs.Statements as written
-use Rattle.es_reader.specs.Statements.Declaration.{Bare, Valued}
-use Rattle.es_reader.specs.Statements.Item.{Function as ItemFunction, Single as ItemSingle}
-use Rattle.es_reader.specs.Statements.Simple.{Empty as SimpleEmpty, Expression as SimpleExpression, Jump as SimpleJump, Return as SimpleReturn, Var as SimpleVar}
-use Rattle.es_reader.specs.Statements.First.{FirstExpression as HeadFirstExpression, FirstVar as HeadFirstVar, NoFirst as HeadNoFirst}
-use Rattle.es_reader.specs.Statements.Visitor.{Target as HeadTarget, Variable as HeadVariable}
-use Rattle.es_reader.specs.Statements.Head.{For as HeadFor, ForIn as HeadForIn, If as HeadIf, While as HeadWhile}
-use Rattle.es_reader.specs.Statements.Statement.{Alone as WrittenAlone, Block as WrittenBlock, Headed as WrittenHeaded, IfElse as WrittenIfElse}
-use Rattle.es_reader.specs.Statements.Statements.{NoStatements as WrittenNoStatements, OneMore as WrittenOneMore}
 use Rattle.es_eval.specs.declared.operators.Operator.{Operator}
 use Rattle.es_eval.specs.declared.operators.Operator.TheVariants as the
 use Rattle.es_eval.specs.declared.operators.Sign.{Sign}
@@ -66,25 +62,26 @@ operator_of_mark mark.BitOr = the.BitOr
 operator_of_mark mark.OrAssign = the.BitOr
 operator_of_mark _ = the.Plus
 
-abbrev pub operator_of : Symbol → Operator
-operator_of (symbol.Mark mark) = operator_of_mark mark
-operator_of _ = the.Plus
-
 -- an expression with two operands
-abbrev pub joined_by_mark : Punctuator → Expression → Expression → Expression
-joined_by_mark mark.LogicalAnd left right = And left right
-joined_by_mark mark.LogicalOr left right = Or left right
-joined_by_mark mark left right = Binary (operator_of_mark mark) left right
+abbrev pub joined_by : Punctuator → Expression → Expression → Expression
+joined_by mark.LogicalAnd left right = And left right
+joined_by mark.LogicalOr left right = Or left right
+joined_by mark left right = Binary (operator_of_mark mark) left right
 
-abbrev pub joined_by : Symbol → Expression → Expression → Expression
-joined_by (symbol.Mark mark) left right = joined_by_mark mark left right
-joined_by _ left right = Binary the.Plus left right
+-- what is written to; the grammar has no other target
+abbrev pub target_of : Expression → Target
+target_of (Name name) = NameTarget name
+target_of (Index base key) = IndexTarget base key
+target_of (Member base name) = MemberTarget base name
+target_of _ = NameTarget []
 
 -- an expression with an operator in front
 abbrev pub signed_by_mark : Punctuator → Expression → Expression
 signed_by_mark mark.Minus operand = Signed sign.Minus operand
 signed_by_mark mark.Complement operand = Signed sign.Complement operand
 signed_by_mark mark.Not operand = Signed sign.Not operand
+signed_by_mark mark.Increment operand = Stepped true false (target_of operand)
+signed_by_mark mark.Decrement operand = Stepped true true (target_of operand)
 signed_by_mark _ operand = Signed sign.Plus operand
 
 abbrev pub signed_by_word : ReservedWord → Expression → Expression
@@ -95,171 +92,174 @@ signed_by_word _ operand = Void operand
 abbrev pub signed_by : Symbol → Expression → Expression
 signed_by (symbol.Mark mark) operand = signed_by_mark mark operand
 signed_by (symbol.Word word) operand = signed_by_word word operand
-signed_by _ operand = Void operand
+signed_by _ operand = This
 
-abbrev pub is_decrement : Symbol → Bool
-is_decrement (symbol.Mark mark.Decrement) = true
+abbrev pub is_decrement : Punctuator → Bool
+is_decrement mark.Decrement = true
 is_decrement _ = false
 
 -- an assignment, by `=` or with an operator
-abbrev pub assigned_by_mark : Punctuator → Target → Expression → Expression
-assigned_by_mark mark.Assign target value = Assign target value
-assigned_by_mark mark target value = Update (operator_of_mark mark) target value
+abbrev pub assigned_by : Punctuator → Target → Expression → Expression
+assigned_by mark.Assign target value = Assign target value
+assigned_by mark target value = Update (operator_of_mark mark) target value
 
-abbrev pub assigned_by : Symbol → Target → Expression → Expression
-assigned_by (symbol.Mark mark) target value = assigned_by_mark mark target value
-assigned_by _ target value = Assign target value
+-- ---- parts
+
+abbrev pub of_one : (Expression → Expression) → Expressions → Expression
+of_one f (OneMore first rest) = f first
+of_one f NoExpressions = This
+
+abbrev pub of_two : (Expression → Expression → Expression) → Expressions → Expression
+of_two f (OneMore first (OneMore second rest)) = f first second
+of_two f _ = This
+
+abbrev pub of_three : (Expression → Expression → Expression → Expression) → Expressions
+    → Expression
+of_three f (OneMore first (OneMore second (OneMore third rest))) = f first second third
+of_three f _ = This
+
+-- the first and all others
+abbrev pub of_list : (Expression → Expressions → Expression) → Expressions → Expression
+of_list f (OneMore first rest) = f first rest
+of_list f NoExpressions = This
+
+abbrev pub of_symbol : (Symbol → Expression) → Option Symbol → Expression
+of_symbol f (Some symbol) = f symbol
+of_symbol f None = This
+
+abbrev pub of_mark : (Punctuator → Expression) → Option Symbol → Expression
+of_mark f (Some (symbol.Mark mark)) = f mark
+of_mark f _ = This
+
+abbrev pub of_name : (List ℕ → Expression) → Option Symbol → Expression
+of_name f (Some (symbol.Name name)) = f name
+of_name f _ = This
+
+-- of a leaf
+abbrev pub of_leaf : Option Symbol → Expression
+of_leaf (Some (symbol.Name name)) = Name name
+of_leaf (Some (symbol.Number number)) = Number number
+of_leaf (Some (symbol.Words words)) = Text words
+of_leaf _ = This
 
 -- ---- expressions
 
-abbrev pub word_expression : ReservedWord → Expression
-word_expression word.Null = Null
-word_expression word.True = Truth true
-word_expression word.False = Truth false
-word_expression _ = This
+-- an expression of a form, with the symbol of its node and its parts in the order of the text
+abbrev pub expression_by : Form → Option Symbol → Expressions → Expression
+expression_by form.Name symbol parts = of_leaf symbol
+expression_by form.Number symbol parts = of_leaf symbol
+expression_by form.Text symbol parts = of_leaf symbol
+expression_by form.Null symbol parts = Null
+expression_by form.True symbol parts = Truth true
+expression_by form.False symbol parts = Truth false
+expression_by form.Index symbol parts = of_two Index parts
+expression_by form.Member symbol parts =
+    of_name (λ name. of_one (λ base. Member base name) parts) symbol
+expression_by form.Call symbol parts = of_list Call parts
+expression_by form.New symbol parts = of_list New parts
+expression_by form.Postfix symbol parts =
+    of_mark (λ mark. of_one (λ operand. Stepped false (is_decrement mark) (target_of operand)) parts)
+    symbol
+expression_by form.Prefix symbol parts = of_symbol (λ symbol. of_one (signed_by symbol) parts) symbol
+expression_by form.Binary symbol parts = of_mark (λ mark. of_two (joined_by mark) parts) symbol
+expression_by form.Choice symbol parts = of_three Choice parts
+expression_by form.Assignment symbol parts =
+    of_mark (λ mark. of_two (λ target. assigned_by mark (target_of target)) parts) symbol
+expression_by form.Comma symbol parts = Comma parts
+expression_by _ symbol parts = This
 
-abbrev pub leaf : Symbol → Expression
-leaf (symbol.Name name) = Name name
-leaf (symbol.Word word) = word_expression word
-leaf (symbol.Number number) = Number number
-leaf (symbol.Words words) = Text words
-leaf (symbol.Mark mark) = This
+unfoldable mutual
+  pub expression_of : Tree → Expression
+  expression_of (TreeOf node children) =
+      expression_by node.form node.symbol (expressions_of children)
 
--- one part more
-abbrev pub and_then : Expressions → Expression → Expressions
-and_then NoExpressions expression = OneMore expression NoExpressions
-and_then (OneMore first rest) expression = OneMore first (and_then rest expression)
-
--- What a phrase means: an expression; the parts of a list with commas, of which every other expression is
--- the only one; and what is written to, where the phrase is a target, which the grammar tells.
-pub record Meant : Type 0 where
-  pub expression : Expression
-  pub parts : Expressions
-  pub target : Target
-
-abbrev pub value : Expression → Meant
-value expression = record {
-  expression = expression;
-  parts = OneMore expression NoExpressions;
-  target = NameTarget [];
-}
-
-abbrev pub reference : Expression → Target → Meant
-reference expression target = record {
-  expression = expression;
-  parts = OneMore expression NoExpressions;
-  target = target;
-}
-
-abbrev pub list : Expressions → Meant
-list parts = record { expression = Comma parts; parts = parts; target = NameTarget [] }
-
--- Parentheses leave no trace, and a whole list with commas is one expression.
-unfoldable pub meant : Phrase → Meant
-meant (PhraseLeaf token) = reference (leaf token.symbol) (NameTarget (name_of token.symbol))
-meant (PhraseGroup open_mark inner close_mark) = value (meant inner).expression
-meant (PhraseIndex base open_mark key close_mark) =
-    reference (Index (meant base).expression (meant key).expression)
-    (IndexTarget (meant base).expression (meant key).expression)
-meant (PhraseMember base dot name) =
-    reference (Member (meant base).expression (name_of name.symbol))
-    (MemberTarget (meant base).expression (name_of name.symbol))
-meant (PhraseCallEmpty callee open_mark close_mark) =
-    value (Call (meant callee).expression NoExpressions)
-meant (PhraseCallWith callee open_mark arguments close_mark) =
-    value (Call (meant callee).expression (meant arguments).parts)
-meant (PhraseNewPlain word callee) = value (New (meant callee).expression NoExpressions)
-meant (PhraseNewEmpty word callee open_mark close_mark) =
-    value (New (meant callee).expression NoExpressions)
-meant (PhraseNewWith word callee open_mark arguments close_mark) =
-    value (New (meant callee).expression (meant arguments).parts)
-meant (PhrasePostfix target operator) =
-    value (Stepped false (is_decrement operator.symbol) (meant target).target)
-meant (PhraseSigned operator operand) =
-    value (signed_by operator.symbol (meant operand).expression)
-meant (PhraseStepped operator target) =
-    value (Stepped true (is_decrement operator.symbol) (meant target).target)
-meant (PhraseBinary left operator right) =
-    value (joined_by operator.symbol (meant left).expression (meant right).expression)
-meant (PhraseChoice test question first colon second) =
-    value
-    (Choice (meant test).expression (meant first).expression (meant second).expression)
-meant (PhraseAssign target operator new_value) =
-    value (assigned_by operator.symbol (meant target).target (meant new_value).expression)
-meant (PhraseComma left comma right) =
-    list (and_then (meant left).parts (meant right).expression)
-
-abbrev pub expression_of : Phrase → Expression
-expression_of phrase = (meant phrase).expression
-
-abbrev pub target_of : Phrase → Target
-target_of phrase = (meant phrase).target
+  pub expressions_of : Trees → Expressions
+  expressions_of NoTrees = NoExpressions
+  expressions_of (OneMoreTree first rest) = OneMore (expression_of first) (expressions_of rest)
 
 -- ---- statements
 
-abbrev pub part_of : Option Phrase → Option Expression
-part_of part = option_map expression_of part
+-- the name of a declarator
+abbrev pub name_in : Option Symbol → List ℕ
+name_in (Some symbol) = name_of symbol
+name_in None = []
 
-abbrev pub declarator_of : written.Declaration → Declarator
-declarator_of (Bare name) = record { name = name_of name.symbol; value = None }
-declarator_of (Valued name operator value) =
-    record { name = name_of name.symbol; value = Some (expression_of value) }
+-- its value, or that of a `return`
+unfoldable pub value_in : Trees → Option Expression
+value_in NoTrees = None
+value_in (OneMoreTree first rest) = Some (expression_of first)
 
-abbrev pub further_declarators : List written.FurtherDeclaration → List Declarator
-further_declarators [] = []
-further_declarators (further ∷ others) =
-    declarator_of further.declaration ∷ further_declarators others
+unfoldable pub declarator_of : Tree → Declarator
+declarator_of (TreeOf node children) =
+    record { name = name_in node.symbol; value = value_in children }
 
-abbrev pub declarators_of : written.Declarations → List Declarator
-declarators_of declarations =
-    declarator_of declarations.first ∷ further_declarators declarations.others
+unfoldable pub declarators_of : Trees → List Declarator
+declarators_of NoTrees = []
+declarators_of (OneMoreTree first rest) = declarator_of first ∷ declarators_of rest
 
-abbrev pub jump_of : Symbol → Statement
-jump_of (symbol.Word word.Break) = Break
-jump_of _ = Continue
+-- the first part of a `for`, which is an Empty node where there is none
+abbrev pub first_by : Form → Expression → List Declarator → First
+first_by form.Empty expression declarators = NoFirst
+first_by form.Var expression declarators = FirstVar declarators
+first_by _ expression declarators = FirstExpression expression
 
-abbrev pub simple_statement : written.Simple → Statement
-simple_statement (SimpleVar word declarations semicolon) = Var (declarators_of declarations)
-simple_statement (SimpleEmpty semicolon) = Empty
-simple_statement (SimpleExpression expression semicolon) = Evaluate (expression_of expression)
-simple_statement (SimpleJump word semicolon) = jump_of word.symbol
-simple_statement (SimpleReturn word value semicolon) = Return (part_of value)
+unfoldable pub first_of : Tree → First
+first_of (TreeOf node children) =
+    first_by node.form (expression_of (TreeOf node children)) (declarators_of children)
 
-abbrev pub first_of : written.First → First
-first_of HeadNoFirst = NoFirst
-first_of (HeadFirstExpression expression) = FirstExpression (expression_of expression)
-first_of (HeadFirstVar word declarations) = FirstVar (declarators_of declarations)
+-- the other parts of its head
+abbrev pub part_by : Form → Expression → Option Expression
+part_by form.Empty expression = None
+part_by _ expression = Some expression
 
-abbrev pub visitor_of : written.Visitor → Visitor
-visitor_of (HeadTarget target) = VisitTarget (target_of target)
-visitor_of (HeadVariable word name) = VisitVar (name_of name.symbol)
+unfoldable pub part_of : Tree → Option Expression
+part_of (TreeOf node children) = part_by node.form (expression_of (TreeOf node children))
 
-abbrev pub headed : written.Head → Statement → Statement
-headed (HeadIf word open_mark test close_mark) body = If (expression_of test) body
-headed (HeadWhile word open_mark test close_mark) body = While (expression_of test) body
-headed (HeadFor word open_mark first semicolon test second_semicolon step close_mark) body =
-    For (first_of first) (part_of test) (part_of step) body
-headed (HeadForIn word open_mark visitor in_word object close_mark) body =
-    ForIn (visitor_of visitor) (expression_of object) body
+-- what stands before `in`: a `var` has one declarator
+abbrev pub visitor_of_var : List Declarator → Visitor
+visitor_of_var [] = VisitVar []
+visitor_of_var (declarator ∷ declarators) = VisitVar declarator.name
 
--- the one head with an `else` is that of an `if`
-abbrev pub headed_with_else : written.Head → Statement → Statement → Statement
-headed_with_else (HeadIf word open_mark test close_mark) body other =
+abbrev pub visitor_by : Form → Expression → List Declarator → Visitor
+visitor_by form.Var expression declarators = visitor_of_var declarators
+visitor_by _ expression declarators = VisitTarget (target_of expression)
+
+unfoldable pub visitor_of : Tree → Visitor
+visitor_of (TreeOf node children) =
+    visitor_by node.form (expression_of (TreeOf node children)) (declarators_of children)
+
+-- a statement of a form, with its parts in the order of the text, and what they are where they are
+-- statements
+abbrev pub statement_by : Form → Trees → Statements → Statement
+statement_by form.Block parts inner = Block inner
+statement_by form.Var parts inner = Var (declarators_of parts)
+statement_by form.Expression (OneMoreTree expression rest) inner =
+    Evaluate (expression_of expression)
+statement_by form.If (OneMoreTree test rest)
+    (OneMoreStatement first (OneMoreStatement body NoStatements)) = If (expression_of test) body
+statement_by form.If (OneMoreTree test rest)
+    (OneMoreStatement first (OneMoreStatement body (OneMoreStatement other more))) =
     IfElse (expression_of test) body other
-headed_with_else other_head body other = headed other_head body
+statement_by form.While (OneMoreTree test rest)
+    (OneMoreStatement first (OneMoreStatement body more)) = While (expression_of test) body
+statement_by form.For (OneMoreTree first (OneMoreTree test (OneMoreTree update rest)))
+    (OneMoreStatement one (OneMoreStatement two (OneMoreStatement three
+    (OneMoreStatement body more)))) = For (first_of first) (part_of test) (part_of update) body
+statement_by form.ForIn (OneMoreTree visitor (OneMoreTree object rest))
+    (OneMoreStatement one (OneMoreStatement two (OneMoreStatement body more))) =
+    ForIn (visitor_of visitor) (expression_of object) body
+statement_by form.Continue parts inner = Continue
+statement_by form.Break parts inner = Break
+statement_by form.Return parts inner = Return (value_in parts)
+statement_by _ parts inner = Empty
 
 unfoldable mutual
-  pub statement_of : written.Statement → Statement
-  statement_of (WrittenAlone simple) = simple_statement simple
-  statement_of (WrittenBlock open_mark inner close_mark) = Block (statements_of inner)
-  statement_of (WrittenHeaded head body) = headed head (statement_of body)
-  statement_of (WrittenIfElse head body else_word other) =
-      headed_with_else head (statement_of body) (statement_of other)
+  pub statement_of : Tree → Statement
+  statement_of (TreeOf node children) = statement_by node.form children (statements_of children)
 
-  pub statements_of : written.Statements → Statements
-  statements_of WrittenNoStatements = NoStatements
-  statements_of (WrittenOneMore first rest) =
-      OneMoreStatement (statement_of first) (statements_of rest)
+  pub statements_of : Trees → Statements
+  statements_of NoTrees = NoStatements
+  statements_of (OneMoreTree first rest) = OneMoreStatement (statement_of first) (statements_of rest)
 
 -- ---- programs
 
@@ -268,29 +268,12 @@ function_of declared = record {
   name = name_of declared.name.symbol;
   locals = new_names [] (parameter_names declared.parameters ++ all_var_names declared.body);
   parameters = length (parameter_names declared.parameters);
-  body = statements_of declared.body;
+  body = statements_of (statement_trees declared.body);
 }
-
-abbrev pub functions_of : List written.Item → List Function
-functions_of [] = []
-functions_of (ItemFunction declared ∷ items) = function_of declared ∷ functions_of items
-functions_of (ItemSingle statement ∷ items) = functions_of items
-
-abbrev pub body_of : List written.Item → Statements
-body_of [] = NoStatements
-body_of (ItemFunction declared ∷ items) = body_of items
-body_of (ItemSingle statement ∷ items) =
-    OneMoreStatement (statement_of statement) (body_of items)
-
--- the names of the `var`s that stand in no function
-abbrev pub outer_names : List written.Item → List (List ℕ)
-outer_names [] = []
-outer_names (ItemFunction declared ∷ items) = outer_names items
-outer_names (ItemSingle statement ∷ items) = var_names statement ++ outer_names items
 
 unfoldable pub program_of : List written.Item → Program
 program_of items = record {
   variables = new_names [] (outer_names items);
-  functions = functions_of items;
-  body = body_of items;
+  functions = map function_of (functions_of items);
+  body = statements_of (top_trees items);
 }

@@ -1,19 +1,27 @@
 //! What the definition of evaluation says. Each function is a law: its contract is what it is for,
 //! and it does nothing when it runs.
 
-ghost use Rattle.std.specs.Prelude.{◌≡◌, ◌≤◌, ℕ, List};
+ghost use Rattle.std.specs.Prelude.{◌≡◌, ◌≤◌, ℕ, List, [], length};
+ghost use Rattle.std.specs.Option.{option_map_or};
 ghost use Rattle.es_values.specs.declared.values.Value.{Value};
 ghost use Rattle.es_values.specs.Objects.{ObjectState};
 ghost use Rattle.es_eval.specs.declared.outcomes.Outcome.{Outcome};
-ghost use Rattle.es_eval.specs.Actions.{Next};
+ghost use Rattle.es_eval.specs.declared.outcomes.Outcome.TheVariants.{Stopped};
+ghost use Rattle.es_eval.specs.declared.outcomes.StopCause.TheVariants.{Unresolved};
+ghost use Rattle.es_eval.specs.Actions.{Next, behind, gives};
 ghost use Rattle.es_eval.specs.Bounds.{Agree};
+ghost use Rattle.es_eval.specs.Calls.{call_value};
 ghost use Rattle.es_eval.specs.Endings.{MayEnd};
-ghost use Rattle.es_eval.specs.Evaluation.{call_body, enough, evaluate, execute, global_run, global_run_by, program_run, program_run_by};
-ghost use Rattle.es_eval.specs.Rows.{Completion, Task};
+ghost use Rattle.es_eval.specs.Evaluation.{all_functions, call_body, ends_normally, enough, evaluate, execute, global_run, global_run_by, program_run, program_run_by, returned, started, world};
+ghost use Rattle.es_eval.specs.Rows.{Completion, Task, expression_row, statements, task_row};
+ghost use Rattle.es_eval.specs.Soundness.{AreSound, HasNumbers, LeavesSound, StaySound, function_limit};
 ghost use Rattle.es_eval.specs.Syntax.{Expression, Function, Program, Statements};
-ghost use Rattle.es_eval.specs.Worlds.{World};
+ghost use Rattle.es_eval.specs.Unbounded.{called, done, entered, run_statement, valued};
+ghost use Rattle.es_eval.specs.Worlds.{World, global};
+ghost use Rattle.es_eval.specs.Worlds.Run.{Over};
 
-use es_values::Host;
+use es_builtins::law_of_rows;
+use es_values::{Host, law_of_functions, law_of_live_values};
 
 /// The bound of the recursion doesn't matter where it is enough for the steps that are left: any
 /// two such bounds give the same run. What goes on behind it need only agree on worlds with at most
@@ -42,6 +50,35 @@ pub fn law_of_bounds()
         ≡ global_run_by n programs name globals heap budget }
 {}
 
+/// No bound is named: with one that is enough for the steps that are left, each form is its row,
+/// whose parts have such bounds again. A program's run is that of its statements, and a global's
+/// run is its call.
+pub fn law_of_unfolding()
+    ensures expressions { (functions : List Function) (e : Expression) (w : World)
+        (next : Next Value) → valued functions e w next
+        ≡ expression_row functions (called functions) (entered functions) e w next }
+    ensures tasks { (functions : List Function) (task : Task) (w : World)
+        (next : Next Completion) → done functions task w next
+        ≡ task_row (entered functions) (run_statement functions) (done functions) task w next }
+    ensures bodies { (functions : List Function) (inner : Statements) (w : World)
+        (next : Next Value) → called functions inner w next
+        ≡ behind (statements (run_statement functions) inner)
+        (λ completion. gives (returned completion)) w next }
+    ensures programs { (programs before : List Program) (program : Program)
+        (globals : List (List ℕ × Value)) (heap : List ObjectState) (budget : ℕ)
+        → program_run programs before program globals heap budget
+        ≡ statements (run_statement (all_functions programs)) program.body
+        (started (length (all_functions before)) program (world globals heap budget))
+        ends_normally }
+    ensures globals { (programs : List Program) (name : List ℕ)
+        (globals : List (List ℕ × Value)) (heap : List ObjectState) (budget : ℕ)
+        → global_run programs name globals heap budget
+        ≡ (let functions = all_functions programs in
+        let w = world globals heap budget in
+        option_map_or (λ value. call_value functions (called functions) value [] w ends_normally)
+        (global w name) (Over (Stopped Unresolved) w)) }
+{}
+
 /// Whatever the host answers, a run ends with at most the steps left that it had.
 pub fn law_of_steps<H: Host>()
     ensures programs { (programs before : List Program) (program : Program)
@@ -57,3 +94,28 @@ pub fn law_of_steps<H: Host>()
         outcome w after
         → w.left ≤ budget }
 {}
+
+/// Where each object that globals and heap name is there, and each function has a number below the
+/// limit of these programs, it is so at each end of a run, and no object has gone. A program's
+/// functions have to be among those of the programs, and each call of the host to leave a sound
+/// heap.
+pub fn law_of_values<H: Host>()
+    ensures programs { (programs before : List Program) (program : Program)
+        (globals : List (List ℕ × Value)) (heap : List ObjectState) (budget : ℕ) (host : H)
+        (outcome : Outcome) (w : World) (after : H)
+        → HasNumbers programs before program → AreSound (function_limit programs) globals heap
+        → MayEnd H.reads H.writes (LeavesSound H.calls)
+        (program_run programs before program globals heap budget) host outcome w after
+        → StaySound (function_limit programs) heap w.globals w.heap }
+    ensures globals { (programs : List Program) (name : List ℕ)
+        (globals : List (List ℕ × Value)) (heap : List ObjectState) (budget : ℕ) (host : H)
+        (outcome : Outcome) (w : World) (after : H)
+        → AreSound (function_limit programs) globals heap
+        → MayEnd H.reads H.writes (LeavesSound H.calls)
+        (global_run programs name globals heap budget) host outcome w after
+        → StaySound (function_limit programs) heap w.globals w.heap }
+{
+    law_of_live_values();
+    law_of_functions();
+    law_of_rows();
+}

@@ -1,0 +1,504 @@
+-- How the arms of statements make the runs of their rows.
+use Rattle.std.proofs.Common.{◌≡◌, ◌∙◌, ◌+◌, ◌<◌, ◌≤◌, ℕ, Bool, true, false, List, [], ◌∷◌, length, drop, get_or, ap, sym, subst, refl}
+use Rattle.std.specs.Prelude.{Option, Some, None, if◌then◌else◌}
+use Rattle.std.specs.Option.{option_map}
+use Rattle.std.proofs.Math.Path.{fun_ext}
+use Rattle.es_expressions.specs.Trees.Trees.{NoTrees, OneMore}
+use Rattle.es_reader.specs.Programs.{ToldProgram}
+use Rattle.es_values.specs.declared.values.Value.{Value}
+use Rattle.es_values.specs.declared.values.Value.TheVariants.{Object}
+use Rattle.es_values.specs.Heaps.{has_property, object_at}
+use Rattle.es_values.specs.Values.{truth_of}
+use Rattle.es_eval.specs.declared.codes.Code.{Code}
+use Rattle.es_eval.specs.declared.codes.Listing.{Listing}
+use Rattle.es_eval.specs.declared.outcomes.Outcome.TheVariants.{Stopped}
+use Rattle.es_eval.specs.declared.outcomes.StopCause.TheVariants.{Budget}
+use Rattle.es_eval.specs.declared.shapes.DeclaratorShape.{DeclaratorShape}
+use Rattle.es_eval.specs.declared.shapes.FirstShape.TheVariants as head
+use Rattle.es_eval.specs.declared.shapes.StatementShape.{StatementShape}
+use Rattle.es_eval.specs.declared.shapes.VisitorShape.{VisitorShape}
+use Rattle.es_eval.specs.declared.shapes.VisitorShape.TheVariants as seen
+use Rattle.es_eval.specs.declared.works.Given.{Given}
+use Rattle.es_eval.specs.declared.works.Given.TheVariants as given
+use Rattle.es_eval.specs.declared.works.Loop.{Loop}
+use Rattle.es_eval.specs.declared.works.Now.{Now}
+use Rattle.es_eval.specs.declared.works.Now.TheVariants as now
+use Rattle.es_eval.specs.declared.works.StatementWork.TheVariants as statement
+use Rattle.es_eval.specs.declared.works.Use.TheVariants.{Visit as VisitUse}
+use Rattle.es_eval.specs.declared.works.Visit.{Visit as Visiting}
+use Rattle.es_eval.specs.declared.works.Work.{Work}
+use Rattle.es_eval.specs.declared.works.Work.TheVariants.{Statement as StatementItem}
+use Rattle.es_eval.specs.Actions.{Action, Next, and_then, behind, step}
+use Rattle.es_eval.specs.Codes.{declarator_at, declared_by, expression_at, listed, statement_at, statements_from, tree_of, trees_from}
+use Rattle.es_eval.specs.Machines.{Carries, GoesOn, MachineState, Stays, names_in, rest, run_from, world_of}
+use Rattle.es_eval.specs.Rows.{Completion, Evaluation, behind_body, declarator_row, declarators, entered_place, statement_row, statements, turn_body, turn_row, update_row, visit_all, visited_place, where_normal}
+use Rattle.es_eval.specs.Rows.Completion.{Normal, Broke, Continued, Returned}
+use Rattle.es_eval.specs.Rows.Task.{Do, Turn, Visit as VisitTurn}
+use Rattle.es_eval.specs.Members.{Place}
+use Rattle.es_eval.specs.Members.Place.{NamePlace}
+use Rattle.es_eval.specs.Shapes.{declared, first_shaped, stated, visitor_shaped}
+use Rattle.es_eval.specs.Sources.{declarators_of, statements_of, target_of}
+use Rattle.es_eval.specs.Syntax.{Declarator, Expression, Statement}
+use Rattle.es_eval.specs.Unbounded.{done, entered, run_statement}
+use Rattle.es_eval.specs.Works.{as_completion, completed, declares, does, enters, evaluates, executes, loop_again, loop_body, loop_task, runs, starts_loop, statement_work_row, turns, use_row, visit_task}
+use Rattle.es_eval.specs.Worlds.{Run, World}
+use Rattle.es_eval.specs.Worlds.Run.{Over}
+use Rattle.es_eval.proofs.UnboundedLemmas.{done-row}
+use Rattle.es_eval.proofs.TurnLemmas.{drop-at, drop-end, visit-skips, visit-turn, visited-none}
+
+-- ---- steps
+
+-- what a step makes of each action, where it is taken and where it isn't
+abbrev pub Steps : MachineState → Bool → MachineState → Type 0
+Steps old taken new =
+    (action : Action Value) (next : Next Value) → step action (world_of old) next
+    ≡ (if taken then action (world_of new) next else Over (Stopped Budget) (world_of new))
+
+pub no_step-run : (programs : List ToldProgram) (old new : MachineState) (taken : Bool)
+    (action : Action Given) (next : Now) → Steps old taken new → taken ≡ false
+    → next ≡ now.Over (Stopped Budget) → GoesOn programs old (step action) new next
+no_step-run programs old new taken action next steps none over =
+    let stepped : Steps old false new = subst (λ b. Steps old b new) none steps in
+    ap (run_from programs new) over
+    ∙ sym (stepped (λ w other. action w (rest programs old.frames)) (λ value w. Over (Stopped Budget) w))
+
+pub step-run : (programs : List ToldProgram) (old mid new : MachineState) (taken : Bool)
+    (action : Action Given) (next : Now) → Steps old taken mid → taken ≡ true → Stays old mid
+    → GoesOn programs mid action new next → GoesOn programs old (step action) new next
+step-run programs old mid new taken action next steps some stays on =
+    let stepped : Steps old true mid = subst (λ b. Steps old b mid) some steps in
+    on ∙ ap (action (world_of mid)) (stays.rest programs)
+    ∙ sym (stepped (λ w other. action w (rest programs old.frames)) (λ value w. Over (Stopped Budget) w))
+
+-- ---- statements in a row
+
+pub behind_statement : (programs : List ToldProgram) (listing : Listing) (place : ℕ) (code : Code)
+    (w : World) (next : Next Given)
+    → listed programs listing place
+    ≡ OneMore (tree_of programs code) (listed programs listing (place + 1))
+    → executes programs code w (λ completion after. statement_work_row programs
+    (statement.Statements listing (place + 1)) (completed completion) after next)
+    ≡ as_completion (statements (runs programs) (statements_from programs listing place)) w next
+unfolding statements_of
+behind_statement programs listing place code w next is =
+    ap (executes programs code w) (fun_ext (λ completion. fun_ext (λ after. by completion after)))
+    ∙ sym (ap (λ trees. as_completion (statements (runs programs) (statements_of trees)) w next) is)
+  where
+    more : Action Completion
+    more = statements (runs programs) (statements_from programs listing (place + 1))
+
+    by : (completion : Completion) (after : World)
+        → statement_work_row programs (statement.Statements listing (place + 1))
+        (completed completion) after next
+        ≡ where_normal more completion after (λ completion after. next (completed completion) after)
+    by Normal after = refl
+    by Broke after = refl
+    by Continued after = refl
+    by (Returned value) after = refl
+
+pub behind_all : (programs : List ToldProgram) (listing : Listing) (place : ℕ) (w : World)
+    (next : Next Given) → listed programs listing place ≡ NoTrees
+    → next given.Normal w
+    ≡ as_completion (statements (runs programs) (statements_from programs listing place)) w next
+unfolding statements_of
+behind_all programs listing place w next is =
+    sym (ap (λ trees. as_completion (statements (runs programs) (statements_of trees)) w next) is)
+
+-- ---- turns
+
+pub test-turn : (programs : List ToldProgram) (loop : Loop) (test : Code) (w : World)
+    (next : Next Given) → loop.test ≡ Some test
+    → evaluates programs test w
+    (λ value after. statement_work_row programs (statement.Test loop) (given.Value value) after next)
+    ≡ as_completion (turns programs (loop_task programs loop)) w next
+test-turn programs loop test w next is =
+    by loop.test is
+    ∙ sym (done-row (declared_by programs) (loop_task programs loop) w (λ completion after. next (completed completion) after))
+  where
+    update : Option Expression
+    update = option_map (expression_at programs) loop.update
+
+    body : Statement
+    body = statement_at programs loop.body
+
+    by : (given_test : Option Code) → given_test ≡ Some test
+        → evaluates programs test w (λ value after. as_completion
+        (if truth_of value then turn_body (enters programs) (runs programs) (turns programs)
+        (option_map (expression_at programs) given_test) update body else (λ w next. next Normal w)) after next)
+        ≡ turn_row (enters programs) (runs programs) (turns programs)
+        (option_map (expression_at programs) given_test) update body w
+        (λ completion after. next (completed completion) after)
+    by given_test is = rw is refl
+
+pub body-turn : (programs : List ToldProgram) (loop : Loop) (w : World) (next : Next Given)
+    → loop.test ≡ None
+    → as_completion (loop_body programs loop) w next
+    ≡ as_completion (turns programs (loop_task programs loop)) w next
+body-turn programs loop w next is =
+    by loop.test is
+    ∙ sym (done-row (declared_by programs) (loop_task programs loop) w (λ completion after. next (completed completion) after))
+  where
+    update : Option Expression
+    update = option_map (expression_at programs) loop.update
+
+    body : Statement
+    body = statement_at programs loop.body
+
+    by : (given_test : Option Code) → given_test ≡ None
+        → turn_body (enters programs) (runs programs) (turns programs)
+        (option_map (expression_at programs) given_test) update body w
+        (λ completion after. next (completed completion) after)
+        ≡ turn_row (enters programs) (runs programs) (turns programs)
+        (option_map (expression_at programs) given_test) update body w
+        (λ completion after. next (completed completion) after)
+    by given_test is = rw is refl
+
+pub behind_turn : (programs : List ToldProgram) (loop : Loop) (w : World) (next : Next Given)
+    → executes programs loop.body w (λ completion after. statement_work_row programs
+    (statement.Body loop) (completed completion) after next)
+    ≡ as_completion (loop_body programs loop) w next
+behind_turn programs loop w next =
+    ap (executes programs loop.body w) (fun_ext (λ completion. fun_ext (λ after. by completion after)))
+  where
+    by : (completion : Completion) (after : World)
+        → statement_work_row programs (statement.Body loop) (completed completion) after next
+        ≡ behind_body (loop_again programs loop) completion after
+        (λ completion after. next (completed completion) after)
+    by Normal after = refl
+    by Broke after = refl
+    by Continued after = refl
+    by (Returned value) after = refl
+
+pub update-again : (programs : List ToldProgram) (loop : Loop) (update : Code) (w : World)
+    (next : Next Given) → loop.update ≡ Some update
+    → evaluates programs update w (λ value after. statement_work_row programs
+    (statement.NextTurn loop) (given.Value value) after next)
+    ≡ as_completion (loop_again programs loop) w next
+update-again programs loop update w next is =
+    by loop.update is
+  where
+    again : Action Completion
+    again = turns programs (loop_task programs loop)
+
+    by : (given_update : Option Code) → given_update ≡ Some update
+        → evaluates programs update w (λ value after. as_completion again after next)
+        ≡ update_row (enters programs) (option_map (expression_at programs) given_update) w
+        (λ completion after. again after (λ completion after. next (completed completion) after))
+    by given_update is = rw is refl
+
+pub turn-again : (programs : List ToldProgram) (loop : Loop) (w : World) (next : Next Given)
+    → loop.update ≡ None
+    → as_completion (turns programs (loop_task programs loop)) w next
+    ≡ as_completion (loop_again programs loop) w next
+turn-again programs loop w next is =
+    by loop.update is
+  where
+    again : Action Completion
+    again = turns programs (loop_task programs loop)
+
+    by : (given_update : Option Code) → given_update ≡ None
+        → as_completion again w next
+        ≡ update_row (enters programs) (option_map (expression_at programs) given_update) w
+        (λ completion after. again after (λ completion after. next (completed completion) after))
+    by given_update is = rw is refl
+
+-- ---- declarators
+
+-- whatever is declared, it is completed normally
+declarators-normal : (ev : Evaluation) (names : List Declarator) (w : World)
+    (next other : Next Completion) → ((after : World) → next Normal after ≡ other Normal after)
+    → declarators ev names w next ≡ declarators ev names w other
+declarators-normal ev [] w next other same = same w
+declarators-normal ev (first ∷ others) w next other same =
+    ap (declarator_row ev first w)
+    (fun_ext (λ completion. fun_ext (λ after. declarators-normal ev others after next other same)))
+
+pub declared-turns : (programs : List ToldProgram) (code : Code) (loop : Loop) (w : World)
+    (next : Next Given)
+    → as_completion (declares programs code 0) w
+    (λ handed after. statement_work_row programs (statement.NextTurn loop) handed after next)
+    ≡ as_completion (and_then (declares programs code 0) (turns programs (loop_task programs loop)))
+    w next
+declared-turns programs code loop w next =
+    declarators-normal (enters programs) (declarators_of (trees_from programs code 0)) w
+    (λ completion after. statement_work_row programs (statement.NextTurn loop)
+    (completed completion) after next)
+    (λ completion after. turns programs (loop_task programs loop) after
+    (λ completion after. next (completed completion) after))
+    (λ after. refl)
+
+pub nothing-declared : (programs : List ToldProgram) (code : Code) (place : ℕ) (w : World)
+    (next : Next Completion) → trees_from programs code place ≡ NoTrees
+    → declares programs code place w next ≡ next Normal w
+unfolding declarators_of
+nothing-declared programs code place w next is =
+    ap (λ trees. declarators (enters programs) (declarators_of trees) w next) is
+
+-- the first that is declared, and those behind it
+one-declared : (programs : List ToldProgram) (code declared_code : Code) (place : ℕ)
+    (shape : DeclaratorShape) (w : World) (next : Next Completion)
+    → trees_from programs code place
+    ≡ OneMore (tree_of programs declared_code) (trees_from programs code (place + 1))
+    → declarator_at programs declared_code ≡ declared programs shape
+    → declares programs code place w next
+    ≡ and_then (declarator_row (enters programs) (declared programs shape))
+    (declares programs code (place + 1)) w next
+unfolding declarators_of
+one-declared programs code declared_code place shape w next is what =
+    ap (λ trees. declarators (enters programs) (declarators_of trees) w next) is
+    ∙ ap (λ named. and_then (declarator_row (enters programs) named)
+    (declares programs code (place + 1)) w next) what
+
+pub declared-without : (programs : List ToldProgram) (code declared_code : Code) (place : ℕ)
+    (shape : DeclaratorShape) (w : World) (next : Next Completion)
+    → trees_from programs code place
+    ≡ OneMore (tree_of programs declared_code) (trees_from programs code (place + 1))
+    → declarator_at programs declared_code ≡ declared programs shape → shape.value ≡ None
+    → declares programs code place w next ≡ declares programs code (place + 1) w next
+unfolding declared
+declared-without programs code declared_code place shape w next is what none =
+    one-declared programs code declared_code place shape w next is what
+    ∙ by shape.value none
+  where
+    by : (value : Option Code) → value ≡ None
+        → and_then (declarator_row (enters programs) (declared programs (record shape { value = value })))
+        (declares programs code (place + 1)) w next
+        ≡ declares programs code (place + 1) w next
+    by value none = rw none refl
+
+pub declared-with : (programs : List ToldProgram) (code declared_code : Code) (place : ℕ)
+    (shape : DeclaratorShape) (value : Code) (w : World) (next : Next Given)
+    → trees_from programs code place
+    ≡ OneMore (tree_of programs declared_code) (trees_from programs code (place + 1))
+    → declarator_at programs declared_code ≡ declared programs shape → shape.value ≡ Some value
+    → evaluates programs value w (λ value after. statement_work_row programs
+    (statement.Declared shape.name code (place + 1)) (given.Value value) after next)
+    ≡ as_completion (declares programs code place) w next
+unfolding declared
+declared-with programs code declared_code place shape value w next is what some =
+    by shape.value some
+    ∙ sym (one-declared programs code declared_code place shape w
+    (λ completion after. next (completed completion) after) is what)
+  where
+    by : (given_value : Option Code) → given_value ≡ Some value
+        → evaluates programs value w (λ value after. statement_work_row programs
+        (statement.Declared shape.name code (place + 1)) (given.Value value) after next)
+        ≡ and_then
+        (declarator_row (enters programs) (declared programs (record shape { value = given_value })))
+        (declares programs code (place + 1)) w
+        (λ completion after. next (completed completion) after)
+    by given_value some = rw some refl
+
+pub declare-on : (programs : List ToldProgram) (m old new : MachineState)
+    (code declared_code : Code) (place first : ℕ) (shape : DeclaratorShape) (value : Code)
+    (next : Now) → m ≡ old
+    → ((w : World) (next : Next Completion) → declares programs code place w next
+    ≡ declares programs code first w next)
+    → trees_from programs code place
+    ≡ OneMore (tree_of programs declared_code) (trees_from programs code (place + 1))
+    → declarator_at programs declared_code ≡ declared programs shape → shape.value ≡ Some value
+    → run_from programs new next
+    ≡ evaluates programs value (world_of m) (λ value after. does programs
+    (StatementItem (statement.Declared shape.name code (place + 1))) (given.Value value) after
+    (rest programs m.frames))
+    → GoesOn programs old (as_completion (declares programs code first)) new next
+declare-on programs m old new code declared_code place first shape value next same begun is what some on =
+    subst (λ (o : MachineState). GoesOn programs o (as_completion (declares programs code first))
+    new next) same
+    (on
+    ∙ declared-with programs code declared_code place shape value (world_of m)
+    (rest programs m.frames) is what some
+    ∙ begun (world_of m)
+    (λ completion after. rest programs m.frames (completed completion) after))
+
+pub declare-end : (programs : List ToldProgram) (m old : MachineState) (code : Code)
+    (place first : ℕ) → m ≡ old
+    → ((w : World) (next : Next Completion) → declares programs code place w next
+    ≡ declares programs code first w next)
+    → trees_from programs code place ≡ NoTrees
+    → GoesOn programs old (as_completion (declares programs code first)) m
+    (now.Gives given.Normal)
+declare-end programs m old code place first same begun none =
+    let onward : Next Completion =
+    λ completion after. rest programs m.frames (completed completion) after in
+    subst (λ (o : MachineState). GoesOn programs o (as_completion (declares programs code first)) m
+    (now.Gives given.Normal)) same
+    (sym (nothing-declared programs code place (world_of m) onward none)
+    ∙ begun (world_of m) onward)
+
+-- ---- names that are visited
+
+module _ (programs : List ToldProgram) (m : MachineState) (visit : Visiting) (name : List ℕ)
+    (inside : visit.next < length visit.names.items)
+    (is : name ≡ get_or visit.names.items visit.next name) where
+  pub visit-past : (next : Next Completion)
+      → has_property (object_at m.heap visit.object) name ≡ false
+      → turns programs (visit_task programs visit) (world_of m) next
+      ≡ turns programs (visit_task programs (record visit { next = visit.next + 1 })) (world_of m)
+      next
+  visit-past next gone =
+      ap (λ names. done (declared_by programs) (VisitTurn
+      (visitor_shaped programs visit.visitor) visit.object names
+      (statement_at programs visit.body)) (world_of m) next)
+      (drop-at visit.names.items visit.next name inside is)
+      ∙ visit-skips (declared_by programs) (visitor_shaped programs visit.visitor) visit.object name
+      (drop (visit.next + 1) visit.names.items) (statement_at programs visit.body) (world_of m) next
+      gone
+
+  pub visit-on : (old new : MachineState) (first : Visiting) (next : Now) → m ≡ old
+      → ((next : Next Completion) → turns programs (visit_task programs visit) (world_of m) next
+      ≡ turns programs (visit_task programs first) (world_of m) next)
+      → has_property (object_at m.heap visit.object) name ≡ true
+      → GoesOn programs m (behind
+      (visited_place (enters programs) (visitor_shaped programs visit.visitor))
+      (use_row programs (VisitUse name (record visit { next = visit.next + 1 })))) new next
+      → GoesOn programs old (as_completion (turns programs (visit_task programs first))) new next
+  visit-on old new first next same begun there on =
+      let onward : Next Completion =
+      λ completion after. rest programs m.frames (completed completion) after in
+      subst (λ (o : MachineState). GoesOn programs o
+      (as_completion (turns programs (visit_task programs first))) new next) same
+      (on
+      ∙ sym (visit-turn (declared_by programs) (visitor_shaped programs visit.visitor) visit.object
+      name (drop (visit.next + 1) visit.names.items) (statement_at programs visit.body) (world_of m)
+      onward there)
+      ∙ ap (λ names. done (declared_by programs) (VisitTurn
+      (visitor_shaped programs visit.visitor) visit.object names
+      (statement_at programs visit.body)) (world_of m) onward)
+      (sym (drop-at visit.names.items visit.next name inside is))
+      ∙ begun onward)
+
+pub visit-end : (programs : List ToldProgram) (m old : MachineState) (visit first : Visiting)
+    → m ≡ old → ((next : Next Completion)
+    → turns programs (visit_task programs visit) (world_of m) next
+    ≡ turns programs (visit_task programs first) (world_of m) next)
+    → length visit.names.items ≤ visit.next
+    → GoesOn programs old (as_completion (turns programs (visit_task programs first))) m
+    (now.Gives given.Normal)
+visit-end programs m old visit first same begun past =
+    let onward : Next Completion =
+    λ completion after. rest programs m.frames (completed completion) after in
+    subst (λ (o : MachineState). GoesOn programs o
+    (as_completion (turns programs (visit_task programs first))) m (now.Gives given.Normal)) same
+    (sym (visited-none (declared_by programs) (visitor_shaped programs visit.visitor) visit.object
+    (drop visit.next visit.names.items) (statement_at programs visit.body) (world_of m) onward
+    (drop-end visit.names.items visit.next past))
+    ∙ begun onward)
+
+-- ---- the place that is visited
+
+pub visit-target : (programs : List ToldProgram) (old new : MachineState) (visitor : VisitorShape)
+    (target : Code) (more : Place → Action Given) (next : Now) → visitor ≡ seen.VisitTarget target
+    → GoesOn programs old (behind
+    (entered_place (enters programs) (target_of (expression_at programs target))) more) new next
+    → GoesOn programs old (behind
+    (visited_place (enters programs) (visitor_shaped programs visitor)) more) new next
+unfolding visitor_shaped
+visit-target programs old new visitor target more next is on = rw is on
+
+pub visit-var : (programs : List ToldProgram) (old new : MachineState) (visitor : VisitorShape)
+    (name : List ℕ) (more : Place → Action Given) (next : Now) → visitor ≡ seen.VisitVar name
+    → GoesOn programs old (step (more (NamePlace name))) new next
+    → GoesOn programs old (behind
+    (visited_place (enters programs) (visitor_shaped programs visitor)) more) new next
+unfolding visitor_shaped
+visit-var programs old new visitor name more next is on = rw is on
+
+-- ---- the names of an object
+
+pub all-visited : (programs : List ToldProgram) (old mid new : MachineState)
+    (visitor : VisitorShape) (body : Code) (value : Value) (object : ℕ)
+    (found : Option (List (List ℕ))) (names : List (List ℕ)) (next : Now)
+    → value ≡ Object object → Carries (names_in object) (world_of old) found (world_of mid)
+    → found ≡ Some names → Stays old mid
+    → GoesOn programs mid (as_completion (turns programs
+    (VisitTurn (visitor_shaped programs visitor) object names (statement_at programs body)))) new
+    next
+    → GoesOn programs old (as_completion (visit_all (turns programs)
+    (visitor_shaped programs visitor) (statement_at programs body) value)) new next
+all-visited programs old mid new visitor body value object found names next is carries some stays on =
+    let carried : Carries (names_in object) (world_of old) (Some names) (world_of mid) =
+    subst (λ (o : Option (List (List ℕ))). Carries (names_in object) (world_of old) o
+    (world_of mid)) some carries in
+    subst (λ (v : Value). GoesOn programs old (as_completion (visit_all (turns programs)
+    (visitor_shaped programs visitor) (statement_at programs body) v)) new next) (sym is)
+    (on
+    ∙ ap (λ (more : Next Given). done (declared_by programs)
+    (VisitTurn (visitor_shaped programs visitor) object names (statement_at programs body))
+    (world_of mid) (λ completion after. more (completed completion) after)) (stays.rest programs)
+    ∙ sym (carried (λ names w. done (declared_by programs)
+    (VisitTurn (visitor_shaped programs visitor) object names (statement_at programs body)) w
+    (λ completion after. rest programs old.frames (completed completion) after))))
+
+pub none-visited : (programs : List ToldProgram) (old new : MachineState)
+    (visitor : VisitorShape) (body : Code) (value : Value) (object : ℕ)
+    (found : Option (List (List ℕ))) (next : Now)
+    → value ≡ Object object → Carries (names_in object) (world_of old) found (world_of new)
+    → found ≡ None → next ≡ now.Over (Stopped Budget)
+    → GoesOn programs old (as_completion (visit_all (turns programs)
+    (visitor_shaped programs visitor) (statement_at programs body) value)) new next
+none-visited programs old new visitor body value object found next is carries none over =
+    let carried : Carries (names_in object) (world_of old) None (world_of new) =
+    subst (λ (o : Option (List (List ℕ))). Carries (names_in object) (world_of old) o
+    (world_of new)) none carries in
+    subst (λ (v : Value). GoesOn programs old (as_completion (visit_all (turns programs)
+    (visitor_shaped programs visitor) (statement_at programs body) v)) new next) (sym is)
+    (ap (run_from programs new) over
+    ∙ sym (carried (λ names w. done (declared_by programs)
+    (VisitTurn (visitor_shaped programs visitor) object names (statement_at programs body)) w
+    (λ completion after. rest programs old.frames (completed completion) after))))
+
+-- ---- the head of a `for`
+
+pub var-turns : (programs : List ToldProgram) (old mid put new : MachineState) (code : Code)
+    (loop : Loop) (taken : Bool) (next : Now) → Steps old taken mid → taken ≡ true
+    → Stays old mid
+    → ((told : List ToldProgram) → rest told put.frames
+    ≡ (λ handed w. does told (StatementItem (statement.NextTurn loop)) handed w
+    (rest told mid.frames)))
+    → world_of put ≡ world_of mid
+    → GoesOn programs put (as_completion (declares programs code 0)) new next
+    → GoesOn programs old (as_completion (starts_loop programs (head.FirstVar code) loop)) new next
+unfolding first_shaped
+var-turns programs old mid put new code loop taken next steps some stays rests same on =
+    step-run programs old mid new taken (as_completion (and_then (declares programs code 0)
+    (turns programs (loop_task programs loop)))) next steps some stays
+    (on
+    ∙ ap (λ (w : World). as_completion (declares programs code 0) w (rest programs put.frames)) same
+    ∙ ap (as_completion (declares programs code 0) (world_of mid)) (rests programs)
+    ∙ declared-turns programs code loop (world_of mid) (rest programs mid.frames))
+
+pub var-stopped : (programs : List ToldProgram) (old new : MachineState) (code : Code)
+    (loop : Loop) (taken : Bool) (next : Now) → Steps old taken new → taken ≡ false
+    → next ≡ now.Over (Stopped Budget)
+    → GoesOn programs old (as_completion (starts_loop programs (head.FirstVar code) loop)) new next
+unfolding first_shaped
+var-stopped programs old new code loop taken next steps none over =
+    no_step-run programs old new taken (as_completion (and_then (declares programs code 0)
+    (turns programs (loop_task programs loop)))) next steps none over
+
+-- ---- statements
+
+pub statement-on : (programs : List ToldProgram) (old mid new : MachineState) (code : Code)
+    (shape : StatementShape) (taken : Bool) (next : Now) → Steps old taken mid → taken ≡ true
+    → Stays old mid → statement_at programs code ≡ stated programs code shape
+    → GoesOn programs mid (as_completion (statement_row (enters programs) (runs programs)
+    (turns programs) (stated programs code shape))) new next
+    → GoesOn programs old (as_completion (runs programs (statement_at programs code))) new next
+statement-on programs old mid new code shape taken next steps some stays is on =
+    step-run programs old mid new taken
+    (as_completion (done (declared_by programs) (Do (statement_at programs code)))) next steps some
+    stays
+    (on ∙ ap (λ (s : Statement). as_completion (statement_row (enters programs) (runs programs)
+    (turns programs) s) (world_of mid) (rest programs mid.frames)) (sym is)
+    ∙ sym (done-row (declared_by programs) (Do (statement_at programs code)) (world_of mid)
+    (λ completion after. rest programs mid.frames (completed completion) after)))
+
+pub statement-stopped : (programs : List ToldProgram) (old new : MachineState) (code : Code)
+    (taken : Bool) (next : Now) → Steps old taken new → taken ≡ false
+    → next ≡ now.Over (Stopped Budget)
+    → GoesOn programs old (as_completion (runs programs (statement_at programs code))) new next
+statement-stopped programs old new code taken next steps none over =
+    no_step-run programs old new taken
+    (as_completion (done (declared_by programs) (Do (statement_at programs code)))) next steps none
+    over

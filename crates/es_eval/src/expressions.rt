@@ -1,0 +1,184 @@
+//! Expressions.
+
+ghost use Rattle.std.specs.Prelude.{◌≡◌, ◌≤◌, List, IfOk};
+ghost use Rattle.es_reader.specs.Programs.{ToldProgram};
+ghost use Rattle.es_eval.specs.declared.works.Given.TheVariants.{Value as GivenValue};
+ghost use Rattle.es_eval.specs.Actions.{step};
+ghost use Rattle.es_eval.specs.Codes.{declared_by, expression_at, parts_from};
+ghost use Rattle.es_eval.specs.Machines.{GoesOn, IsLess, IsNextLive, IsWorkLive, burden, weight};
+ghost use Rattle.es_eval.specs.Rows.{call_row, delete_row, expression_row};
+ghost use Rattle.es_eval.specs.Shapes.{shaped};
+ghost use Rattle.es_eval.specs.Syntax.Expression.{Typeof};
+ghost use Rattle.es_eval.specs.Unbounded.{called};
+ghost use Rattle.es_eval.specs.Works.{as_value, does, enters, evaluates};
+
+use crate::codes::Code;
+use crate::laws::law_of_unfolding;
+use crate::machine::Machine;
+use crate::nexts::{stopped, value};
+use crate::outcomes::StopCause;
+use crate::shapes::{Shape, expression};
+use crate::works::{CallWork, MemberWork, Now, OperandWork, Use, Work};
+use bml_bytes::NoMemory;
+use es_reader::Program;
+use es_values::{Num, Value};
+
+impl Machine {
+    /// An expression is entered, with its step.
+    pub fn evaluate(&mut self, programs: &[Program], code: Code) -> Result<Now, NoMemory>
+        ensures run { IfOk result (λ next. GoesOn programs.now self.old
+            (as_value (enters programs.now (expression_at programs.now code))) self.new next) }
+        ensures live { IfOk result (IsNextLive self.new) }
+        ensures less { IfOk result (λ next. weight self.new next ≤ burden self.old) }
+    {
+        if !self.take_step() {
+            return Ok(stopped(StopCause::Budget));
+        }
+        law_of_unfolding();
+        let shape = expression(programs, code)?;
+        self.begin(programs, code, shape)
+    }
+
+    // What an expression of this shape does first.
+    #[tactic(auto, unfolding(crate::specs::Shapes::shaped))]
+    fn begin(&mut self, programs: &[Program], code: Code, shape: Shape) -> Result<Now, NoMemory>
+        ensures run { IfOk result (λ next. GoesOn programs.now self.old
+            (as_value (expression_row (declared_by programs.now)
+            (called (declared_by programs.now)) (enters programs.now)
+            (shaped programs.now code shape))) self.new next) }
+        ensures live { IfOk result (IsNextLive self.new) }
+        ensures less { IfOk result (IsLess self.old self.new) }
+    {
+        match shape {
+            Shape::This => Ok(value(self.this()?)),
+            Shape::Null => Ok(value(Value::Null)),
+            Shape::Truth(truth) => Ok(value(Value::Bool(truth))),
+            Shape::Number(number) => Ok(value(Value::Number(Num::Whole(number)))),
+            Shape::Text(text) => Ok(value(Value::Str(text))),
+            Shape::Name(name) => self.name_value(&name),
+            Shape::Index(base, key) => {
+                self.evaluate_then(Work::Member(MemberWork::IndexBase(key)), base)
+            }
+            Shape::Member(base, name) => {
+                self.evaluate_then(Work::Member(MemberWork::MemberBase(name)), base)
+            }
+            Shape::Call(callee) => self.enter_callee(programs, code, callee),
+            Shape::New(callee) => {
+                self.evaluate_then(Work::Call(CallWork::Constructor(code)), callee)
+            }
+            Shape::Signed(sign, operand) => {
+                self.evaluate_then(Work::Operand(OperandWork::Sign(sign)), operand)
+            }
+            Shape::Typeof(operand) => self.enter_typeof(programs, operand),
+            Shape::Void(operand) => self.evaluate_then(Work::Operand(OperandWork::Void), operand),
+            Shape::Delete(operand) => self.enter_delete(programs, operand),
+            Shape::Stepped(in_front, down, target) => {
+                self.enter_target(programs, target, Use::Step(in_front, down))
+            }
+            Shape::Binary(operator, left, right) => {
+                self.evaluate_then(Work::Operand(OperandWork::Left(operator, right)), left)
+            }
+            Shape::And(left, right) => {
+                self.evaluate_then(Work::Operand(OperandWork::And(right)), left)
+            }
+            Shape::Or(left, right) => {
+                self.evaluate_then(Work::Operand(OperandWork::Or(right)), left)
+            }
+            Shape::Choice(test, first, second) => {
+                self.evaluate_then(Work::Operand(OperandWork::Choice(first, second)), test)
+            }
+            Shape::Assign(target, right) => {
+                self.enter_target(programs, target, Use::Assign(right))
+            }
+            Shape::Update(operator, target, right) => {
+                self.enter_target(programs, target, Use::Update(operator, right))
+            }
+            Shape::Comma => self.evaluate_parts(programs, code, 0, Value::Undefined),
+        }
+    }
+
+    // A callee: of a member its base, and its key, with the member's own step.
+    fn enter_callee(
+        &mut self,
+        programs: &[Program],
+        call: Code,
+        callee: Code,
+    ) -> Result<Now, NoMemory>
+        ensures run { IfOk result (λ next. GoesOn programs.now self.old
+            (as_value (call_row (declared_by programs.now) (called (declared_by programs.now))
+            (enters programs.now) (expression_at programs.now callee)
+            (parts_from programs.now call 1))) self.new next) }
+        ensures live { IfOk result (IsNextLive self.new) }
+        ensures less { IfOk result (IsLess self.old self.new) }
+    {
+        match expression(programs, callee)? {
+            Shape::Index(base, key) => {
+                self.step_then(Work::Call(CallWork::IndexBase(key, call)), base)
+            }
+            Shape::Member(base, name) => {
+                self.step_then(Work::Call(CallWork::MemberBase(name, call)), base)
+            }
+            _ => self.evaluate_then(Work::Call(CallWork::Callee(call)), callee),
+        }
+    }
+
+    // `typeof`: of a name that nothing has it is `undefined`.
+    fn enter_typeof(&mut self, programs: &[Program], operand: Code) -> Result<Now, NoMemory>
+        ensures run { IfOk result (λ next. GoesOn programs.now self.old
+            (as_value (expression_row (declared_by programs.now)
+            (called (declared_by programs.now)) (enters programs.now)
+            (Typeof (expression_at programs.now operand)))) self.new next) }
+        ensures live { IfOk result (IsNextLive self.new) }
+        ensures less { IfOk result (IsLess self.old self.new) }
+    {
+        let Shape::Name(name) = expression(programs, operand)? else {
+            return self.evaluate_then(Work::Operand(OperandWork::Typeof), operand);
+        };
+        if !self.take_step() {
+            return Ok(stopped(StopCause::Budget));
+        }
+        let found = self.read_name(&name)?.unwrap_or(Value::Undefined);
+        Ok(value(self.type_text(&found)?))
+    }
+
+    // `delete`: of what is no member it is false, and a name isn't read.
+    fn enter_delete(&mut self, programs: &[Program], operand: Code) -> Result<Now, NoMemory>
+        ensures run { IfOk result (λ next. GoesOn programs.now self.old
+            (as_value (delete_row (enters programs.now) (expression_at programs.now operand)))
+            self.new next) }
+        ensures live { IfOk result (IsNextLive self.new) }
+        ensures less { IfOk result (IsLess self.old self.new) }
+    {
+        let shape = expression(programs, operand)?;
+        match shape {
+            Shape::Name(_) => {
+                if !self.take_step() {
+                    return Ok(stopped(StopCause::Budget));
+                }
+                Ok(value(Value::Bool(false)))
+            }
+            Shape::Index(base, key) => {
+                self.step_then(Work::Member(MemberWork::DeleteIndexBase(key)), base)
+            }
+            Shape::Member(base, name) => {
+                self.step_then(Work::Member(MemberWork::DeleteMember(name)), base)
+            }
+            _ => self.evaluate_then(Work::Member(MemberWork::DeleteOther), operand),
+        }
+    }
+
+    // The step of a member that isn't read here; then its base is entered.
+    fn step_then(&mut self, item: Work, base: Code) -> Result<Now, NoMemory>
+        requires { IsWorkLive self.old.heap item }
+        ensures run { IfOk result (λ next. (programs : List ToldProgram)
+            → GoesOn programs self.old (step (λ w next. evaluates programs base w
+            (λ value after. does programs item (GivenValue value) after next))) self.new next) }
+        ensures live { IfOk result (IsNextLive self.new) }
+        ensures less { IfOk result (IsLess self.old self.new) }
+    {
+        if !self.take_step() {
+            return Ok(stopped(StopCause::Budget));
+        }
+        self.evaluate_then(item, base)
+    }
+}

@@ -1,0 +1,340 @@
+//! The evaluator's state: the globals, the objects, the control stack and the steps that are left.
+
+ghost use Rattle.std.specs.Prelude.{◌≡◌, ◌≤◌, ◌+◌, ◌*◌, ◌<◌, [], List, length, true, false, Some, None, IfOk, IfSome, OnOk, if◌then◌else◌, option_map};
+ghost use Rattle.std.specs.List.{sum_by};
+ghost use Rattle.es_builtins.specs.Functions.{construction_row, function_row};
+ghost use Rattle.es_builtins.specs.Methods.{method_row};
+ghost use Rattle.es_frames.specs.Frames.{below_last, next_item, with_item, without_item};
+ghost use Rattle.es_reader.specs.Programs.{ToldProgram};
+ghost use Rattle.es_reader.specs.Told.{told_function};
+ghost use Rattle.es_values.specs.declared.values.Value.{Value as AnyValue};
+ghost use Rattle.es_values.specs.declared.values.Value.TheVariants.{Bool as Boolean};
+ghost use Rattle.es_values.specs.Charges.{conversion_charge, put_charge};
+ghost use Rattle.es_values.specs.Heaps.{IsLive, has_property, object_at, value_of};
+ghost use Rattle.es_eval.specs.declared.outcomes.Outcome.TheVariants.{Normal as AtEnd, Stopped};
+ghost use Rattle.es_eval.specs.declared.outcomes.StopCause.TheVariants.{Budget as OutOfSteps};
+ghost use Rattle.es_eval.specs.declared.works.Given.{Given};
+ghost use Rattle.es_eval.specs.declared.works.Given.TheVariants.{Value as GivenValue};
+ghost use Rattle.es_eval.specs.declared.works.Now.TheVariants.{Gives};
+ghost use Rattle.es_eval.specs.Actions.{Action, Next, as_number, as_text, by_row, charged, step};
+ghost use Rattle.es_eval.specs.Calls.{bound, with_new_object};
+ghost use Rattle.es_eval.specs.Machines.{AreLive, Carries, IsWorkLive, Stays, behind_frame, built_run, burden, names_in, rest, run_from, turns_of, value_of_call, values_of_built, values_of_next, weight, world_of};
+ghost use Rattle.es_eval.specs.Members.{delete_in, named, put_member};
+ghost use Rattle.es_eval.specs.Operations.{operates};
+ghost use Rattle.es_eval.specs.Works.{completed, does, evaluates, executes};
+ghost use Rattle.es_eval.specs.Worlds.{local as spec_local, with_name};
+ghost use Rattle.es_eval.specs.Worlds.Run.{Over};
+
+use crate::codes::Code;
+use crate::globals::Globals;
+use crate::operations::{charge_operation, operated};
+use crate::operators::Operator;
+use crate::works::{Now, Work};
+use bml_bytes::{NoMemory, Text};
+use es_builtins::value_named;
+use es_frames::Frames;
+use es_values::{Budget, Heap, Num, Value};
+use std::marker::Model;
+
+/// The state of a script that runs. Contracts see its parts.
+#[derive(Drop)]
+pub struct Machine {
+    pub globals: Globals,
+    pub heap: Heap,
+    pub frames: Frames<Work>,
+    pub steps: Budget,
+}
+
+impl Model for Machine {
+    ghost use Rattle.es_eval.specs.Machines.{IsMachine, MachineState};
+
+    ghost Value = { MachineState };
+
+    ghost view = { λ machine. record {
+      globals = machine.globals;
+      heap = machine.heap;
+      frames = machine.frames;
+      left = machine.steps.left;
+    } };
+
+    ghost invariant = { λ machine. IsMachine (record {
+      globals = machine.globals;
+      heap = machine.heap;
+      frames = machine.frames;
+      left = machine.steps.left;
+    }) };
+}
+
+impl Machine {
+    // ---- the control stack
+
+    /// Puts an item on those of the call that runs.
+    pub fn put(&mut self, item: Work) -> Result<(), NoMemory>
+        requires { IsWorkLive self.old.heap item }
+        ensures frames { OnOk result
+            (self.new ≡ record self.old { frames = with_item self.old.frames item }) }
+        ensures rest { OnOk result ((programs : List ToldProgram) → rest programs self.new.frames
+            ≡ (λ handed w. does programs item handed w (rest programs self.old.frames))) }
+        ensures world { OnOk result (world_of self.new ≡ world_of self.old) }
+        ensures more { OnOk result (burden self.new ≡ burden self.old + 2 * turns_of item) }
+    {
+        self.frames.put(item)?;
+        Ok(())
+    }
+
+    /// Takes the item that was put last, where the call that runs has one.
+    pub fn take(&mut self) -> Option<Work>
+        ensures item { result ≡ next_item self.old.frames }
+        ensures live { IfSome result (λ item. IsWorkLive self.new.heap item) }
+        ensures without { self.new ≡ record self.old { frames = without_item self.old.frames } }
+        ensures rest { IfSome result (λ item. (programs : List ToldProgram)
+            → rest programs self.old.frames
+            ≡ (λ handed w. does programs item handed w (rest programs self.new.frames))) }
+        ensures done { result ≡ None → (programs : List ToldProgram)
+            → rest programs self.old.frames
+            ≡ behind_frame programs (below_last self.old.frames) }
+        ensures world { world_of self.new ≡ world_of self.old }
+        ensures less { IfSome result
+            (λ item. burden self.old ≡ burden self.new + 2 * turns_of item) }
+    {
+        self.frames.take()
+    }
+
+    /// An expression is entered, and then this item is given its value.
+    pub fn evaluate_then(&mut self, item: Work, code: Code) -> Result<Now, NoMemory>
+        requires { IsWorkLive self.old.heap item }
+        ensures run { IfOk result (λ next. (programs : List ToldProgram)
+            → run_from programs self.new next ≡ evaluates programs code (world_of self.old)
+            (λ value w. does programs item (GivenValue value) w (rest programs self.old.frames))) }
+        ensures live { IfOk result (λ next. values_of_next next ≡ []) }
+        ensures less { IfOk result (λ next. weight self.new next ≤ burden self.old + 7) }
+    {
+        self.put(item)?;
+        Ok(Now::Evaluate(code))
+    }
+
+    /// A statement is entered, and then this item is given how it is completed.
+    pub fn execute_then(&mut self, item: Work, code: Code) -> Result<Now, NoMemory>
+        requires { IsWorkLive self.old.heap item }
+        ensures run { IfOk result (λ next. (programs : List ToldProgram)
+            → run_from programs self.new next ≡ executes programs code (world_of self.old)
+            (λ completion w. does programs item (completed completion) w
+            (rest programs self.old.frames))) }
+        ensures live { IfOk result (λ next. values_of_next next ≡ []) }
+        ensures less { IfOk result (λ next. weight self.new next ≤ burden self.old + 7) }
+    {
+        self.put(item)?;
+        Ok(Now::Execute(code))
+    }
+
+    // ---- steps and conversions
+
+    /// Takes a step, where one is left.
+    #[tactic(auto, using(crate::proofs::MachineLemmas::stays_where_less))]
+    pub fn take_step(&mut self) -> bool
+        ensures step { (action : Action AnyValue) (next : Next AnyValue)
+            → step action (world_of self.old) next
+            ≡ (if result then action (world_of self.new) next
+            else Over (Stopped OutOfSteps) (world_of self.new)) }
+        ensures less { result ≡ true → burden self.new + 40 ≤ burden self.old }
+        ensures stays { Stays self.old self.new }
+    {
+        self.steps.charge(1)
+    }
+
+    /// The text of a value, where what it is charged is left.
+    #[tactic(auto, using(crate::proofs::MachineLemmas::stays_where_less))]
+    pub fn to_text(&mut self, value: &Value) -> Result<Option<Text>, NoMemory>
+        requires { IsLive self.old.heap value.now }
+        ensures text { IfOk result (λ found.
+            Carries (as_text value.now) (world_of self.old) found (world_of self.new)) }
+        ensures stays { Stays self.old self.new }
+    {
+        if self.steps.charge_conversion(&self.heap, value) {
+            Ok(Some(self.heap.to_text(value)?))
+        } else {
+            Ok(None)
+        }
+    }
+
+    /// Takes what is charged for a value that becomes a text, where it is left.
+    #[tactic(auto, using(crate::proofs::MachineLemmas::stays_where_less))]
+    pub fn charge_conversion(&mut self, value: &Value) -> bool
+        requires { IsLive self.old.heap value.now }
+        ensures charge { (action : Action AnyValue) (next : Next AnyValue)
+            → charged (λ heap. conversion_charge heap value.now) action (world_of self.old) next
+            ≡ (if result then action (world_of self.new) next
+            else Over (Stopped OutOfSteps) (world_of self.new)) }
+        ensures stays { Stays self.old self.new }
+    {
+        self.steps.charge_conversion(&self.heap, value)
+    }
+
+    /// The number of a value, where what it is charged is left.
+    #[tactic(auto, using(crate::proofs::MachineLemmas::stays_where_less))]
+    pub fn to_number(&mut self, value: &Value) -> Result<Option<Num>, NoMemory>
+        requires { IsLive self.old.heap value.now }
+        ensures number { IfOk result (λ found.
+            Carries (as_number value.now) (world_of self.old) found (world_of self.new)) }
+        ensures stays { Stays self.old self.new }
+    {
+        if self.steps.charge_conversion(&self.heap, value) {
+            Ok(Some(self.heap.to_number(value)?))
+        } else {
+            Ok(None)
+        }
+    }
+
+    // ---- names
+
+    /// The `this` of the call that runs.
+    #[tactic(auto, using(crate::proofs::NameLemmas::live_this))]
+    pub fn this(&self) -> Result<Value, NoMemory>
+        ensures this { IfOk result (λ value. value ≡ (world_of self.now).this) }
+        ensures live { IfOk result (λ value. IsLive self.now.heap value) }
+    {
+        match self.frames.this() {
+            Some(this) => this.share(),
+            None => Ok(Value::Undefined),
+        }
+    }
+
+    /// The value of a name: a local, else a global, else what is built in.
+    #[tactic(auto, using(crate::proofs::NameLemmas::live_global))]
+    pub fn read_name(&self, name: &Text) -> Result<Option<Value>, NoMemory>
+        ensures value { IfOk result (λ found. found ≡ named (world_of self.now) name.now) }
+        ensures live { IfOk result (λ found. IfSome found (λ value. IsLive self.now.heap value)) }
+    {
+        if let Some(value) = self.local(name)? {
+            return Ok(Some(value));
+        }
+        match self.globals.get(name) {
+            Some(value) => Ok(Some(value.share()?)),
+            None => Ok(value_named(name)),
+        }
+    }
+
+    // The value of a local.
+    #[tactic(auto, using(crate::proofs::NameLemmas::no_local, crate::proofs::NameLemmas::local_at, crate::proofs::NameLemmas::live_at))]
+    fn local(&self, name: &Text) -> Result<Option<Value>, NoMemory>
+        ensures value { IfOk result (λ found. found ≡ spec_local (world_of self.now) name.now) }
+        ensures live { IfOk result (λ found. IfSome found (λ value. IsLive self.now.heap value)) }
+    {
+        let Some(place) = self.frames.find(name) else {
+            return Ok(None);
+        };
+        match self.frames.slot(place) {
+            Some(value) => Ok(Some(value.share()?)),
+            None => Ok(None),
+        }
+    }
+
+    /// Gives a name a value: a local, and else a global, which is made where it is new.
+    #[tactic(auto, using(crate::proofs::MachineLemmas::stays_where_less))]
+    pub fn write_name(&mut self, name: &Text, value: Value) -> Result<(), NoMemory>
+        requires { IsLive self.old.heap value }
+        ensures name { OnOk result (world_of self.new
+            ≡ with_name name.now value (world_of self.old)) }
+        ensures stays { Stays self.old self.new }
+    {
+        match self.frames.find(name) {
+            Some(place) => {
+                self.frames.set_slot(place, value);
+                Ok(())
+            }
+            None => self.globals.set(name, value),
+        }
+    }
+
+    // ---- objects
+
+    /// The value of an object's property, or an array's length.
+    pub fn property(&self, object: u64, name: &Text) -> Result<Value, NoMemory>
+        requires { object < length self.now.heap }
+        ensures value { IfOk result
+            (λ value. value ≡ value_of (object_at self.now.heap object) name.now) }
+        ensures live { IfOk result (λ value. IsLive self.now.heap value) }
+    {
+        self.heap.get(object, name)
+    }
+
+    /// Whether an object has a property of this name that can go.
+    pub fn has_property(&self, object: u64, name: &Text) -> bool
+        requires { object < length self.now.heap }
+        ensures { result ≡ has_property (object_at self.now.heap object) name.now }
+    {
+        self.heap.has(object, name)
+    }
+
+    /// The names of an object's properties, where the steps for them are left.
+    #[tactic(auto, using(crate::proofs::MachineLemmas::stays_where_less))]
+    pub fn names(&mut self, object: u64) -> Result<Option<Vec<Text>>, NoMemory>
+        requires { object < length self.old.heap }
+        ensures names { IfOk result (λ found. Carries (names_in object) (world_of self.old)
+            (option_map (λ names. names.items) found) (world_of self.new)) }
+        ensures stays { Stays self.old self.new }
+    {
+        let names = self.heap.names(object)?;
+        if self.steps.charge_sixteens(names.len() as u64) {
+            Ok(Some(names))
+        } else {
+            Ok(None)
+        }
+    }
+
+    /// Takes a property away, and answers whether there was one that can go.
+    #[tactic(auto, using(crate::proofs::MachineLemmas::stays_where_less))]
+    pub fn delete(&mut self, object: u64, name: &Text) -> bool
+        requires { object < length self.old.heap }
+        ensures delete { (next : Next AnyValue) → delete_in object name.now (world_of self.old) next
+            ≡ next (Boolean result) (world_of self.new) }
+        ensures stays { Stays self.old self.new }
+    {
+        self.heap.remove(object, name)
+    }
+
+    /// Gives a property a value, where what that is charged is left, and answers whether it was.
+    #[tactic(auto, using(crate::proofs::MachineLemmas::stays_where_less))]
+    pub fn put_property(
+        &mut self,
+        object: u64,
+        name: &Text,
+        value: &Value,
+    ) -> Result<bool, NoMemory>
+        requires object { object < length self.old.heap }
+        requires value { IsLive self.old.heap value.now }
+        ensures put { IfOk result (λ put. Carries
+            (charged (λ heap. put_charge heap object name.now value.now)
+            (put_member object name.now value.now)) (world_of self.old)
+            (if put then Some value.now else None) (world_of self.new)) }
+        ensures stays { Stays self.old self.new }
+    {
+        if !self.steps.charge_put(&self.heap, object, name, value)? {
+            return Ok(false);
+        }
+        self.heap.put(object, name, value.share()?)?;
+        Ok(true)
+    }
+
+    /// What an operator gives, where what it is charged is left.
+    #[tactic(auto, using(crate::proofs::MachineLemmas::stays_where_less), unfolding(crate::specs::Operations::operates))]
+    pub fn operate(
+        &mut self,
+        operator: Operator,
+        left: &Value,
+        right: &Value,
+    ) -> Result<Option<Value>, NoMemory>
+        requires left { IsLive self.old.heap left.now }
+        requires right { IsLive self.old.heap right.now }
+        ensures value { IfOk result (λ found. Carries (operates operator left.now right.now)
+            (world_of self.old) found (world_of self.new)) }
+        ensures live { IfOk result (λ found. IfSome found (λ value. IsLive self.new.heap value)) }
+        ensures stays { Stays self.old self.new }
+    {
+        if charge_operation(operator, left, right, &self.heap, &mut self.steps) {
+            Ok(Some(operated(operator, left, right, &self.heap)?))
+        } else {
+            Ok(None)
+        }
+    }
+}

@@ -1,0 +1,119 @@
+//! Operators of two values, with their charges.
+
+ghost use Rattle.std.specs.Prelude.{◌≡◌, IfOk, Option};
+ghost use Rattle.es_values.specs.Charges.{Charges};
+ghost use Rattle.es_values.specs.Heaps.{IsLive};
+ghost use Rattle.es_eval.specs.Calculations.{calculated as spec_calculated};
+ghost use Rattle.es_eval.specs.Operations.{is_greater as spec_is_greater, is_less as spec_is_less, numbers_charge, operated as spec_operated, operation_charge, or_same};
+
+use crate::operators::Operator;
+use bml_bytes::NoMemory;
+use es_values::{Budget, Heap, Num, Value};
+use std::cmp::Ordering;
+
+/// Takes the steps of an operator, where they are left.
+pub fn charge_operation(
+    operator: Operator,
+    left: &Value,
+    right: &Value,
+    heap: &Heap,
+    steps: &mut Budget,
+) -> bool
+    requires left { IsLive heap.now left.now }
+    requires right { IsLive heap.now right.now }
+    ensures { Charges (operation_charge heap.now operator left.now right.now) steps.old result
+        steps.new }
+{
+    match operator {
+        Operator::Plus => steps.charge_addition(heap, left, right),
+        Operator::Equal | Operator::NotEqual => steps.charge_equality(heap, left, right),
+        Operator::Less | Operator::Greater | Operator::LessOrEqual | Operator::GreaterOrEqual =>
+            steps.charge_order(heap, left, right),
+        _ => charge_conversions(left, right, heap, steps),
+    }
+}
+
+// Takes the steps of two values that become numbers.
+fn charge_conversions(left: &Value, right: &Value, heap: &Heap, steps: &mut Budget) -> bool
+    requires left { IsLive heap.now left.now }
+    requires right { IsLive heap.now right.now }
+    ensures { Charges (numbers_charge heap.now left.now right.now) steps.old result steps.new }
+{
+    let before = *steps;
+    if steps.charge_conversion(heap, left) && steps.charge_conversion(heap, right) {
+        return true;
+    }
+    *steps = before;
+    false
+}
+
+/// What an operator gives.
+pub fn operated(
+    operator: Operator,
+    left: &Value,
+    right: &Value,
+    heap: &Heap,
+) -> Result<Value, NoMemory>
+    requires left { IsLive heap.now left.now }
+    requires right { IsLive heap.now right.now }
+    ensures value { IfOk result
+        (λ value. value ≡ spec_operated heap.now operator left.now right.now) }
+    ensures live { IfOk result (λ value. IsLive heap.now value) }
+{
+    match operator {
+        Operator::Plus => heap.addition(left, right),
+        Operator::Equal => Ok(Value::Bool(heap.equality(left, right)?)),
+        Operator::NotEqual => Ok(Value::Bool(!heap.equality(left, right)?)),
+        Operator::Less => Ok(Value::Bool(is_less(heap.order(left, right)?))),
+        Operator::Greater => Ok(Value::Bool(is_greater(heap.order(left, right)?))),
+        Operator::LessOrEqual => Ok(Value::Bool(is_less_or_same(heap.order(left, right)?))),
+        Operator::GreaterOrEqual => Ok(Value::Bool(is_greater_or_same(heap.order(left, right)?))),
+        _ => {
+            let left = heap.to_number(left)?;
+            let right = heap.to_number(right)?;
+            Ok(Value::Number(calculated(operator, left, right)))
+        }
+    }
+}
+
+// The number that an operator of numbers gives; every other operator's is that of `|`.
+fn calculated(operator: Operator, left: Num, right: Num) -> Num
+    ensures { result ≡ spec_calculated operator left right }
+{
+    match operator {
+        Operator::Times => left.multiply(right),
+        Operator::Divide => left.divide(right),
+        Operator::Remainder => left.remainder(right),
+        Operator::Minus => left.subtract(right),
+        Operator::ShiftLeft => left.left_shift(right),
+        Operator::ShiftRight => left.signed_right_shift(right),
+        Operator::UnsignedShiftRight => left.unsigned_right_shift(right),
+        Operator::BitAnd => left.bitwise_and(right),
+        Operator::BitXor => left.bitwise_xor(right),
+        _ => left.bitwise_or(right),
+    }
+}
+
+fn is_less(order: Option<Ordering>) -> bool
+    ensures { result ≡ spec_is_less order }
+{
+    order == Some(Ordering::Less)
+}
+
+fn is_greater(order: Option<Ordering>) -> bool
+    ensures { result ≡ spec_is_greater order }
+{
+    order == Some(Ordering::Greater)
+}
+
+fn is_less_or_same(order: Option<Ordering>) -> bool
+    ensures { result ≡ or_same spec_is_less order }
+{
+    matches!(order, Some(Ordering::Less | Ordering::Equal))
+}
+
+fn is_greater_or_same(order: Option<Ordering>) -> bool
+    ensures { result ≡ or_same spec_is_greater order }
+{
+    matches!(order, Some(Ordering::Greater | Ordering::Equal))
+}

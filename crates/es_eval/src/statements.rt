@@ -1,0 +1,419 @@
+//! Statements.
+
+ghost use Rattle.std.specs.Prelude.{◌≡◌, ◌≤◌, ◌<◌, [], List, length, IfOk};
+ghost use Rattle.es_reader.specs.Programs.{ToldProgram};
+ghost use Rattle.es_values.specs.Heaps.{IsLive};
+ghost use Rattle.es_eval.specs.declared.works.Given.TheVariants.{Broke as GivenBroke, Continued as GivenContinued, Normal as GivenNormal, Value as GivenValue};
+ghost use Rattle.es_eval.specs.declared.works.Use.TheVariants.{Visit as VisitUse};
+ghost use Rattle.es_eval.specs.declared.works.Work.TheVariants.{Statement as StatementItem};
+ghost use Rattle.es_eval.specs.Actions.{behind, gives};
+ghost use Rattle.es_eval.specs.Codes.{statement_at, statements_from};
+ghost use Rattle.es_eval.specs.Machines.{AreLive, GoesOn, IsLess, IsNextLive, IsWorkLive, burden, values_of_given, weight};
+ghost use Rattle.es_eval.specs.Rows.{statement_row, statements as spec_statements, visit_all, visited_place};
+ghost use Rattle.es_eval.specs.Shapes.{stated, visitor_shaped};
+ghost use Rattle.es_eval.specs.Works.{as_completion, declares, enters, loop_again, loop_body, loop_task, runs, starts_loop, statement_work_row, turns, use_row, visit_task};
+
+use crate::codes::{Code, Listing, listed_statement, part, part_count};
+use crate::machine::Machine;
+use crate::nexts::stopped;
+use crate::outcomes::StopCause;
+use crate::shapes::{FirstShape, StatementShape, VisitorShape, declarator, statement};
+use crate::works::{Given, Loop, Now, Place, StatementWork, Use, Visit, Work};
+use bml_bytes::{NoMemory, Text};
+use es_reader::Program;
+use es_values::Value;
+
+impl Machine {
+    /// A statement is entered, with its step.
+    pub fn execute(&mut self, programs: &[Program], code: Code) -> Result<Now, NoMemory>
+        ensures run { IfOk result (λ next. GoesOn programs.now self.old
+            (as_completion (runs programs.now (statement_at programs.now code))) self.new next) }
+        ensures live { IfOk result (IsNextLive self.new) }
+        ensures less { IfOk result (λ next. weight self.new next ≤ burden self.old) }
+    {
+        if !self.take_step() {
+            return Ok(stopped(StopCause::Budget));
+        }
+        let alloc = self.heap.allocator();
+        let shape = statement(alloc, programs, code)?;
+        self.execute_shape(programs, code, shape)
+    }
+
+    // A statement of this shape, behind its step.
+    #[tactic(auto, unfolding(crate::specs::Shapes::stated))]
+    fn execute_shape(
+        &mut self,
+        programs: &[Program],
+        code: Code,
+        shape: StatementShape,
+    ) -> Result<Now, NoMemory>
+        ensures run { IfOk result (λ next. GoesOn programs.now self.old
+            (as_completion (statement_row (enters programs.now) (runs programs.now)
+            (turns programs.now) (stated programs.now code shape))) self.new next) }
+        ensures live { IfOk result (IsNextLive self.new) }
+        ensures less { IfOk result (IsLess self.old self.new) }
+    {
+        match shape {
+            StatementShape::Block => self.run_listed(programs, Listing::Inner(code), 0),
+            StatementShape::Var => self.declare(programs, code, 0),
+            StatementShape::Empty => Ok(Now::Gives(Given::Normal)),
+            StatementShape::Evaluate(expression) => {
+                self.evaluate_then(Work::Statement(StatementWork::Discard), expression)
+            }
+            StatementShape::If(test, body) => {
+                self.evaluate_then(Work::Statement(StatementWork::If(body)), test)
+            }
+            StatementShape::IfElse(test, body, other) => {
+                self.evaluate_then(Work::Statement(StatementWork::IfElse(body, other)), test)
+            }
+            StatementShape::While(test, body) => self.turn(Loop {
+                test: Some(test),
+                update: None,
+                body,
+            }),
+            StatementShape::For(first, test, update, body) => {
+                self.start_loop(programs, first, Loop { test, update, body })
+            }
+            StatementShape::ForIn(visitor, object, body) => {
+                self.evaluate_then(
+                    Work::Statement(StatementWork::Object(visitor, body)),
+                    object,
+                )
+            }
+            StatementShape::Continue => Ok(Now::Gives(Given::Continued)),
+            StatementShape::Break => Ok(Now::Gives(Given::Broke)),
+            StatementShape::Return(Some(value)) => {
+                self.evaluate_then(Work::Statement(StatementWork::Return), value)
+            }
+            StatementShape::Return(None) => { Ok(Now::Gives(Given::Returned(Value::Undefined))) }
+        }
+    }
+
+    /// What is done with a part of a statement.
+    pub fn on_statement(
+        &mut self,
+        programs: &[Program],
+        item: StatementWork,
+        given: Given,
+    ) -> Result<Now, NoMemory>
+        requires item { IsWorkLive self.old.heap (StatementItem item) }
+        requires given { AreLive self.old.heap (values_of_given given) }
+        ensures run { IfOk result (λ next. GoesOn programs.now self.old
+            (statement_work_row programs.now item given) self.new next) }
+        ensures live { IfOk result (IsNextLive self.new) }
+        ensures less { IfOk result (IsLess self.old self.new) }
+    {
+        match given {
+            Given::Value(value) => self.on_statement_value(programs, item, value),
+            Given::Normal => self.on_normal(programs, item),
+            Given::Broke => Ok(Now::Gives(on_break(&item))),
+            Given::Continued => self.on_continue(programs, item),
+            Given::Returned(value) => Ok(Now::Gives(Given::Returned(value))),
+        }
+    }
+
+    // What is done with the value of an expression in a statement.
+    fn on_statement_value(
+        &mut self,
+        programs: &[Program],
+        item: StatementWork,
+        given: Value,
+    ) -> Result<Now, NoMemory>
+        requires item { IsWorkLive self.old.heap (StatementItem item) }
+        requires given { IsLive self.old.heap given }
+        ensures run { IfOk result (λ next. GoesOn programs.now self.old
+            (statement_work_row programs.now item (GivenValue given)) self.new next) }
+        ensures live { IfOk result (IsNextLive self.new) }
+        ensures less { IfOk result (IsLess self.old self.new) }
+    {
+        match item {
+            StatementWork::Discard => Ok(Now::Gives(Given::Normal)),
+            StatementWork::Declared(name, code, next) => {
+                self.write_name(&name, given)?;
+                self.declare(programs, code, next)
+            }
+            StatementWork::If(body) => Ok(if given.truth() {
+                Now::Execute(body)
+            } else {
+                Now::Gives(Given::Normal)
+            }),
+            StatementWork::IfElse(body, other) => Ok(Now::Execute(if given.truth() {
+                body
+            } else {
+                other
+            })),
+            StatementWork::Test(given_loop) => {
+                if given.truth() {
+                    self.run_body(given_loop)
+                } else {
+                    Ok(Now::Gives(Given::Normal))
+                }
+            }
+            StatementWork::NextTurn(given_loop) => self.turn(given_loop),
+            StatementWork::Object(visitor, body) => self.visit_all(programs, visitor, body, &given),
+            StatementWork::Return => Ok(Now::Gives(Given::Returned(given))),
+            StatementWork::Statements(_, _) | StatementWork::Body(_) | StatementWork::Visiting(_) =>
+                Ok(Now::Gives(Given::Value(given))),
+        }
+    }
+
+    // What is done behind a statement that ended normally.
+    fn on_normal(&mut self, programs: &[Program], item: StatementWork) -> Result<Now, NoMemory>
+        requires item { IsWorkLive self.old.heap (StatementItem item) }
+        ensures run { IfOk result (λ next. GoesOn programs.now self.old
+            (statement_work_row programs.now item GivenNormal) self.new next) }
+        ensures live { IfOk result (IsNextLive self.new) }
+        ensures less { IfOk result (IsLess self.old self.new) }
+    {
+        match item {
+            StatementWork::Statements(listing, next) => self.run_listed(programs, listing, next),
+            StatementWork::Body(given_loop) => self.go_on_in(given_loop),
+            StatementWork::NextTurn(given_loop) => self.turn(given_loop),
+            StatementWork::Visiting(visit) => self.visit_next(programs, visit),
+            _ => Ok(Now::Gives(Given::Normal)),
+        }
+    }
+
+    // What is done behind a `continue`.
+    fn on_continue(&mut self, programs: &[Program], item: StatementWork) -> Result<Now, NoMemory>
+        requires item { IsWorkLive self.old.heap (StatementItem item) }
+        ensures run { IfOk result (λ next. GoesOn programs.now self.old
+            (statement_work_row programs.now item GivenContinued) self.new next) }
+        ensures live { IfOk result (IsNextLive self.new) }
+        ensures less { IfOk result (IsLess self.old self.new) }
+    {
+        match item {
+            StatementWork::Body(given_loop) => self.go_on_in(given_loop),
+            StatementWork::Visiting(visit) => self.visit_next(programs, visit),
+            _ => Ok(Now::Gives(Given::Continued)),
+        }
+    }
+
+    /// The statements of a row from a place on.
+    pub fn run_listed(
+        &mut self,
+        programs: &[Program],
+        listing: Listing,
+        place: usize,
+    ) -> Result<Now, NoMemory>
+        ensures run { IfOk result (λ next. GoesOn programs.now self.old
+            (as_completion (spec_statements (runs programs.now)
+            (statements_from programs.now listing place))) self.new next) }
+        ensures live { IfOk result (IsNextLive self.new) }
+        ensures less { IfOk result (IsLess self.old self.new) }
+    {
+        match listed_statement(programs, listing, place) {
+            Some(code) => self.execute_then(
+                Work::Statement(StatementWork::Statements(listing, place + 1)),
+                code,
+            ),
+            None => Ok(Now::Gives(Given::Normal)),
+        }
+    }
+
+    // The names that a `var` declares, from a place on: those with a value are given it.
+    fn declare(&mut self, programs: &[Program], code: Code, first: usize) -> Result<Now, NoMemory>
+        ensures run { IfOk result (λ next. GoesOn programs.now self.old
+            (as_completion (declares programs.now code first)) self.new next) }
+        ensures live { IfOk result (IsNextLive self.new) }
+        ensures less { IfOk result (IsLess self.old self.new) }
+    {
+        let alloc = self.heap.allocator();
+        for place in first..part_count(programs, code) {
+            let Some(declared) = part(programs, code, place) else {
+                break;
+            };
+            let shape = declarator(alloc, programs, declared)?;
+            if let Some(value) = shape.value {
+                return self.evaluate_then(
+                    Work::Statement(StatementWork::Declared(shape.name, code, place + 1)),
+                    value,
+                );
+            }
+        }
+        Ok(Now::Gives(Given::Normal))
+    }
+
+    // ---- `while` and `for`
+
+    // The first part of a `for`, and then its turns.
+    #[tactic(auto, unfolding(crate::specs::Shapes::first_shaped))]
+    fn start_loop(
+        &mut self,
+        programs: &[Program],
+        first: FirstShape,
+        given_loop: Loop,
+    ) -> Result<Now, NoMemory>
+        ensures run { IfOk result (λ next. GoesOn programs.now self.old
+            (as_completion (starts_loop programs.now first given_loop)) self.new next) }
+        ensures live { IfOk result (IsNextLive self.new) }
+        ensures less { IfOk result (IsLess self.old self.new) }
+    {
+        match first {
+            FirstShape::NoFirst => self.turn(given_loop),
+            FirstShape::FirstExpression(expression) => self.evaluate_then(
+                Work::Statement(StatementWork::NextTurn(given_loop)),
+                expression,
+            ),
+            FirstShape::FirstVar(code) => {
+                if !self.take_step() {
+                    return Ok(stopped(StopCause::Budget));
+                }
+                self.put(Work::Statement(StatementWork::NextTurn(given_loop)))?;
+                self.declare(programs, code, 0)
+            }
+        }
+    }
+
+    // A turn: the test, where there is one, or else the body.
+    fn turn(&mut self, given_loop: Loop) -> Result<Now, NoMemory>
+        ensures run { IfOk result (λ next. (programs : List ToldProgram)
+            → GoesOn programs self.old
+            (as_completion (turns programs (loop_task programs given_loop))) self.new next) }
+        ensures live { IfOk result (IsNextLive self.new) }
+        ensures less { IfOk result (IsLess self.old self.new) }
+    {
+        match given_loop.test {
+            Some(test) => {
+                self.evaluate_then(Work::Statement(StatementWork::Test(given_loop)), test)
+            }
+            None => self.run_body(given_loop),
+        }
+    }
+
+    // The body of a turn.
+    fn run_body(&mut self, given_loop: Loop) -> Result<Now, NoMemory>
+        ensures run { IfOk result (λ next. (programs : List ToldProgram)
+            → GoesOn programs self.old (as_completion (loop_body programs given_loop)) self.new
+            next) }
+        ensures live { IfOk result (IsNextLive self.new) }
+        ensures less { IfOk result (IsLess self.old self.new) }
+    {
+        self.execute_then(
+            Work::Statement(StatementWork::Body(given_loop)),
+            given_loop.body,
+        )
+    }
+
+    // What comes behind the body, and then the next turn.
+    fn go_on_in(&mut self, given_loop: Loop) -> Result<Now, NoMemory>
+        ensures run { IfOk result (λ next. (programs : List ToldProgram)
+            → GoesOn programs self.old (as_completion (loop_again programs given_loop)) self.new
+            next) }
+        ensures live { IfOk result (IsNextLive self.new) }
+        ensures less { IfOk result (IsLess self.old self.new) }
+    {
+        match given_loop.update {
+            Some(update) => {
+                self.evaluate_then(Work::Statement(StatementWork::NextTurn(given_loop)), update)
+            }
+            None => self.turn(given_loop),
+        }
+    }
+
+    // ---- `for .. in`
+
+    // The names of an object at the start; of no object there is no turn.
+    fn visit_all(
+        &mut self,
+        programs: &[Program],
+        visitor: VisitorShape,
+        body: Code,
+        object: &Value,
+    ) -> Result<Now, NoMemory>
+        requires { IsLive self.old.heap object.now }
+        ensures run { IfOk result (λ next. GoesOn programs.now self.old
+            (as_completion (visit_all (turns programs.now) (visitor_shaped programs.now visitor)
+            (statement_at programs.now body) object.now)) self.new next) }
+        ensures live { IfOk result (IsNextLive self.new) }
+        ensures less { IfOk result (IsLess self.old self.new) }
+    {
+        let Value::Object(object) = object else {
+            return Ok(Now::Gives(Given::Normal));
+        };
+        match self.names(*object)? {
+            Some(names) => {
+                let visit = Visit {
+                    visitor,
+                    object: *object,
+                    names,
+                    next: 0,
+                    body,
+                };
+                self.visit_next(programs, visit)
+            }
+            None => Ok(stopped(StopCause::Budget)),
+        }
+    }
+
+    // The next name that the object still has.
+    fn visit_next(&mut self, programs: &[Program], visit: Visit) -> Result<Now, NoMemory>
+        requires { visit.object < length self.old.heap }
+        ensures run { IfOk result (λ next. GoesOn programs.now self.old
+            (as_completion (turns programs.now (visit_task programs.now visit))) self.new next) }
+        ensures live { IfOk result (IsNextLive self.new) }
+        ensures less { IfOk result (IsLess self.old self.new) }
+    {
+        let mut visit = visit;
+        'names: while visit.next < visit.names.len() {
+            let name = visit.names[visit.next].share()?;
+            visit.next += 1;
+            if self.has_property(visit.object, &name) {
+                return self.visit_name(programs, name, visit);
+            }
+        }
+        Ok(Now::Gives(Given::Normal))
+    }
+
+    // A name is written to what is visited, and then the body runs.
+    fn visit_name(
+        &mut self,
+        programs: &[Program],
+        name: Text,
+        visit: Visit,
+    ) -> Result<Now, NoMemory>
+        requires { visit.object < length self.old.heap }
+        ensures run { IfOk result (λ next. GoesOn programs.now self.old
+            (behind (visited_place (enters programs.now)
+            (visitor_shaped programs.now visit.visitor))
+            (use_row programs.now (VisitUse name visit))) self.new next) }
+        ensures live { IfOk result (IsNextLive self.new) }
+        ensures less { IfOk result (IsLess self.old self.new) }
+    {
+        match visit.visitor.share()? {
+            VisitorShape::VisitTarget(target) => {
+                self.enter_target(programs, target, Use::Visit(name, visit))
+            }
+            VisitorShape::VisitVar(variable) => {
+                if !self.take_step() {
+                    return Ok(stopped(StopCause::Budget));
+                }
+                self.on_place(Use::Visit(name, visit), Place::Name(variable))
+            }
+        }
+    }
+}
+
+// What an item makes of a `break`: it ends a loop.
+fn on_break(item: &StatementWork) -> Given
+    ensures given { (programs : List ToldProgram)
+        → statement_work_row programs item.now GivenBroke ≡ gives result }
+    ensures live { values_of_given result ≡ [] }
+{
+    match item {
+        StatementWork::Body(_) | StatementWork::Visiting(_) => Given::Normal,
+        _ => Given::Broke,
+    }
+}
+
+impl VisitorShape {
+    /// The same again, which takes no memory.
+    fn share(&self) -> Result<VisitorShape, NoMemory>
+        ensures { IfOk result (λ visitor. visitor ≡ self.now) }
+    {
+        match self {
+            VisitorShape::VisitTarget(target) => Ok(VisitorShape::VisitTarget(*target)),
+            VisitorShape::VisitVar(name) => Ok(VisitorShape::VisitVar(name.share()?)),
+        }
+    }
+}

@@ -1,0 +1,285 @@
+//! Targets: what is written to.
+
+ghost use Rattle.std.specs.Prelude.{◌≡◌, ◌+◌, ◌<◌, ◌≤◌, List, length, IfOk, if◌then◌else◌};
+ghost use Rattle.es_reader.specs.Programs.{ToldProgram};
+ghost use Rattle.es_values.specs.declared.values.Value.TheVariants.{Host as OfHost, Object as AnObject};
+ghost use Rattle.es_values.specs.Heaps.{IsLive};
+ghost use Rattle.es_eval.specs.declared.works.Work.TheVariants.{Target as TargetItem};
+ghost use Rattle.es_eval.specs.Actions.{behind};
+ghost use Rattle.es_eval.specs.Codes.{expression_at};
+ghost use Rattle.es_eval.specs.Machines.{AreLive, GoesOn, IsLess, IsLessAfter, IsLittle, IsNextLive, IsWorkLive, burden, values_of_place, values_of_use, weight};
+ghost use Rattle.es_eval.specs.Members.{read_name as spec_read_name, read_place as spec_read_place, write_member as spec_write_member, write_place as spec_write_place};
+ghost use Rattle.es_eval.specs.Operations.{stepped as spec_stepped};
+ghost use Rattle.es_eval.specs.Rows.{entered_place};
+ghost use Rattle.es_eval.specs.Sources.{target_of};
+ghost use Rattle.es_eval.specs.Works.{as_value, enters, place_of, steps_from, target_row, use_row};
+
+use crate::codes::Code;
+use crate::machine::Machine;
+use crate::nexts::{stopped, value};
+use crate::operators::Operator;
+use crate::outcomes::StopCause;
+use crate::shapes::{Shape, expression};
+use crate::works::{Now, OperandWork, Place, StatementWork, TargetWork, Use, Work};
+use bml_bytes::{NoMemory, Text};
+use es_reader::Program;
+use es_values::{HostRef, Num, Value};
+
+impl Machine {
+    /// A target is entered, with its step, and then what it names is put to a use.
+    pub fn enter_target(
+        &mut self,
+        programs: &[Program],
+        target: Code,
+        purpose: Use,
+    ) -> Result<Now, NoMemory>
+        requires { AreLive self.old.heap (values_of_use purpose) }
+        ensures run { IfOk result (λ next. GoesOn programs.now self.old
+            (behind (entered_place (enters programs.now)
+            (target_of (expression_at programs.now target))) (use_row programs.now purpose))
+            self.new next) }
+        ensures live { IfOk result (IsNextLive self.new) }
+        ensures less { IfOk result (IsLess self.old self.new) }
+    {
+        if !self.take_step() {
+            return Ok(stopped(StopCause::Budget));
+        }
+        match expression(programs, target)? {
+            Shape::Name(name) => self.on_place(purpose, Place::Name(name)),
+            Shape::Index(base, key) => {
+                self.evaluate_then(Work::Target(TargetWork::IndexBase(key, purpose)), base)
+            }
+            Shape::Member(base, name) => {
+                self.evaluate_then(Work::Target(TargetWork::MemberBase(name, purpose)), base)
+            }
+            _ => {
+                let name = Text::of_codes(self.heap.allocator(), &[])?;
+                self.on_place(purpose, Place::Name(name))
+            }
+        }
+    }
+
+    /// What is done with what a target names.
+    pub fn on_place(&mut self, purpose: Use, place: Place) -> Result<Now, NoMemory>
+        requires purpose { AreLive self.old.heap (values_of_use purpose) }
+        requires place { AreLive self.old.heap (values_of_place place) }
+        ensures run { IfOk result (λ next. (programs : List ToldProgram)
+            → GoesOn programs self.old (use_row programs purpose (place_of place)) self.new next) }
+        ensures live { IfOk result (IsNextLive self.new) }
+        ensures less { IfOk result (IsLittle self.old self.new) }
+    {
+        match purpose {
+            Use::Assign(right) => {
+                self.evaluate_then(Work::Target(TargetWork::Write(place)), right)
+            }
+            Use::Update(operator, right) => {
+                let there = place.share()?;
+                self.put(Work::Target(TargetWork::UpdateRead(operator, there, right)))?;
+                self.read_place(place)
+            }
+            Use::Step(in_front, down) => {
+                let there = place.share()?;
+                self.put(Work::Target(TargetWork::StepRead(in_front, down, there)))?;
+                self.read_place(place)
+            }
+            Use::Visit(name, visit) => {
+                self.put(Work::Target(TargetWork::Visited(visit)))?;
+                self.write_place(place, Value::Str(name))
+            }
+        }
+    }
+
+    /// What is done with a part of a target, or with what was written to one.
+    pub fn on_target(&mut self, item: TargetWork, given: Value) -> Result<Now, NoMemory>
+        requires item { IsWorkLive self.old.heap (TargetItem item) }
+        requires given { IsLive self.old.heap given }
+        ensures run { IfOk result (λ next. (programs : List ToldProgram)
+            → GoesOn programs self.old (target_row programs item given) self.new next) }
+        ensures live { IfOk result (IsNextLive self.new) }
+        ensures less { IfOk result (IsLessAfter (TargetItem item) self.old self.new) }
+    {
+        match item {
+            TargetWork::IndexBase(key, purpose) => {
+                self.evaluate_then(Work::Target(TargetWork::IndexKey(given, purpose)), key)
+            }
+            TargetWork::IndexKey(base, purpose) => match self.to_text(&given)? {
+                Some(key) => self.on_place(purpose, Place::Member(base, key)),
+                None => Ok(stopped(StopCause::Budget)),
+            },
+            TargetWork::MemberBase(name, purpose) => {
+                self.on_place(purpose, Place::Member(given, name))
+            }
+            TargetWork::Write(place) => self.write_place(place, given),
+            TargetWork::UpdateRead(operator, place, right) => self.evaluate_then(
+                Work::Target(TargetWork::UpdateRight(operator, place, given)),
+                right,
+            ),
+            TargetWork::UpdateRight(operator, place, before) => {
+                match self.operate(operator, &before, &given)? {
+                    Some(behind) => self.write_place(place, behind),
+                    None => Ok(stopped(StopCause::Budget)),
+                }
+            }
+            TargetWork::StepRead(in_front, down, place) => {
+                self.step_place(in_front, down, place, &given)
+            }
+            TargetWork::Visited(visit) => {
+                let body = visit.body;
+                self.execute_then(Work::Statement(StatementWork::Visiting(visit)), body)
+            }
+        }
+    }
+
+    // Writes one more or one less than a value, and gives the number behind or before that.
+    fn step_place(
+        &mut self,
+        in_front: bool,
+        down: bool,
+        place: Place,
+        before: &Value,
+    ) -> Result<Now, NoMemory>
+        requires place { AreLive self.old.heap (values_of_place place) }
+        requires before { IsLive self.old.heap before.now }
+        ensures run { IfOk result (λ next. (programs : List ToldProgram)
+            → GoesOn programs self.old
+            (as_value (steps_from in_front down (place_of place) before.now)) self.new next) }
+        ensures live { IfOk result (IsNextLive self.new) }
+        ensures less { IfOk result (λ next. weight self.new next ≤ burden self.old + 14) }
+    {
+        let Some(number) = self.to_number(before)? else {
+            return Ok(stopped(StopCause::Budget));
+        };
+        let behind = stepped(down, number);
+        let given = if_in_front(in_front, behind, number);
+        self.put(Work::Operand(OperandWork::Instead(Value::Number(given))))?;
+        self.write_place(place, Value::Number(behind))
+    }
+
+    /// The value of what a target names.
+    fn read_place(&mut self, place: Place) -> Result<Now, NoMemory>
+        requires { AreLive self.old.heap (values_of_place place) }
+        ensures run { IfOk result (λ next. (programs : List ToldProgram)
+            → GoesOn programs self.old (as_value (spec_read_place (place_of place))) self.new
+            next) }
+        ensures live { IfOk result (IsNextLive self.new) }
+        ensures less { IfOk result (IsLess self.old self.new) }
+    {
+        match place {
+            Place::Name(name) => self.name_value(&name),
+            Place::Member(base, key) => self.read_member(base, key),
+        }
+    }
+
+    /// The value of a name, where something has it.
+    pub fn name_value(&mut self, name: &Text) -> Result<Now, NoMemory>
+        ensures run { IfOk result (λ next. (programs : List ToldProgram)
+            → GoesOn programs self.old (as_value (spec_read_name name.now)) self.new next) }
+        ensures live { IfOk result (IsNextLive self.new) }
+        ensures less { IfOk result (IsLess self.old self.new) }
+    {
+        match self.read_name(name)? {
+            Some(found) => Ok(value(found)),
+            None => Ok(stopped(StopCause::Unresolved)),
+        }
+    }
+
+    /// Writes a value to what a target names, and gives it.
+    fn write_place(&mut self, place: Place, given: Value) -> Result<Now, NoMemory>
+        requires place { AreLive self.old.heap (values_of_place place) }
+        requires given { IsLive self.old.heap given }
+        ensures run { IfOk result (λ next. (programs : List ToldProgram)
+            → GoesOn programs self.old (as_value (spec_write_place (place_of place) given))
+            self.new next) }
+        ensures live { IfOk result (IsNextLive self.new) }
+        ensures less { IfOk result (IsLess self.old self.new) }
+    {
+        match place {
+            Place::Name(name) => {
+                self.write_name(&name, given.share()?)?;
+                Ok(value(given))
+            }
+            Place::Member(base, key) => self.write_member(base, key, given),
+        }
+    }
+
+    // Writes a value to a member, and gives it.
+    fn write_member(&mut self, base: Value, key: Text, given: Value) -> Result<Now, NoMemory>
+        requires base { IsLive self.old.heap base }
+        requires given { IsLive self.old.heap given }
+        ensures run { IfOk result (λ next. (programs : List ToldProgram)
+            → GoesOn programs self.old (as_value (spec_write_member base key given)) self.new
+            next) }
+        ensures live { IfOk result (IsNextLive self.new) }
+        ensures less { IfOk result (IsLess self.old self.new) }
+    {
+        match base {
+            Value::Undefined | Value::Null => Ok(stopped(StopCause::NotObject)),
+            Value::Object(object) => self.put_in_object(object, &key, given),
+            Value::Host(reference) => Ok(self.write_to_host(reference, key, given)),
+            Value::Bool(_) | Value::Number(_) | Value::Str(_) | Value::Function(_) => {
+                Ok(value(given))
+            }
+        }
+    }
+
+    // Gives a property of an object a value, and gives that.
+    fn put_in_object(&mut self, object: u64, key: &Text, given: Value) -> Result<Now, NoMemory>
+        requires object { object < length self.old.heap }
+        requires given { IsLive self.old.heap given }
+        ensures run { IfOk result (λ next. (programs : List ToldProgram)
+            → GoesOn programs self.old
+            (as_value (spec_write_member (AnObject object) key.now given)) self.new next) }
+        ensures live { IfOk result (IsNextLive self.new) }
+        ensures less { IfOk result (IsLess self.old self.new) }
+    {
+        if !self.put_property(object, key, &given)? {
+            return Ok(stopped(StopCause::Budget));
+        }
+        Ok(value(given))
+    }
+
+    // Asks the host to write a member, and gives what is written.
+    fn write_to_host(&mut self, reference: HostRef, key: Text, given: Value) -> Now
+        requires { IsLive self.old.heap given }
+        ensures run { (programs : List ToldProgram)
+            → GoesOn programs self.old
+            (as_value (spec_write_member (OfHost reference) key given)) self.new result }
+        ensures live { IsNextLive self.new result }
+        ensures less { IsLess self.old self.new result }
+    {
+        if !self.charge_conversion(&given) {
+            return stopped(StopCause::Budget);
+        }
+        Now::Writes(reference, key, given)
+    }
+}
+
+impl Place {
+    /// The same place again, which takes no memory.
+    fn share(&self) -> Result<Place, NoMemory>
+        ensures { IfOk result (λ place. place ≡ self.now) }
+    {
+        match self {
+            Place::Name(name) => Ok(Place::Name(name.share()?)),
+            Place::Member(base, key) => Ok(Place::Member(base.share()?, key.share()?)),
+        }
+    }
+}
+
+// One less or one more.
+fn stepped(down: bool, number: Num) -> Num
+    ensures { result ≡ spec_stepped down number }
+{
+    if down {
+        number.add(Num::Whole(-1))
+    } else {
+        number.add(Num::Whole(1))
+    }
+}
+
+// The number behind a step where its operator stands in front, and else the one before it.
+fn if_in_front(in_front: bool, behind: Num, before: Num) -> Num
+    ensures { result ≡ (if in_front then behind else before) }
+{
+    if in_front { behind } else { before }
+}
