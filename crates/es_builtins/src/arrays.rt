@@ -2,7 +2,7 @@
 //! row. Each does exactly what its row says. (ECMA-262 second edition, 15.4.4.3 to 15.4.4.5, in
 //! this profile.)
 
-ghost use Rattle.std.specs.Prelude.{◌≡◌, ◌<◌, [], length, All, IfOk};
+ghost use Rattle.std.specs.Prelude.{◌≡◌, ◌<◌, ◌≤◌, [], length, All, IfOk};
 ghost use Rattle.es_values.specs.Heaps.{IsLive, object_at};
 ghost use Rattle.es_builtins.specs.declared.methods.Method.TheVariants as the;
 ghost use Rattle.es_builtins.specs.Methods.{array_row, separator_argument};
@@ -26,9 +26,10 @@ pub fn join(
 ) -> Result<Built, NoMemory>
     requires object { object < length heap.now }
     requires args { All (IsLive heap.now) args.now }
-    ensures { IfOk result (λ built. Answers
+    ensures row { IfOk result (λ built. Answers
         (array_row heap.now object (object_at heap.now object) 0 args.now the.Join)
         heap.now budget.old built heap.now budget.new) }
+    ensures spends { budget.new.left ≤ budget.old.left }
 {
     let mut till = Till::open(budget);
     if !till.take_argument(heap, args, 0) {
@@ -52,9 +53,11 @@ pub fn reverse(
     budget: &mut Budget,
 ) -> Result<Built, NoMemory>
     requires { object < length heap.old }
-    ensures { IfOk result (λ built. Answers
+    ensures row { IfOk result (λ built. Answers
         (array_row heap.old object (object_at heap.old object) count [] the.Reverse)
         heap.old budget.old built heap.new budget.new) }
+    ensures grows { length heap.old ≤ length heap.new }
+    ensures spends { budget.new.left ≤ budget.old.left }
 {
     let mut till = Till::open(budget);
     if !till.take_sixteens(count as usize) {
@@ -76,9 +79,11 @@ pub fn sort(
     budget: &mut Budget,
 ) -> Result<Built, NoMemory>
     requires { object < length heap.old }
-    ensures { IfOk result (λ built. Answers
+    ensures row { IfOk result (λ built. Answers
         (array_row heap.old object (object_at heap.old object) count args.now the.Sort)
         heap.old budget.old built heap.new budget.new) }
+    ensures grows { length heap.old ≤ length heap.new }
+    ensures spends { budget.new.left ≤ budget.old.left }
 {
     if !args.is_empty() {
         return Ok(Built::NotCallable);

@@ -1,6 +1,6 @@
 //! Calls of built-in functions and methods.
 
-ghost use Rattle.std.specs.Prelude.{◌≡◌, ◌≤◌, All, IfOk};
+ghost use Rattle.std.specs.Prelude.{◌≡◌, ◌≤◌, length, All, IfOk};
 ghost use Rattle.es_values.specs.Heaps.{IsLive};
 ghost use Rattle.es_builtins.specs.Functions.{call_row, construction_row, function_row};
 ghost use Rattle.es_builtins.specs.Methods.{method_row};
@@ -19,7 +19,7 @@ use bml_bytes::{NoMemory, Text};
 use es_values::{Budget, Heap, Value};
 
 /// Calls the built-in function of a number. After `NoMemory` the heap and the budget may be changed
-/// in part.
+/// in part, but no object is gone and no step given back.
 pub fn call_function(
     number: u64,
     args: &[Value],
@@ -30,6 +30,8 @@ pub fn call_function(
     requires steps { budget.old.left ≤ 100000 }
     ensures row { IfOk result (λ built. Answers (function_row heap.old number args.now)
         heap.old budget.old built heap.new budget.new) }
+    ensures grows { length heap.old ≤ length heap.new }
+    ensures spends { budget.new.left ≤ budget.old.left }
 {
     match BuiltIn::of_number(number) {
         Some(function) => call(heap, function, args, budget),
@@ -46,6 +48,8 @@ fn call(
     requires args { All (IsLive heap.old) args.now }
     ensures row { IfOk result (λ built. Answers (call_row heap.old args.now function)
         heap.old budget.old built heap.new budget.new) }
+    ensures grows { length heap.old ≤ length heap.new }
+    ensures spends { budget.new.left ≤ budget.old.left }
 {
     match function {
         BuiltIn::Object => object_row(heap),
@@ -59,7 +63,7 @@ fn call(
 }
 
 /// Makes a `new` of the built-in function of a number. After `NoMemory` the heap and the budget may
-/// be changed in part.
+/// be changed in part, but no object is gone and no step given back.
 pub fn construct(
     number: u64,
     args: &[Value],
@@ -70,6 +74,8 @@ pub fn construct(
     requires steps { budget.old.left ≤ 100000 }
     ensures row { IfOk result (λ built. Answers (construction_row heap.old number args.now)
         heap.old budget.old built heap.new budget.new) }
+    ensures grows { length heap.old ≤ length heap.new }
+    ensures spends { budget.new.left ≤ budget.old.left }
 {
     match BuiltIn::of_number(number) {
         None | Some(BuiltIn::IsNan | BuiltIn::ParseInt) => Ok(Built::NotCallable),
@@ -78,7 +84,8 @@ pub fn construct(
 }
 
 /// Calls the built-in method of a name, of a value that isn't asked for a property of its own.
-/// After `NoMemory` the heap and the budget may be changed in part.
+/// After `NoMemory` the heap and the budget may be changed in part, but no object is gone and no
+/// step given back.
 pub fn call_method(
     base: &Value,
     name: &Text,
@@ -91,6 +98,8 @@ pub fn call_method(
     requires steps { budget.old.left ≤ 100000 }
     ensures row { IfOk result (λ built. Answers (method_row heap.old base.now name.now args.now)
         heap.old budget.old built heap.new budget.new) }
+    ensures grows { length heap.old ≤ length heap.new }
+    ensures spends { budget.new.left ≤ budget.old.left }
 {
     let Some(method) = Method::of_name(name) else {
         return Ok(Built::NotCallable);

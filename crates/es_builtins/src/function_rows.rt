@@ -2,7 +2,7 @@
 //! Each does exactly what its row says; after `NoMemory` the heap may have one more object.
 //! (ECMA-262 second edition, 15.1 to 15.7, in this profile.)
 
-ghost use Rattle.std.specs.Prelude.{◌≡◌, List, ◌++◌, ◌∷◌, [], true, false, length, map, All, IfOk};
+ghost use Rattle.std.specs.Prelude.{◌≡◌, ◌≤◌, List, ◌++◌, ◌∷◌, [], true, false, length, map, All, IfOk};
 ghost use Rattle.es_values.specs.declared.budgets.Budget.{Budget};
 ghost use Rattle.es_values.specs.Arrays.{array_of};
 ghost use Rattle.es_values.specs.Heaps.{IsLive, new_object, with_length};
@@ -25,6 +25,7 @@ use std::alloc::Global;
 pub fn object_row(heap: &mut Heap) -> Result<Built, NoMemory>
     ensures row { IfOk result (λ built. (budget : Budget) → Answers
         (gives_object heap.old 0 (new_object false)) heap.old budget built heap.new budget) }
+    ensures grows { length heap.old ≤ length heap.new }
 {
     let object = heap.add(false)?;
     Ok(Built::Value(Value::Object(object)))
@@ -35,6 +36,7 @@ pub fn array_row(heap: &mut Heap, args: &[Value]) -> Result<Built, NoMemory>
     requires args { All (IsLive heap.old) args.now }
     ensures row { IfOk result (λ built. (budget : Budget)
         → Answers (call_row heap.old args.now the.Array) heap.old budget built heap.new budget) }
+    ensures grows { length heap.old ≤ length heap.new }
 {
     let array = match args {
         [Value::Number(length)] => array_of_length(heap, *length)?,
@@ -48,6 +50,7 @@ pub fn string_row(heap: &Heap, args: &[Value], budget: &mut Budget) -> Result<Bu
     requires args { All (IsLive heap.now) args.now }
     ensures row { IfOk result (λ built. Answers (call_row heap.now args.now the.String)
         heap.now budget.old built heap.now budget.new) }
+    ensures spends { budget.new.left ≤ budget.old.left }
 {
     let Some(value) = args.first() else {
         let empty = Text::of_codes(heap.allocator(), &[])?;
@@ -67,6 +70,7 @@ pub fn number_row(heap: &Heap, args: &[Value], budget: &mut Budget) -> Result<Bu
     requires args { All (IsLive heap.now) args.now }
     ensures row { IfOk result (λ built. Answers (call_row heap.now args.now the.Number)
         heap.now budget.old built heap.now budget.new) }
+    ensures spends { budget.new.left ≤ budget.old.left }
 {
     let Some(value) = args.first() else {
         return Ok(Built::Value(Value::Number(Num::Whole(0))));
@@ -97,6 +101,7 @@ pub fn is_nan_row(heap: &Heap, args: &[Value], budget: &mut Budget) -> Result<Bu
     requires args { All (IsLive heap.now) args.now }
     ensures row { IfOk result (λ built. Answers (call_row heap.now args.now the.IsNan)
         heap.now budget.old built heap.now budget.new) }
+    ensures spends { budget.new.left ≤ budget.old.left }
 {
     let mut till = Till::open(budget);
     if !till.take_argument(heap, args, 0) {
@@ -112,6 +117,7 @@ pub fn parse_int_row(heap: &Heap, args: &[Value], budget: &mut Budget) -> Result
     requires args { All (IsLive heap.now) args.now }
     ensures row { IfOk result (λ built. Answers (call_row heap.now args.now the.ParseInt)
         heap.now budget.old built heap.now budget.new) }
+    ensures spends { budget.new.left ≤ budget.old.left }
 {
     let mut till = Till::open(budget);
     if !till.take_two(heap, args) {
@@ -141,6 +147,7 @@ pub fn codes_row(heap: &Heap, args: &[Value], budget: &mut Budget) -> Result<Bui
     requires args { All (IsLive heap.now) args.now }
     ensures row { IfOk result (λ built. Answers (spec_codes_row heap.now args.now)
         heap.now budget.old built heap.now budget.new) }
+    ensures spends { budget.new.left ≤ budget.old.left }
 {
     let mut till = Till::open(budget);
     if !till.take_conversions(heap, args) {
@@ -170,6 +177,7 @@ fn array_of_length(heap: &mut Heap, number: Num) -> Result<u64, NoMemory>
     ensures added { IfOk result (λ array. heap.new
         ≡ heap.old ++ with_length (new_object true) number ∷ []) }
     ensures number { IfOk result (λ array. array ≡ length heap.old) }
+    ensures grows { length heap.old ≤ length heap.new }
 {
     let name = Text::of_bytes(heap.allocator(), b"length")?;
     let array = heap.add(true)?;
@@ -182,6 +190,7 @@ fn array_of_values(heap: &mut Heap, values: &[Value]) -> Result<u64, NoMemory>
     requires { All (IsLive heap.old) values.now }
     ensures added { IfOk result (λ array. heap.new ≡ heap.old ++ array_of values.now ∷ []) }
     ensures number { IfOk result (λ array. array ≡ length heap.old) }
+    ensures grows { length heap.old ≤ length heap.new }
 {
     let elements = shared(heap.allocator(), values)?;
     heap.add_array(elements)

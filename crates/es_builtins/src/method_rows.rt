@@ -29,6 +29,7 @@ pub fn plain_method(
     requires { IsLive heap.now base.now }
     ensures row { IfOk result (λ built. Answers (plain_row heap.now base.now method)
         heap.now budget.old built heap.now budget.new) }
+    ensures spends { budget.new.left ≤ budget.old.left }
 {
     match method {
         Method::ToText => text_of_base(heap, base, budget),
@@ -41,6 +42,7 @@ fn text_of_base(heap: &Heap, base: &Value, budget: &mut Budget) -> Result<Built,
     requires { IsLive heap.now base.now }
     ensures row { IfOk result (λ built. Answers (plain_row heap.now base.now the.ToText)
         heap.now budget.old built heap.now budget.new) }
+    ensures spends { budget.new.left ≤ budget.old.left }
 {
     let mut till = Till::open(budget);
     if !till.take_conversion(heap, base) {
@@ -62,6 +64,7 @@ pub fn number_method(
     requires { All (IsLive heap.now) args.now }
     ensures row { IfOk result (λ built. Answers (digits_row heap.now number args.now method)
         heap.now budget.old built heap.now budget.new) }
+    ensures spends { budget.new.left ≤ budget.old.left }
 {
     match method {
         Method::ToText => digits_of(heap, number, args, budget),
@@ -79,6 +82,7 @@ fn digits_of(
     requires { All (IsLive heap.now) args.now }
     ensures row { IfOk result (λ built. Answers (digits_row heap.now number args.now the.ToText)
         heap.now budget.old built heap.now budget.new) }
+    ensures spends { budget.new.left ≤ budget.old.left }
 {
     let mut till = Till::open(budget);
     if !till.take_argument(heap, args, 0) {
@@ -115,6 +119,8 @@ pub fn text_method(
     requires steps { budget.old.left ≤ 100000 }
     ensures row { IfOk result (λ built. Answers (text_row heap.old text.now args.now method)
         heap.old budget.old built heap.new budget.new) }
+    ensures grows { length heap.old ≤ length heap.new }
+    ensures spends { budget.new.left ≤ budget.old.left }
 {
     match method {
         Method::CharAt => char_at(heap, text, args, budget),
@@ -142,6 +148,8 @@ pub fn object_method(
     ensures row { IfOk result (λ built. Answers
         (object_row heap.old object (object_at heap.old object) args.now method)
         heap.old budget.old built heap.new budget.new) }
+    ensures grows { length heap.old ≤ length heap.new }
+    ensures spends { budget.new.left ≤ budget.old.left }
 {
     let Some(count) = heap.array_length(object) else {
         return plain_method(heap, &Value::Object(object), method, budget);
@@ -166,6 +174,7 @@ pub fn function_method(
     ensures row { IfOk result (λ built. Answers
         (function_method_row heap.now number args.now method)
         heap.now budget.old built heap.now budget.new) }
+    ensures spends { budget.new.left ≤ budget.old.left }
 {
     match method {
         Method::FromCharCode if number == BuiltIn::String.number() => codes_row(heap, args, budget),

@@ -1,7 +1,7 @@
 //! Calls of the methods of texts: a function for each row. Each does exactly what its row says.
 //! (ECMA-262 second edition, 15.5.4, in this profile.)
 
-ghost use Rattle.std.specs.Prelude.{◌≡◌, ◌≤◌, All, IfOk, option_to_list};
+ghost use Rattle.std.specs.Prelude.{◌≡◌, ◌≤◌, length, All, IfOk, option_to_list};
 ghost use Rattle.es_values.specs.Heaps.{IsLive};
 ghost use Rattle.es_builtins.specs.declared.methods.Method.TheVariants as the;
 ghost use Rattle.es_builtins.specs.Methods.{text_row};
@@ -26,6 +26,7 @@ pub fn char_at(
     requires args { All (IsLive heap.now) args.now }
     ensures row { IfOk result (λ built. Answers (text_row heap.now text.now args.now the.CharAt)
         heap.now budget.old built heap.now budget.new) }
+    ensures spends { budget.new.left ≤ budget.old.left }
 {
     let mut till = Till::open(budget);
     if !till.take_argument(heap, args, 0) {
@@ -56,6 +57,7 @@ pub fn char_code_at(
     requires args { All (IsLive heap.now) args.now }
     ensures row { IfOk result (λ built. Answers (text_row heap.now text.now args.now the.CharCodeAt)
         heap.now budget.old built heap.now budget.new) }
+    ensures spends { budget.new.left ≤ budget.old.left }
 {
     let mut till = Till::open(budget);
     if !till.take_argument(heap, args, 0) {
@@ -82,6 +84,7 @@ pub fn index_of(
     requires steps { budget.old.left ≤ 100000 }
     ensures row { IfOk result (λ built. Answers (text_row heap.now text.now args.now the.IndexOf)
         heap.now budget.old built heap.now budget.new) }
+    ensures spends { budget.new.left ≤ budget.old.left }
 {
     let mut till = Till::open(budget);
     if !till.take_two(heap, args) {
@@ -110,6 +113,7 @@ pub fn last_index_of(
     ensures row { IfOk result (λ built. Answers
         (text_row heap.now text.now args.now the.LastIndexOf)
         heap.now budget.old built heap.now budget.new) }
+    ensures spends { budget.new.left ≤ budget.old.left }
 {
     let mut till = Till::open(budget);
     if !till.take_two(heap, args) {
@@ -136,6 +140,7 @@ pub fn substring_row(
     requires args { All (IsLive heap.now) args.now }
     ensures row { IfOk result (λ built. Answers (text_row heap.now text.now args.now the.Substring)
         heap.now budget.old built heap.now budget.new) }
+    ensures spends { budget.new.left ≤ budget.old.left }
 {
     let mut till = Till::open(budget);
     if !till.take_two(heap, args) {
@@ -162,6 +167,8 @@ pub fn split_row(
     requires args { All (IsLive heap.old) args.now }
     ensures row { IfOk result (λ built. Answers (text_row heap.old text.now args.now the.Split)
         heap.old budget.old built heap.new budget.new) }
+    ensures grows { length heap.old ≤ length heap.new }
+    ensures spends { budget.new.left ≤ budget.old.left }
 {
     let mut till = Till::open(budget);
     if !till.take_argument(heap, args, 0) {
