@@ -1,6 +1,6 @@
 -- How the parts of an arm make the run of an action: a step or a conversion that is charged, an item that is
 -- put, and what is given or stops.
-use Rattle.std.proofs.Common.{◌≡◌, ◌∙◌, ℕ, Bool, true, false, List, [], ◌∷◌, ap, sym, subst, refl}
+use Rattle.std.proofs.Common.{◌≡◌, ◌∙◌, ℕ, Bool, true, false, List, ap, sym, subst, refl}
 use Rattle.std.specs.Prelude.{Option, Some, None, if◌then◌else◌}
 use Rattle.std.proofs.lemmas.Bool.{true≢false, false≢true}
 use Rattle.es_reader.specs.Programs.{ToldProgram}
@@ -25,7 +25,7 @@ use Rattle.es_eval.specs.Rows.{expression_row, with_members}
 use Rattle.es_eval.specs.Syntax.{Expression, Function as Declared}
 use Rattle.es_eval.specs.Unbounded.{called, entered, valued}
 use Rattle.es_eval.specs.Works.{as_value, does, enters, is_without_members}
-use Rattle.es_eval.specs.Worlds.{Run, World}
+use Rattle.es_eval.specs.Worlds.{World}
 use Rattle.es_eval.specs.Worlds.Run.{Over}
 
 -- ---- what is carried out

@@ -9,7 +9,7 @@ use Rattle.es_reader.specs.Programs.{ToldFunction, ToldProgram}
 use Rattle.es_eval.specs.declared.codes.Code.{Code}
 use Rattle.es_eval.specs.declared.codes.Listing.TheVariants.{Top, Body}
 use Rattle.es_eval.specs.Numbers.{body_of, top_of}
-use Rattle.es_eval.specs.Codes.{below, children_of, function_trees, listed, top_trees_from, rows_of, tree_at, tree_of, trees_at, trees_from}
+use Rattle.es_eval.specs.Codes.{below, children_of, listed, rows_of, tree_at, tree_of, trees_at, trees_from}
 
 -- ---- lists from a place on
 
@@ -111,13 +111,13 @@ bodies-told function place (Some told) = body-told place told (slice_get told.fu
 top-is : (programs : List ToldProgram) (program place : ℕ)
     → listed programs (Top program) place
     ≡ trees_at (rows_of programs program) (drop place (top_of programs program))
-unfolding listed top_trees_from
+unfolding listed
 top-is programs program place = top-told place (slice_get programs program)
 
 body-is : (programs : List ToldProgram) (program function place : ℕ)
     → listed programs (Body program function) place
     ≡ trees_at (rows_of programs program) (drop place (body_of programs program function))
-unfolding listed function_trees
+unfolding listed
 body-is programs program function place =
     bodies-told function place (slice_get programs program)
 

@@ -23,5 +23,13 @@ pub mod ArmLemmas
 pub mod ShapeRows
 pub mod TargetLemmas
 pub mod NameLemmas
+pub mod BuiltLemmas
+pub mod SlotLemmas
 pub mod TurnLemmas
 pub mod StatementArms
+pub mod DeclaringLemmas
+pub mod EndLemmas
+pub mod HandLemmas
+pub mod HostLemmas
+pub mod ScriptLemmas
+pub mod CallArms

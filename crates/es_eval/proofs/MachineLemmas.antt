@@ -1,10 +1,10 @@
 -- What a change of the control stack, of the steps or of the heap makes of the rest of a run, of what is live
 -- and of how much is left to be done.
-use Rattle.std.proofs.Common.{◌≡◌, ◌∙◌, ◌+◌, ◌*◌, ◌-◌, ◌<◌, ◌≤◌, ℕ, suc, List, [], ◌∷◌, ◌++◌, length, ap, sym, subst, refl, arith}
+use Rattle.std.proofs.Common.{◌≡◌, ◌∙◌, ◌+◌, ◌*◌, ◌-◌, ◌<◌, ◌≤◌, ℕ, List, [], ◌∷◌, length, ap, sym, subst, refl, arith}
 use Rattle.std.specs.Prelude.{All, Bool, true, false, IfSome, Option, Some, None, if◌then◌else◌, nat_le}
 use Rattle.std.specs.List.{sum_by}
 use Rattle.std.proofs.lemmas.Bool.{leb-true}
-use Rattle.std.proofs.lemmas.List.Elements.{All-nil, All-cons, All-head, All-tail, All-weaker}
+use Rattle.std.proofs.lemmas.List.Elements.{All-cons, All-head, All-tail, All-weaker}
 use Rattle.std.proofs.lemmas.List.Sums.{sum_by-cons}
 use Rattle.std.proofs.lemmas.Option.{none-some, same_Some}
 use Rattle.es_frames.specs.Frames.{Frame, behind_first, below_last, next_item, place_of, slots_of, with_item, with_value, with_value_in, without_item}
@@ -14,14 +14,13 @@ use Rattle.es_values.specs.declared.values.Value.TheVariants.{Undefined, Null, B
 use Rattle.es_values.specs.Charges.{Charges}
 use Rattle.es_values.specs.Heaps.{IsLive, with_value as with_value_of}
 use Rattle.es_values.specs.Objects.{ObjectState}
-use Rattle.es_values.specs.Values.{IsLiveAmong}
 use Rattle.es_eval.specs.declared.outcomes.Outcome.TheVariants.{Stopped}
 use Rattle.es_eval.specs.declared.outcomes.StopCause.TheVariants.{Budget}
 use Rattle.es_eval.specs.declared.works.Given.{Given}
 use Rattle.es_eval.specs.declared.works.Now.{Now}
 use Rattle.es_eval.specs.declared.works.Work.{Work}
 use Rattle.es_eval.specs.Actions.{Action, Next, takes}
-use Rattle.es_eval.specs.Machines.{AreLive, IsFrameLive, IsMachine, IsNamedLive, IsWorkLive, MachineState, Stays, behind_frame, burden, items_of, next_run, rest, run_from, turns_of, values_of_work, world_of}
+use Rattle.es_eval.specs.Machines.{IsFrameLive, IsMachine, IsNamedLive, IsWorkLive, MachineState, Stays, behind_frame, burden, items_of, next_run, rest, run_from, turns_of, values_of_work, world_of}
 use Rattle.es_eval.specs.Works.{does}
 use Rattle.es_eval.specs.Worlds.{World, with_name}
 use Rattle.es_eval.specs.Worlds.Run.{Over}

@@ -1,5 +1,5 @@
 -- Names with values: what the place of a local says of its value, and what of them is live.
-use Rattle.std.proofs.Common.{◌≡◌, ◌∙◌, ◌+◌, ◌≤◌, ℕ, zero, suc, List, [], ◌∷◌, length, ap, sym, subst, refl, arith}
+use Rattle.std.proofs.Common.{◌≡◌, ◌∙◌, ◌+◌, ℕ, zero, suc, List, [], ◌∷◌, ap, sym, subst, refl, arith}
 use Rattle.std.specs.Prelude.{All, Bool, true, false, IfSome, Option, Some, None, if◌then◌else◌, is_some, slice_get, slice_set, Result, Ok, Err, OnOk, OnErr}
 use Rattle.std.specs.List.{position, position_from}
 use Rattle.std.specs.Option.{option_map, option_map_or}

@@ -133,7 +133,7 @@ module _ {H : Type 0} (reads : H → HostRef → List ℕ → Value → H → Ty
       (next, written, rest) =
       ends_within left go ends next outcome w after rest
   ends_within left (Calls base name arguments heap go) ends host outcome w after
-      (answer, next, heap_after, called, answers, keeps, rest) =
+      (answer, next, heap_after, called, answers, keeps, sound, rest) =
       ends_within left (go answer heap_after) (ends answer heap_after) next outcome w after rest
 
   pub program-steps : (programs before : List Program) (program : Program)

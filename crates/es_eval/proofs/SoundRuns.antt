@@ -19,7 +19,7 @@ use Rattle.es_eval.specs.Evaluation.{all_functions, call_body, ends_normally, en
 use Rattle.es_eval.specs.Rows.{Completion, Task}
 use Rattle.es_eval.specs.Rows.Completion.{Normal, Broke, Continued, Returned}
 use Rattle.es_eval.specs.Rows.Task.{Do}
-use Rattle.es_eval.specs.Soundness.{AreSound, HasNumbers, LeavesSound, StaySound, function_limit}
+use Rattle.es_eval.specs.Soundness.{AreSound, HasNumbers, StaySound, function_limit}
 use Rattle.es_eval.specs.Syntax.{Expression, Function, Program, Statement, Statements}
 use Rattle.es_eval.specs.Worlds.{World, Run, global}
 use Rattle.es_eval.specs.Worlds.Run.{Over, Reads, Writes, Calls}
@@ -216,7 +216,7 @@ module _ (laws : HeapLaws) {H : Type 0} (reads : H → HostRef → List ℕ → 
     (calls : H → HostRef → List ℕ → List Value → List ObjectState → HostAnswer → H
     → List ObjectState → Type 0) where
   end-fine : (s : Setting) (run : Run) → EndsFine s run → (host : H) (outcome : Outcome) (w : World)
-      (after : H) → MayEnd reads writes (LeavesSound calls) run host outcome w after → Fine s w
+      (after : H) → MayEnd reads writes calls run host outcome w after → Fine s w
   unfolding MayEnd
   end-fine s (Over said v) ends host outcome w after may = subst (λ u. Fine s u) may.1 ends
   end-fine s (Reads base name go) ends host outcome w after (value, next, read, plain, rest) =
@@ -224,15 +224,15 @@ module _ (laws : HeapLaws) {H : Type 0} (reads : H → HostRef → List ℕ → 
   end-fine s (Writes base name value heap go) ends host outcome w after (next, written, rest) =
       end-fine s go ends next outcome w after rest
   end-fine s (Calls base name arguments heap go) ends host outcome w after
-      (answer, next, heap_after, called, answers, keeps, rest) =
-      end-fine s (go answer heap_after) (ends answer heap_after answers keeps called.1) next outcome
+      (answer, next, heap_after, called, answers, keeps, sound, rest) =
+      end-fine s (go answer heap_after) (ends answer heap_after answers keeps sound) next outcome
       w after rest
 
   pub program-sound : (programs before : List Program) (program : Program)
       (globals : List (List ℕ × Value)) (heap : List ObjectState) (budget : ℕ) (host : H)
       (outcome : Outcome) (w : World) (after : H) → HasNumbers programs before program
       → AreSound (function_limit programs) globals heap
-      → MayEnd reads writes (LeavesSound calls)
+      → MayEnd reads writes calls
       (program_run programs before program globals heap budget) host outcome w after
       → StaySound (function_limit programs) heap w.globals w.heap
   unfolding setting
@@ -245,7 +245,7 @@ module _ (laws : HeapLaws) {H : Type 0} (reads : H → HostRef → List ℕ → 
   pub global-sound : (programs : List Program) (name : List ℕ) (globals : List (List ℕ × Value))
       (heap : List ObjectState) (budget : ℕ) (host : H) (outcome : Outcome) (w : World) (after : H)
       → AreSound (function_limit programs) globals heap
-      → MayEnd reads writes (LeavesSound calls) (global_run programs name globals heap budget) host
+      → MayEnd reads writes calls (global_run programs name globals heap budget) host
       outcome w after → StaySound (function_limit programs) heap w.globals w.heap
   unfolding setting
   global-sound programs name globals heap budget host outcome w after sound may =

@@ -26,49 +26,24 @@ use Rattle.es_eval.specs.declared.works.Now.TheVariants as now
 use Rattle.es_eval.specs.declared.works.StatementWork.TheVariants as statement
 use Rattle.es_eval.specs.declared.works.Use.TheVariants.{Visit as VisitUse}
 use Rattle.es_eval.specs.declared.works.Visit.{Visit as Visiting}
-use Rattle.es_eval.specs.declared.works.Work.{Work}
 use Rattle.es_eval.specs.declared.works.Work.TheVariants.{Statement as StatementItem}
 use Rattle.es_eval.specs.Actions.{Action, Next, and_then, behind, step}
 use Rattle.es_eval.specs.Codes.{declarator_at, declared_by, expression_at, listed, statement_at, statements_from, tree_of, trees_from}
 use Rattle.es_eval.specs.Machines.{Carries, GoesOn, MachineState, Stays, names_in, rest, run_from, world_of}
 use Rattle.es_eval.specs.Rows.{Completion, Evaluation, behind_body, declarator_row, declarators, entered_place, statement_row, statements, turn_body, turn_row, update_row, visit_all, visited_place, where_normal}
 use Rattle.es_eval.specs.Rows.Completion.{Normal, Broke, Continued, Returned}
-use Rattle.es_eval.specs.Rows.Task.{Do, Turn, Visit as VisitTurn}
+use Rattle.es_eval.specs.Rows.Task.{Do, Visit as VisitTurn}
 use Rattle.es_eval.specs.Members.{Place}
 use Rattle.es_eval.specs.Members.Place.{NamePlace}
 use Rattle.es_eval.specs.Shapes.{declared, first_shaped, stated, visitor_shaped}
 use Rattle.es_eval.specs.Sources.{declarators_of, statements_of, target_of}
 use Rattle.es_eval.specs.Syntax.{Declarator, Expression, Statement}
-use Rattle.es_eval.specs.Unbounded.{done, entered, run_statement}
+use Rattle.es_eval.specs.Unbounded.{done}
 use Rattle.es_eval.specs.Works.{as_completion, completed, declares, does, enters, evaluates, executes, loop_again, loop_body, loop_task, runs, starts_loop, statement_work_row, turns, use_row, visit_task}
-use Rattle.es_eval.specs.Worlds.{Run, World}
-use Rattle.es_eval.specs.Worlds.Run.{Over}
+use Rattle.es_eval.specs.Worlds.{World}
+use Rattle.es_eval.proofs.ArmLemmas.{Steps, put-run, stepped-run, unstepped-run}
 use Rattle.es_eval.proofs.UnboundedLemmas.{done-row}
 use Rattle.es_eval.proofs.TurnLemmas.{drop-at, drop-end, visit-skips, visit-turn, visited-none}
-
--- ---- steps
-
--- what a step makes of each action, where it is taken and where it isn't
-abbrev pub Steps : MachineState → Bool → MachineState → Type 0
-Steps old taken new =
-    (action : Action Value) (next : Next Value) → step action (world_of old) next
-    ≡ (if taken then action (world_of new) next else Over (Stopped Budget) (world_of new))
-
-pub no_step-run : (programs : List ToldProgram) (old new : MachineState) (taken : Bool)
-    (action : Action Given) (next : Now) → Steps old taken new → taken ≡ false
-    → next ≡ now.Over (Stopped Budget) → GoesOn programs old (step action) new next
-no_step-run programs old new taken action next steps none over =
-    let stepped : Steps old false new = subst (λ b. Steps old b new) none steps in
-    ap (run_from programs new) over
-    ∙ sym (stepped (λ w other. action w (rest programs old.frames)) (λ value w. Over (Stopped Budget) w))
-
-pub step-run : (programs : List ToldProgram) (old mid new : MachineState) (taken : Bool)
-    (action : Action Given) (next : Now) → Steps old taken mid → taken ≡ true → Stays old mid
-    → GoesOn programs mid action new next → GoesOn programs old (step action) new next
-step-run programs old mid new taken action next steps some stays on =
-    let stepped : Steps old true mid = subst (λ b. Steps old b mid) some steps in
-    on ∙ ap (action (world_of mid)) (stays.rest programs)
-    ∙ sym (stepped (λ w other. action w (rest programs old.frames)) (λ value w. Over (Stopped Budget) w))
 
 -- ---- statements in a row
 
@@ -461,11 +436,10 @@ pub var-turns : (programs : List ToldProgram) (old mid put new : MachineState) (
     → GoesOn programs old (as_completion (starts_loop programs (head.FirstVar code) loop)) new next
 unfolding first_shaped
 var-turns programs old mid put new code loop taken next steps some stays rests same on =
-    step-run programs old mid new taken (as_completion (and_then (declares programs code 0)
+    stepped-run programs old mid new taken (as_completion (and_then (declares programs code 0)
     (turns programs (loop_task programs loop)))) next steps some stays
-    (on
-    ∙ ap (λ (w : World). as_completion (declares programs code 0) w (rest programs put.frames)) same
-    ∙ ap (as_completion (declares programs code 0) (world_of mid)) (rests programs)
+    (put-run programs mid put new (StatementItem (statement.NextTurn loop))
+    (as_completion (declares programs code 0)) next rests same on
     ∙ declared-turns programs code loop (world_of mid) (rest programs mid.frames))
 
 pub var-stopped : (programs : List ToldProgram) (old new : MachineState) (code : Code)
@@ -474,7 +448,7 @@ pub var-stopped : (programs : List ToldProgram) (old new : MachineState) (code :
     → GoesOn programs old (as_completion (starts_loop programs (head.FirstVar code) loop)) new next
 unfolding first_shaped
 var-stopped programs old new code loop taken next steps none over =
-    no_step-run programs old new taken (as_completion (and_then (declares programs code 0)
+    unstepped-run programs old new taken (as_completion (and_then (declares programs code 0)
     (turns programs (loop_task programs loop)))) next steps none over
 
 -- ---- statements
@@ -486,7 +460,7 @@ pub statement-on : (programs : List ToldProgram) (old mid new : MachineState) (c
     (turns programs) (stated programs code shape))) new next
     → GoesOn programs old (as_completion (runs programs (statement_at programs code))) new next
 statement-on programs old mid new code shape taken next steps some stays is on =
-    step-run programs old mid new taken
+    stepped-run programs old mid new taken
     (as_completion (done (declared_by programs) (Do (statement_at programs code)))) next steps some
     stays
     (on ∙ ap (λ (s : Statement). as_completion (statement_row (enters programs) (runs programs)
@@ -499,6 +473,6 @@ pub statement-stopped : (programs : List ToldProgram) (old new : MachineState) (
     → next ≡ now.Over (Stopped Budget)
     → GoesOn programs old (as_completion (runs programs (statement_at programs code))) new next
 statement-stopped programs old new code taken next steps none over =
-    no_step-run programs old new taken
+    unstepped-run programs old new taken
     (as_completion (done (declared_by programs) (Do (statement_at programs code)))) next steps none
     over

@@ -1,10 +1,9 @@
 -- How what is done with a target comes to a run.
-use Rattle.std.proofs.Common.{◌≡◌, ◌∙◌, ℕ, Bool, List, ap, subst, sym, refl}
+use Rattle.std.proofs.Common.{◌≡◌, ◌∙◌, Bool, List, ap, subst, refl}
 use Rattle.std.specs.Prelude.{Option, Some, None, if◌then◌else◌}
 use Rattle.es_reader.specs.Programs.{ToldProgram}
 use Rattle.es_values.specs.declared.numbers.Num.{Num}
-use Rattle.es_values.specs.declared.values.Value.{Value}
-use Rattle.es_values.specs.declared.values.Value.TheVariants.{Number, Str}
+use Rattle.es_values.specs.declared.values.Value.TheVariants.{Number}
 use Rattle.es_eval.specs.declared.codes.Code.{Code}
 use Rattle.es_eval.specs.declared.operators.Operator.{Operator}
 use Rattle.es_eval.specs.declared.works.Given.{Given}

@@ -1,6 +1,5 @@
 -- What the turns that are left of a loop do.
-use Rattle.std.proofs.Common.{◌≡◌, ◌∙◌, ◌+◌, ◌<◌, ◌≤◌, ℕ, zero, suc, Bool, true, false, List, [], ◌∷◌, length, drop, get_or, ap, sym, subst, refl, drop-cons, arith}
-use Rattle.std.specs.Prelude.{Option, Some, None, if◌then◌else◌}
+use Rattle.std.proofs.Common.{◌≡◌, ◌∙◌, ◌+◌, ◌<◌, ◌≤◌, ℕ, zero, suc, true, false, List, [], ◌∷◌, length, drop, get_or, ap, sym, refl, drop-cons, arith}
 use Rattle.es_values.specs.declared.values.Value.TheVariants.{Str}
 use Rattle.es_values.specs.Heaps.{has_property, object_at}
 use Rattle.es_expressions.specs.Trees.Trees.{NoTrees}
@@ -9,10 +8,10 @@ use Rattle.es_eval.specs.declared.codes.Code.{Code}
 use Rattle.es_eval.specs.Codes.{below, children_of, rows_of, trees_at, trees_from}
 use Rattle.es_eval.specs.Actions.{Next, and_then, behind}
 use Rattle.es_eval.specs.Members.{write_place}
-use Rattle.es_eval.specs.Rows.{Completion, behind_body, turn_row, visited_place}
+use Rattle.es_eval.specs.Rows.{Completion, behind_body, visited_place}
 use Rattle.es_eval.specs.Rows.Completion.{Normal}
-use Rattle.es_eval.specs.Rows.Task.{Do, Turn, Visit}
-use Rattle.es_eval.specs.Syntax.{Expression, Function, Statement, Visitor}
+use Rattle.es_eval.specs.Rows.Task.{Visit}
+use Rattle.es_eval.specs.Syntax.{Function, Statement, Visitor}
 use Rattle.es_eval.specs.Unbounded.{done, entered, run_statement}
 use Rattle.es_eval.specs.Worlds.{World}
 use Rattle.es_eval.proofs.UnboundedLemmas.{done-row}

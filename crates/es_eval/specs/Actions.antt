@@ -1,5 +1,5 @@
 -- What evaluation is made of: actions, one behind the other. (This project's own.)
-use Rattle.std.specs.Prelude.{ℕ, zero, suc, ◌+◌, ◌-◌, nat_le, Bool, true, false, if◌then◌else◌, pos, List, [], ◌∷◌, ◌++◌, length, Option, Some, None}
+use Rattle.std.specs.Prelude.{ℕ, ◌-◌, nat_le, if◌then◌else◌, List}
 use Rattle.es_values.specs.declared.hosts.HostAnswer.{HostAnswer}
 use Rattle.es_values.specs.declared.hosts.HostAnswer.TheVariants as host
 use Rattle.es_values.specs.declared.numbers.Num.{Num}
@@ -13,7 +13,7 @@ use Rattle.es_eval.specs.declared.outcomes.Outcome.TheVariants.{Stopped, Ended}
 use Rattle.es_eval.specs.declared.outcomes.StopCause.{StopCause}
 use Rattle.es_eval.specs.declared.outcomes.StopCause.TheVariants.{Budget, NotCallable}
 use Rattle.es_eval.specs.Worlds.{World, Run}
-use Rattle.es_eval.specs.Worlds.Run.{Over, Calls}
+use Rattle.es_eval.specs.Worlds.Run.{Over}
 
 -- what goes on with a thing of this type that is given, and the world then
 abbrev pub Next : Type 0 → Type 0

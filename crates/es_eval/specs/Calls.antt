@@ -1,19 +1,19 @@
 -- Calls: of functions of the programs, of built-in ones, of methods and of members of the host (ECMA-262
 -- second edition, 11.2.2, 11.2.3 and 13.2; how deep calls are nested, and what is stopped and charged, are
 -- this project's own).
-use Rattle.std.specs.Prelude.{ℕ, zero, suc, ◌+◌, ◌-◌, nat_le, nat_lt, Bool, true, false, if◌then◌else◌, List, [], ◌∷◌, ◌++◌, length, Option, Some, None, slice_get, unwrap_or}
+use Rattle.std.specs.Prelude.{ℕ, zero, suc, ◌+◌, ◌-◌, nat_le, nat_lt, false, if◌then◌else◌, List, [], ◌∷◌, ◌++◌, length, Option, None, slice_get}
 use Rattle.std.specs.List.{sum_by}
 use Rattle.std.specs.Option.{option_map_or}
 use Rattle.es_values.specs.declared.values.Value.{Value}
-use Rattle.es_values.specs.declared.values.Value.TheVariants.{Undefined, Null, Bool as Boolean, Number, Str, Object, Function, Host}
+use Rattle.es_values.specs.declared.values.Value.TheVariants.{Undefined, Null, Object, Function, Host}
 use Rattle.es_values.specs.Charges.{conversion_charge}
 use Rattle.es_values.specs.Heaps.{new_object, object_at, value_of}
 use Rattle.es_builtins.specs.Functions.{construction_row, function_row}
 use Rattle.es_builtins.specs.Methods.{method_row}
 use Rattle.es_eval.specs.declared.outcomes.StopCause.TheVariants.{Depth, NotCallable, NotObject}
-use Rattle.es_eval.specs.Actions.{Action, Next, answered, behind, by_row, charged, gives, stops}
+use Rattle.es_eval.specs.Actions.{Action, answered, by_row, charged, stops}
 use Rattle.es_eval.specs.Syntax.{Function as Declared, Statements}
-use Rattle.es_eval.specs.Worlds.{World, Run}
+use Rattle.es_eval.specs.Worlds.{World}
 use Rattle.es_eval.specs.Worlds.Run.{Calls}
 
 -- how many calls may be open at once

@@ -3,6 +3,7 @@ use Rattle.std.specs.Prelude.{◌≡◌, ℕ, true, List}
 use Rattle.es_values.specs.declared.hosts.HostAnswer.{HostAnswer}
 use Rattle.es_values.specs.declared.values.HostRef.{HostRef}
 use Rattle.es_values.specs.declared.values.Value.{Value}
+use Rattle.es_values.specs.Heaps.{IsSound}
 use Rattle.es_values.specs.Hosts.{IsAnswer, KeepsHeap}
 use Rattle.es_values.specs.Objects.{ObjectState}
 use Rattle.es_values.specs.Values.{is_plain}
@@ -11,7 +12,8 @@ use Rattle.es_eval.specs.Worlds.{World, Run}
 use Rattle.es_eval.specs.Worlds.Run.{Over, Reads, Writes, Calls}
 
 -- With a host in this state the run may end so: with this outcome and world, and the host in that state.
--- At each question there is an answer, and a state that the host is in behind it, as its relations allow.
+-- At each question there is an answer, and a state that the host is in behind it, as its relations allow; the
+-- heap that a call leaves is one, so that each object that it names is in it.
 unfoldable pub MayEnd : {H : Type 0}
     → (H → HostRef → List ℕ → Value → H → Type 0)
     → (H → HostRef → List ℕ → Value → List ObjectState → H → Type 0)
@@ -29,7 +31,7 @@ MayEnd {H} reads writes calls (Writes base name value heap go) h outcome_after w
 MayEnd {H} reads writes calls (Calls base name arguments heap go) h outcome_after w_after h_after =
     (answer : HostAnswer) × (next : H) × (heap_after : List ObjectState)
     × calls h base name arguments heap answer next heap_after × IsAnswer heap_after answer
-    × KeepsHeap heap arguments heap_after
+    × KeepsHeap heap arguments heap_after × IsSound heap_after
     × MayEnd reads writes calls (go answer heap_after) next outcome_after w_after h_after
 
 -- The run may end so with what is left of a script: its globals and objects.

@@ -1,8 +1,8 @@
 -- Evaluation of programs (ECMA-262 second edition, 10 to 14, in this profile): the rows, with a step for each
 -- statement and each node of an expression. A bound makes the recursion end; a script that is within its
 -- steps never meets it.
-use Rattle.std.specs.Prelude.{ℕ, zero, suc, ◌+◌, ◌*◌, List, [], ◌∷◌, ◌++◌, length, map, take, slice_get, Option, Some, None, is_some, if◌then◌else◌}
-use Rattle.std.specs.List.{flat_map, sum_by}
+use Rattle.std.specs.Prelude.{ℕ, zero, suc, ◌+◌, ◌*◌, List, [], ◌∷◌, length, take, slice_get, is_some, if◌then◌else◌}
+use Rattle.std.specs.List.{flat_map}
 use Rattle.std.specs.Option.{option_map_or}
 use Rattle.es_values.specs.declared.values.Value.{Value}
 use Rattle.es_values.specs.declared.values.Value.TheVariants.{Undefined, Function as FunctionValue}
@@ -15,7 +15,7 @@ use Rattle.es_eval.specs.Calls.{call_value, first_function}
 use Rattle.es_eval.specs.Rows.{Completion, Task, expression_row, statements, task_row}
 use Rattle.es_eval.specs.Rows.Completion.{Normal, Broke, Continued, Returned}
 use Rattle.es_eval.specs.Rows.Task.{Do}
-use Rattle.es_eval.specs.Syntax.{Expression, Statement, Statements, Function, Program}
+use Rattle.es_eval.specs.Syntax.{Expression, Statements, Function, Program}
 use Rattle.es_eval.specs.Worlds.{World, Run, global}
 use Rattle.es_eval.specs.Worlds.Run.{Over}
 

@@ -14,6 +14,8 @@ pub mod Numbers
 pub mod Shapes
 pub mod Unbounded
 pub mod Calculations
+pub mod Slots
+pub mod Declaring
 pub mod Works
 pub mod Machines
 pub mod Soundness

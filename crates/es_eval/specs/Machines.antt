@@ -6,13 +6,15 @@ use Rattle.es_builtins.specs.declared.built.Built.{Built}
 use Rattle.es_builtins.specs.declared.built.Built.TheVariants as built
 use Rattle.es_frames.specs.Frames.{Frame, new_frame, slots_of}
 use Rattle.es_reader.specs.Programs.{ToldProgram}
+use Rattle.es_values.specs.declared.hosts.HostAnswer.{HostAnswer}
+use Rattle.es_values.specs.declared.hosts.HostAnswer.TheVariants as host
 use Rattle.es_values.specs.declared.values.Value.{Value}
 use Rattle.es_values.specs.declared.values.Value.TheVariants.{Undefined, Object}
 use Rattle.es_values.specs.Charges.{begun_sixteens}
 use Rattle.es_values.specs.Heaps.{IsLive, names_of, object_at}
 use Rattle.es_values.specs.Objects.{ObjectState}
 use Rattle.es_eval.specs.declared.codes.Listing.TheVariants.{Top}
-use Rattle.es_eval.specs.declared.outcomes.Outcome.TheVariants.{Normal as AtEnd, Stopped}
+use Rattle.es_eval.specs.declared.outcomes.Outcome.TheVariants.{Normal as AtEnd, Ended, Stopped}
 use Rattle.es_eval.specs.declared.outcomes.StopCause.TheVariants.{Budget, NotCallable, Unresolved}
 use Rattle.es_eval.specs.declared.works.Callee.{Callee}
 use Rattle.es_eval.specs.declared.works.Callee.TheVariants as callee
@@ -293,6 +295,13 @@ built_run built.OverBudget w next = Over (Stopped Budget) w
 abbrev pub values_of_built : Built → List Value
 values_of_built (built.Value value) = value ∷ []
 values_of_built _ = []
+
+-- ---- what a host answered
+
+abbrev pub next_behind : HostAnswer → Now
+next_behind (host.Value value) = now.Gives (given.Value value)
+next_behind host.Ended = now.Over Ended
+next_behind host.NotCallable = now.Over (Stopped NotCallable)
 
 -- ---- scripts as a whole
 

@@ -1,6 +1,6 @@
 -- Names and members: how they are read, written and taken away (ECMA-262 second edition, 8.7, 10.1.4, 11.2.1
 -- and 11.4.1; what is stopped and charged is this project's own).
-use Rattle.std.specs.Prelude.{ℕ, ◌+◌, Bool, true, false, if◌then◌else◌, List, length, Option, Some, None}
+use Rattle.std.specs.Prelude.{ℕ, false, if◌then◌else◌, List, length, Option, Some, None}
 use Rattle.std.specs.Option.{option_map_or}
 use Rattle.es_values.specs.declared.values.Value.{Value}
 use Rattle.es_values.specs.declared.values.Value.TheVariants.{Undefined, Null, Bool as Boolean, Number, Str, Object, Function, Host}
@@ -11,7 +11,7 @@ use Rattle.es_values.specs.Operators.{with_put}
 use Rattle.es_builtins.specs.Functions.{function_member, value_named}
 use Rattle.es_eval.specs.declared.outcomes.StopCause.TheVariants.{NotObject, Unresolved}
 use Rattle.es_eval.specs.Actions.{Action, as_text, behind, charged, gives, stops}
-use Rattle.es_eval.specs.Worlds.{World, Run, global, local, with_name}
+use Rattle.es_eval.specs.Worlds.{World, global, local, with_name}
 use Rattle.es_eval.specs.Worlds.Run.{Reads, Writes}
 
 -- ---- names

@@ -1,17 +1,15 @@
 -- Evaluation, row by row: what each form enters, in which order, what is charged, and what stops (ECMA-262
 -- second edition, 11 to 13). That each statement and each node of an expression takes one step where it
 -- is entered, and before anything else of it, is said in `Evaluation`.
-use Rattle.std.specs.Prelude.{ℕ, Bool, true, false, not, if◌then◌else◌, List, [], ◌∷◌, length, Option, Some, None}
+use Rattle.std.specs.Prelude.{ℕ, Bool, false, if◌then◌else◌, List, [], ◌∷◌, length, Option, Some, None}
 use Rattle.std.specs.Option.{option_map_or}
-use Rattle.es_values.specs.declared.numbers.Num.{Num}
 use Rattle.es_values.specs.declared.numbers.Num.TheVariants.{Whole}
 use Rattle.es_values.specs.declared.values.Value.{Value}
-use Rattle.es_values.specs.declared.values.Value.TheVariants.{Undefined, Null, Bool as Boolean, Number, Str, Object, Function, Host}
+use Rattle.es_values.specs.declared.values.Value.TheVariants.{Undefined, Null, Bool as Boolean, Number, Str, Object}
 use Rattle.es_values.specs.Charges.{begun_sixteens}
 use Rattle.es_values.specs.Heaps.{has_property, names_of, object_at}
 use Rattle.es_values.specs.Values.{truth_of}
-use Rattle.es_eval.specs.Actions.{Action, and_then, as_number, as_text, behind, charged, gives, step, stops, takes}
-use Rattle.es_eval.specs.declared.operators.Operator.{Operator}
+use Rattle.es_eval.specs.Actions.{Action, and_then, as_number, as_text, behind, charged, gives, step, stops}
 use Rattle.es_eval.specs.declared.outcomes.StopCause.TheVariants.{NotObject}
 use Rattle.es_eval.specs.Calls.{Body, call_member, call_value, new_value}
 use Rattle.es_eval.specs.Members.{Place, delete_index, delete_member, named, read_member, read_name, read_place, write_name, write_place}
@@ -25,7 +23,6 @@ use Rattle.es_eval.specs.Syntax.First.{NoFirst, FirstExpression, FirstVar}
 use Rattle.es_eval.specs.Syntax.Visitor.{VisitTarget, VisitVar}
 use Rattle.es_eval.specs.Syntax.Statement.{Block, Var, Empty, Evaluate, If, IfElse, While, For, ForIn, Continue, Break, Return}
 use Rattle.es_eval.specs.Syntax.Statements.{NoStatements, OneMoreStatement}
-use Rattle.es_eval.specs.Worlds.{World}
 
 -- how an expression is evaluated, with its step
 abbrev pub Evaluation : Type 0

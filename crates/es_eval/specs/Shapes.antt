@@ -1,5 +1,5 @@
 -- What a node is found to be, and which expression or statement that is. (A device of the proofs.)
-use Rattle.std.specs.Prelude.{ℕ, List, Option, Some, None}
+use Rattle.std.specs.Prelude.{List}
 use Rattle.std.specs.Option.{option_map}
 use Rattle.es_reader.specs.Programs.{ToldProgram}
 use Rattle.es_eval.specs.declared.codes.Code.{Code}

@@ -2,8 +2,6 @@
 -- declared. (This project's own.)
 use Rattle.std.specs.Prelude.{◌≡◌, ℕ, ◌+◌, ◌<◌, ◌≤◌, true, List, length, All}
 use Rattle.std.specs.List.{list_any}
-use Rattle.es_values.specs.declared.hosts.HostAnswer.{HostAnswer}
-use Rattle.es_values.specs.declared.values.HostRef.{HostRef}
 use Rattle.es_values.specs.declared.values.Value.{Value}
 use Rattle.es_values.specs.Heaps.{IsLive, IsSound, holds_function}
 use Rattle.es_values.specs.Objects.{ObjectState}
@@ -36,13 +34,3 @@ pub record StaySound (limit : ℕ) (old : List ObjectState) (globals : List (Lis
     (heap : List ObjectState) : Type 0 where
   pub all : AreSound limit globals heap
   pub objects : length old ≤ length heap
-
--- A host's calls that leave a sound heap. The relation itself says nothing of that; a heap that is
--- held always is sound.
-abbrev pub LeavesSound : {H : Type 0}
-    → (H → HostRef → List ℕ → List Value → List ObjectState → HostAnswer → H
-    → List ObjectState → Type 0)
-    → H → HostRef → List ℕ → List Value → List ObjectState → HostAnswer → H
-    → List ObjectState → Type 0
-LeavesSound calls h base name arguments heap answer next after =
-    calls h base name arguments heap answer next after × IsSound after

@@ -1,7 +1,7 @@
 -- Which programs texts are, as they are evaluated: what the trees mean that the grammar gives them, form by
 -- form. A tree with fewer parts than its form has is no program's, and means `this` or nothing. (This
 -- project's own, for lack of one in the standards.)
-use Rattle.std.specs.Prelude.{ℕ, Bool, true, false, ℤ, List, [], ◌∷◌, ◌++◌, Option, Some, None, length, map}
+use Rattle.std.specs.Prelude.{ℕ, Bool, true, false, List, [], ◌∷◌, ◌++◌, Option, Some, None, length, map}
 use Rattle.es_lexer.specs.declared.punctuators.Punctuator.{Punctuator}
 use Rattle.es_lexer.specs.declared.punctuators.Punctuator.TheVariants as mark
 use Rattle.es_lexer.specs.declared.words.ReservedWord.{ReservedWord}
@@ -19,7 +19,6 @@ use Rattle.es_reader.specs.Programs.{all_var_names, functions_of, new_names, out
 use Rattle.es_reader.specs.Statements as written
 use Rattle.es_eval.specs.declared.operators.Operator.{Operator}
 use Rattle.es_eval.specs.declared.operators.Operator.TheVariants as the
-use Rattle.es_eval.specs.declared.operators.Sign.{Sign}
 use Rattle.es_eval.specs.declared.operators.Sign.TheVariants as sign
 use Rattle.es_eval.specs.Syntax.{Expression, Expressions, Target, Declarator, First, Visitor, Statement, Statements, Function, Program}
 use Rattle.es_eval.specs.Syntax.Expression.{This, Null, Truth, Number, Text, Name, Index, Member, Call, New, Signed, Typeof, Void, Delete, Stepped, Binary, And, Or, Choice, Assign, Update, Comma}

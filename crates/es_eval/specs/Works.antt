@@ -7,9 +7,7 @@ use Rattle.es_values.specs.declared.values.Value.{Value}
 use Rattle.es_values.specs.declared.values.Value.TheVariants.{Undefined, Null, Bool as Boolean, Number, Str}
 use Rattle.es_values.specs.Values.{truth_of}
 use Rattle.es_eval.specs.declared.codes.Code.{Code}
-use Rattle.es_eval.specs.declared.operators.Operator.{Operator}
 use Rattle.es_eval.specs.declared.shapes.FirstShape.{FirstShape}
-use Rattle.es_eval.specs.declared.shapes.VisitorShape.{VisitorShape}
 use Rattle.es_eval.specs.declared.works.Callee.{Callee}
 use Rattle.es_eval.specs.declared.works.Callee.TheVariants as callee
 use Rattle.es_eval.specs.declared.works.CallWork.{CallWork}
@@ -19,7 +17,6 @@ use Rattle.es_eval.specs.declared.works.Given.TheVariants as given
 use Rattle.es_eval.specs.declared.works.Loop.{Loop}
 use Rattle.es_eval.specs.declared.works.MemberWork.{MemberWork}
 use Rattle.es_eval.specs.declared.works.MemberWork.TheVariants as member
-use Rattle.es_eval.specs.declared.works.OpenCall.{OpenCall}
 use Rattle.es_eval.specs.declared.works.OperandWork.{OperandWork}
 use Rattle.es_eval.specs.declared.works.OperandWork.TheVariants as operand
 use Rattle.es_eval.specs.declared.works.Place.{Place as Placed}
@@ -39,14 +36,13 @@ use Rattle.es_eval.specs.Codes.{declared_by, expression_at, parts_from, statemen
 use Rattle.es_eval.specs.Members.{Place, delete_index, delete_member, read_member, read_place, write_name, write_place}
 use Rattle.es_eval.specs.Members.Place.{NamePlace, MemberPlace}
 use Rattle.es_eval.specs.Operations.{operates, signs, stepped, type_text}
-use Rattle.es_eval.specs.Rows.{Completion, Task, behind_body, declarators, first_row, last_value, statements, turn_body, update_row, values, visit_all, where_normal, with_members}
+use Rattle.es_eval.specs.Rows.{Completion, Task, behind_body, declarators, first_row, last_value, statements, turn_body, update_row, values, visit_all, with_members}
 use Rattle.es_eval.specs.Rows.Completion.{Normal, Broke, Continued, Returned}
 use Rattle.es_eval.specs.Rows.Task.{Turn, Visit as VisitTurn}
 use Rattle.es_eval.specs.Shapes.{first_shaped, visitor_shaped}
 use Rattle.es_eval.specs.Sources.{declarators_of}
-use Rattle.es_eval.specs.Syntax.{Expression, Function, Statement}
+use Rattle.es_eval.specs.Syntax.{Expression, Statement}
 use Rattle.es_eval.specs.Unbounded.{called, done, entered, run_statement}
-use Rattle.es_eval.specs.Worlds.{World}
 
 -- ---- what is given
 

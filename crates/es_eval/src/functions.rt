@@ -1,6 +1,6 @@
 //! The programs that scripts are of, with the functions that they declare.
 
-ghost use Rattle.std.specs.Prelude.{◌≡◌, ◌<◌, ◌^◌, ◌++◌, length, map, option_map, slice_get, Some, None, IfOk, IfSome, OnErr, OnOk};
+ghost use Rattle.std.specs.Prelude.{◌≡◌, ◌<◌, ◌^◌, ◌++◌, ◌↔◌, length, map, option_map, slice_get, Some, None, IfOk, IfSome, IsTrue, OnErr, OnOk};
 ghost use Rattle.std.specs.Option.{option_and_then};
 ghost use Rattle.es_reader.specs.Told.{told_function};
 ghost use Rattle.es_eval.specs.Calls.{declared_function};
@@ -130,3 +130,20 @@ pub fn function_count(programs: &[Program]) -> u64
     }
     count
 }
+
+/// Whether programs declare fewer than 2^48 functions together, as [`run`](crate::run) asks.
+pub fn are_few_functions(programs: &[Program]) -> bool
+    ensures { IsTrue result ↔ (length (declared_by programs.now) < 2 ^ 48) }
+{
+    let mut count = 0;
+    for program in programs {
+        let more = program.functions().len() as u64;
+        if more >= TOO_MANY_FUNCTIONS - count {
+            return false;
+        }
+        count += more;
+    }
+    true
+}
+
+const TOO_MANY_FUNCTIONS: u64 = 1 << 48;

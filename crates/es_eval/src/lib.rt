@@ -1,7 +1,7 @@
 //! What programs of scripts do, over any host (ECMA-262 second edition, in this profile).
 //!
-//! These are definitions with their laws, and parts of the evaluator that is to meet them: its loop
-//! and its calls aren't there yet, so nothing runs a script.
+//! [`run`] runs a program among programs, and [`run_global`] calls a global: each ends exactly as the
+//! definitions say, over every host, with as many steps as are given.
 //! `specs/Syntax.antt` has programs as they are evaluated, and `specs/Sources.antt` which program a
 //! text is. `specs/Rows.antt` is the table, a row for each form: what is entered, in which order,
 //! what is charged, and what stops; operators, members and calls have theirs in
@@ -20,7 +20,9 @@
 //! each arm says of which row its run is.
 #![tactic(auto)]
 
+mod calls;
 mod codes;
+mod evaluator;
 mod expression_shapes;
 mod expressions;
 mod functions;
@@ -33,6 +35,7 @@ mod operands;
 mod operations;
 mod operators;
 mod outcomes;
+mod scripts;
 #[cfg(test)]
 mod shape_lines;
 #[cfg(test)]
@@ -41,11 +44,15 @@ mod shapes;
 mod statement_shapes;
 mod statements;
 mod targets;
+#[cfg(test)]
+mod tests;
 mod told_laws;
 mod works;
 
+pub use crate::functions::are_few_functions;
 pub use crate::globals::Globals;
 pub use crate::laws::{law_of_bounds, law_of_steps, law_of_unfolding, law_of_values};
 pub use crate::operators::{Operator, Sign};
 pub use crate::outcomes::{Outcome, StopCause};
+pub use crate::scripts::{run, run_global};
 pub use crate::told_laws::law_of_told_programs;

@@ -1,6 +1,6 @@
 //! The evaluator's state: the globals, the objects, the control stack and the steps that are left.
 
-ghost use Rattle.std.specs.Prelude.{◌≡◌, ◌≤◌, ◌+◌, ◌*◌, ◌<◌, [], List, length, true, false, Some, None, IfOk, IfSome, OnOk, if◌then◌else◌, option_map};
+ghost use Rattle.std.specs.Prelude.{◌≡◌, ◌≤◌, ◌+◌, ◌*◌, ◌^◌, ◌<◌, [], List, length, true, false, Some, None, IfOk, IfSome, OnOk, if◌then◌else◌, option_map};
 ghost use Rattle.std.specs.List.{sum_by};
 ghost use Rattle.es_builtins.specs.Functions.{construction_row, function_row};
 ghost use Rattle.es_builtins.specs.Methods.{method_row};
@@ -21,18 +21,20 @@ ghost use Rattle.es_eval.specs.Calls.{bound, with_new_object};
 ghost use Rattle.es_eval.specs.Machines.{AreLive, Carries, IsWorkLive, Stays, behind_frame, built_run, burden, names_in, rest, run_from, turns_of, value_of_call, values_of_built, values_of_next, weight, world_of};
 ghost use Rattle.es_eval.specs.Members.{delete_in, named, put_member};
 ghost use Rattle.es_eval.specs.Operations.{operates};
+ghost use Rattle.es_eval.specs.Slots.{with_values};
 ghost use Rattle.es_eval.specs.Works.{completed, does, evaluates, executes};
 ghost use Rattle.es_eval.specs.Worlds.{local as spec_local, with_name};
 ghost use Rattle.es_eval.specs.Worlds.Run.{Over};
 
 use crate::codes::Code;
 use crate::globals::Globals;
-use crate::operations::{charge_operation, operated};
+use crate::operations::{charge_all, charge_operation, operated};
 use crate::operators::Operator;
 use crate::works::{Now, Work};
 use bml_bytes::{NoMemory, Text};
-use es_builtins::value_named;
+use es_builtins::{Built, call_function, call_method, construct, law_of_rows, value_named};
 use es_frames::Frames;
+use es_reader::FunctionDecl;
 use es_values::{Budget, Heap, Num, Value};
 use std::marker::Model;
 
@@ -336,5 +338,145 @@ impl Machine {
         } else {
             Ok(None)
         }
+    }
+
+    // ---- calls
+
+    /// Opens the frame of a call of a function with these arguments, which has no item yet.
+    pub fn open_function(
+        &mut self,
+        function: &FunctionDecl,
+        this: Value,
+        mut args: Vec<Value>,
+    ) -> Result<(), NoMemory>
+        requires this { IsLive self.old.heap this }
+        requires args { AreLive self.old.heap args.items }
+        requires depth { length self.old.frames ≤ 64 }
+        ensures world { OnOk result (world_of self.new ≡ record (world_of self.old) {
+          locals = bound (told_function function.now).locals function.now.parameters args.items;
+          this = this;
+          depth = (world_of self.old).depth + 1;
+        }) }
+        ensures rest { OnOk result ((programs : List ToldProgram)
+            → rest programs self.new.frames ≡ behind_frame programs self.old.frames) }
+        ensures less { OnOk result (burden self.new ≤ burden self.old + 1) }
+        ensures heap { self.new.heap ≡ self.old.heap }
+    {
+        let Ok(_) = u32::try_from(function.locals.len()) else {
+            return Err(NoMemory);
+        };
+        self.frames.push(&function.locals, this)?;
+        args.truncate(function.parameters as usize);
+        set_slots(&mut self.frames, args);
+        Ok(())
+    }
+
+    /// Closes the frame of the call that runs, where it isn't the lowest, and answers whether it did.
+    pub fn close_function(&mut self) -> bool
+        ensures run { (programs : List ToldProgram) (handed : Given)
+            → next_item self.old.frames ≡ None → run_from programs self.old (Gives handed)
+            ≡ (if result then run_from programs self.new (Gives (value_of_call handed))
+            else Over AtEnd (world_of self.new)) }
+        ensures less { result ≡ true → burden self.new + 1 ≤ burden self.old }
+        ensures same { result ≡ false → self.new ≡ self.old }
+        ensures heap { self.new.heap ≡ self.old.heap }
+    {
+        if self.frames.depth() > 1 {
+            self.frames.pop();
+            true
+        } else {
+            false
+        }
+    }
+
+    /// Takes what is charged for values that become texts, where it is left.
+    #[tactic(auto, using(crate::proofs::MachineLemmas::stays_where_less))]
+    pub fn charge_conversions(&mut self, values: &[Value]) -> bool
+        requires { AreLive self.old.heap values.now }
+        ensures charge { (action : Action AnyValue) (next : Next AnyValue)
+            → charged (λ heap. sum_by (conversion_charge heap) values.now) action
+            (world_of self.old) next ≡ (if result then action (world_of self.new) next
+            else Over (Stopped OutOfSteps) (world_of self.new)) }
+        ensures stays { Stays self.old self.new }
+    {
+        charge_all(values, &self.heap, &mut self.steps)
+    }
+
+    /// Adds an object without properties, and gives its number.
+    #[tactic(auto, using(crate::proofs::MachineLemmas::stays_where_less))]
+    pub fn add_object(&mut self) -> Result<u64, NoMemory>
+        ensures world { IfOk result (λ object. (object ≡ length self.old.heap)
+            × (world_of self.new ≡ with_new_object (world_of self.old))) }
+        ensures live { IfOk result (λ object. object < length self.new.heap) }
+        ensures stays { Stays self.old self.new }
+    {
+        let object = self.heap.add(false)?;
+        Ok(object)
+    }
+
+    /// Calls the built-in function of a number.
+    #[tactic(auto, using(crate::proofs::MachineLemmas::stays_where_less))]
+    pub fn call_built_in_function(&mut self, number: u64, args: &[Value]) -> Result<Built, NoMemory>
+        requires { AreLive self.old.heap args.now }
+        ensures run { IfOk result (λ built. (next : Next AnyValue)
+            → by_row (λ heap. function_row heap number args.now) (world_of self.old) next
+            ≡ built_run built (world_of self.new) next) }
+        ensures live { IfOk result (λ built. AreLive self.new.heap (values_of_built built)) }
+        ensures stays { Stays self.old self.new }
+    {
+        // What a row gives of a sound heap is live.
+        self.heap.is_sound();
+        law_of_rows();
+        call_function(number, args, &mut self.heap, &mut self.steps)
+    }
+
+    /// Makes a `new` of the built-in function of a number.
+    #[tactic(auto, using(crate::proofs::MachineLemmas::stays_where_less))]
+    pub fn construct_built_in(&mut self, number: u64, args: &[Value]) -> Result<Built, NoMemory>
+        requires { AreLive self.old.heap args.now }
+        ensures run { IfOk result (λ built. (next : Next AnyValue)
+            → by_row (λ heap. construction_row heap number args.now) (world_of self.old) next
+            ≡ built_run built (world_of self.new) next) }
+        ensures live { IfOk result (λ built. AreLive self.new.heap (values_of_built built)) }
+        ensures stays { Stays self.old self.new }
+    {
+        // What a row gives of a sound heap is live.
+        self.heap.is_sound();
+        law_of_rows();
+        construct(number, args, &mut self.heap, &mut self.steps)
+    }
+
+    /// Calls the built-in method of a value.
+    #[tactic(auto, using(crate::proofs::MachineLemmas::stays_where_less))]
+    pub fn call_built_in_method(
+        &mut self,
+        base: &Value,
+        name: &Text,
+        args: &[Value],
+    ) -> Result<Built, NoMemory>
+        requires base { IsLive self.old.heap base.now }
+        requires args { AreLive self.old.heap args.now }
+        ensures run { IfOk result (λ built. (next : Next AnyValue)
+            → by_row (λ heap. method_row heap base.now name.now args.now) (world_of self.old) next
+            ≡ built_run built (world_of self.new) next) }
+        ensures live { IfOk result (λ built. AreLive self.new.heap (values_of_built built)) }
+        ensures stays { Stays self.old self.new }
+    {
+        // What a row gives of a sound heap is live.
+        self.heap.is_sound();
+        law_of_rows();
+        call_method(base, name, args, &mut self.heap, &mut self.steps)
+    }
+}
+
+// Gives the first places of the last frame these values, as far as it has places.
+fn set_slots(frames: &mut Frames<Work>, values: Vec<Value>)
+    requires { length values.items < 2 ^ 32 }
+    ensures { frames.new ≡ with_values frames.old 0 values.items }
+{
+    let mut place = 0;
+    for value in values {
+        frames.set_slot(place, value);
+        place += 1;
     }
 }

@@ -1,7 +1,8 @@
 //! Operators of two values, with their charges.
 
-ghost use Rattle.std.specs.Prelude.{◌≡◌, IfOk, Option};
-ghost use Rattle.es_values.specs.Charges.{Charges};
+ghost use Rattle.std.specs.Prelude.{◌≡◌, All, IfOk, Option};
+ghost use Rattle.std.specs.List.{sum_by};
+ghost use Rattle.es_values.specs.Charges.{Charges, conversion_charge};
 ghost use Rattle.es_values.specs.Heaps.{IsLive};
 ghost use Rattle.es_eval.specs.Calculations.{calculated as spec_calculated};
 ghost use Rattle.es_eval.specs.Operations.{is_greater as spec_is_greater, is_less as spec_is_less, numbers_charge, operated as spec_operated, operation_charge, or_same};
@@ -45,6 +46,21 @@ fn charge_conversions(left: &Value, right: &Value, heap: &Heap, steps: &mut Budg
     }
     *steps = before;
     false
+}
+
+/// Takes the steps of values that become texts, where they are left.
+pub fn charge_all(values: &[Value], heap: &Heap, steps: &mut Budget) -> bool
+    requires { All (IsLive heap.now) values.now }
+    ensures { Charges (sum_by (conversion_charge heap.now) values.now) steps.old result steps.new }
+{
+    let before = *steps;
+    for value in values {
+        if !steps.charge_conversion(heap, value) {
+            *steps = before;
+            return false;
+        }
+    }
+    true
 }
 
 /// What an operator gives.

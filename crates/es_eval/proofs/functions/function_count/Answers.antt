@@ -1,4 +1,4 @@
-use Rattle.std.proofs.Common.{◌≡◌, ◌<◌, ◌+◌, ◌≤◌, ◌∙◌, ap, sym, length, take, refl, arith}
+use Rattle.std.proofs.Common.{◌≡◌, ◌+◌, ◌≤◌, ap, length, take, refl, arith}
 use Rattle.std.proofs.lemmas.List.{length-map}
 use Rattle.es_reader.specs.Told.{told_function}
 use Rattle.es_eval.specs.Codes.{declared_by}

@@ -1,8 +1,8 @@
-use Rattle.std.proofs.Common.{◌≡◌, ◌<◌, ◌+◌, ◌≤◌, ◌∙◌, ap, sym, ℕ, List, Option, Some, None, length, arith}
+use Rattle.std.proofs.Common.{◌≡◌, ◌+◌, ◌∙◌, ap, sym, ℕ, List, Option, Some, None, arith}
 use Rattle.std.specs.Prelude.{IfSome, slice_get}
 use Rattle.es_reader.specs.Programs.{ToldProgram}
 use Rattle.es_eval.specs.declared.functions.Declared.{Declared}
-use Rattle.es_eval.specs.Codes.{IsFound, declared_at, declared_by, places_from}
+use Rattle.es_eval.specs.Codes.{IsFound, declared_at, places_from}
 use Rattle.es_eval.proofs.FunctionLemmas.{found-all, found-more, found-within, got-slice, number-at, number-below, place-there}
 use Rattle.es_eval.proofs.functions.Programs.function.Goals as goal
 use Rattle.es_eval.proofs.functions.Programs.function.Goals.{then-loop-list-test+else-self-list, else-loop-list-test}

@@ -1,5 +1,4 @@
 use Rattle.std.proofs.Common.{◌∙◌, ap, subst, sym}
-use Rattle.es_values.specs.declared.numbers.Num.{Num}
 use Rattle.es_values.specs.declared.values.Value.{Value}
 use Rattle.es_eval.specs.declared.works.Given.TheVariants as given
 use Rattle.es_eval.specs.declared.works.Now.TheVariants as now

@@ -1,10 +1,7 @@
-use Rattle.std.proofs.Common.{◌∙◌, ap, subst, sym}
 use Rattle.std.proofs.lemmas.Result.{IfOk-weaker}
-use Rattle.es_values.specs.declared.numbers.Num.{Num}
 use Rattle.es_values.specs.declared.values.Value.TheVariants.{Number}
 use Rattle.std.specs.Prelude.{if◌then◌else◌}
-use Rattle.es_eval.specs.declared.works.Given.{Given}
-use Rattle.es_eval.specs.Actions.{Action, and_then, as_number, gives}
+use Rattle.es_eval.specs.Actions.{and_then, as_number, gives}
 use Rattle.es_eval.specs.Members.{write_place}
 use Rattle.es_eval.specs.Operations.{stepped}
 use Rattle.es_eval.specs.Works.{as_value, place_of}

@@ -3,7 +3,8 @@ use Rattle.std.proofs.lemmas.Result.{IfOk-weaker}
 use Rattle.es_eval.specs.declared.works.Use.TheVariants.{Visit as VisitUse}
 use Rattle.es_eval.specs.Members.Place.{NamePlace}
 use Rattle.es_eval.specs.Works.{use_row}
-use Rattle.es_eval.proofs.StatementArms.{no_step-run, step-run, visit-target, visit-var}
+use Rattle.es_eval.proofs.ArmLemmas.{stepped-run, unstepped-run}
+use Rattle.es_eval.proofs.StatementArms.{visit-target, visit-var}
 use Rattle.es_eval.proofs.machine.Machine.visit_name.Goals as goal
 
 pub returns-then-not-take_step-clause-run : goal.returns-then-not-take_step-clause-run
@@ -11,7 +12,7 @@ returns-then-not-take_step-clause-run c =
     let more = use_row c.args.programs.now (VisitUse c.args.name c.args.visit) in
     visit-var c.args.programs.now c.args.self.now c.take_step.new.self c.args.visit.visitor
     c.in-VisitVar.variable more c.stopped.result (sym c.in_ok-target.ensures ∙ c.in-VisitVar.is)
-    (no_step-run c.args.programs.now c.args.self.now c.take_step.new.self c.take_step.result
+    (unstepped-run c.args.programs.now c.args.self.now c.take_step.new.self c.take_step.result
     (more (NamePlace c.in-VisitVar.variable)) c.stopped.result c.take_step.ensures.step
     c.if-not-take_step.true c.stopped.ensures)
 
@@ -29,7 +30,7 @@ returns-else-not-take_step-clause-run c =
     IfOk-weaker c.on_place.result _ _ (λ next on.
     visit-var c.args.programs.now c.args.self.now c.on_place.new.self c.args.visit.visitor
     c.in-VisitVar.variable more next (sym c.in_ok-target.ensures ∙ c.in-VisitVar.is)
-    (step-run c.args.programs.now c.args.self.now c.take_step.new.self c.on_place.new.self
+    (stepped-run c.args.programs.now c.args.self.now c.take_step.new.self c.on_place.new.self
     c.take_step.result (more (NamePlace c.in-VisitVar.variable)) next c.take_step.ensures.step
     c.if-not-take_step.false c.take_step.ensures.stays (on c.args.programs.now)))
     c.on_place.ensures.run

@@ -1,7 +1,6 @@
 use Rattle.std.proofs.Common.{◌≡◌, ◌-◌}
 use Rattle.std.specs.Prelude.{vec_len}
 use Rattle.es_eval.specs.Actions.{Next}
-use Rattle.es_eval.specs.Codes.{declared_by}
 use Rattle.es_eval.specs.Machines.{world_of}
 use Rattle.es_eval.specs.Rows.{Completion}
 use Rattle.es_eval.specs.Works.{turns, visit_task}

@@ -1,0 +1,32 @@
+use Rattle.std.proofs.lemmas.Result.{IfOk-weaker}
+use Rattle.es_builtins.specs.Functions.{construction_row}
+use Rattle.es_eval.specs.Machines.{MachineState}
+use Rattle.es_eval.proofs.BuiltLemmas.{answered-row, live_built, machine_with_heap}
+use Rattle.es_eval.proofs.machine.Machine.construct_built_in.Goals as goal
+
+pub invariant_of-self : goal.invariant_of-self
+invariant_of-self c =
+    machine_with_heap _ c.construct.new.heap c.construct.new.budget.left c.self.invariant
+    c.construct.ensures.grows c.construct.ensures.spends
+
+pub returns-clause-run : goal.returns-clause-run
+returns-clause-run c =
+    let m : MachineState = record {
+      globals = c.self.inside.globals;
+      heap = c.self.inside.heap;
+      frames = c.self.inside.frames;
+      left = c.self.inside.steps.left;
+    } in
+    rw (← c.self.view_is)
+    (IfOk-weaker c.construct.result _ _ (λ built answers next.
+    answered-row m (construction_row c.self.inside.heap c.args.number c.args.args.now) built
+    c.construct.new.heap c.construct.new.budget.left next answers) c.construct.ensures.row)
+
+pub returns-clause-live : goal.returns-clause-live
+returns-clause-live c =
+    IfOk-weaker c.construct.result _ _ (λ built answers.
+    live_built c.self.inside.heap c.args.args.now
+    (construction_row c.self.inside.heap c.args.number c.args.args.now) built c.construct.new.heap
+    c.self.inside.steps c.construct.new.budget
+    (c.law_of_rows.ensures.constructions c.self.inside.heap c.args.number c.args.args.now
+    c.is_sound.ensures (rw (← c.self.view_is) at c.requires)) answers) c.construct.ensures.row

@@ -1,0 +1,33 @@
+use Rattle.std.proofs.Common.{◌≤◌, ◌<◌, length, arith}
+use Rattle.std.proofs.lemmas.Result.{IfOk-weaker}
+use Rattle.es_eval.specs.Codes.{declared_by}
+use Rattle.es_eval.specs.Unbounded.{called}
+use Rattle.es_eval.proofs.CallArms.{construct-run, deep-construct, empty-construct, on_named}
+use Rattle.es_eval.proofs.machine.Machine.construct_declared.Goals as goal
+
+pub returns-then-depth-gt-MOST_CALLS-clause-run : goal.returns-then-depth-gt-MOST_CALLS-clause-run
+returns-then-depth-gt-MOST_CALLS-clause-run c function at =
+    let deep : 64 < length c.args.self.now.frames = rw (← c.self.view_is) (omega arith) in
+    deep-construct c.args.programs.now c.args.self.now (called (declared_by c.args.programs.now))
+    function c.args.args.items c.stopped.result deep c.stopped.ensures
+
+pub returns-in_default-clause-run : goal.returns-in_default-clause-run
+returns-in_default-clause-run c function at =
+    let shallow : length c.args.self.now.frames ≤ 64 = rw (← c.self.view_is) (omega arith) in
+    let some : 1 ≤ length c.args.self.now.frames = rw (← c.self.view_is) c.self.invariant.some in
+    empty-construct c.args.programs.now c.args.self.now function c.args.args.items shallow some
+    c.add_object.new.self c.in_ok-object.object c.args.declared c.value.result
+    c.in_ok-object.ensures.world.0 c.in_ok-object.ensures.world.1 c.add_object.ensures.stays at
+    (rw c.list.ensures at c.in_default.ensures) c.value.ensures
+
+pub returns-clause-run : goal.returns-clause-run
+returns-clause-run c =
+    let shallow : length c.args.self.now.frames ≤ 64 = rw (← c.self.view_is) (omega arith) in
+    let some : 1 ≤ length c.args.self.now.frames = rw (← c.self.view_is) c.self.invariant.some in
+    IfOk-weaker c.enter_at.result _ _ (λ next on function at.
+    construct-run c.args.programs.now c.args.self.now function c.args.args.items shallow some
+    c.add_object.new.self c.put.new.self c.enter_at.new.self c.in_ok-object.object next
+    c.in_ok-object.ensures.world.0 c.in_ok-object.ensures.world.1 c.add_object.ensures.stays
+    c.in_ok-put.ensures.world (c.in_ok-put.ensures.rest c.args.programs.now)
+    (on_named c.args.programs.now c.list-2.result.now c.put.new.self c.enter_at.new.self
+    c.args.declared _ c.args.args.items next c.list-2.ensures on function at)) c.enter_at.ensures.run

@@ -1,0 +1,141 @@
+//! The evaluator's loop: what is next is done until the script is over.
+
+ghost use Rattle.std.specs.Prelude.{◌≡◌, ◌<◌, ◌+◌, List, None, IfOk};
+ghost use Rattle.es_frames.specs.Frames.{next_item};
+ghost use Rattle.es_reader.specs.Programs.{ToldProgram};
+ghost use Rattle.es_values.specs.Heaps.{IsLive, IsSound};
+ghost use Rattle.es_eval.specs.declared.works.Given.TheVariants.{Value as GivenValue};
+ghost use Rattle.es_eval.specs.declared.works.Now.TheVariants.{Gives};
+ghost use Rattle.es_eval.specs.Endings.{MayEnd};
+ghost use Rattle.es_eval.specs.Machines.{AreLive, GoesOn, IsLessAfter, IsNextLive, IsWorkLive, burden, next_behind as spec_next_behind, run_from, value_of_call as spec_value_of_call, values_of_given, weight, world_of};
+ghost use Rattle.es_eval.specs.Works.{does};
+
+use crate::functions::Programs;
+use crate::globals::Globals;
+use crate::machine::Machine;
+use crate::nexts::{stopped, value};
+use crate::outcomes::{Outcome, StopCause};
+use crate::works::{Given, Now, Work};
+use bml_bytes::{NoMemory, Text};
+use es_reader::Program;
+use es_values::{Heap, Host, HostAnswer, HostRef, Value};
+
+impl Machine {
+    // Gives something to the item that was put last; where the call that runs has none, its value
+    // goes to the call below, and behind the lowest the script is at its end.
+    fn hand(&mut self, programs: &mut Programs<'_>, given: Given) -> Result<Now, NoMemory>
+        requires { AreLive self.old.heap (values_of_given given) }
+        ensures run { IfOk result (λ next. run_from programs.old self.new next
+            ≡ run_from programs.old self.old (Gives given)) }
+        ensures live { IfOk result (IsNextLive self.new) }
+        ensures less { IfOk result (λ next. weight self.new next < burden self.old + 11) }
+        ensures programs { programs.new ≡ programs.old }
+    {
+        let Some(item) = self.take() else {
+            return Ok(self.leave(given));
+        };
+        let item = match item {
+            Work::Statement(item) => return self.on_statement(programs.list(), item, given),
+            other => other,
+        };
+        match given {
+            Given::Value(value) => self.on_value(programs, item, value),
+            other => Ok(Now::Gives(other)),
+        }
+    }
+
+    // What an item of an expression does with a value.
+    fn on_value(
+        &mut self,
+        programs: &mut Programs<'_>,
+        item: Work,
+        given: Value,
+    ) -> Result<Now, NoMemory>
+        requires item { IsWorkLive self.old.heap item }
+        requires given { IsLive self.old.heap given }
+        ensures run { IfOk result (λ next. GoesOn programs.old self.old
+            (does programs.old item (GivenValue given)) self.new next) }
+        ensures live { IfOk result (IsNextLive self.new) }
+        ensures less { IfOk result (IsLessAfter item self.old self.new) }
+        ensures programs { programs.new ≡ programs.old }
+    {
+        match item {
+            Work::Operand(item) => self.on_operand(programs.list(), item, given),
+            Work::Member(item) => self.on_member(item, given),
+            Work::Call(item) => self.on_call(programs, item, given),
+            Work::Target(item) => self.on_target(item, given),
+            Work::Statement(item) => {
+                self.on_statement(programs.list(), item, Given::Value(given))
+            }
+        }
+    }
+
+    // The call that runs has nothing left to do.
+    fn leave(&mut self, given: Given) -> Now
+        requires live { AreLive self.old.heap (values_of_given given) }
+        requires items { next_item self.old.frames ≡ None }
+        ensures run { (programs : List ToldProgram) → run_from programs self.new result
+            ≡ run_from programs self.old (Gives given) }
+        ensures live { IsNextLive self.new result }
+        ensures less { weight self.new result < burden self.old + 11 }
+    {
+        if self.close_function() {
+            Now::Gives(value_of_call(given))
+        } else {
+            Now::Over(Outcome::Normal)
+        }
+    }
+
+    // Does what is next until the script is over.
+    pub fn run_to_end<H: Host>(
+        &mut self,
+        programs: &mut Programs<'_>,
+        host: &mut H,
+        first: Now,
+    ) -> Result<Outcome, NoMemory>
+        requires { IsNextLive self.old first }
+        ensures ends { IfOk result (λ outcome. MayEnd H.reads H.writes H.calls
+            (run_from programs.old self.old first) host.old outcome (world_of self.new) host.new) }
+    {
+        let mut now = first;
+        'script: loop {
+            now = match now {
+                Now::Over(outcome) => return Ok(outcome),
+                Now::Reads(base, name) => value(host.get(base, &name)?),
+                Now::Writes(base, name, written) => {
+                    host.set(base, &name, &written, &self.heap)?;
+                    value(written)
+                }
+                Now::Calls(base, name, args) => {
+                    next_behind(host.call(base, &name, &args, &mut self.heap)?, &self.heap)
+                }
+                Now::Evaluate(code) => self.evaluate(programs.list(), code)?,
+                Now::Execute(code) => self.execute(programs.list(), code)?,
+                Now::Gives(given) => self.hand(programs, given)?,
+            };
+        }
+    }
+}
+
+// What a call gives, whose body came to this.
+fn value_of_call(given: Given) -> Given
+    ensures { result ≡ spec_value_of_call given }
+{
+    match given {
+        Given::Returned(found) => Given::Value(found),
+        _ => Given::Value(Value::Undefined),
+    }
+}
+
+// What comes next behind a host's answer to a call, which left this heap.
+fn next_behind(answer: HostAnswer, heap: &Heap) -> Now
+    ensures next { result ≡ spec_next_behind answer }
+    ensures sound { IsSound heap.now }
+{
+    heap.is_sound();
+    match answer {
+        HostAnswer::Value(found) => value(found),
+        HostAnswer::Ended => Now::Over(Outcome::Ended),
+        HostAnswer::NotCallable => stopped(StopCause::NotCallable),
+    }
+}

@@ -1,0 +1,98 @@
+//! Runs in tables, for tests: of two programs over the same globals, objects and host, and of
+//! globals that are called by their names.
+
+ghost use Rattle.std.specs.Prelude.{◌≤◌, ◌<◌, ◌^◌, length, All, OnOk};
+ghost use Rattle.es_eval.specs.Codes.{declared_by};
+ghost use Rattle.es_eval.specs.Machines.{IsNamedLive};
+
+use crate::tests::told_scripts::{ALL_STEPS, program_of, word};
+use crate::{Globals, Outcome, are_few_functions, run, run_global};
+use bml_bytes::{NoMemory, Text};
+use es_reader::Program;
+use es_values::{Heap, RowHost};
+use std::alloc::Global;
+use std::process::Abort;
+
+// Runs the program whose place is written, or else calls the global of that name.
+fn run_one(
+    programs: &[Program],
+    named: &[u8],
+    globals: &mut Globals,
+    heap: &mut Heap,
+    host: &mut RowHost,
+    steps: u32,
+) -> Result<Outcome, NoMemory>
+    requires steps { steps ≤ 100000 }
+    requires functions { length (declared_by programs.now) < 2 ^ 48 }
+    requires live { All (IsNamedLive heap.old) globals.old }
+    ensures live { OnOk result (All (IsNamedLive heap.new) globals.new) }
+{
+    let place = match named {
+        [b'0'] => 0,
+        [b'1'] => 1,
+        _ => {
+            let name = Text::of_bytes(heap.allocator(), named)?;
+            return run_global(programs, &name, globals, heap, host, steps);
+        }
+    };
+    if place < programs.len() {
+        run(programs, place, globals, heap, host, steps)
+    } else {
+        Err(NoMemory)
+    }
+}
+
+// How runs of two programs end, each with so many steps, and the text of a global behind them.
+fn told(
+    alloc: Global,
+    first: &[u8],
+    second: &[u8],
+    runs: &[u8],
+    steps: u32,
+    shown: &[u8],
+) -> Result<Vec<u8>, NoMemory> {
+    let mut out = Vec::new(alloc);
+    let (Some(first), Some(second)) = (program_of(alloc, first)?, program_of(alloc, second)?) else {
+        out.extend_from_slice(b"no program")?;
+        return Ok(out);
+    };
+    let programs = vec![in alloc; first, second]?;
+    if !are_few_functions(&programs) {
+        return Err(NoMemory);
+    }
+    let steps = if steps < ALL_STEPS { steps } else { ALL_STEPS };
+    let mut globals = Globals::new(alloc)?;
+    let mut heap = Heap::new(alloc);
+    let mut host = RowHost::new(alloc);
+    for named in runs.split(|code| *code == b' ') {
+        let outcome = run_one(&programs, named, &mut globals, &mut heap, &mut host, steps)?;
+        out.extend_from_slice(word(outcome))?;
+        out.push(b' ')?;
+    }
+    let name = Text::of_bytes(alloc, shown)?;
+    if let Some(found) = globals.get(&name) {
+        heap.to_text(found)?.push_bytes(&mut out)?;
+    }
+    Ok(out)
+}
+
+/// Asserts how a script ends that has so many steps, and the text of one of its globals.
+pub fn tell_ends(rt: &impl Abort, alloc: Global, cases: &[(u32, &[u8], &[u8], &[u8])]) {
+    for (steps, script, shown, expected) in cases {
+        let line = told(alloc, script, b"", b"0", *steps, shown).expect(rt, "memory");
+        assert_eq!(rt;
+            line.as_slice(),
+            *expected,
+            "of {steps} steps and {script:?}"
+        );
+    }
+}
+
+/// Asserts how runs end, each with so many steps, and the text of the global `s` behind them. A run
+/// is the place of one of two programs, or the name of a global that is called.
+pub fn tell_runs(rt: &impl Abort, alloc: Global, cases: &[(u32, &[u8], &[u8], &[u8], &[u8])]) {
+    for (steps, first, second, runs, expected) in cases {
+        let line = told(alloc, first, second, runs, *steps, b"s").expect(rt, "memory");
+        assert_eq!(rt; line.as_slice(), *expected, "of {runs:?} and {first:?}");
+    }
+}

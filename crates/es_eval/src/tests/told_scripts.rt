@@ -1,0 +1,122 @@
+//! Scripts in tables, for tests: how a script ends, the text of its global `s`, and the fewest
+//! steps with which it isn't stopped for want of steps.
+
+ghost use Rattle.std.specs.Prelude.{◌≤◌, IfOk};
+
+use crate::{Globals, Outcome, StopCause, are_few_functions, run};
+use bml_bytes::{NoMemory, Text, push_decimal};
+use es_reader::{Program, SyntaxFault, read_program};
+use es_values::{Heap, RowHost};
+use std::alloc::Global;
+use std::process::Abort;
+
+/// The steps that a handler has.
+pub const ALL_STEPS: u32 = 100_000;
+
+/// The program of a script, where it is one.
+pub fn program_of(alloc: Global, script: &[u8]) -> Result<Option<Program>, NoMemory> {
+    let text = Text::of_bytes(alloc, script)?;
+    match read_program(alloc, &text) {
+        Ok(program) => Ok(Some(program)),
+        Err(SyntaxFault::NoMemory) => Err(NoMemory),
+        Err(_) => Ok(None),
+    }
+}
+
+// How a script ends that has so many steps, and the text of its global `s`.
+fn ending(
+    alloc: Global,
+    programs: &[Program],
+    steps: u32,
+    value: &mut Vec<u8>,
+) -> Result<Outcome, NoMemory>
+    requires { steps ≤ 100000 }
+{
+    if programs.is_empty() || !are_few_functions(programs) {
+        return Err(NoMemory);
+    }
+    let mut globals = Globals::new(alloc)?;
+    let mut heap = Heap::new(alloc);
+    let mut host = RowHost::new(alloc);
+    let outcome = run(programs, 0, &mut globals, &mut heap, &mut host, steps)?;
+    let name = Text::of_bytes(alloc, b"s")?;
+    if let Some(found) = globals.get(&name) {
+        heap.to_text(found)?.push_bytes(value)?;
+    }
+    Ok(outcome)
+}
+
+// Whether a script that has so many steps isn't stopped for want of them.
+fn is_enough(alloc: Global, programs: &[Program], steps: u32) -> Result<bool, NoMemory>
+    requires { steps ≤ 100000 }
+{
+    let mut value = Vec::new(alloc);
+    match ending(alloc, programs, steps, &mut value)? {
+        Outcome::Stopped(StopCause::Budget) => Ok(false),
+        _ => Ok(true),
+    }
+}
+
+// The fewest steps with which a script isn't stopped for want of steps.
+fn fewest_steps(alloc: Global, programs: &[Program]) -> Result<u32, NoMemory>
+    ensures { IfOk result (λ steps. steps ≤ 100000) }
+{
+    if is_enough(alloc, programs, 0)? {
+        return Ok(0);
+    }
+    let mut too_few = 0;
+    let mut enough = ALL_STEPS;
+    for _ in 0..17 {
+        let middle = too_few + (enough - too_few) / 2;
+        if is_enough(alloc, programs, middle)? {
+            enough = middle;
+        } else {
+            too_few = middle;
+        }
+    }
+    Ok(enough)
+}
+
+/// The word for how a script ended.
+pub fn word(outcome: Outcome) -> &'static [u8] {
+    match outcome {
+        Outcome::Normal => b"normal",
+        Outcome::Ended => b"ended",
+        Outcome::Stopped(StopCause::Budget) => b"budget",
+        Outcome::Stopped(StopCause::Depth) => b"depth",
+        Outcome::Stopped(StopCause::NotCallable) => b"uncallable",
+        Outcome::Stopped(StopCause::NotObject) => b"no object",
+        Outcome::Stopped(StopCause::Unresolved) => b"unresolved",
+    }
+}
+
+// What a script comes to with all steps. It is told if it comes to anything else with the fewest.
+fn told(alloc: Global, script: &[u8]) -> Result<Vec<u8>, NoMemory> {
+    let mut out = Vec::new(alloc);
+    let Some(program) = program_of(alloc, script)? else {
+        out.extend_from_slice(b"no program")?;
+        return Ok(out);
+    };
+    let programs = vec![in alloc; program]?;
+    let mut value = Vec::new(alloc);
+    let outcome = ending(alloc, &programs, ALL_STEPS, &mut value)?;
+    out.extend_from_slice(word(outcome))?;
+    out.push(b' ')?;
+    out.extend_from_slice(&value)?;
+    out.push(b' ')?;
+    let fewest = fewest_steps(alloc, &programs)?;
+    push_decimal(i64::from(fewest), &mut out)?;
+    let mut exact = Vec::new(alloc);
+    if ending(alloc, &programs, fewest, &mut exact)? != outcome || exact != value {
+        out.extend_from_slice(b" not with as many")?;
+    }
+    Ok(out)
+}
+
+/// Asserts what scripts come to.
+pub fn tell_each(rt: &impl Abort, alloc: Global, cases: &[(&[u8], &[u8])]) {
+    for (script, expected) in cases {
+        let line = told(alloc, script).expect(rt, "memory");
+        assert_eq!(rt; line.as_slice(), *expected, "of {script:?}");
+    }
+}
