@@ -1,0 +1,23 @@
+-- Events by their names (after the intrinsic events of BML, ARIB STD-B24 volume 2; `default` is this project's
+-- own).
+use Rattle.std.specs.Prelude.{ℕ, List, Option, Some, None, codes}
+use Rattle.event_queue.specs.declared.events.Event.{Event}
+use Rattle.event_queue.specs.declared.events.Event.TheVariants.{Load, Unload, Focus, Blur, Click, KeyDown, KeyUp, Default}
+
+-- what scripts read as the type of an event, and what lines print
+abbrev pub name_of : Event → List ℕ
+name_of Load = codes "load"
+name_of Unload = codes "unload"
+name_of (Focus node) = codes "focus"
+name_of (Blur node) = codes "blur"
+name_of (Click node) = codes "click"
+name_of (KeyDown key) = codes "keydown"
+name_of (KeyUp key) = codes "keyup"
+name_of (Default key) = codes "default"
+
+-- the node that the event names
+abbrev pub target_of : Event → Option ℕ
+target_of (Focus node) = Some node
+target_of (Blur node) = Some node
+target_of (Click node) = Some node
+target_of _ = None
