@@ -53,7 +53,7 @@ impl Model for Styles {
 }
 
 impl Styles {
-    ghost use Rattle.style_cascade.specs.Cascade.{asked_count, asked_places, first_own, places_above, style_value, values_asked, write_of};
+    ghost use Rattle.style_cascade.specs.Cascade.{asked_count, asked_places, first_own, places_above, style_value, values_asked, with_write, write_of};
     ghost use Rattle.style_cascade.specs.Keeping.{IsRight, kept_value};
 
     /// The styles of a document with these rules. Nothing is written yet. What rules and inline
@@ -133,6 +133,8 @@ impl Styles {
         requires element { IsElement tree.now node.0 }
         requires fits { IsTrue (spec_fits property value) }
         requires right { (states : ℕ → State) × IsRight tree.now states self.old }
+        ensures sources { self.new.sources
+            ≡ with_write node.0 state property value self.old.sources }
         ensures written { write_of self.new.sources node.0 state property ≡ Some value }
         ensures others { (other : ℕ) (at : State) (of : Property) →
             ((other ≡ node.0) × (at ≡ state) × (of ≡ property) → ⊥) →
