@@ -43,6 +43,7 @@ fn run_one(
 }
 
 // How runs of two programs end, each with so many steps, and the text of a global behind them.
+#[tactic(auto, using(crate::proofs::NameLemmas::live_global))]
 fn told(
     alloc: Global,
     first: &[u8],

@@ -24,6 +24,7 @@ pub fn program_of(alloc: Global, script: &[u8]) -> Result<Option<Program>, NoMem
 }
 
 // How a script ends that has so many steps, and the text of its global `s`.
+#[tactic(auto, using(crate::proofs::NameLemmas::live_global))]
 fn ending(
     alloc: Global,
     programs: &[Program],
@@ -66,7 +67,7 @@ fn fewest_steps(alloc: Global, programs: &[Program]) -> Result<u32, NoMemory>
     }
     let mut too_few = 0;
     let mut enough = ALL_STEPS;
-    for _ in 0..17 {
+    'halves: for _ in 0..17 {
         let middle = too_few + (enough - too_few) / 2;
         if is_enough(alloc, programs, middle)? {
             enough = middle;
