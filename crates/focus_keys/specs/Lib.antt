@@ -1,0 +1,4 @@
+pub mod KeyTables
+pub mod Targets
+pub mod Defaults
+pub mod Views
