@@ -1,4 +1,4 @@
--- What the values of the code stand for (views).
+-- How the code keeps what the definitions speak of. (This project's own.)
 use Rattle.std.specs.Prelude.{ℕ, ℤ, Bool, false, ◌&&◌, List, Option, Some, None}
 use Rattle.std.specs.Option.{option_map_or}
 use Rattle.dom_tree.specs.Items.{Item, tag_of}
