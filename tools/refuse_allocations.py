@@ -1,0 +1,88 @@
+#!/usr/bin/env python3
+"""Runs a program once for each allocation that it makes, and has just this one refused.
+
+usage: refuse_allocations.py PROGRAM [WORD..] < INPUT
+
+The program gets the words and the input each time. A library that refuses the allocation of a number, as the system may, is compiled by
+`cc` and loaded in front of the C library. What is printed is how often the program ended in which way: its status and its last words, on
+standard output or on standard error. Status: 0 where each run ended by itself within a minute, 1 where one was stopped by a signal or hung.
+"""
+
+import collections
+import os
+import subprocess
+import sys
+import tempfile
+
+LIBRARY = r"""
+#define _GNU_SOURCE
+#include <dlfcn.h>
+#include <errno.h>
+#include <stdio.h>
+#include <stdlib.h>
+
+static long made, refused;
+static void *(*real_malloc)(size_t);
+static void *(*real_realloc)(void *, size_t);
+
+static int is_refused(void) {
+    if (!real_malloc) {
+        real_malloc = dlsym(RTLD_NEXT, "malloc");
+        real_realloc = dlsym(RTLD_NEXT, "realloc");
+        refused = atol(getenv("REFUSED_ALLOCATION"));
+    }
+    if (++made != refused) return 0;
+    errno = ENOMEM;
+    return 1;
+}
+
+void *malloc(size_t size) { return is_refused() ? 0 : real_malloc(size); }
+
+void *realloc(void *old, size_t size) { return is_refused() ? 0 : real_realloc(old, size); }
+
+__attribute__((destructor)) static void told(void) {
+    FILE *file = fopen(getenv("ALLOCATIONS_MADE"), "w");
+    if (file) fprintf(file, "%ld", made), fclose(file);
+}
+"""
+
+
+def last_line(text):
+    lines = text.decode(errors="replace").splitlines()
+    return lines[-1][:60] if lines else ""
+
+
+def main():
+    if len(sys.argv) < 2:
+        sys.exit(__doc__.split("\n\n")[1])
+    command, given = sys.argv[1:], sys.stdin.buffer.read()
+    ends, well = collections.Counter(), True
+    with tempfile.TemporaryDirectory(prefix="refuse-") as room:
+        with open(f"{room}/refuse.c", "w") as file:
+            file.write(LIBRARY)
+        subprocess.run(["cc", "-shared", "-fPIC", "-O1", "-o", f"{room}/refuse.so", f"{room}/refuse.c", "-ldl"], check=True)
+
+        def ran(number):
+            told = {"LD_PRELOAD": f"{room}/refuse.so", "REFUSED_ALLOCATION": str(number), "ALLOCATIONS_MADE": f"{room}/made"}
+            how = {"input": given, "stdout": subprocess.PIPE, "stderr": subprocess.PIPE, "check": False, "timeout": 60}
+            return subprocess.run(command, env={**os.environ, **told}, **how)
+
+        ran(0)
+        with open(f"{room}/made") as file:
+            made = int(file.read())
+        for number in range(1, made + 1):
+            try:
+                run = ran(number)
+                ends[run.returncode, last_line(run.stdout), last_line(run.stderr)] += 1
+                well = well and run.returncode >= 0
+            except subprocess.TimeoutExpired:
+                ends["hung", "", ""] += 1
+                well = False
+    print(f"{made} allocations")
+    for (status, output, error), count in ends.most_common():
+        print(f"{count:6}  status {status}  {output!r}  {error!r}")
+    return 0 if well else 1
+
+
+if __name__ == "__main__":
+    sys.exit(main())
