@@ -1,10 +1,12 @@
 //! The globals of scripts.
 
-ghost use Rattle.std.specs.Prelude.{◌≡◌, [], IfOk, OnOk, OnErr};
+ghost use Rattle.std.specs.Prelude.{◌≡◌, [], List, All, IfOk, IfSome, OnOk, OnErr};
 ghost use Rattle.std.specs.Map.{lookup};
 ghost use Rattle.std.specs.Option.{option_copied};
 ghost use Rattle.bml_bytes.specs.Words.{is_same};
-ghost use Rattle.es_values.specs.Heaps.{with_value};
+ghost use Rattle.es_values.specs.Heaps.{IsLive, with_value};
+ghost use Rattle.es_values.specs.Objects.{ObjectState};
+ghost use Rattle.es_eval.specs.Machines.{IsNamedLive};
 
 use bml_bytes::{NoMemory, Text};
 use es_values::Value;
@@ -40,7 +42,9 @@ impl Globals {
 
     /// The value of a global, and None where there is none of the name.
     pub fn get(&self, name: &Text) -> Option<&Value>
-        ensures { option_copied result ≡ lookup (is_same name.now) self.now }
+        ensures value { option_copied result ≡ lookup (is_same name.now) self.now }
+        ensures live { (heap : List ObjectState) → All (IsNamedLive heap) self.now
+            → IfSome result (λ value. IsLive heap value.now) }
     {
         self.values.get(name)
     }

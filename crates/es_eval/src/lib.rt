@@ -36,16 +36,10 @@ mod operations;
 mod operators;
 mod outcomes;
 mod scripts;
-#[cfg(test)]
-mod shape_lines;
-#[cfg(test)]
-mod shape_tests;
 mod shapes;
 mod statement_shapes;
 mod statements;
 mod targets;
-#[cfg(test)]
-mod tests;
 mod told_laws;
 mod works;
 

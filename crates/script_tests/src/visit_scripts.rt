@@ -1,6 +1,6 @@
 //! Scripts on `for .. in`: which names are visited, in which order, and the steps of a turn.
 
-use crate::tests::told_scripts::tell_each;
+use crate::told_scripts::tell_each;
 
 // Names come in order of insertion, those of an array too, without its length. Of no object there
 // is no turn.

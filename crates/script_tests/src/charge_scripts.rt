@@ -1,7 +1,7 @@
 //! Scripts on charges: the steps that texts and the texts of arrays are charged, in begun
 //! sixteens of a count.
 
-use crate::tests::told_scripts::tell_each;
+use crate::told_scripts::tell_each;
 
 // An array that becomes a text is charged its length and the codes of the text, wherever it
 // becomes one.

@@ -1,6 +1,6 @@
 //! Scripts on arrays: their lengths and elements, and their methods.
 
-use crate::tests::told_scripts::tell_each;
+use crate::told_scripts::tell_each;
 
 // An element at the length or past it raises the length; a smaller length removes elements,
 // charged by how many there are; NaN and negative ones do nothing.

@@ -1,10 +1,11 @@
 //! Scripts in tables, for tests: how a script ends, the text of its global `s`, and the fewest
 //! steps with which it isn't stopped for want of steps.
 
-ghost use Rattle.std.specs.Prelude.{◌≤◌, IfOk};
+ghost use Rattle.std.specs.Prelude.{◌≤◌, All, IfOk};
+ghost use Rattle.es_eval.specs.Machines.{IsNamedLive};
 
-use crate::{Globals, Outcome, StopCause, are_few_functions, run};
 use bml_bytes::{NoMemory, Text, push_decimal};
+use es_eval::{Globals, Outcome, StopCause, are_few_functions, run};
 use es_reader::{Program, SyntaxFault, read_program};
 use es_values::{Heap, RowHost};
 use std::alloc::Global;
@@ -24,7 +25,6 @@ pub fn program_of(alloc: Global, script: &[u8]) -> Result<Option<Program>, NoMem
 }
 
 // How a script ends that has so many steps, and the text of its global `s`.
-#[tactic(auto, using(crate::proofs::NameLemmas::live_global))]
 fn ending(
     alloc: Global,
     programs: &[Program],
@@ -40,11 +40,24 @@ fn ending(
     let mut heap = Heap::new(alloc);
     let mut host = RowHost::new(alloc);
     let outcome = run(programs, 0, &mut globals, &mut heap, &mut host, steps)?;
-    let name = Text::of_bytes(alloc, b"s")?;
-    if let Some(found) = globals.get(&name) {
-        heap.to_text(found)?.push_bytes(value)?;
-    }
+    push_global(&globals, &heap, b"s", value)?;
     Ok(outcome)
+}
+
+/// Appends the text of a global, where there is one of that name.
+pub fn push_global(
+    globals: &Globals,
+    heap: &Heap,
+    name: &[u8],
+    out: &mut Vec<u8>,
+) -> Result<(), NoMemory>
+    requires { All (IsNamedLive heap.now) globals.now }
+{
+    let name = Text::of_bytes(heap.allocator(), name)?;
+    if let Some(found) = globals.get(&name) {
+        heap.to_text(found)?.push_bytes(out)?;
+    }
+    Ok(())
 }
 
 // Whether a script that has so many steps isn't stopped for want of them.

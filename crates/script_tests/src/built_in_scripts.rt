@@ -1,6 +1,6 @@
 //! Scripts that reach the built-in functions and the methods of texts and numbers.
 
-use crate::tests::told_scripts::tell_each;
+use crate::told_scripts::tell_each;
 
 // A place that is absent or NaN is 0, but the text's length in `lastIndexOf`; a place that is
 // looked from isn't moved into the text.

@@ -1,6 +1,6 @@
 //! Scripts on how deep calls are nested: at most 64 at once, by a name, by a member and by `new`.
 
-use crate::tests::told_scripts::tell_each;
+use crate::told_scripts::tell_each;
 
 // A 65th nested call stops the script behind its arguments, also of a function without
 // statements. Built-in functions and the host are called at any depth.

@@ -5,9 +5,9 @@ ghost use Rattle.std.specs.Prelude.{◌≤◌, ◌<◌, ◌^◌, length, All, On
 ghost use Rattle.es_eval.specs.Codes.{declared_by};
 ghost use Rattle.es_eval.specs.Machines.{IsNamedLive};
 
-use crate::tests::told_scripts::{ALL_STEPS, program_of, word};
-use crate::{Globals, Outcome, are_few_functions, run, run_global};
+use crate::told_scripts::{ALL_STEPS, program_of, push_global, word};
 use bml_bytes::{NoMemory, Text};
+use es_eval::{Globals, Outcome, are_few_functions, run, run_global};
 use es_reader::Program;
 use es_values::{Heap, RowHost};
 use std::alloc::Global;
@@ -43,7 +43,6 @@ fn run_one(
 }
 
 // How runs of two programs end, each with so many steps, and the text of a global behind them.
-#[tactic(auto, using(crate::proofs::NameLemmas::live_global))]
 fn told(
     alloc: Global,
     first: &[u8],
@@ -70,10 +69,7 @@ fn told(
         out.extend_from_slice(word(outcome))?;
         out.push(b' ')?;
     }
-    let name = Text::of_bytes(alloc, shown)?;
-    if let Some(found) = globals.get(&name) {
-        heap.to_text(found)?.push_bytes(&mut out)?;
-    }
+    push_global(&globals, &heap, shown, &mut out)?;
     Ok(out)
 }
 

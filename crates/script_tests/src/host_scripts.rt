@@ -1,7 +1,7 @@
 //! Scripts on what is the host's: reads, writes and calls, over a host that keeps values by name
 //! and answers `end`.
 
-use crate::tests::told_scripts::tell_each;
+use crate::told_scripts::tell_each;
 
 // Reads and writes go to the host, whichever reference they are of; an array that is written is
 // charged as a text.

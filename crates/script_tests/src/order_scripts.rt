@@ -1,6 +1,6 @@
 //! Scripts on the order in which operands are read and a script is stopped.
 
-use crate::tests::told_scripts::tell_each;
+use crate::told_scripts::tell_each;
 
 // Operands go from left to right, and the operators of a chain are entered from the outermost in.
 // A target's key becomes a text in front of the right side, and operands where the operator is at

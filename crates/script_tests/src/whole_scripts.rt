@@ -1,7 +1,7 @@
 //! Scripts, with what they come to by the rows of evaluation: value and steps, worked out by
 //! hand.
 
-use crate::tests::told_scripts::tell_each;
+use crate::told_scripts::tell_each;
 
 #[test]
 fn whole_scripts(rt: HostRuntime) {

@@ -1,6 +1,6 @@
 //! Scripts on statements: the step that each takes, and how loops and functions are left.
 
-use crate::tests::told_scripts::tell_each;
+use crate::told_scripts::tell_each;
 
 // Each statement takes a step where it is entered, a loop's parts at each turn, and a declarator
 // none.

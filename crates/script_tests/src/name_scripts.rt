@@ -1,7 +1,7 @@
 //! Scripts on names: what a program's start makes of functions and variables, which value a name
 //! has, what is written to one, and `typeof`.
 
-use crate::tests::told_scripts::tell_each;
+use crate::told_scripts::tell_each;
 
 // Functions and the names of `var`s are globals before the first statement, without a step.
 #[test]

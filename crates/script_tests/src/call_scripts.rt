@@ -1,6 +1,6 @@
 //! Scripts on calls: of names and other values, of members, and the `this` that a call has.
 
-use crate::tests::told_scripts::tell_each;
+use crate::told_scripts::tell_each;
 
 // A missing argument is Undefined, and so is what a function gives that doesn't return. What is
 // no function can't be called.

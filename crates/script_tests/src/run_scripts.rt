@@ -1,7 +1,7 @@
 //! Programs that run one behind the other over the same globals, objects and host, and globals
 //! that are called.
 
-use crate::tests::told_runs::tell_runs;
+use crate::told_runs::tell_runs;
 
 // A global is called without arguments and without a step of its own. Only globals are looked at.
 #[test]

@@ -1,7 +1,7 @@
 //! Scripts on numbers: what operators make of them, how values become numbers, and how values are
 //! compared.
 
-use crate::tests::told_scripts::tell_each;
+use crate::told_scripts::tell_each;
 
 // Numbers are whole and wrap, or are NaN, which arithmetic keeps and the operators on bits take
 // as 0.

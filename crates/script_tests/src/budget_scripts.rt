@@ -1,7 +1,7 @@
 //! Scripts with so many steps: where they are stopped for want of steps, and what they did until
 //! then.
 
-use crate::tests::told_runs::tell_ends;
+use crate::told_runs::tell_ends;
 
 // A turn takes 6 steps, and the last test the last of all.
 #[test]

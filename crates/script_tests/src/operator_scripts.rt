@@ -1,6 +1,6 @@
 //! Scripts on operators that write, and on operators that leave a part unread.
 
-use crate::tests::told_scripts::tell_each;
+use crate::told_scripts::tell_each;
 
 // The place is found once, then read; the right side follows, and then the write.
 #[test]

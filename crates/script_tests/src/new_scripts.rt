@@ -1,6 +1,6 @@
 //! Scripts on `new`: of functions of programs and of built-in ones.
 
-use crate::tests::told_scripts::tell_each;
+use crate::told_scripts::tell_each;
 
 // A function's `this` is the new object, which is given where the function returns no object.
 #[test]

@@ -1,6 +1,6 @@
 //! Scripts on members: which value one has, what is written to one, and what `delete` answers.
 
-use crate::tests::told_scripts::tell_each;
+use crate::told_scripts::tell_each;
 
 // An object has its properties and a text its length; `Number` has three members, and every other
 // value has none. A key becomes a text.
