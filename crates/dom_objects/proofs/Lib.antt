@@ -1,0 +1,4 @@
+mod AsciiLemmas
+mod ChangeLemmas
+mod PlainLemmas
+mod RowLemmas

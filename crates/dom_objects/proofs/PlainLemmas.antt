@@ -1,0 +1,112 @@
+-- What is read is neither an object nor a function.
+use Rattle.std.proofs.Common.{◌≡◌, ℕ, Bool, true, false, cond, List, [], ◌∷◌, ◌++◌, Option, Some, None, refl}
+use Rattle.std.specs.Prelude.{◌&&◌, is_some, unwrap_or, if◌then◌else◌, codes}
+use Rattle.std.specs.List.{list_all}
+use Rattle.std.specs.Option.{option_map_or}
+use Rattle.std.proofs.lemmas.Bool.{and_parts}
+use Rattle.bml_bytes.specs.Words.{is_same}
+use Rattle.dom_tree.specs.Items.{Item, parent_of, tag_of, text_of}
+use Rattle.dom_tree.specs.NodeNumbers.{number_of}
+use Rattle.dom_tree.specs.Walks.{after, before, children_of, first, last, siblings_of}
+use Rattle.style_cascade.specs.declared.states.State.{State}
+use Rattle.style_reader.specs.declared.properties.Property.{Property}
+use Rattle.es_values.specs.Values.{is_plain}
+use Rattle.es_values.specs.declared.values.HostRef.{HostRef}
+use Rattle.es_values.specs.declared.values.HostRef.TheVariants.{Document, Browser, Ureg, Greg, Event, Node, Style}
+use Rattle.es_values.specs.declared.values.Value.TheVariants.{Undefined, Null, Host}
+use Rattle.event_queue.specs.declared.events.Event.{Event as TheEvent}
+use Rattle.event_queue.specs.declared.events.Event.TheVariants.{Load, Unload, Focus, Blur, Click, KeyDown, KeyUp, Default}
+use Rattle.dom_objects.specs.Parts.{Parts, state_of_number}
+use Rattle.dom_objects.specs.Reads.{Rows, attribute_value, document_rows, element_rows, event_rows, is_input_tag, is_object_tag, key_rows, node_rows, node_value, own_rows, property_named, read_in, read_value, row_of, style_read, style_text, text_rows, walk_rows}
+
+abbrev are_plain : Rows → Bool
+are_plain rows = list_all (λ row. is_plain row.1) rows
+
+plain-read : (rows : Rows) → are_plain rows ≡ true → (name : List ℕ) → is_plain (read_in rows name) ≡ true
+plain-read [] plain name = refl
+plain-read (row ∷ rows) plain name =
+    let parts = and_parts (is_plain row.1) (are_plain rows) plain in
+    by (is_same name row.0) parts.0 (plain-read rows parts.1 name)
+  where
+    by : (b : Bool) → is_plain row.1 ≡ true → is_plain (read_in rows name) ≡ true → is_plain (unwrap_or (cond b (Some row.1) (row_of name rows)) Undefined) ≡ true
+    by true here there = here
+    by false here there = there
+
+-- ---- nodes
+
+with_node : (node : Option ℕ) (rest : Bool) → rest ≡ true → (is_plain (node_value node) && rest) ≡ true
+with_node None rest h = h
+with_node (Some number) rest h = h
+
+plain-walks : (items : List Item) (node : ℕ) (more : Rows) → are_plain more ≡ true → are_plain (walk_rows items node ++ more) ≡ true
+plain-walks items node more h =
+    with_node (parent_of items node) _ (with_node (first (children_of items node)) _ (with_node (last (children_of items node)) _
+    (with_node (before (siblings_of items node) node) _ (with_node (after (siblings_of items node) node) _ h))))
+
+plain-own : (items : List Item) (node : ℕ) (tag : List ℕ) → are_plain (own_rows items node tag) ≡ true
+plain-own items node tag = by (is_object_tag tag) (is_input_tag tag)
+  where
+    by : (object input : Bool) → are_plain (if object then ((codes "data", attribute_value items node (codes "data")) ∷ (codes "type", attribute_value items node (codes "type")) ∷ []) else if input then ((codes "value", attribute_value items node (codes "value")) ∷ []) else []) ≡ true
+    by true input = refl
+    by false true = refl
+    by false false = refl
+
+plain-nodes : (items : List Item) (node : ℕ) → are_plain (node_rows items node) ≡ true
+unfolding node_rows
+plain-nodes items node = by (tag_of items node) (text_of items node)
+  where
+    by : (tag text : Option (List ℕ)) → are_plain (option_map_or (λ t. walk_rows items node ++ (element_rows items node t ++ own_rows items node t)) tag (option_map_or (λ t. walk_rows items node ++ text_rows t) text [])) ≡ true
+    by (Some tag) text = plain-walks items node (element_rows items node tag ++ own_rows items node tag) (plain-own items node tag)
+    by None (Some text) = plain-walks items node (text_rows text) refl
+    by None None = refl
+
+-- ---- the document and the current event
+
+plain-document : (parts : Parts) → are_plain (document_rows parts) ≡ true
+plain-document parts = by parts.event.event (number_of parts.focus.focus)
+  where
+    by : (event : Option TheEvent) (focus : Option ℕ) → (is_plain (option_map_or (λ e. Host Event) event Null) && (is_plain (node_value focus) && true)) ≡ true
+    by None None = refl
+    by None (Some node) = refl
+    by (Some event) None = refl
+    by (Some event) (Some node) = refl
+
+plain-keys : (event : TheEvent) → are_plain (key_rows event) ≡ true
+plain-keys Load = refl
+plain-keys Unload = refl
+plain-keys (Focus node) = refl
+plain-keys (Blur node) = refl
+plain-keys (Click node) = refl
+plain-keys (KeyDown key) = refl
+plain-keys (KeyUp key) = refl
+plain-keys (Default key) = refl
+
+plain-events : (parts : Parts) → are_plain (event_rows parts) ≡ true
+plain-events parts = by parts.event.event
+  where
+    by : (event : Option TheEvent) → are_plain (event_rows (record parts { event = record parts.event { event = event } })) ≡ true
+    by None = refl
+    by (Some event) = plain-keys event
+
+-- ---- styles
+
+plain-styles : (parts : Parts) (node number : ℕ) (name : List ℕ) → is_plain (style_read parts node number name) ≡ true
+unfolding style_read
+plain-styles parts node number name = by (if is_some (tag_of parts.items node) then state_of_number number else None) (property_named name)
+  where
+    by : (state : Option State) (property : Option Property) → is_plain (option_map_or (λ s. option_map_or (style_text parts node s) property Undefined) state Undefined) ≡ true
+    by None property = refl
+    by (Some state) None = refl
+    by (Some state) (Some property) = refl
+
+-- ---- all references
+
+pub plain-value : (parts : Parts) (base : HostRef) (name : List ℕ) → is_plain (read_value parts base name) ≡ true
+unfolding read_value
+plain-value parts Document name = plain-read (document_rows parts) (plain-document parts) name
+plain-value parts Browser name = refl
+plain-value parts Ureg name = refl
+plain-value parts Greg name = refl
+plain-value parts Event name = plain-read (event_rows parts) (plain-events parts) name
+plain-value parts (Node node) name = plain-read (node_rows parts.items node) (plain-nodes parts.items node) name
+plain-value parts (Style node number) name = plain-styles parts node number name

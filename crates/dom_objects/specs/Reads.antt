@@ -1,0 +1,149 @@
+-- What scripts read of the document, of its nodes, of their styles and of the current event: the
+-- rows of a table, names with their values (after the DOM interfaces of BML, ARIB STD-B24 volume 2,
+-- in this project's own profile). A name that has no row reads as Undefined.
+use Rattle.std.specs.Prelude.{ℕ, Bool, true, false, is_some, if◌then◌else◌, pos, List, [], ◌∷◌, ◌++◌, length, Option, None, codes, find, unwrap_or}
+use Rattle.std.specs.Map.{lookup}
+use Rattle.std.specs.Option.{option_map_or}
+use Rattle.bml_bytes.specs.Words.{is_same}
+use Rattle.dom_tree.specs.Items.{Item, parent_of, tag_of, text_of, value_of}
+use Rattle.dom_tree.specs.NodeNumbers.{number_of}
+use Rattle.dom_tree.specs.Walks.{after, before, children_of, first, last, siblings_of}
+use Rattle.style_reader.specs.Properties.{all_properties, script_name_of}
+use Rattle.style_reader.specs.Values.{printed}
+use Rattle.style_reader.specs.declared.properties.Property.{Property}
+use Rattle.style_cascade.specs.Cascade.{style_value}
+use Rattle.style_cascade.specs.States.{present_state}
+use Rattle.style_cascade.specs.declared.states.State.{State}
+use Rattle.es_values.specs.Numbers.{number_of_count}
+use Rattle.es_values.specs.declared.numbers.Num.TheVariants.{Whole}
+use Rattle.es_values.specs.declared.values.HostRef.{HostRef}
+use Rattle.es_values.specs.declared.values.HostRef.TheVariants.{Document, Event, Node, Style}
+use Rattle.es_values.specs.declared.values.Value.{Value}
+use Rattle.es_values.specs.declared.values.Value.TheVariants.{Undefined, Null, Number, Str, Host}
+use Rattle.event_queue.specs.Events.{name_of}
+use Rattle.event_queue.specs.declared.events.Event.{Event as TheEvent}
+use Rattle.event_queue.specs.declared.events.Event.TheVariants.{KeyDown, KeyUp, Default}
+use Rattle.dom_objects.specs.Parts.{Parts, state_of_number}
+
+-- names with the values that they read as
+abbrev pub Rows : Type 0
+Rows = List (List ℕ × Value)
+
+-- the value of the row of this name
+abbrev pub row_of : List ℕ → Rows → Option Value
+row_of name rows = lookup (is_same name) rows
+
+abbrev pub read_in : Rows → List ℕ → Value
+read_in rows name = unwrap_or (row_of name rows) Undefined
+
+-- a node, or Null
+abbrev pub node_value : Option ℕ → Value
+node_value node = option_map_or (λ number. Host (Node number)) node Null
+
+-- ---- nodes
+
+-- any node: its neighbours
+abbrev pub walk_rows : List Item → ℕ → Rows
+walk_rows items node =
+    (codes "parentNode", node_value (parent_of items node))
+    ∷ (codes "firstChild", node_value (first (children_of items node)))
+    ∷ (codes "lastChild", node_value (last (children_of items node)))
+    ∷ (codes "previousSibling", node_value (before (siblings_of items node) node))
+    ∷ (codes "nextSibling", node_value (after (siblings_of items node) node)) ∷ []
+
+-- a text
+abbrev pub text_rows : List ℕ → Rows
+text_rows text =
+    (codes "data", Str text) ∷ (codes "length", Number (number_of_count (length text))) ∷ []
+
+-- an attribute, which reads as the empty text where it is absent
+abbrev pub attribute_value : List Item → ℕ → List ℕ → Value
+attribute_value items node name = Str (unwrap_or (value_of items node name) [])
+
+-- an element
+abbrev pub element_rows : List Item → ℕ → List ℕ → Rows
+element_rows items node tag =
+    (codes "tagName", Str tag)
+    ∷ (codes "id", attribute_value items node (codes "id"))
+    ∷ (codes "className", attribute_value items node (codes "class"))
+    ∷ (codes "accessKey", attribute_value items node (codes "accesskey"))
+    ∷ (codes "normalStyle", Host (Style node 0))
+    ∷ (codes "focusStyle", Host (Style node 1))
+    ∷ (codes "activeStyle", Host (Style node 2)) ∷ []
+
+-- what only an object and only an input have; their tags compare by case
+abbrev pub is_object_tag : List ℕ → Bool
+is_object_tag tag = is_same tag (codes "object")
+
+abbrev pub is_input_tag : List ℕ → Bool
+is_input_tag tag = is_same tag (codes "input")
+
+abbrev pub own_rows : List Item → ℕ → List ℕ → Rows
+own_rows items node tag =
+    if is_object_tag tag
+    then (codes "data", attribute_value items node (codes "data"))
+    ∷ (codes "type", attribute_value items node (codes "type")) ∷ []
+    else if is_input_tag tag
+    then (codes "value", attribute_value items node (codes "value")) ∷ []
+    else []
+
+-- what the node is: an element, a text, or no node of the document, of which nothing can be read
+unfoldable pub node_rows : List Item → ℕ → Rows
+node_rows items node =
+    option_map_or
+    (λ tag. walk_rows items node ++ (element_rows items node tag ++ own_rows items node tag))
+    (tag_of items node)
+    (option_map_or (λ text. walk_rows items node ++ text_rows text) (text_of items node) [])
+
+-- ---- the document and the current event
+
+abbrev pub document_rows : Parts → Rows
+document_rows parts =
+    (codes "currentEvent", option_map_or (λ event. Host Event) parts.event.event Null)
+    ∷ (codes "currentFocus", node_value (number_of parts.focus.focus)) ∷ []
+
+-- the number of a key, which only events of keys have
+abbrev pub key_rows : TheEvent → Rows
+key_rows (KeyDown key) = (codes "keyCode", Number (Whole (pos key))) ∷ []
+key_rows (KeyUp key) = (codes "keyCode", Number (Whole (pos key))) ∷ []
+key_rows (Default key) = (codes "keyCode", Number (Whole (pos key))) ∷ []
+key_rows other = []
+
+abbrev pub event_rows : Parts → Rows
+event_rows parts =
+    option_map_or
+    (λ event. (codes "type", Str (name_of event))
+    ∷ (codes "target", Host (Node parts.event.target)) ∷ key_rows event)
+    parts.event.event []
+
+-- ---- styles
+
+-- the property that scripts call so
+abbrev pub property_named : List ℕ → Option Property
+property_named name = find (λ property. is_same name (script_name_of property)) all_properties
+
+-- the value that an element has for a property in a state, as a text
+abbrev pub style_text : Parts → ℕ → State → Property → Value
+style_text parts node state property =
+    Str (printed property
+    (style_value parts.items parts.sources (present_state parts.focus) node state property))
+
+unfoldable pub style_read : Parts → ℕ → ℕ → List ℕ → Value
+style_read parts node number name =
+    option_map_or
+    (λ state. option_map_or (style_text parts node state) (property_named name) Undefined)
+    (if is_some (tag_of parts.items node) then state_of_number number else None) Undefined
+
+-- ---- all references; the browser and its registers aren't read here
+
+unfoldable pub read_value : Parts → HostRef → List ℕ → Value
+read_value parts Document name = read_in (document_rows parts) name
+read_value parts Event name = read_in (event_rows parts) name
+read_value parts (Node node) name = read_in (node_rows parts.items node) name
+read_value parts (Style node number) name = style_read parts node number name
+read_value parts other name = Undefined
+
+-- only styles are asked for what isn't kept of a document as it is
+abbrev pub is_style : HostRef → Bool
+is_style (Style node number) = true
+is_style other = false
