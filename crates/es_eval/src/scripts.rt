@@ -140,6 +140,9 @@ impl Machine {
         ensures frames { self.new.frames ≡ self.old.frames }
     {
         let functions = programs[which].functions();
+        if functions.is_empty() {
+            return Ok(());
+        }
         let first = FIRST_FUNCTION + function_count(&programs[..which]);
         name_functions(&mut self.globals, functions, first)
     }

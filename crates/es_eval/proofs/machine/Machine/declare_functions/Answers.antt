@@ -1,8 +1,11 @@
 use Rattle.std.proofs.lemmas.Option.{slice_get_read}
-use Rattle.std.proofs.Common.{◌+◌, ap, length, refl, arith}
+use Rattle.std.proofs.Common.{List, [], ◌∷◌, ◌≡◌, ◌==◌, ◌+◌, ◌∙◌, true, ap, sym, length, refl, arith}
+use Rattle.std.specs.Prelude.{map}
+use Rattle.std.proofs.lemmas.Bool.{eqb-true}
 use Rattle.std.proofs.lemmas.List.{length-map}
 use Rattle.std.proofs.lemmas.Result.{on_ok_weaker}
 use Rattle.es_reader.specs.Told.{told_function}
+use Rattle.es_reader.specs.declared.programs.FunctionDecl.{FunctionDecl}
 use Rattle.es_eval.proofs.DeclaringLemmas.{declared-world}
 use Rattle.es_eval.proofs.FunctionLemmas.{count-within}
 use Rattle.es_eval.proofs.MachineLemmas.{machine_with_globals}
@@ -49,3 +52,18 @@ returns-clause-world c =
     c.functions-functions.result.now _ _ _ (slice_get_read c.args.programs.now _ c.args.which c.index-programs-which.result refl c.requires.which c.index-programs-which.is)
     c.functions-functions.ensures (ap (λ n. 16 + n) c.function_count-first.ensures) put)
     c.name_functions.ensures.globals)
+
+none-listed : (functions : List FunctionDecl) → (length functions == 0) ≡ true → functions ≡ []
+none-listed [] none = refl
+none-listed (f ∷ rest) none =
+    let n : length (f ∷ rest) ≡ 0 = eqb-true (length (f ∷ rest)) 0 none in
+    absurd (omega (arith, n))
+
+pub returns-then-is_empty-clause-world : goal.returns-then-is_empty-clause-world
+returns-then-is_empty-clause-world c =
+    declared-world c.args.programs.now c.args.which c.index-programs-which.result [] _ _ _
+    (slice_get_read c.args.programs.now _ c.args.which c.index-programs-which.result refl c.requires.which c.index-programs-which.is)
+    (sym (ap (map told_function) (none-listed c.functions-functions.result.now
+    (sym c.is_empty.ensures ∙ c.if-is_empty.true)))
+    ∙ c.functions-functions.ensures)
+    refl refl
