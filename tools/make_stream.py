@@ -279,6 +279,14 @@ class Stream:
             raise Fault(f"{words[0]} is no statement")
         statements[words[0]](words[1:])
 
+    def describe(self, text):
+        """Carries out the lines of a description."""
+        for at, line in enumerate(text.splitlines(), 1):
+            try:
+                self.state(line)
+            except (Fault, ValueError) as fault:
+                raise Fault(f"line {at}: {fault}") from None
+
 
 def stream_of_program(text):
     """Reads a stream of a PMT: its type, PID and component, and its data component where a fourth field says it."""
@@ -296,11 +304,7 @@ def counters_of(fields):
 def stream_of(text, folder):
     """Returns the bytes of the stream that a description's text describes, whose files lie in the folder."""
     stream = Stream(folder)
-    for at, line in enumerate(text.splitlines(), 1):
-        try:
-            stream.state(line)
-        except (Fault, ValueError) as fault:
-            raise Fault(f"line {at}: {fault}") from None
+    stream.describe(text)
     return bytes(stream.data)
 
 

@@ -1,11 +1,12 @@
 #!/usr/bin/env python3
 """Runs a program once for each allocation that it makes, and has just this one refused.
 
-usage: refuse_allocations.py PROGRAM [WORD..] < INPUT
+usage: refuse_allocations.py [--lines] PROGRAM [WORD..] < INPUT
 
 The program gets the words and the input each time. A library that refuses the allocation of a number, as the system may, is compiled by
 `cc` and loaded in front of the C library. What is printed is how often the program ended in which way: its status and its last words, on
-standard output or on standard error. Status: 0 where each run ended by itself within a minute, 1 where one was stopped by a signal or hung.
+standard output or on standard error. Status: 0 where each run ended by itself within a minute, 1 where one was stopped by a signal or hung, or, with
+--lines, where what it wrote isn't the first lines, each to its end, of what the program writes with nothing refused.
 """
 
 import collections
@@ -52,10 +53,16 @@ def last_line(text):
     return lines[-1][:60] if lines else ""
 
 
+def are_first_lines(written, whole):
+    return whole.startswith(written) and (not written or written.endswith(b"\n"))
+
+
 def main():
-    if len(sys.argv) < 2:
+    by_lines = sys.argv[1:2] == ["--lines"]
+    command = sys.argv[2:] if by_lines else sys.argv[1:]
+    if not command:
         sys.exit(__doc__.split("\n\n")[1])
-    command, given = sys.argv[1:], sys.stdin.buffer.read()
+    given = sys.stdin.buffer.read()
     ends, well = collections.Counter(), True
     with tempfile.TemporaryDirectory(prefix="refuse-") as room:
         with open(f"{room}/refuse.c", "w") as file:
@@ -67,14 +74,14 @@ def main():
             how = {"input": given, "stdout": subprocess.PIPE, "stderr": subprocess.PIPE, "check": False, "timeout": 60}
             return subprocess.run(command, env={**os.environ, **told}, **how)
 
-        ran(0)
+        whole = ran(0).stdout
         with open(f"{room}/made") as file:
             made = int(file.read())
         for number in range(1, made + 1):
             try:
                 run = ran(number)
                 ends[run.returncode, last_line(run.stdout), last_line(run.stderr)] += 1
-                well = well and run.returncode >= 0
+                well = well and run.returncode >= 0 and (not by_lines or are_first_lines(run.stdout, whole))
             except subprocess.TimeoutExpired:
                 ends["hung", "", ""] += 1
                 well = False

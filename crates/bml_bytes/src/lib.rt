@@ -14,8 +14,6 @@ mod line_fields;
 mod numerals;
 mod refusals;
 mod sequence;
-#[cfg(test)]
-mod tests;
 mod texts;
 mod words;
 

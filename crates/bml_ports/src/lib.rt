@@ -20,6 +20,3 @@ pub use crate::memory_sinks::MemorySink;
 pub use crate::memory_worlds::{MemorySource, MemoryWorld};
 pub use crate::outside::{Failed, Keeper, Port, Sink, World};
 pub use bml_bytes::{AreaBytes, NoMemory, Text};
-
-#[cfg(test)]
-mod tests;

@@ -18,8 +18,6 @@ mod phases;
 mod readers;
 mod references;
 mod tags;
-#[cfg(test)]
-mod tests;
 
 pub use crate::documents::{law_of_documents, law_of_readings, read_document};
 pub use crate::faults::DocFault;

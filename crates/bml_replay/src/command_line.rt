@@ -20,10 +20,12 @@ bml_replay replay [--service N | --data-pid N] STREAM RECORD
     --service N   receives the service with that program_number, 1 to 65535, in place of the first one
     --data-pid N  receives the data carousel on that PID, 16 to 8190, without any table
     STREAM        the recorded stream
-    RECORD        what the receiver is to do, an item on each line: all, packets N, show
+    RECORD        what the receiver is to do, an item on each line: all, packets N (take them), key C, release C,
+                  tick M (milliseconds), random W, show
 
-It prints a line for each module that comes, goes or is skipped, one for the start document, and the display lists that
-the record asks for, and at the end the number of packets taken.
+It prints a line for each module that comes, goes or is skipped, one for the start document, one for each script that is
+bad or stopped and for each event that is lost, and the display lists that the record asks for, and at the end the number
+of packets taken.
 The status is 0 where all was done. Otherwise standard error says what was not.
 ";
 

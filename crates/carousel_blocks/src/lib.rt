@@ -27,6 +27,3 @@ pub use crate::laws::{
 };
 pub use crate::put::Put;
 pub use crate::standing::{SkipCause, Standing};
-
-#[cfg(test)]
-mod tests;

@@ -17,8 +17,6 @@ mod places;
 mod scenes;
 mod show;
 mod tags;
-#[cfg(test)]
-mod tests;
 
 pub use crate::laws::law_of_order;
 pub use crate::lines::push_clock_line;

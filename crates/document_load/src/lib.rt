@@ -15,12 +15,8 @@ mod drafts;
 mod laws;
 mod needs;
 mod node_texts;
-#[cfg(test)]
-mod script_tests;
 mod scripts;
 mod style_texts;
-#[cfg(test)]
-mod tests;
 
 pub use crate::drafts::{Document, Draft, read_draft};
 pub use crate::laws::{law_of_gifts, law_of_needs};

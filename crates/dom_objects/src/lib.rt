@@ -12,8 +12,6 @@ mod elements;
 mod events;
 mod reads;
 mod styles;
-#[cfg(test)]
-mod tests;
 mod texts;
 mod walks;
 mod writes;

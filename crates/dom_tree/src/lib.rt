@@ -14,8 +14,6 @@
 mod laws;
 mod node_ids;
 mod nodes;
-#[cfg(test)]
-mod tests;
 mod trees;
 
 pub use crate::laws::{

@@ -19,6 +19,3 @@ pub use crate::descriptor::{COMPRESSION_TYPE, MEDIA_TYPE, find_descriptor};
 pub use crate::dii::{Dii, read_dii};
 pub use crate::entry::Entry;
 pub use crate::laws::{law_of_ddb, law_of_dii};
-
-#[cfg(test)]
-mod tests;

@@ -9,33 +9,21 @@
 #![tactic(auto)]
 
 mod arguments;
-#[cfg(test)]
-mod array_tests;
 mod arrays;
 mod built;
 mod calls;
 mod function_rows;
-#[cfg(test)]
-mod function_tests;
 mod functions;
 mod laws;
 mod method_rows;
-#[cfg(test)]
-mod method_tests;
 mod methods;
-#[cfg(test)]
-mod name_tests;
 mod numerals;
 mod parts;
 mod separators;
 mod sorting;
 mod text_rows;
-#[cfg(test)]
-mod text_tests;
 mod texts;
 mod tills;
-#[cfg(test)]
-mod told_calls;
 
 pub use crate::built::Built;
 pub use crate::calls::{call_function, call_method, construct};

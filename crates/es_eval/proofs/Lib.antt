@@ -6,12 +6,6 @@ pub mod TaskLemmas
 pub mod BoundLemmas
 pub mod RunLemmas
 pub mod UnboundedLemmas
-pub mod SoundLemmas
-pub mod SoundMembers
-pub mod SoundCalls
-pub mod SoundRows
-pub mod SoundTasks
-pub mod SoundRuns
 pub mod TreeLemmas
 pub mod CodeLemmas
 pub mod ShapeLemmas

@@ -18,5 +18,4 @@ pub mod Slots
 pub mod Declaring
 pub mod Works
 pub mod Machines
-pub mod Soundness
 pub mod Decoding

@@ -14,14 +14,12 @@ ghost use Rattle.es_eval.specs.Calls.{call_value};
 ghost use Rattle.es_eval.specs.Endings.{MayEnd};
 ghost use Rattle.es_eval.specs.Evaluation.{all_functions, call_body, ends_normally, enough, evaluate, execute, global_run, global_run_by, program_run, program_run_by, returned, started, world};
 ghost use Rattle.es_eval.specs.Rows.{Completion, Task, expression_row, statements, task_row};
-ghost use Rattle.es_eval.specs.Soundness.{AreSound, HasNumbers, StaySound, function_limit};
 ghost use Rattle.es_eval.specs.Syntax.{Expression, Function, Program, Statements};
 ghost use Rattle.es_eval.specs.Unbounded.{called, done, entered, run_statement, valued};
 ghost use Rattle.es_eval.specs.Worlds.{World, global};
 ghost use Rattle.es_eval.specs.Worlds.Run.{Over};
 
-use es_builtins::law_of_rows;
-use es_values::{Host, law_of_functions, law_of_live_values};
+use es_values::Host;
 
 /// The bound of the recursion doesn't matter where it is enough for the steps that are left: any
 /// two such bounds give the same run. What goes on behind it need only agree on worlds with at most
@@ -94,27 +92,3 @@ pub fn law_of_steps<H: Host>()
         outcome w after
         → w.left ≤ budget }
 {}
-
-/// Where each object that globals and heap name is there, and each function has a number below the
-/// limit of these programs, it is so at each end of a run, and no object has gone. A program's
-/// functions have to be among those of the programs.
-pub fn law_of_values<H: Host>()
-    ensures programs { (programs before : List Program) (program : Program)
-        (globals : List (List ℕ × Value)) (heap : List ObjectState) (budget : ℕ) (host : H)
-        (outcome : Outcome) (w : World) (after : H)
-        → HasNumbers programs before program → AreSound (function_limit programs) globals heap
-        → MayEnd H.reads H.writes H.calls
-        (program_run programs before program globals heap budget) host outcome w after
-        → StaySound (function_limit programs) heap w.globals w.heap }
-    ensures globals { (programs : List Program) (name : List ℕ)
-        (globals : List (List ℕ × Value)) (heap : List ObjectState) (budget : ℕ) (host : H)
-        (outcome : Outcome) (w : World) (after : H)
-        → AreSound (function_limit programs) globals heap
-        → MayEnd H.reads H.writes H.calls
-        (global_run programs name globals heap budget) host outcome w after
-        → StaySound (function_limit programs) heap w.globals w.heap }
-{
-    law_of_live_values();
-    law_of_functions();
-    law_of_rows();
-}

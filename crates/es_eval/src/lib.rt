@@ -10,8 +10,7 @@
 //! of what it asks its host (`specs/Worlds.antt`), and `specs/Endings.antt` says how it may end
 //! with one. [`law_of_bounds`] says that the bound which makes the recursion end is never met, and
 //! [`law_of_steps`] that no run makes steps. [`law_of_unfolding`] says what each form, each program
-//! and each global does without a bound (`specs/Unbounded.antt`), and [`law_of_values`] that values
-//! go on to name what is there (`specs/Soundness.antt`).
+//! and each global does without a bound (`specs/Unbounded.antt`).
 //!
 //! The evaluator works on the nodes of programs by their numbers (`specs/Codes.antt`), which
 //! [`law_of_told_programs`] ties to the program of a text. Its state is a control stack of items
@@ -45,7 +44,7 @@ mod works;
 
 pub use crate::functions::are_few_functions;
 pub use crate::globals::Globals;
-pub use crate::laws::{law_of_bounds, law_of_steps, law_of_unfolding, law_of_values};
+pub use crate::laws::{law_of_bounds, law_of_steps, law_of_unfolding};
 pub use crate::operators::{Operator, Sign};
 pub use crate::outcomes::{Outcome, StopCause};
 pub use crate::scripts::{run, run_global};

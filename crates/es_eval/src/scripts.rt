@@ -48,7 +48,7 @@ pub fn run<H: Host>(
         → AllZip Tells sources programs.now → EndsWith H.reads H.writes H.calls
         (run_at (map program_of sources) which globals.old heap.old budget) host.old outcome
         globals.new heap.new host.new) }
-    ensures live { OnOk result (All (IsNamedLive heap.new) globals.new) }
+    ensures live { All (IsNamedLive heap.new) globals.new }
 {
     let mut machine = Machine::over(globals, heap, budget)?;
     let ended = machine.run_program(&mut Programs::new(heap.allocator(), programs), which, host);
@@ -72,7 +72,7 @@ pub fn run_global<H: Host>(
         → AllZip Tells sources programs.now → EndsWith H.reads H.writes H.calls
         (global_run (map program_of sources) name.now globals.old heap.old budget) host.old outcome
         globals.new heap.new host.new) }
-    ensures live { OnOk result (All (IsNamedLive heap.new) globals.new) }
+    ensures live { All (IsNamedLive heap.new) globals.new }
 {
     let mut machine = Machine::over(globals, heap, budget)?;
     let ended = machine.run_global(&mut Programs::new(heap.allocator(), programs), name, host);
@@ -86,7 +86,8 @@ impl Machine {
     fn over(globals: &mut Globals, heap: &mut Heap, budget: u32) -> Result<Machine, NoMemory>
         requires budget { budget ≤ 100000 }
         requires live { All (IsNamedLive heap.old) globals.old }
-        ensures { IfOk result (λ machine. machine ≡ opened globals.old heap.old budget) }
+        ensures machine { IfOk result (λ machine. machine ≡ opened globals.old heap.old budget) }
+        ensures live { All (IsNamedLive heap.new) globals.new }
     {
         let alloc = heap.allocator();
         let mut frames = Frames::new(alloc);

@@ -28,8 +28,6 @@ mod places;
 mod reader;
 mod roles;
 mod sources;
-#[cfg(test)]
-mod tests;
 
 pub use crate::expressions::{Extent, Found, Reading, read_expression};
 pub use crate::laws::{law_of_ends, law_of_expressions, law_of_sources};

@@ -8,7 +8,5 @@
 #![tactic(auto)]
 
 mod control_stack;
-#[cfg(test)]
-mod tests;
 
 pub use crate::control_stack::Frames;

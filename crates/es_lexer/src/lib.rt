@@ -16,8 +16,6 @@ mod lexer;
 mod literals;
 mod numbers;
 mod punctuators;
-#[cfg(test)]
-mod tests;
 mod token_types;
 mod words;
 

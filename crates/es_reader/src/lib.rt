@@ -14,29 +14,17 @@
 mod declarations;
 mod faults;
 mod function_fronts;
-#[cfg(test)]
-mod function_tests;
-#[cfg(test)]
-mod head_tests;
 mod heads;
 mod heights;
 mod laws;
 mod level_laws;
-#[cfg(test)]
-mod level_tests;
 mod marks;
 mod names;
 mod openings;
-#[cfg(test)]
-mod place_tests;
-#[cfg(test)]
-mod program_lines;
 mod programs;
 mod reader;
 mod simples;
 mod sources;
-#[cfg(test)]
-mod statement_tests;
 mod text_laws;
 mod wholes;
 

@@ -1,9 +1,9 @@
 -- Elements of arrays: their list, a list as the elements, and their order turned round.
-use Rattle.std.proofs.Common.{◌≡◌, ℕ, zero, suc, ◌+◌, ◌-◌, ◌<◌, ◌≤◌, ◌/◌, Bool, true, false, List, [], ◌∷◌, ◌++◌, length, take, refl, sym, ◌∙◌, ap, arith, map, append_assoc, add-one}
-use Rattle.std.specs.Prelude.{nat_lt, if◌then◌else◌, Option, Some, None, slice_get, option_to_list, is_some, IfSome}
+use Rattle.std.proofs.Common.{◌≡◌, ℕ, zero, suc, ◌+◌, ◌-◌, ◌<◌, ◌/◌, Bool, true, false, List, [], ◌∷◌, ◌++◌, length, take, refl, sym, ◌∙◌, ap, arith, append_assoc, add-one}
+use Rattle.std.specs.Prelude.{nat_lt, if◌then◌else◌, Option, Some, None, slice_index_or, option_to_list, is_some, IfSome}
 use Rattle.std.specs.Option.{option_map_or}
 use Rattle.std.specs.Map.{lookup}
-use Rattle.std.specs.List.{IsDistinct, AllByRecursion, cons_option, filter_map, flat_map, range_with_len}
+use Rattle.std.specs.List.{cons_option, filter_map, flat_map, range_with_len}
 use Rattle.std.proofs.lemmas.List.{append-nil}
 use Rattle.std.proofs.lemmas.List.Concat.{flat_map-append}
 use Rattle.std.proofs.lemmas.List.Elements.{filter_map-append}
@@ -12,11 +12,11 @@ use Rattle.bml_bytes.specs.Numerals.{decimal_digits, decimal_number}
 use Rattle.bml_bytes.specs.Words.{is_same}
 use Rattle.es_values.specs.declared.values.Value.{Value}
 use Rattle.es_values.specs.Objects.{ObjectState}
-use Rattle.es_values.specs.Heaps.{cut_at, index_of, new_object, with_property}
-use Rattle.es_values.specs.Arrays.{array_of, element_at, elements_below, named, new_element, new_elements, turned, turned_properties, with_elements, with_first_elements}
-use Rattle.es_values.proofs.JoinLemmas.{digits-other, distinct-parts}
-use Rattle.es_values.proofs.LawLemmas.{other-way}
-use Rattle.es_values.proofs.ListSteps.{take-next}
+use Rattle.es_values.specs.Heaps.{cut_at, index_of, with_property}
+use Rattle.es_values.specs.Arrays.{element_at, elements_below, named, new_element, new_elements, turned, turned_properties, with_elements, with_first_elements}
+use Rattle.es_values.specs.Slots.{placed, standing}
+use Rattle.es_values.proofs.JoinLemmas.{digits-other}
+use Rattle.es_values.proofs.ListSteps.{standing-next}
 
 -- Lists
 
@@ -66,19 +66,6 @@ insert-new (e ∷ es) name v h =
     let parts = absent-rest (is_same name) e es h in
     ap (λ b. if b then (e.0, v) ∷ es else e ∷ insert_entry is_same es name v) parts.0 ∙ ap (λ l. e ∷ l) (insert-new es name v parts.1)
 
--- the name of a property isn't among those in front of it
-pub absent-before : (es : List (List ℕ × Value)) (i : ℕ) (e : List ℕ × Value) → IsDistinct is_same (map (λ p. p.0) es) → slice_get es i ≡ Some e → lookup (is_same e.0) (take i es) ≡ None
-absent-before es zero e distinct h = refl
-absent-before [] (suc i) e distinct h = refl
-absent-before (p ∷ es) (suc i) e distinct h =
-    let parts = distinct-parts p.0 (map (λ q. q.0) es) distinct in
-    absent-cons (is_same e.0) p (take i es) (other-way p.0 e.0 (apart es i parts.0 h)) (absent-before es i e parts.1 h)
-  where
-    apart : (es : List (List ℕ × Value)) (i : ℕ) → AllByRecursion (λ y. is_same p.0 y ≡ false) (map (λ q. q.0) es) → slice_get es i ≡ Some e → is_same p.0 e.0 ≡ false
-    apart [] i all k = absurd (cc k)
-    apart (q ∷ es) zero all k = let same : q ≡ e = cc k in ap (λ (r : List ℕ × Value). is_same p.0 r.0) (sym same) ∙ all.0
-    apart (q ∷ es) (suc i) all k = apart es i all.1 k
-
 -- Elements turned round
 
 -- what stands of a property has its name
@@ -110,11 +97,11 @@ absent-turned count es name (p ∷ ps) h =
     by None same apart more = more
     by (Some q) same apart more = absent-cons (is_same name) q (filter_map (turned count es) ps) (ap (is_same name) same ∙ apart) more
 
-pub turned-next : (count : ℕ) (es : List (List ℕ × Value)) (at : ℕ) (p : List ℕ × Value) (old new : List (List ℕ × Value)) → slice_get es at ≡ Some p → new ≡ old ++ option_to_list (turned count es p) → old ≡ filter_map (turned count es) (take at es) → new ≡ filter_map (turned count es) (take (at + 1) es)
-turned-next count es at p old new h step e =
-    step ∙ (ap (λ l. l ++ option_to_list (turned count es p)) e
-    ∙ (sym (filter_map-last (turned count es) (take at es) p)
-    ∙ ap (filter_map (turned count es)) (sym (take-next es at p h))))
+pub turned-next : (count : ℕ) (es : List (List ℕ × Value)) (slots : List (Option (List ℕ × Value))) (i : ℕ) (s : Option (List ℕ × Value)) (old new : List (List ℕ × Value)) → i < length slots → s ≡ slice_index_or slots i s → new ≡ old ++ filter_map (turned count es) (option_to_list s) → old ≡ filter_map (turned count es) (standing (take i slots)) → new ≡ filter_map (turned count es) (standing (take (i + 1) slots))
+turned-next count es slots i s old new below read step e =
+    step ∙ (ap (λ l. l ++ filter_map (turned count es) (option_to_list s)) e
+    ∙ (sym (filter_map-append (turned count es) (standing (take i slots)) (option_to_list s))
+    ∙ ap (filter_map (turned count es)) (sym (standing-next slots i s below read))))
 
 -- New elements
 
@@ -185,31 +172,16 @@ elements-put o place (w ∷ vs) v =
     elements-put (with_property o (decimal_digits place) w) (place + 1) vs v
     ∙ ap (λ k. with_property (with_elements o place (w ∷ vs)) (decimal_digits k) v) e
 
--- the values with their places as names
-abbrev placed : ℕ → List Value → List (List ℕ × Value)
-placed place [] = []
-placed place (v ∷ vs) = (decimal_digits place, v) ∷ placed (place + 1) vs
-
 elements-insert : (o : ObjectState) (place : ℕ) (vs : List Value) → (with_elements o place vs).properties ≡ insert_all is_same o.properties (placed place vs)
 elements-insert o place [] = refl
 elements-insert o place (v ∷ vs) = elements-insert (with_property o (decimal_digits place) v) (place + 1) vs
 
-insert-placed : ((n : ℕ) → decimal_number (decimal_digits n) ≡ n) → (es : List (List ℕ × Value)) (place : ℕ) (vs : List Value) → ((j : ℕ) → place ≤ j → lookup (is_same (decimal_digits j)) es ≡ None) → insert_all is_same es (placed place vs) ≡ es ++ placed place vs
-insert-placed back es place [] absent = sym (append-nil es)
-insert-placed back es place (v ∷ vs) absent =
-    let one = es ++ (decimal_digits place, v) ∷ [] in
-    ap (λ l. insert_all is_same l (placed (place + 1) vs)) (insert-new es (decimal_digits place) v (absent place (omega arith)))
-    ∙ (insert-placed back one (place + 1) vs (λ j h. absent-append (is_same (decimal_digits j)) es ((decimal_digits place, v) ∷ []) (absent j (omega arith)) (absent-cons (is_same (decimal_digits j)) (decimal_digits place, v) [] (digits-other back j place (λ e. omega arith)) refl))
-    ∙ append_assoc es ((decimal_digits place, v) ∷ []) (placed (place + 1) vs))
-
--- the elements of an array go into another object one by one
-pub first-elements : ((n : ℕ) → decimal_number (decimal_digits n) ≡ n) → (o : ObjectState) (vs : List Value) (size : Option ℕ) (from to left : List (List ℕ × Value)) (array : ObjectState) (count : ℕ) → (record { array_length = size; properties = from }) ≡ o → array ≡ array_of vs → to ≡ insert_all is_same from array.properties → left ≡ cut_at count to → count ≡ length vs → (record { array_length = size; properties = left }) ≡ with_first_elements o vs
-first-elements back o vs size from to left array count is made step less n =
+-- the values go into an object as its elements, and all behind them go
+pub first-elements : (o : ObjectState) (vs : List Value) (size : Option ℕ) (from to left : List (List ℕ × Value)) (count : ℕ) → (record { array_length = size; properties = from }) ≡ o → to ≡ insert_all is_same from (placed 0 vs) → left ≡ cut_at count to → count ≡ length vs → (record { array_length = size; properties = left }) ≡ with_first_elements o vs
+first-elements o vs size from to left count is step less n =
     let all : to ≡ (with_elements o 0 vs).properties =
-    step ∙ (ap (λ (l : List (List ℕ × Value)). insert_all is_same l array.properties) (ap (λ (x : ObjectState). x.properties) is)
-    ∙ (ap (λ (a : ObjectState). insert_all is_same o.properties a.properties) made
-    ∙ (ap (insert_all is_same o.properties) (elements-insert (new_object true) 0 vs ∙ insert-placed back [] 0 vs (λ j h. refl))
-    ∙ sym (elements-insert o 0 vs)))) in
+    step ∙ (ap (λ (x : ObjectState). insert_all is_same x.properties (placed 0 vs)) is
+    ∙ sym (elements-insert o 0 vs)) in
     let rest : left ≡ cut_at (length vs) (with_elements o 0 vs).properties = less ∙ (ap (cut_at count) all ∙ ap (λ k. cut_at k (with_elements o 0 vs).properties) n) in
     ap (λ (l : List (List ℕ × Value)). record { array_length = size; properties = l }) rest
     ∙ ap (λ (k : Option ℕ). record { array_length = k; properties = cut_at (length vs) (with_elements o 0 vs).properties }) (ap (λ (x : ObjectState). x.array_length) is)

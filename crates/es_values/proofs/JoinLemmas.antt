@@ -1,6 +1,6 @@
 -- The text of an array and its length.
 use Rattle.std.proofs.Common.{◌≡◌, ℕ, zero, suc, ◌+◌, ◌-◌, ◌*◌, ◌^◌, ◌<◌, ◌≤◌, Bool, true, false, List, [], ◌∷◌, ◌++◌, length, take, refl, sym, ◌∙◌, ap, arith, add-one, append_assoc, length-append, ◌⊎◌, inl, inr, subst, lit<}
-use Rattle.std.specs.Prelude.{nat_lt, nat_eq, ◌&&◌, if◌then◌else◌, min, slice_get, Option, Some, None, unwrap_or, map, codes}
+use Rattle.std.specs.Prelude.{nat_lt, nat_eq, ◌&&◌, if◌then◌else◌, min, slice_index_or, Option, option_to_list, Some, None, unwrap_or, map, codes}
 use Rattle.std.specs.Option.{option_map_or}
 use Rattle.std.specs.Map.{lookup}
 use Rattle.std.specs.List.{IsDistinct, AllByRecursion, AllPass}
@@ -13,7 +13,8 @@ use Rattle.es_values.specs.declared.values.Value.TheVariants.{Undefined}
 use Rattle.es_values.specs.Heaps.{index_of, is_length}
 use Rattle.es_values.specs.Conversions.{element_text, joined, separator_at, text_at}
 use Rattle.es_values.specs.Lengths.{element_codes, elements_codes, texts_length}
-use Rattle.es_values.proofs.ListSteps.{take-next, take-all}
+use Rattle.es_values.specs.Slots.{HaveOwnNames, standing}
+use Rattle.es_values.proofs.ListSteps.{standing-next, standing-whole}
 
 -- Joining place by place
 
@@ -70,12 +71,21 @@ elements_codes-snoc count (q ∷ ps) p =
     let e : (a b c : ℕ) → a + (b + c) ≡ (a + b) + c = λ a b c. omega arith in
     ap (λ n. element_codes count q + n) (elements_codes-snoc count ps p) ∙ e (element_codes count q) (elements_codes count ps) (element_codes count p)
 
-pub codes-next : (count : ℕ) (ps : List (List ℕ × Value)) (i total more next : ℕ) (p : List ℕ × Value) → slice_get ps i ≡ Some p → more ≡ element_codes count p → next ≡ min (total + more) (2 ^ 64 - 1) → total ≡ min (elements_codes count (take i ps)) (2 ^ 64 - 1) → next ≡ min (elements_codes count (take (i + 1) ps)) (2 ^ 64 - 1)
-codes-next count ps i total more next p h m step t =
-    rw (take-next ps i p h, elements_codes-snoc count (take i ps) p) (capped (elements_codes count (take i ps)) (element_codes count p) total more next t m step)
-  where
-    capped : (x y total more next : ℕ) → total ≡ min x (2 ^ 64 - 1) → more ≡ y → next ≡ min (total + more) (2 ^ 64 - 1) → next ≡ min (x + y) (2 ^ 64 - 1)
-    capped x y total more next t m step = omega arith
+elements_codes-slot : (count : ℕ) (ps : List (List ℕ × Value)) (s : Option (List ℕ × Value)) → elements_codes count (ps ++ option_to_list s) ≡ elements_codes count ps + elements_codes count (option_to_list s)
+elements_codes-slot count ps None = ap (elements_codes count) (sym (append-nothing ps)) ∙ (let e : (n : ℕ) → n ≡ n + 0 = λ n. omega arith in e (elements_codes count ps))
+elements_codes-slot count ps (Some p) = elements_codes-snoc count ps p ∙ (let e : (n m : ℕ) → n + m ≡ n + (m + 0) = λ n m. omega arith in e (elements_codes count ps) (element_codes count p))
+
+capped : (x y total more next : ℕ) → total ≡ min x (2 ^ 64 - 1) → more ≡ y → next ≡ min (total + more) (2 ^ 64 - 1) → next ≡ min (x + y) (2 ^ 64 - 1)
+capped x y total more next t m step = omega arith
+
+pub codes-next : (count : ℕ) (slots : List (Option (List ℕ × Value))) (i total more next : ℕ) (s : Option (List ℕ × Value)) → i < length slots → s ≡ slice_index_or slots i s → more ≡ elements_codes count (option_to_list s) → next ≡ min (total + more) (2 ^ 64 - 1) → total ≡ min (elements_codes count (standing (take i slots))) (2 ^ 64 - 1) → next ≡ min (elements_codes count (standing (take (i + 1) slots))) (2 ^ 64 - 1)
+codes-next count slots i total more next s below read m step t =
+    rw (standing-next slots i s below read, elements_codes-slot count (standing (take i slots)) s)
+    (capped (elements_codes count (standing (take i slots))) (elements_codes count (option_to_list s)) total more next t m step)
+
+-- the text of one place more
+pub texts-next : (ps : List (List ℕ × Value)) (k total more next : ℕ) → more ≡ length (text_at ps k) → next ≡ min (total + more) (2 ^ 64 - 1) → total ≡ min (texts_length ps k) (2 ^ 64 - 1) → next ≡ min (texts_length ps (k + 1)) (2 ^ 64 - 1)
+texts-next ps k total more next m step t = rw add-one (capped (texts_length ps k) (length (text_at ps k)) total more next t m step)
 
 and-both : (a b : Bool) → (a && b) ≡ true → (a ≡ true) × (b ≡ true)
 and-both true true h = (refl, refl)
@@ -207,9 +217,9 @@ codes-all back (p ∷ ps) count small h =
     codes-by back p ps count (index_of p.0) refl small parts.0
     ∙ ap (λ n. element_codes count p + n) (codes-all back ps count small parts.1)
 
-pub codes-total : ((n : ℕ) → decimal_number (decimal_digits n) ≡ n) → (ps : List (List ℕ × Value)) (count at-end total : ℕ) → length ps ≤ at-end → count ≤ 2147483647 → IsDistinct is_same (map (λ p. p.0) ps) → total ≡ min (elements_codes count (take at-end ps)) (2 ^ 64 - 1) → total ≡ min (texts_length ps count) (2 ^ 64 - 1)
-codes-total back ps count at-end total long small distinct h =
-    h ∙ (ap (λ l. min (elements_codes count l) (2 ^ 64 - 1)) (take-all at-end ps long) ∙ ap (λ n. min n (2 ^ 64 - 1)) (sym (codes-all back ps count small distinct)))
+pub codes-total : ((n : ℕ) → decimal_number (decimal_digits n) ≡ n) → (ps : List (List ℕ × Value)) (slots : List (Option (List ℕ × Value))) (count i total : ℕ) → length slots ≤ i → standing slots ≡ ps → count ≤ 2147483647 → HaveOwnNames ps → total ≡ min (elements_codes count (standing (take i slots))) (2 ^ 64 - 1) → total ≡ min (texts_length ps count) (2 ^ 64 - 1)
+codes-total back ps slots count i total long is small distinct h =
+    h ∙ (ap (λ l. min (elements_codes count l) (2 ^ 64 - 1)) (standing-whole slots i long ∙ is) ∙ ap (λ n. min n (2 ^ 64 - 1)) (sym (codes-all back ps count small distinct)))
 
 -- no number's decimal text is `length`
 pub not-length : ((n : ℕ) → AllPass is_decimal_digit (decimal_digits n)) → (n : ℕ) → is_length (decimal_digits n) ≡ false

@@ -6,4 +6,5 @@ pub mod JoinLemmas
 pub mod LawLemmas
 pub mod ListSteps
 pub mod NumberLemmas
+pub mod SlotLemmas
 pub mod SoundLemmas

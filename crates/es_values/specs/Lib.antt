@@ -10,3 +10,4 @@ pub mod Hosts
 pub mod Lengths
 pub mod Capped
 pub mod Arrays
+pub mod Slots

@@ -6,14 +6,12 @@
 //! definitions say: the operators on numbers `specs/Numbers.antt`, the number that a text means
 //! `specs/Numerals.antt`, a put, `+`, `==` and `<` `specs/Operators.antt`, texts and numbers of
 //! values `specs/Conversions.antt`, elements of arrays `specs/Arrays.antt`. What is charged for it
-//! (`specs/Charges.antt`) a [`Budget`] takes before anything is converted, in time linear in the
-//! properties, however long an array is. Each object that the heap holds is live. A [`Host`] is a
-//! state and three relations on it. The `law_of_..` functions say what the definitions say
-//! together.
+//! (`specs/Charges.antt`) a [`Budget`] takes before anything is converted. For a text of an array that
+//! takes time linear in its length or in its properties, whichever are fewer. Each object that the
+//! heap holds is live. A [`Host`] is a state and three relations on it. The `law_of_..` functions
+//! say what the definitions say together.
 #![tactic(auto)]
 
-#[cfg(test)]
-mod array_tests;
 mod arrays;
 mod budgets;
 mod charges;
@@ -25,9 +23,8 @@ mod numbers;
 mod numerals;
 mod objects;
 mod properties;
+mod property_map;
 mod row_host;
-#[cfg(test)]
-mod tests;
 mod texts;
 mod values;
 

@@ -13,12 +13,12 @@ ghost use Rattle.es_values.specs.Conversions.{join_of, object_text};
 use crate::arrays::{MOST_ELEMENTS, elements, turned};
 use crate::numbers::Num;
 use crate::properties::{
-    count_from, cut, joined_charge, joined_length, names, property_value, push_elements,
+    count_from, joined_charge, joined_length, names, property_value, push_elements,
 };
+use crate::property_map::Properties;
 use crate::texts::{index_name, index_of_name};
 use crate::values::Value;
-use bml_bytes::{NoMemory, Text, law_of_decimals};
-use indexmap::IndexMap;
+use bml_bytes::{NoMemory, Text};
 use std::alloc::Global;
 use std::marker::Model;
 
@@ -26,7 +26,7 @@ use std::marker::Model;
 #[derive(Drop)]
 pub struct Object {
     length: Option<u32>,
-    properties: IndexMap<Text, Value>,
+    properties: Properties,
 }
 
 impl Model for Object {
@@ -36,7 +36,7 @@ impl Model for Object {
 
     ghost view = { λ object. record {
       array_length = object.length;
-      properties = object.properties.entries;
+      properties = object.properties;
     } };
 
     ghost invariant = { λ object. IsWithinLength object.length };
@@ -48,7 +48,7 @@ impl Object {
     {
         Object {
             length: if array { Some(0) } else { None },
-            properties: IndexMap::new(alloc),
+            properties: Properties::new(alloc),
         }
     }
 
@@ -93,7 +93,7 @@ impl Object {
         ensures err { OnErr result (self.new ≡ self.old) }
     {
         let length = longer(self.length, index_of_name(&name));
-        self.properties.insert(name, value)?;
+        self.properties.put(name, value)?;
         self.length = length;
         Ok(())
     }
@@ -135,14 +135,14 @@ impl Object {
         if self.is_array_length(name) {
             return false;
         }
-        self.properties.shift_remove(name).is_some()
+        self.properties.remove(name)
     }
 
     // Whether there is a property of this name that can go.
     pub fn has(&self, name: &Text) -> bool
         ensures { result ≡ has_property self.now name.now }
     {
-        !self.is_array_length(name) && self.properties.contains_key(name)
+        !self.is_array_length(name) && self.properties.has(name)
     }
 
     // The elements of an array, in ascending place.
@@ -151,7 +151,7 @@ impl Object {
     {
         match self.length {
             Some(length) => elements(&self.properties, length),
-            None => Ok(Vec::new(*self.properties.allocator())),
+            None => Ok(Vec::new(self.properties.allocator())),
         }
     }
 
@@ -160,11 +160,12 @@ impl Object {
         ensures ok { OnOk result (self.new ≡ with_first_elements self.old elements.items) }
         ensures err { OnErr result (self.new ≡ self.old) }
     {
-        law_of_decimals();
         let count = elements.len();
-        let mut array = Object::of_elements(*self.properties.allocator(), elements)?;
-        self.properties.append(&mut array.properties)?;
-        cut(&mut self.properties, count as u32);
+        if count > MOST_ELEMENTS {
+            return Err(NoMemory);
+        }
+        self.properties.put_elements(elements)?;
+        self.properties.cut(count as u32);
         Ok(())
     }
 
@@ -223,7 +224,7 @@ impl Object {
         requires { length elements.items ≤ 2147483647 }
         ensures { OnOk result (self.new ≡ with_elements self.old 0 elements.items) }
     {
-        let alloc = *self.properties.allocator();
+        let alloc = self.properties.allocator();
         let mut place = 0;
         for element in elements {
             let name = index_name(alloc, place)?;
@@ -247,7 +248,7 @@ impl Object {
         requires { length ≤ 2147483647 }
         ensures { self.new ≡ with_length self.old (Whole (pos length)) }
     {
-        cut(&mut self.properties, length);
+        self.properties.cut(length);
         self.length = Some(length);
     }
 }

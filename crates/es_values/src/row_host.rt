@@ -8,9 +8,9 @@ ghost use Rattle.es_values.specs.Values.{is_plain};
 use crate::heaps::Heap;
 use crate::hosts::{Host, HostAnswer};
 use crate::properties::property_value;
+use crate::property_map::Properties;
 use crate::values::{HostRef, Value};
 use bml_bytes::{NoMemory, Text};
-use indexmap::IndexMap;
 use std::alloc::Global;
 use std::marker::Model;
 
@@ -19,7 +19,7 @@ use std::marker::Model;
 /// `end` ends the script, and no other name can be called.
 #[derive(Drop)]
 pub struct RowHost {
-    values: IndexMap<Text, Value>,
+    values: Properties,
 }
 
 impl Model for RowHost {
@@ -29,9 +29,9 @@ impl Model for RowHost {
 
     ghost Value = { List (List ℕ × ScriptValue) };
 
-    ghost view = { λ host. host.values.entries };
+    ghost view = { λ host. host.values };
 
-    ghost invariant = { λ host. All (λ entry. is_plain entry.1 ≡ true) host.values.entries };
+    ghost invariant = { λ host. All (λ entry. is_plain entry.1 ≡ true) host.values };
 }
 
 impl RowHost {
@@ -40,7 +40,7 @@ impl RowHost {
         ensures { result ≡ [] }
     {
         RowHost {
-            values: IndexMap::new(alloc),
+            values: Properties::new(alloc),
         }
     }
 }
@@ -67,7 +67,7 @@ impl Host for RowHost {
     ) -> Result<(), NoMemory> {
         let name = name.share()?;
         let value = row_value(value)?;
-        self.values.insert(name, value)?;
+        self.values.put(name, value)?;
         Ok(())
     }
 

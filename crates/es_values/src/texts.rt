@@ -7,6 +7,7 @@ ghost use Rattle.bml_bytes.specs.Words.{is_same};
 ghost use Rattle.es_values.specs.Values.{number_text, plain_text, truth_text};
 ghost use Rattle.es_values.specs.Conversions.{element_text};
 ghost use Rattle.es_values.specs.Heaps.{index_of};
+ghost use Rattle.es_values.specs.Slots.{is_element_name};
 
 use crate::numbers::Num;
 use crate::values::Value;
@@ -34,6 +35,16 @@ pub fn index_of_name(name: &Text) -> Option<u32>
         Some(number as u32)
     } else {
         None
+    }
+}
+
+// Whether the name is that of an element at a place or behind it.
+pub fn is_element_from(place: u32, name: &Text) -> bool
+    ensures { result ≡ is_element_name place name.now }
+{
+    match index_of_name(name) {
+        Some(index) => place <= index,
+        None => false,
     }
 }
 

@@ -8,8 +8,6 @@
 
 mod events;
 mod queues;
-#[cfg(test)]
-mod tests;
 
 pub use crate::events::{Event, NodeNo};
 pub use crate::queues::{EVENT_LIMIT, Queue};

@@ -12,8 +12,6 @@ mod defaults;
 mod groups;
 mod tags;
 mod targets;
-#[cfg(test)]
-mod tests;
 
 pub use crate::defaults::{KeyDefault, default_of};
 pub use crate::groups::{KeyGroups, group_of, passes};

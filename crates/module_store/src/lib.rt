@@ -20,6 +20,3 @@ pub use crate::laws::{law_of_component_messages, law_of_found_resources, law_of_
 pub use crate::resources::Look;
 pub use crate::store::Store;
 pub use carousel_blocks::{Change, ChangeLine, SkipCause};
-
-#[cfg(test)]
-mod tests;

@@ -18,11 +18,7 @@ mod laws;
 mod lines;
 mod parts;
 mod path_laws;
-#[cfg(test)]
-mod path_tests;
 mod paths;
-#[cfg(test)]
-mod tests;
 
 pub use crate::boundaries::is_multipart;
 pub use crate::entities::entity_parts;

@@ -24,6 +24,3 @@ pub use crate::laws::{
 pub use crate::pat::{PAT_PID, PatEntry, read_pat};
 pub use crate::pmt::{Pmt, PmtStream, read_pmt};
 pub use crate::services::{Selection, Services};
-
-#[cfg(test)]
-mod tests;

@@ -1,14 +1,12 @@
 -- Stores behind a component map that is, from tags to PIDs, the one before.
 use Rattle.std.proofs.Common.{◌≡◌, ℕ, Bool, true, false, cond, eqb, List, [], ◌∷◌, ◌++◌, refl, sym, ap, ◌∙◌, ◌&&◌}
-use Rattle.std.specs.Prelude.{◌==◌, ◌||◌, Option, Some, None, find, map, is_some, option_map, option_and_then}
+use Rattle.std.specs.Prelude.{◌==◌, ◌||◌, Option, Some, None, find, map, is_some, option_map}
 use Rattle.std.specs.List.{flat_map}
 use Rattle.std.proofs.lemmas.Bool.{eq-eqb, eqb-true}
 use Rattle.psi_tables.specs.declared.components.Component.{Component}
 use Rattle.psi_tables.specs.Components.{pid_in}
 use Rattle.carousel_blocks.specs.Message.{Message}
 use Rattle.carousel_blocks.specs.declared.changes.Change.{Change}
-use Rattle.multipart_entities.specs.declared.paths.Path.{Path}
-use Rattle.module_store.specs.Resources.{LooksAlike, info_in_force, look_in, start_component, start_name}
 use Rattle.module_store.specs.Standing.{StandsFor, StoreState}
 use Rattle.module_store.specs.Store.{Followed, Stored, component_in, followed_from, followed_with, gone_by, gone_with, is_kept, messages_on, pid_of, with_map, with_section}
 
@@ -72,15 +70,6 @@ stands_still state stored components same s = record {
   count = s.count;
   tags = λ tag. s.tags tag ∙ ap (λ (o : Option Followed). is_some o) (sym (same_one stored components tag (same tag)));
   components = λ tag its_state component has is. s.components tag its_state component has (sym (same_one stored components tag (same tag)) ∙ is);
-}
-
-abbrev start_with : Option Followed → Path
-start_with o = record { component = start_component; «module» = 0; name = start_name (option_and_then (λ (messages : List Message). info_in_force messages 0) (option_map (λ (c : Followed). c.messages) o)) }
-
-pub looks_alike : (stored : Stored) (components : List Component) → IsSameMap components stored → LooksAlike stored (with_map components stored)
-looks_alike stored components same = record {
-  looks = λ path. ap (λ (o : Option Followed). look_in (option_map (λ (c : Followed). c.messages) o) path.«module» path.name) (sym (same_one stored components path.component (same path.component)));
-  start = ap start_with (sym (same_one stored components start_component (same start_component)));
 }
 
 kept_in_map : (components : List Component) (tag pid : ℕ) → pid_in components tag ≡ Some pid → is_kept components tag pid ≡ true

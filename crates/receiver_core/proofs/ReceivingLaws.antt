@@ -1,5 +1,5 @@
 -- What a receiver stands for, behind one input or one section more.
-use Rattle.std.proofs.Common.{◌≡◌, ◌≢◌, ◌≤◌, ◌<◌, ℕ, suc, Bool, true, false, cond, eqb, List, [], ◌∷◌, ◌++◌, refl, sym, ap, ap₂, ◌∙◌, subst, append_assoc, append-nil, arith, length, filter, ⊎_elim, true≢false}
+use Rattle.std.proofs.Common.{◌≡◌, ◌≢◌, ◌≤◌, ◌<◌, ◌+◌, ℕ, suc, Bool, true, false, cond, eqb, List, [], ◌∷◌, ◌++◌, refl, sym, ap, ap₂, ◌∙◌, subst, append_assoc, append-nil, arith, length, filter, ⊎_elim, true≢false}
 use Rattle.std.specs.Prelude.{◌&&◌, if◌then◌else◌}
 use Rattle.std.proofs.lemmas.Bool.{eqb-true, ne_eqb, eq-eqb, cases_eq}
 use Rattle.ts_packets.specs.Packet.{pid_of}
@@ -11,26 +11,27 @@ use Rattle.section_demultiplexer.specs.Demultiplexing.{DemultiplexerState, Gives
 use Rattle.section_demultiplexer.specs.Demultiplexing as demultiplexing
 use Rattle.section_demultiplexer.specs.Laws.{SameLists}
 use Rattle.es_reader.specs.Readers.{Reader}
-use Rattle.receiver_core.specs.Broadcasts.{BroadcastState, HasTurned}
+use Rattle.receiver_core.specs.Broadcasts.{BroadcastState, HasMade, Makes}
 use Rattle.receiver_core.specs.Broadcasts as broadcasts
-use Rattle.receiver_core.specs.Dispatches.{turn}
+use Rattle.page.specs.Inputs.{display_of, with_clock, with_random}
 use Rattle.receiver_core.specs.Fronts.{IsFront}
-use Rattle.receiver_core.specs.Outputs.{Piece, display_of, outputs, piece_of, pieces_of, pieces_of_turns, sections_by, state_after, state_behind, state_behind_turns, with_packet}
-use Rattle.receiver_core.specs.Receiving.{Gives, IsIdle, IsOver, MakesTurn, PassesDamaged, ReceiverState, Shows, StandsFor, Takes}
-use Rattle.receiver_core.specs.Startups.{start_of}
-use Rattle.receiver_core.specs.State.{Input, Packet, Show, State, opening, services}
+use Rattle.receiver_core.specs.Outputs.{Piece, outputs, piece_of, pieces_of, pieces_of_turns, sections_by, state_after, state_behind, state_behind_turns, with_packet}
+use Rattle.receiver_core.specs.Receiving.{Answers, Gives, IsIdle, IsOver, MakesTurn, PassesDamaged, Prints, PrintsDisplay, ReceiverState, StandsFor, Takes, key_input}
+use Rattle.receiver_core.specs.State.{Input, State, opening, services}
+use Rattle.receiver_core.specs.State.Input.{Packet, Random, Show, Tick}
+use Rattle.receiver_core.specs.Turns.{Step, key_turn, turn}
 use Rattle.receiver_core.specs.State as state_of
 use Rattle.receiver_core.proofs.OutputLaws.{behind_one_more, no_outputs, outputs_one_more}
-use Rattle.receiver_core.proofs.DispatchLaws.{same_dispatch}
-use Rattle.receiver_core.proofs.BroadcastLaws.{services_are, turn_area, turn_packets}
+use Rattle.receiver_core.proofs.BroadcastLaws.{key_packets, services_are, turn_packets}
 
 -- what callers see of a receiver that keeps this
-abbrev pub seen : DemultiplexerState → BroadcastState → List ℕ → Bool → ReceiverState
-seen d b area spent = record {
+abbrev pub seen : DemultiplexerState → BroadcastState → Bool → ReceiverState
+seen d b spent = record {
   services = b.services;
   pid = d.pid;
   waiting = d.waiting;
-  area = area;
+  clock = b.page.clock;
+  area = b.page.area;
   spent = spent;
   kept = record { demultiplexer = d; broadcast = b };
 }
@@ -70,48 +71,119 @@ next_state read selection area state inputs given s input none =
     behind_one_more (opening read selection area) inputs input ∙ ap (state_after input) (state_at_rest read selection area state inputs given s none)
 
 pub stands_first : (read : Reader) (selection : Selection) (area : List ℕ) (d : DemultiplexerState) (b : BroadcastState) → d.waiting ≡ [] → demultiplexing.StandsFor d (λ pid. []) (λ pid. [])
-    → broadcasts.StandsFor b (opening read selection area) → StandsFor read selection area (seen d b area false) [] []
+    → broadcasts.StandsFor b (opening read selection area) → StandsFor read selection area (seen d b false) [] []
 stands_first read selection area d b none assembled stands = record {
   now = opening read selection area;
   left = sym (no_turns d.pid d.waiting (opening read selection area) none);
   pieces = no_outputs read selection area ∙ sym (no_pieces d.pid d.waiting (opening read selection area) none);
   services_are = services_are b (opening read selection area) stands;
-  area_is = refl;
+  clock_is = stands.page.clock;
+  area_is = stands.page.area;
   unspent = refl;
   kept = record { broadcast = stands; sections = λ pid. []; assembled = assembled };
 }
 
--- ---- a wish to see the display
+-- ---- inputs of one piece
 
-pub shows : (state : ReceiverState) → state.waiting ≡ [] → Shows (display_of (start_of state.kept.broadcast.startup)) state state
-shows state none read selection area inputs given s =
-    let text = display_of (start_of state.kept.broadcast.startup) in
+-- a step is what an input comes to
+pub record ComesTo (input : Input) (step : State → Step) : Type 0 where
+  pub pieces : (s : State) → pieces_of input s ≡ piece_of (step s) ∷ []
+  pub left : (s : State) → state_after input s ≡ (step s).state
+  pub packets : (s : State) → (step s).state.packets ≡ s.packets
+
+pub answers : (input : Input) (step : State → Step) (d : DemultiplexerState) (b c : BroadcastState) (spent still : Bool) (text : List ℕ) → ComesTo input step → still ≡ false → (spent ≡ false → d.waiting ≡ [])
+    → ((s : State) → broadcasts.StandsFor b s → HasMade c text (step s)) → Answers input text (seen d b spent) (seen d c still)
+answers input step d b c spent still text is unspent idle makes read selection area inputs given s =
+    let state = seen d b spent in
+    let none = idle s.unspent in
+    let t = step s.now in
+    let made = makes s.now s.kept.broadcast in
     record {
-      now = s.now;
-      left = next_state read selection area state inputs given s Show none ∙ sym (no_turns state.pid state.waiting s.now none);
+      now = t.state;
+      left = next_state read selection area state inputs given s input none ∙ is.left s.now ∙ sym (no_turns d.pid d.waiting t.state none);
       pieces =
-          next_pieces read selection area state inputs given s Show none
-          ∙ ap₂ (λ (t a : List ℕ). given ++ record { text = t; area = a } ∷ []) (ap display_of (sym s.kept.broadcast.keeps.start)) (sym s.area_is)
-          ∙ sym (append-nil (given ++ record { text = text; area = state.area } ∷ []))
-          ∙ ap (λ (l : List Piece). (given ++ record { text = text; area = state.area } ∷ []) ++ l) (sym (no_pieces state.pid state.waiting s.now none));
-      services_are = s.services_are;
-      area_is = s.area_is;
-      unspent = s.unspent;
-      kept = s.kept;
+          next_pieces read selection area state inputs given s input none
+          ∙ ap (λ (l : List Piece). given ++ l) (is.pieces s.now)
+          ∙ ap₂ (λ (l m : List ℕ). given ++ record { text = l; area = m } ∷ []) (sym made.text_is) (sym made.stands.page.area)
+          ∙ sym (append-nil (given ++ record { text = text; area = c.page.area } ∷ []))
+          ∙ ap (λ (l : List Piece). (given ++ record { text = text; area = c.page.area } ∷ []) ++ l) (sym (no_pieces d.pid d.waiting t.state none));
+      services_are = services_are c t.state made.stands;
+      clock_is = made.stands.page.clock;
+      area_is = made.stands.page.area;
+      unspent = unspent;
+      kept = record {
+        broadcast = made.stands;
+        sections = s.kept.sections;
+        assembled = subst (λ (packets : ℕ → List (List ℕ)). demultiplexing.StandsFor d packets s.kept.sections) (sym (is.packets s.now)) s.kept.assembled;
+      };
     }
 
-pub displays : (state : ReceiverState) (read : Reader) (selection : Selection) (area : List ℕ) (inputs : List Input) (given : List Piece) (s : StandsFor read selection area state inputs given)
-    → display_of (start_of state.kept.broadcast.startup) ≡ display_of s.now.start
-displays state read selection area inputs given s = ap display_of s.kept.broadcast.keeps.start
+-- a key
+key_comes_to : (key : ℕ) (down : Bool) → ComesTo (key_input key down) (key_turn key down)
+key_comes_to key true = record { pieces = λ s. refl; left = λ s. refl; packets = key_packets key true }
+key_comes_to key false = record { pieces = λ s. refl; left = λ s. refl; packets = key_packets key false }
+
+pub prints_key : (key : ℕ) (down : Bool) (d : DemultiplexerState) (b c : BroadcastState) (spent still : Bool) (before after : List ℕ) → still ≡ false → (spent ≡ false → d.waiting ≡ [])
+    → Makes (key_turn key down) b c before after → Prints (key_input key down) (seen d b spent) (seen d c still) before after
+prints_key key down d b c spent still before after unspent idle made = record {
+  text = made.text;
+  printed = made.printed;
+  gives = answers (key_input key down) (key_turn key down) d b c spent still made.text (key_comes_to key down) unspent idle made.makes;
+}
+
+-- a wish to see the display
+abbrev displayed : State → Step
+displayed s = record { state = s; text = display_of s.page }
+
+show_comes_to : ComesTo Show displayed
+show_comes_to = record { pieces = λ s. refl; left = λ s. refl; packets = λ s. refl }
+
+pub prints_display : (d : DemultiplexerState) (b c : BroadcastState) (spent still : Bool) (before after : List ℕ) → still ≡ false → Makes (λ s. record { state = s; text = display_of s.page }) b c before after
+    → PrintsDisplay (seen d b spent) (seen d c still) before after
+prints_display d b c spent still before after unspent made = record {
+  text = made.text;
+  printed = made.printed;
+  display = λ read selection area inputs given s. (made.makes s.now s.kept.broadcast).text_is;
+  shows = λ idle. answers Show displayed d b c spent still made.text show_comes_to unspent idle made.makes;
+}
+
+-- ---- inputs that print nothing
+
+pub takes_silent : (input : Input) (step : State → State) (d : DemultiplexerState) (b c : BroadcastState) (spent still : Bool) → ((s : State) → pieces_of input s ≡ []) → ((s : State) → state_after input s ≡ step s)
+    → ((s : State) → (step s).packets ≡ s.packets) → still ≡ false → (spent ≡ false → d.waiting ≡ []) → ((s : State) → broadcasts.StandsFor b s → broadcasts.StandsFor c (step s)) → Takes input (seen d b spent) (seen d c still)
+takes_silent input step d b c spent still silent left packets unspent idle makes read selection area inputs given s =
+    let state = seen d b spent in
+    let none = idle s.unspent in
+    let now = step s.now in
+    let stands = makes s.now s.kept.broadcast in
+    record {
+      now = now;
+      left = next_state read selection area state inputs given s input none ∙ left s.now ∙ sym (no_turns d.pid d.waiting now none);
+      pieces = next_pieces read selection area state inputs given s input none ∙ ap (λ (l : List Piece). given ++ l) (silent s.now ∙ sym (no_pieces d.pid d.waiting now none));
+      services_are = services_are c now stands;
+      clock_is = stands.page.clock;
+      area_is = stands.page.area;
+      unspent = unspent;
+      kept = record {
+        broadcast = stands;
+        sections = s.kept.sections;
+        assembled = subst (λ (p : ℕ → List (List ℕ)). demultiplexing.StandsFor d p s.kept.sections) (sym (packets s.now)) s.kept.assembled;
+      };
+    }
+
+pub takes_time : (count : ℕ) (d : DemultiplexerState) (b c : BroadcastState) (spent still : Bool) → still ≡ false → (spent ≡ false → d.waiting ≡ [])
+    → ((s : State) → broadcasts.StandsFor b s → broadcasts.StandsFor c (record s { page = with_clock (s.page.clock + count) s.page })) → Takes (Tick count) (seen d b spent) (seen d c still)
+takes_time count d b c spent still = takes_silent (Tick count) (λ s. record s { page = with_clock (s.page.clock + count) s.page }) d b c spent still (λ s. refl) (λ s. refl) (λ s. refl)
+
+pub takes_random : (word : ℕ) (d : DemultiplexerState) (b c : BroadcastState) (spent still : Bool) → still ≡ false → (spent ≡ false → d.waiting ≡ [])
+    → ((s : State) → broadcasts.StandsFor b s → broadcasts.StandsFor c (record s { page = with_random word s.page })) → Takes (Random word) (seen d b spent) (seen d c still)
+takes_random word d b c spent still = takes_silent (Random word) (λ s. record s { page = with_random word s.page }) d b c spent still (λ s. refl) (λ s. refl) (λ s. refl)
 
 -- ---- a packet
 
 -- the state with one packet more is one for the same broadcast
 same_broadcast : (b : BroadcastState) (s : State) (packet : List ℕ) → broadcasts.StandsFor b s → broadcasts.StandsFor b (with_packet packet s)
-same_broadcast b s packet p = record {
-  keeps = record { reader = p.keeps.reader; selection = p.keeps.selection; services = p.keeps.services; store = p.keeps.store; pids = p.keeps.pids; start = p.keeps.start; current = p.keeps.current };
-  done = same_dispatch s packet p.done;
-}
+same_broadcast b s packet p = record { selection = p.selection; services = p.services; store = p.store; pids = p.pids; page = p.page }
 
 not_both : {A : Type 0} (w e : Bool) (x y : A) → (e ≡ true → w ≡ false) → cond (w && e) x y ≡ y
 not_both true true x y h = absurd (true≢false (h refl))
@@ -143,10 +215,10 @@ sections_if : (w : Bool) (packet : List ℕ) (s : State) → state_of.wants s (p
 sections_if w packet s e = ap (λ (x : Bool). cond x (completed_by (s.packets (pid_of packet)) packet) []) e
 
 -- a packet of a PID that isn't wanted
-pub passes_packet : SameLists → (d : DemultiplexerState) (b : BroadcastState) (a : List ℕ) (spent : Bool) (packet : List ℕ) → (spent ≡ false → d.waiting ≡ []) → wants b.services (pid_of packet) ≡ false
-    → Takes (Packet packet) (seen d b a spent) (seen d b a spent)
-passes_packet same d b a spent packet idle off read selection area inputs given s =
-    let state = seen d b a spent in
+pub passes_packet : SameLists → (d : DemultiplexerState) (b : BroadcastState) (spent : Bool) (packet : List ℕ) → (spent ≡ false → d.waiting ≡ []) → wants b.services (pid_of packet) ≡ false
+    → Takes (Packet packet) (seen d b spent) (seen d b spent)
+passes_packet same d b spent packet idle off read selection area inputs given s =
+    let state = seen d b spent in
     let now = with_packet packet s.now in
     let none = idle s.unspent in
     let unwanted = wanted_by b s.now (pid_of packet) false s.kept.broadcast off in
@@ -160,6 +232,7 @@ passes_packet same d b a spent packet idle off read selection area inputs given 
           next_pieces read selection area state inputs given s (Packet packet) none
           ∙ ap (λ (l : List Piece). given ++ l) (no_pieces (pid_of packet) (sections_by packet s.now) now nothing ∙ sym (no_pieces d.pid d.waiting now none));
       services_are = s.services_are;
+      clock_is = s.clock_is;
       area_is = s.area_is;
       unspent = s.unspent;
       kept = record {
@@ -169,9 +242,9 @@ passes_packet same d b a spent packet idle off read selection area inputs given 
       };
     }
 
-pub passes_sections : (d : DemultiplexerState) (b : BroadcastState) (a : List ℕ) (spent : Bool) (packet : List ℕ) → (spent ≡ false → d.waiting ≡ []) → wants b.services (pid_of packet) ≡ false
-    → (read : Reader) (selection : Selection) (area : List ℕ) (inputs : List Input) (given : List Piece) (s : StandsFor read selection area (seen d b a spent) inputs given) → d.waiting ≡ sections_by packet s.now
-passes_sections d b a spent packet idle off read selection area inputs given s =
+pub passes_sections : (d : DemultiplexerState) (b : BroadcastState) (spent : Bool) (packet : List ℕ) → (spent ≡ false → d.waiting ≡ []) → wants b.services (pid_of packet) ≡ false
+    → (read : Reader) (selection : Selection) (area : List ℕ) (inputs : List Input) (given : List Piece) (s : StandsFor read selection area (seen d b spent) inputs given) → d.waiting ≡ sections_by packet s.now
+passes_sections d b spent packet idle off read selection area inputs given s =
     idle s.unspent ∙ sym (sections_if false packet s.now (wanted_by b s.now (pid_of packet) false s.kept.broadcast off))
 
 -- what a packet that is handed in does
@@ -189,10 +262,10 @@ completes_sections : (old new : DemultiplexerState) (b : BroadcastState) (packet
 completes_sections old new b packet now given is on stands assembled =
     is.completed now.packets given assembled ∙ sym (sections_if true packet now (wanted_by b now (pid_of packet) true stands on))
 
-pub takes_packet : SameLists → (old new : DemultiplexerState) (b : BroadcastState) (a : List ℕ) (spent : Bool) (packet : List ℕ) → (spent ≡ false → old.waiting ≡ []) → wants b.services (pid_of packet) ≡ true
-    → HasRoomFor old b packet → (has_room old (pid_of packet) ≡ true → IsHandedIn old new packet) → Takes (Packet packet) (seen old b a spent) (seen new b a spent)
-takes_packet same old new b a spent packet idle on room hands read selection area inputs given s =
-    let state = seen old b a spent in
+pub takes_packet : SameLists → (old new : DemultiplexerState) (b : BroadcastState) (spent : Bool) (packet : List ℕ) → (spent ≡ false → old.waiting ≡ []) → wants b.services (pid_of packet) ≡ true
+    → HasRoomFor old b packet → (has_room old (pid_of packet) ≡ true → IsHandedIn old new packet) → Takes (Packet packet) (seen old b spent) (seen new b spent)
+takes_packet same old new b spent packet idle on room hands read selection area inputs given s =
+    let state = seen old b spent in
     let now = with_packet packet s.now in
     let none = idle s.unspent in
     let is = hands (room s.now s.kept.sections s.kept.broadcast s.kept.assembled) in
@@ -206,6 +279,7 @@ takes_packet same old new b a spent packet idle on room hands read selection are
           next_pieces read selection area state inputs given s (Packet packet) none
           ∙ ap₂ (λ (p : ℕ) (l : List (List ℕ)). given ++ pieces_of_turns p (filter is_intact l) now) (sym is.pid) (sym all);
       services_are = s.services_are;
+      clock_is = s.clock_is;
       area_is = s.area_is;
       unspent = s.unspent;
       kept = record {
@@ -217,17 +291,17 @@ takes_packet same old new b a spent packet idle on room hands read selection are
       };
     }
 
-pub takes_sections : (old new : DemultiplexerState) (b : BroadcastState) (a : List ℕ) (spent : Bool) (packet : List ℕ) → wants b.services (pid_of packet) ≡ true
+pub takes_sections : (old new : DemultiplexerState) (b : BroadcastState) (spent : Bool) (packet : List ℕ) → wants b.services (pid_of packet) ≡ true
     → HasRoomFor old b packet → (has_room old (pid_of packet) ≡ true → IsHandedIn old new packet)
-    → (read : Reader) (selection : Selection) (area : List ℕ) (inputs : List Input) (given : List Piece) (s : StandsFor read selection area (seen old b a spent) inputs given) → new.waiting ≡ sections_by packet s.now
-takes_sections old new b a spent packet on room hands read selection area inputs given s =
+    → (read : Reader) (selection : Selection) (area : List ℕ) (inputs : List Input) (given : List Piece) (s : StandsFor read selection area (seen old b spent) inputs given) → new.waiting ≡ sections_by packet s.now
+takes_sections old new b spent packet on room hands read selection area inputs given s =
     completes_sections old new b packet s.now s.kept.sections (hands (room s.now s.kept.sections s.kept.broadcast s.kept.assembled)) on s.kept.broadcast s.kept.assembled
 
 -- ---- the next section
 
 -- no section was left
-pub no_turn : (old new : DemultiplexerState) (b : BroadcastState) (a : List ℕ) (spent : Bool) (text : List ℕ) → HasGivenAll old new → IsOver (seen old b a spent) (seen new b a spent) text text
-no_turn old new b a spent text over = record {
+pub no_turn : (old new : DemultiplexerState) (b : BroadcastState) (spent : Bool) (text : List ℕ) → HasGivenAll old new → IsOver (seen old b spent) (seen new b spent) text text
+no_turn old new b spent text over = record {
   none = over.none;
   left = over.left;
   silent = refl;
@@ -236,6 +310,7 @@ no_turn old new b a spent text over = record {
     left = s.left ∙ no_turns old.pid old.waiting s.now over.none ∙ sym (no_turns new.pid new.waiting s.now over.left);
     pieces = s.pieces ∙ ap (λ (l : List Piece). given ++ l) (no_pieces old.pid old.waiting s.now over.none ∙ sym (no_pieces new.pid new.waiting s.now over.left));
     services_are = s.services_are;
+    clock_is = s.clock_is;
     area_is = s.area_is;
     unspent = s.unspent;
     kept = record { broadcast = s.kept.broadcast; sections = s.kept.sections; assembled = over.stands s.now.packets s.kept.sections s.kept.assembled };
@@ -249,9 +324,9 @@ damaged_rest section rest h = rw h refl
 intact_rest : (section : List ℕ) (rest : List (List ℕ)) → is_intact section ≡ true → filter is_intact (section ∷ rest) ≡ section ∷ filter is_intact rest
 intact_rest section rest h = rw h refl
 
-pub passes_damaged : (old new : DemultiplexerState) (b : BroadcastState) (a : List ℕ) (spent : Bool) (section text : List ℕ) → GivesNext old new section → is_intact section ≡ false
-    → PassesDamaged (seen old b a spent) (seen new b a spent) text text
-passes_damaged old new b a spent section text gives damaged =
+pub passes_damaged : (old new : DemultiplexerState) (b : BroadcastState) (spent : Bool) (section text : List ℕ) → GivesNext old new section → is_intact section ≡ false
+    → PassesDamaged (seen old b spent) (seen new b spent) text text
+passes_damaged old new b spent section text gives damaged =
     let same : filter is_intact old.waiting ≡ filter is_intact new.waiting = ap (filter is_intact) gives.next ∙ damaged_rest section new.waiting damaged in
     record {
       section = section;
@@ -263,6 +338,7 @@ passes_damaged old new b a spent section text gives damaged =
         left = s.left ∙ ap₂ (λ (p : ℕ) (l : List (List ℕ)). state_behind_turns p l s.now) (sym gives.pid) same;
         pieces = s.pieces ∙ ap₂ (λ (p : ℕ) (l : List (List ℕ)). given ++ pieces_of_turns p l s.now) (sym gives.pid) same;
         services_are = s.services_are;
+        clock_is = s.clock_is;
         area_is = s.area_is;
         unspent = s.unspent;
         kept = record { broadcast = s.kept.broadcast; sections = with_next old.pid section s.kept.sections; assembled = gives.stands s.now.packets s.kept.sections s.kept.assembled };
@@ -296,9 +372,9 @@ rest_pieces false pid rest s e = by (filter is_intact rest)
     by (section ∷ l) = ap (λ (b : Bool). cond b (piece_of (turn pid section s) ∷ pieces_of_turns pid l (turn pid section s).state) []) e
 
 -- what a turn makes of the state that a receiver stands for
-turned : SameLists → (old between new : DemultiplexerState) (b c : BroadcastState) (a : List ℕ) (spent still : Bool) (section text : List ℕ) → GivesNext old between section → is_intact section ≡ true → IsFollowed between new c.services
-    → ((s : State) → broadcasts.StandsFor b s → HasTurned c text (turn old.pid section s)) → wants b.services old.pid ≡ true → still ≡ false → Gives text (seen old b a spent) (seen new c a still)
-turned same old between new b c a spent still section text gives intact follows turns wanted unspent read selection area inputs given s =
+turned : SameLists → (old between new : DemultiplexerState) (b c : BroadcastState) (spent still : Bool) (section text : List ℕ) → GivesNext old between section → is_intact section ≡ true → IsFollowed between new c.services
+    → ((s : State) → broadcasts.StandsFor b s → HasMade c text (turn old.pid section s)) → wants b.services old.pid ≡ true → still ≡ false → Gives text (seen old b spent) (seen new c still)
+turned same old between new b c spent still section text gives intact follows turns wanted unspent read selection area inputs given s =
     let t = turn old.pid section s.now in
     let made = turns s.now s.kept.broadcast in
     let is : c.services ≡ services t.state = services_are c t.state made.stands in
@@ -308,7 +384,6 @@ turned same old between new b c a spent still section text gives intact follows 
     let pid_is : new.pid ≡ old.pid = follows.pid ∙ gives.pid in
     let left_is : new.waiting ≡ (if wants c.services old.pid then rest else []) = follows.waiting ∙ ap (λ (p : ℕ). if wants c.services p then rest else []) gives.pid in
     let now_wanted : state_of.wants t.state old.pid ≡ wants c.services old.pid = ap (λ (x : ServicesState). wants x old.pid) (sym is) in
-    let kept_area : a ≡ t.state.area = s.area_is ∙ sym (turn_area old.pid section s.now) in
     record {
       now = t.state;
       left =
@@ -321,12 +396,13 @@ turned same old between new b c a spent still section text gives intact follows 
           s.pieces
           ∙ ap (λ (l : List (List ℕ)). given ++ pieces_of_turns old.pid l s.now) all
           ∙ ap (λ (w : Bool). given ++ cond w (piece_of t ∷ pieces_of_turns old.pid (filter is_intact rest) t.state) []) was
-          ∙ ap₂ (λ (l m : List ℕ). given ++ (record { text = l; area = m } ∷ pieces_of_turns old.pid (filter is_intact rest) t.state)) (sym made.text_is) (sym kept_area)
-          ∙ sym (append_assoc given (record { text = text; area = a } ∷ []) (pieces_of_turns old.pid (filter is_intact rest) t.state))
-          ∙ ap (λ (l : List Piece). (given ++ record { text = text; area = a } ∷ []) ++ l) (rest_pieces (wants c.services old.pid) old.pid rest t.state now_wanted)
-          ∙ ap₂ (λ (p : ℕ) (l : List (List ℕ)). (given ++ record { text = text; area = a } ∷ []) ++ pieces_of_turns p (filter is_intact l) t.state) (sym pid_is) (sym left_is);
+          ∙ ap₂ (λ (l m : List ℕ). given ++ (record { text = l; area = m } ∷ pieces_of_turns old.pid (filter is_intact rest) t.state)) (sym made.text_is) (sym made.stands.page.area)
+          ∙ sym (append_assoc given (record { text = text; area = c.page.area } ∷ []) (pieces_of_turns old.pid (filter is_intact rest) t.state))
+          ∙ ap (λ (l : List Piece). (given ++ record { text = text; area = c.page.area } ∷ []) ++ l) (rest_pieces (wants c.services old.pid) old.pid rest t.state now_wanted)
+          ∙ ap₂ (λ (p : ℕ) (l : List (List ℕ)). (given ++ record { text = text; area = c.page.area } ∷ []) ++ pieces_of_turns p (filter is_intact l) t.state) (sym pid_is) (sym left_is);
       services_are = is;
-      area_is = kept_area;
+      clock_is = made.stands.page.clock;
+      area_is = made.stands.page.area;
       unspent = unspent;
       kept = record {
         broadcast = made.stands;
@@ -339,10 +415,10 @@ turned same old between new b c a spent still section text gives intact follows 
       };
     }
 
-pub makes_turn : SameLists → (old between new : DemultiplexerState) (b c : BroadcastState) (a : List ℕ) (spent still : Bool) (section text before after : List ℕ) → GivesNext old between section → is_intact section ≡ true
-    → IsFollowed between new c.services → ((s : State) → broadcasts.StandsFor b s → HasTurned c text (turn old.pid section s)) → wants b.services old.pid ≡ true → still ≡ false
-    → after ≡ before ++ text → MakesTurn (seen old b a spent) (seen new c a still) before after
-makes_turn same old between new b c a spent still section text before after gives intact follows turns wanted unspent printed = record {
+pub makes_turn : SameLists → (old between new : DemultiplexerState) (b c : BroadcastState) (spent still : Bool) (section text before after : List ℕ) → GivesNext old between section → is_intact section ≡ true
+    → IsFollowed between new c.services → ((s : State) → broadcasts.StandsFor b s → HasMade c text (turn old.pid section s)) → wants b.services old.pid ≡ true → still ≡ false
+    → after ≡ before ++ text → MakesTurn (seen old b spent) (seen new c still) before after
+makes_turn same old between new b c spent still section text before after gives intact follows turns wanted unspent printed = record {
   section = section;
   rest = between.waiting;
   text = text;
@@ -350,7 +426,7 @@ makes_turn same old between new b c a spent still section text before after give
   intact = intact;
   left = follows.waiting ∙ ap (λ (p : ℕ). if wants c.services p then between.waiting else []) gives.pid;
   printed = printed;
-  gives = turned same old between new b c a spent still section text gives intact follows turns wanted unspent;
+  gives = turned same old between new b c spent still section text gives intact follows turns wanted unspent;
 }
 
 -- ---- what gets less

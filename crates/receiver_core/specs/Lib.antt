@@ -1,15 +1,7 @@
 pub mod Broadcasts
-pub mod Dispatches
-pub mod Displays
 pub mod Fronts
-pub mod Gifts
 pub mod Keeping
-pub mod Lines
-pub mod Loading
 pub mod Outputs
-pub mod Pendings
 pub mod Receiving
-pub mod ShownDocuments
-pub mod Startups
 pub mod State
 pub mod Turns

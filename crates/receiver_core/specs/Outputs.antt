@@ -1,17 +1,15 @@
 -- What a receiver prints for what comes to it: a list of pieces, one for each turn and one for each
 -- display list that is asked for. (This project's own.)
-use Rattle.std.specs.Prelude.{ℕ, ◌==◌, ◌&&◌, if◌then◌else◌, List, [], ◌∷◌, ◌++◌, filter, map}
+use Rattle.std.specs.Prelude.{ℕ, ◌+◌, ◌==◌, true, false, ◌&&◌, if◌then◌else◌, List, [], ◌∷◌, ◌++◌, filter, map}
 use Rattle.ts_packets.specs.Packet.{pid_of}
 use Rattle.ts_sections.specs.Sections.{completed_by}
 use Rattle.ts_sections.specs.Intact.{is_intact}
-use Rattle.display_list.specs.Show.{clock_line}
 use Rattle.psi_tables.specs.declared.services.Selection.{Selection}
 use Rattle.es_reader.specs.Readers.{Reader}
-use Rattle.receiver_core.specs.State.{Input, Packet, Show, Start, State, opening, wants}
-use Rattle.receiver_core.specs.State.Start.{Wanted, Refused, Loaded}
-use Rattle.receiver_core.specs.Dispatches.{turn}
-use Rattle.receiver_core.specs.Displays.{document_lines}
-use Rattle.receiver_core.specs.Turns.{Step}
+use Rattle.page.specs.Inputs.{display_of, with_clock, with_random}
+use Rattle.receiver_core.specs.State.{Input, State, opening, wants}
+use Rattle.receiver_core.specs.State.Input.{Packet, Key, Release, Tick, Random, Show}
+use Rattle.receiver_core.specs.Turns.{Step, key_turn, turn}
 
 -- a text, and the persistent area behind it
 pub record Piece : Type 0 where
@@ -22,7 +20,7 @@ abbrev pub texts_of : List Piece → List (List ℕ)
 texts_of pieces = map (λ piece. piece.text) pieces
 
 abbrev pub piece_of : Step → Piece
-piece_of step = record { text = step.text; area = step.state.area }
+piece_of step = record { text = step.text; area = step.state.page.area }
 
 -- ---- turns
 
@@ -58,23 +56,24 @@ sections_by packet s =
 abbrev pub intact_sections : List ℕ → State → List (List ℕ)
 intact_sections packet s = filter is_intact (sections_by packet s)
 
--- the display list of the document, behind the line of a clock that stands still; without one it is
--- that line alone
-abbrev pub display_of : Start → List ℕ
-display_of Wanted = clock_line 0
-display_of Refused = clock_line 0
-display_of (Loaded document) = clock_line 0 ++ document_lines document
-
--- what one input prints, and what it leaves: a packet the turns of the intact sections that it
--- completes
+-- What one input prints, and what it leaves: a packet the turns of the intact sections that it completes, and
+-- a key one turn. Nothing is printed where time passes, as nothing is due, nor for a random word.
 abbrev pub pieces_of : Input → State → List Piece
 pieces_of (Packet packet) s =
     pieces_of_turns (pid_of packet) (intact_sections packet s) (with_packet packet s)
-pieces_of Show s = record { text = display_of s.start; area = s.area } ∷ []
+pieces_of (Key key) s = piece_of (key_turn key true s) ∷ []
+pieces_of (Release key) s = piece_of (key_turn key false s) ∷ []
+pieces_of (Tick count) s = []
+pieces_of (Random word) s = []
+pieces_of Show s = record { text = display_of s.page; area = s.page.area } ∷ []
 
 abbrev pub state_after : Input → State → State
 state_after (Packet packet) s =
     state_behind_turns (pid_of packet) (intact_sections packet s) (with_packet packet s)
+state_after (Key key) s = (key_turn key true s).state
+state_after (Release key) s = (key_turn key false s).state
+state_after (Tick count) s = record s { page = with_clock (s.page.clock + count) s.page }
+state_after (Random word) s = record s { page = with_random word s.page }
 state_after Show s = s
 
 -- ---- all inputs

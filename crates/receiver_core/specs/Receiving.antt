@@ -6,8 +6,10 @@ use Rattle.psi_tables.specs.declared.services.Selection.{Selection}
 use Rattle.psi_tables.specs.Service.{ServicesState, wants}
 use Rattle.es_reader.specs.Readers.{Reader}
 use Rattle.receiver_core.specs.Keeping.{KeptState, Keeps}
-use Rattle.receiver_core.specs.Outputs.{Piece, display_of, outputs, pieces_of_turns, state_behind, state_behind_turns}
-use Rattle.receiver_core.specs.State.{Input, Show, State, opening, services}
+use Rattle.page.specs.Inputs.{display_of}
+use Rattle.receiver_core.specs.Outputs.{Piece, outputs, pieces_of_turns, state_behind, state_behind_turns}
+use Rattle.receiver_core.specs.State.{Input, State, opening, services}
+use Rattle.receiver_core.specs.State.Input.{Key, Release, Show}
 
 pub record ReceiverState : Type 0 where
   -- the service that is asked for, the one that is played, and its component map
@@ -16,7 +18,8 @@ pub record ReceiverState : Type 0 where
   -- still to come, damaged ones too, in their order
   pub pid : ℕ
   pub waiting : List (List ℕ)
-  -- the persistent area
+  -- the time, in milliseconds, and the persistent area
+  pub clock : ℕ
   pub area : List ℕ
   -- whether a call found no memory
   pub spent : Bool
@@ -34,7 +37,8 @@ pub record StandsFor (read : Reader) (selection : Selection) (area : List ℕ) (
   pub pieces : outputs read selection area inputs
       ≡ given ++ pieces_of_turns state.pid (filter is_intact state.waiting) now
   pub services_are : state.services ≡ services now
-  pub area_is : state.area ≡ now.area
+  pub clock_is : state.clock ≡ now.page.clock
+  pub area_is : state.area ≡ now.page.area
   pub unspent : state.spent ≡ false
   -- a device
   pub kept : Keeps state.kept now
@@ -82,12 +86,17 @@ Gives text old new =
     → StandsFor read selection area new inputs
     (given ++ record { text = text; area = new.area } ∷ [])
 
--- it was asked to show, and gave this text for that
-abbrev pub Shows : List ℕ → ReceiverState → ReceiverState → Type 0
-Shows text old new =
+-- a key that is pressed, or one that is released
+abbrev pub key_input : ℕ → Bool → Input
+key_input key true = Key key
+key_input key false = Release key
+
+-- it took one input, and gave this text for that
+abbrev pub Answers : Input → List ℕ → ReceiverState → ReceiverState → Type 0
+Answers input text old new =
     (read : Reader) (selection : Selection) (area : List ℕ) (inputs : List Input)
     (given : List Piece) → StandsFor read selection area old inputs given
-    → StandsFor read selection area new (inputs ++ Show ∷ [])
+    → StandsFor read selection area new (inputs ++ input ∷ [])
     (given ++ record { text = text; area = new.area } ∷ [])
 
 -- No section was waiting: nothing is printed, and nothing done.
@@ -117,10 +126,17 @@ pub record MakesTurn (old new : ReceiverState) (before after : List ℕ) : Type 
   pub printed : after ≡ before ++ text
   pub gives : Gives text old new
 
+-- The one piece of an input is printed.
+pub record Prints (input : Input) (old new : ReceiverState) (before after : List ℕ)
+    : Type 0 where
+  pub text : List ℕ
+  pub printed : after ≡ before ++ text
+  pub gives : Answers input text old new
+
 -- The display list is printed, of the state that the turns so far left. Where no turn is still to
 -- come, this is what the wish to see it prints.
 pub record PrintsDisplay (old new : ReceiverState) (before after : List ℕ) : Type 0 where
   pub text : List ℕ
   pub printed : after ≡ before ++ text
-  pub display : ForState old (λ now. text ≡ display_of now.start)
-  pub shows : IsIdle old → Shows text old new
+  pub display : ForState old (λ now. text ≡ display_of now.page)
+  pub shows : IsIdle old → Answers Show text old new

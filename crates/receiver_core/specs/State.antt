@@ -7,23 +7,23 @@ use Rattle.psi_tables.specs.Service as services_of
 use Rattle.module_store.specs.Store.{Stored}
 use Rattle.module_store.specs.Store as store
 use Rattle.es_reader.specs.Readers.{Reader}
-use Rattle.document_load.specs.StyleTexts.{DocumentState}
+use Rattle.page.specs.State as page
 
--- the next packet of the stream, of whatever PID, or the wish to see what is displayed
 pub data Input : Type 0 where
+  -- the next packet of the stream, of whatever PID
   Packet : List ℕ → Input
+  -- a key is pressed, or released
+  Key : ℕ → Input
+  Release : ℕ → Input
+  -- so many milliseconds pass
+  Tick : ℕ → Input
+  -- a random word
+  Random : ℕ → Input
+  -- the wish to see what is displayed
   Show : Input
 
--- what became of the start document: it is still wanted, it was refused, or it was loaded as this
--- document
-pub data Start : Type 0 where
-  Wanted : Start
-  Refused : Start
-  Loaded : DocumentState → Start
-
 pub record State : Type 0 where
-  -- which programs texts are, and which service is asked for: neither changes
-  pub read : Reader
+  -- which service is asked for, which doesn't change
   pub selection : Selection
   -- the intact sections handled so far, each with the PID on which it came
   pub handled : List Handled
@@ -32,9 +32,8 @@ pub record State : Type 0 where
   pub packets : ℕ → List (List ℕ)
   -- the components with their messages
   pub store : Stored
-  pub start : Start
-  -- the persistent area. Nothing changes it at this stage.
-  pub area : List ℕ
+  -- the documents, the time, and the persistent area
+  pub page : page.State
 
 -- the service and the component map at present
 abbrev pub services : State → ServicesState
@@ -50,11 +49,9 @@ wants s pid = services_of.wants (services s) pid
 -- before the first input, with that area: with a data PID its component is there at once
 abbrev pub opening : Reader → Selection → List ℕ → State
 opening read selection area = record {
-  read = read;
   selection = selection;
   handled = [];
   packets = λ pid. [];
   store = store.with_map (map_of selection []) store.at_start;
-  start = Wanted;
-  area = area;
+  page = page.opening read area;
 }

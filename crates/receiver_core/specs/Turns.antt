@@ -1,10 +1,12 @@
--- What intact sections change, before the dispatches of their turns. (This project's own.)
-use Rattle.std.specs.Prelude.{ℕ, if◌then◌else◌, List, [], ◌∷◌, ◌++◌, Option, Some, None}
-use Rattle.std.specs.List.{flat_map}
+-- What intact sections and keys change, with the turns that follow. (This project's own.)
+use Rattle.std.specs.Prelude.{ℕ, Bool, if◌then◌else◌, List, [], ◌∷◌, ◌++◌, map, Option, Some, None}
 use Rattle.psi_tables.specs.Components.{tag_in}
 use Rattle.psi_tables.specs.Service.{reads_table}
+use Rattle.carousel_blocks.specs.declared.changes.Change.{Change}
 use Rattle.module_store.specs.Store as store
-use Rattle.receiver_core.specs.Lines.{line_of_change}
+use Rattle.page.specs.Dispatches as dispatches
+use Rattle.page.specs.Inputs.{changes_step, key_step}
+use Rattle.page.specs.State as page
 use Rattle.receiver_core.specs.State.{State, services, wants}
 
 -- a step: the state that it leaves, and what it prints
@@ -12,26 +14,34 @@ pub record Step : Type 0 where
   pub state : State
   pub text : List ℕ
 
+-- a step of the page alone
+abbrev pub of_page : State → page.Step → Step
+of_page s step = record { state = record s { page = step.state }; text = step.text }
+
+-- ---- sections
+
 -- behind one more section handled: a PID that isn't wanted any more loses its packets
 abbrev pub with_handled : ℕ → List ℕ → State → State
 with_handled pid section s =
     let now = record s { handled = s.handled ++ record { pid = pid; section = section } ∷ [] } in
     record now { packets = λ other. if wants now other then s.packets other else [] }
 
+-- the page is told of changes in modules, each with its component
+abbrev pub with_changes : List (ℕ × Change) → State → Step
+with_changes changes now = of_page now (changes_step changes now.page)
+
 -- A table: the components are those of the map that it leaves; what left is gone.
 abbrev pub step_of_table : State → Step
-step_of_table now = record {
-  state = record now { store = store.with_map (services now).map now.store };
-  text =
-      flat_map (λ gone. line_of_change gone.0 gone.1) (store.gone_by (services now).map now.store);
-}
+step_of_table now =
+    with_changes (store.gone_by (services now).map now.store)
+    (record now { store = store.with_map (services now).map now.store })
 
 -- A section of a component: its changes
 abbrev pub step_of_component : ℕ → List ℕ → State → Step
-step_of_component component section now = record {
-  state = record now { store = store.with_section component section now.store };
-  text = flat_map (line_of_change component) (store.changes_by component section now.store);
-}
+step_of_component component section now =
+    with_changes
+    (map (λ change. (component, change)) (store.changes_by component section now.store))
+    (record now { store = store.with_section component section now.store })
 
 abbrev pub step_of_tag : Option ℕ → List ℕ → State → Step
 step_of_tag None section now = record { state = now; text = [] }
@@ -44,3 +54,24 @@ step_of_section pid section s =
     if reads_table s.selection (services s).service pid
     then step_of_table (with_handled pid section s)
     else step_of_tag (tag_in (services s).map pid) section (with_handled pid section s)
+
+-- ---- turns
+
+-- the turn of the page
+abbrev pub page_turn : State → Step
+page_turn s = of_page s (dispatches.turn s.store s.page)
+
+-- a step and the turn that follows it
+abbrev pub with_turn : Step → Step
+with_turn t = record {
+  state = (page_turn t.state).state;
+  text = t.text ++ (page_turn t.state).text;
+}
+
+-- the turn of an intact section on a PID: what it changes, and the dispatches
+unfoldable pub turn : ℕ → List ℕ → State → Step
+turn pid section s = with_turn (step_of_section pid section s)
+
+-- that of a key that is pressed or released
+unfoldable pub key_turn : ℕ → Bool → State → Step
+key_turn key down s = with_turn (of_page s (key_step key down s.page))

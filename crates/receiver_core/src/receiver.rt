@@ -1,13 +1,13 @@
-//! The receiver: from the packets of a stream to what the turns of its sections print.
+//! The receiver: from what comes to it to what it prints.
 
-ghost use Rattle.std.specs.Prelude.{◌≡◌, ◌⊎◌, ℕ, ◌<◌, [], List, true, false, IfOk, OnOk, OnErr};
+ghost use Rattle.std.specs.Prelude.{◌≡◌, ◌⊎◌, ℕ, ◌+◌, ◌^◌, ◌<◌, [], List, true, false, IfOk, OnOk, OnErr};
 ghost use Rattle.std.specs.Prelude.{IsErr, Ok};
 ghost use Rattle.std.specs.Io.{StartsWith};
 ghost use Rattle.ts_packets.specs.Packet.{pid_of};
 ghost use Rattle.psi_tables.specs.Service.{wants as wants_by};
 ghost use Rattle.es_reader.specs.Readers.{Reader, IsReader};
 ghost use Rattle.receiver_core.specs.Outputs.{sections_by};
-ghost use Rattle.receiver_core.specs.State.{Packet as APacket};
+ghost use Rattle.receiver_core.specs.State.Input.{Packet as APacket};
 
 use crate::broadcast::Broadcast;
 use bml_bytes::{AreaBytes, NoMemory};
@@ -18,8 +18,8 @@ use std::marker::Model;
 use ts_packets::Packet;
 use ts_sections::is_intact;
 
-/// Receives a service of a stream, with the modules of its data carousels, and loads and shows its
-/// start document.
+/// Receives a service of a stream, with the modules of its data carousels, and its documents, which
+/// act on keys.
 ///
 /// Hand in a packet by [`packet`](Receiver::packet), and then make the turns of the sections that
 /// it completes by [`section_turn`](Receiver::section_turn), until that answers `false`. Once a
@@ -28,7 +28,6 @@ use ts_sections::is_intact;
 pub struct Receiver {
     demultiplexer: Demultiplexer,
     broadcast: Broadcast,
-    area: AreaBytes,
     spent: bool,
 }
 
@@ -42,7 +41,8 @@ impl Model for Receiver {
       services = r.broadcast.services;
       pid = r.demultiplexer.pid;
       waiting = r.demultiplexer.waiting;
-      area = r.area;
+      clock = r.broadcast.page.clock;
+      area = r.broadcast.page.area;
       spent = r.spent;
       kept = record { demultiplexer = r.demultiplexer; broadcast = r.broadcast };
     } };
@@ -53,8 +53,9 @@ impl Model for Receiver {
 
 impl Receiver {
     ghost use Rattle.receiver_core.specs.Receiving.{ForState, IsIdle, IsOver, IsSpent, MakesTurn};
-    ghost use Rattle.receiver_core.specs.Receiving.{PassesDamaged, PrintsDisplay, StandsFor, Takes};
-    ghost use Rattle.receiver_core.specs.Receiving.{sections_left};
+    ghost use Rattle.receiver_core.specs.State.Input.{Key, Random, Release, Tick};
+    ghost use Rattle.receiver_core.specs.Receiving.{PassesDamaged, Prints, PrintsDisplay, StandsFor, Takes};
+    ghost use Rattle.receiver_core.specs.Receiving.{key_input, sections_left};
 
     /// A receiver of the service or the data that is asked for, with this persistent area, to which
     /// nothing came.
@@ -63,12 +64,12 @@ impl Receiver {
             → StandsFor read selection area receiver [] []) }
         ensures idle { IfOk result (λ receiver. IsIdle receiver) }
         ensures unspent { IfOk result (λ receiver. receiver.spent ≡ false) }
+        ensures clock { IfOk result (λ receiver. receiver.clock ≡ 0) }
         ensures area { IfOk result (λ receiver. receiver.area ≡ area) }
     {
         Ok(Receiver {
             demultiplexer: Demultiplexer::new(alloc)?,
-            broadcast: Broadcast::new(alloc, selection)?,
-            area,
+            broadcast: Broadcast::new(alloc, selection, area)?,
             spent: false,
         })
     }
@@ -91,6 +92,7 @@ impl Receiver {
         ensures sections { ForState self.old
             (λ now. self.new.waiting ≡ sections_by packet.now now) }
         ensures spent { self.new.spent ≡ self.old.spent }
+        ensures clock { self.new.clock ≡ self.old.clock }
         ensures area { self.new.area ≡ self.old.area }
     {
         if self.wants(packet.pid()) {
@@ -107,6 +109,7 @@ impl Receiver {
         ensures sections { ForState self.old
             (λ now. self.new.waiting ≡ sections_by packet.now now) }
         ensures spent { self.new.spent ≡ self.old.spent }
+        ensures clock { self.new.clock ≡ self.old.clock }
         ensures area { self.new.area ≡ self.old.area }
     {
         law_of_wanted_pids();
@@ -127,6 +130,7 @@ impl Receiver {
         ensures fewer { result ≡ Ok true → sections_left self.new < sections_left self.old }
         ensures idle { result ≡ Ok false → IsIdle self.new }
         ensures begins { StartsWith out.new.items out.old.items }
+        ensures clock { OnOk result (self.new.clock ≡ self.old.clock) }
         ensures area { OnOk result (self.new.area ≡ self.old.area) }
         ensures unspent { OnOk result (self.new.spent ≡ false) }
         ensures spent { OnErr result (IsSpent self.new) }
@@ -154,14 +158,95 @@ impl Receiver {
         }
     }
 
-    /// Appends the display list: `show 0`, and the boxes, texts and pictures of the document, where
-    /// one is loaded.
+    /// Makes the turn of a key that is pressed, by its number, and appends what it prints: what the
+    /// key posts, where the document's body lets it pass, and the dispatches.
+    pub fn key(&mut self, code: u8, out: &mut Vec<u8>) -> Result<(), NoMemory>
+        requires idle { IsIdle self.old }
+        ensures printed { OnOk result
+            (Prints (Key code) self.old self.new out.old.items out.new.items) }
+        ensures idle { IsIdle self.new }
+        ensures clock { OnOk result (self.new.clock ≡ self.old.clock) }
+        ensures begins { StartsWith out.new.items out.old.items }
+        ensures unspent { OnOk result (self.new.spent ≡ false) }
+        ensures spent { OnErr result (IsSpent self.new) }
+        ensures after_spent { IsSpent self.old → IsErr result }
+    {
+        self.key_turn(code, true, out)
+    }
+
+    /// Makes the turn of a key that is released, by its number, and appends what it prints.
+    pub fn release(&mut self, code: u8, out: &mut Vec<u8>) -> Result<(), NoMemory>
+        requires idle { IsIdle self.old }
+        ensures printed { OnOk result
+            (Prints (Release code) self.old self.new out.old.items out.new.items) }
+        ensures idle { IsIdle self.new }
+        ensures clock { OnOk result (self.new.clock ≡ self.old.clock) }
+        ensures begins { StartsWith out.new.items out.old.items }
+        ensures unspent { OnOk result (self.new.spent ≡ false) }
+        ensures spent { OnErr result (IsSpent self.new) }
+        ensures after_spent { IsSpent self.old → IsErr result }
+    {
+        self.key_turn(code, false, out)
+    }
+
+    /// Lets time pass: it goes to the next moment within `left` milliseconds at which something is
+    /// due and makes its turn, or goes the whole of `left` without one; and answers the
+    /// milliseconds that are left. Nothing is due yet.
+    pub fn clock_step(&mut self, left: u32, out: &mut Vec<u8>) -> Result<u32, NoMemory>
+        requires idle { IsIdle self.old }
+        requires within { self.old.clock + left < 2 ^ 62 }
+        ensures passed { OnOk result (Takes (Tick left) self.old self.new) }
+        ensures whole { IfOk result (λ rest. rest ≡ 0) }
+        ensures clock { OnOk result (self.new.clock ≡ self.old.clock + left) }
+        ensures idle { IsIdle self.new }
+        ensures silent { out.new ≡ out.old }
+        ensures unspent { OnOk result (self.new.spent ≡ false) }
+        ensures spent { OnErr result (IsSpent self.new) }
+        ensures after_spent { IsSpent self.old → IsErr result }
+    {
+        if self.spent {
+            return Err(NoMemory);
+        }
+        match self.broadcast.pass_time(left, out) {
+            Ok(()) => Ok(0),
+            Err(error) => {
+                self.spent = true;
+                Err(error)
+            }
+        }
+    }
+
+    /// Takes a random word, which waits behind those that are left.
+    pub fn random(&mut self, word: u32) -> Result<(), NoMemory>
+        requires idle { IsIdle self.old }
+        ensures taken { OnOk result (Takes (Random word) self.old self.new) }
+        ensures idle { IsIdle self.new }
+        ensures clock { OnOk result (self.new.clock ≡ self.old.clock) }
+        ensures unspent { OnOk result (self.new.spent ≡ false) }
+        ensures spent { OnErr result (IsSpent self.new) }
+        ensures after_spent { IsSpent self.old → IsErr result }
+    {
+        if self.spent {
+            return Err(NoMemory);
+        }
+        match self.broadcast.add_random(word) {
+            Ok(()) => Ok(()),
+            Err(error) => {
+                self.spent = true;
+                Err(error)
+            }
+        }
+    }
+
+    /// Appends the display list: `show` with the time, and the boxes, texts and pictures of the
+    /// document, where there is one, and its focus.
     pub fn show(&mut self, out: &mut Vec<u8>) -> Result<(), NoMemory>
-        ensures same { OnOk result (self.new ≡ self.old) }
         ensures shown { OnOk result
             (PrintsDisplay self.old self.new out.old.items out.new.items) }
+        ensures idle { IsIdle self.old → IsIdle self.new }
+        ensures clock { OnOk result (self.new.clock ≡ self.old.clock) }
         ensures begins { StartsWith out.new.items out.old.items }
-        ensures area { self.new.area ≡ self.old.area }
+        ensures area { OnOk result (self.new.area ≡ self.old.area) }
         ensures unspent { OnOk result (self.new.spent ≡ false) }
         ensures spent { OnErr result (IsSpent self.new) }
         ensures after_spent { IsSpent self.old → IsErr result }
@@ -178,10 +263,34 @@ impl Receiver {
         }
     }
 
-    /// The persistent area. Nothing changes it at this stage.
+    /// The persistent area.
     pub fn area(&self) -> &AreaBytes
         ensures { result.now ≡ self.now.area }
     {
-        &self.area
+        self.broadcast.area()
+    }
+
+    // Makes the turn of a key.
+    fn key_turn(&mut self, code: u8, down: bool, out: &mut Vec<u8>) -> Result<(), NoMemory>
+        requires idle { IsIdle self.old }
+        ensures printed { OnOk result
+            (Prints (key_input code down) self.old self.new out.old.items out.new.items) }
+        ensures idle { IsIdle self.new }
+        ensures clock { OnOk result (self.new.clock ≡ self.old.clock) }
+        ensures begins { StartsWith out.new.items out.old.items }
+        ensures unspent { OnOk result (self.new.spent ≡ false) }
+        ensures spent { OnErr result (IsSpent self.new) }
+        ensures after_spent { IsSpent self.old → IsErr result }
+    {
+        if self.spent {
+            return Err(NoMemory);
+        }
+        match self.broadcast.key(code, down, out) {
+            Ok(()) => Ok(()),
+            Err(error) => {
+                self.spent = true;
+                Err(error)
+            }
+        }
     }
 }

@@ -1,46 +1,56 @@
 -- What line is an item, and what line asks for nothing.
-use Rattle.std.proofs.Common.{◌≡◌, ◌≢◌, ℕ, ◌<◌, ◌≤◌, ◌==◌, inl, inr, Bool, true, false, cond}
+use Rattle.std.proofs.Common.{◌≡◌, ◌≢◌, ℕ, ◌≤◌, inl, inr, ◌⊎◌, Bool, true, false, cond, ◌&&◌}
 use Rattle.std.proofs.Common.{nat_le, List, [], ◌∷◌, codes, length, Option, Some, None}
-use Rattle.std.proofs.Common.{option_and_then, refl, sym, ap, ◌∙◌, arith, eqb-true, leb-true}
-use Rattle.std.proofs.Common.{le-leb}
-use Rattle.std.proofs.lemmas.Bool.Decides.{nat_tests}
+use Rattle.std.proofs.Common.{option_and_then, refl, sym, ap, subst, ◌∙◌, arith, eqb-true}
+use Rattle.std.proofs.Common.{leb-true, le-leb}
+use Rattle.std.proofs.lemmas.Bool.{and_from, and_parts}
+use Rattle.std.proofs.lemmas.Option.{cond_some, none-some, same_Some, option_and_then_some}
 use Rattle.std.specs.Cmp.Lexicographic.{bytes_decides}
 use Rattle.bml_bytes.specs.Numerals.{decimal_field}
 use Rattle.bml_bytes.specs.Words.{is_same}
 use Rattle.replay_run.specs.declared.record.RecordItem.{RecordItem}
-use Rattle.replay_run.specs.declared.record.RecordItem.TheVariants.{All, Packets, Show}
+use Rattle.replay_run.specs.declared.record.RecordItem.TheVariants.{All, Packets, Key, Release}
+use Rattle.replay_run.specs.declared.record.RecordItem.TheVariants.{Tick, Random, Show}
 use Rattle.replay_run.specs.declared.record.Line.{Line}
 use Rattle.replay_run.specs.declared.record.Line.TheVariants.{Item as Read, Nothing, Bad}
-use Rattle.replay_run.specs.Record.{fields, packets_item, item_of, item_line, is_comment}
-use Rattle.replay_run.specs.Record.{line_with, line_of, IsWritten, AsksNothing}
+use Rattle.replay_run.specs.Record.{fields, is_key, tick_limit, item_where, numbered_item}
+use Rattle.replay_run.specs.Record.{plain_item, item_of, item_line, is_comment, line_with, line_of}
+use Rattle.replay_run.specs.Record.{HasNumber, IsWritten, AsksNothing}
 
 -- ---- from how it is written
 
-same_word : (word : List ℕ) → is_same word word ≡ true
-same_word word = (bytes_decides word word).1 refl
+-- a line of a name and a number, where these are an item
+number_written : (name : List ℕ) (count : ℕ) (item : RecordItem) (words : List (List ℕ))
+    → HasNumber name count words → is_comment name ≡ false → numbered_item name count ≡ Some item
+    → line_with words ≡ Read item
+number_written name count item words w plain e =
+    ap line_with w.1
+    ∙ ap (λ b. cond b Nothing (item_line (option_and_then (numbered_item name) (decimal_field w.0))))
+    plain
+    ∙ ap (λ o. item_line (option_and_then (numbered_item name) o)) w.2
+    ∙ ap item_line e
 
-all_written : line_with (codes "all" ∷ []) ≡ Read All
-all_written = ap (λ b. item_line
-    (cond b (Some All) (cond (is_same (codes "all") (codes "show")) (Some Show) None)))
-    (same_word (codes "all"))
-
-show_written : line_with (codes "show" ∷ []) ≡ Read Show
-show_written = ap (λ b. item_line (cond b (Some Show) None)) (same_word (codes "show"))
-
-packets_written : (number : List ℕ) (count : ℕ) → decimal_field number ≡ Some count → 0 < count
-    → line_with (codes "packets" ∷ number ∷ []) ≡ Read (Packets count)
-packets_written number count e some =
-    let more : (count == 0) ≡ false = grind (arith, nat_tests) in
-    ap (λ b. item_line (cond b (option_and_then packets_item (decimal_field number)) None))
-    (same_word (codes "packets"))
-    ∙ ap (λ o. item_line (option_and_then packets_item o)) e
-    ∙ ap (λ b. item_line (cond b None (Some (Packets count)))) more
+item_at : (test : Bool) (item : RecordItem) → test ≡ true → item_where test item ≡ Some item
+item_at test item e = ap (λ b. item_where b item) e
 
 written : (item : RecordItem) (words : List (List ℕ)) → IsWritten item words → line_with words
     ≡ Read item
-written All words w = ap line_with w ∙ all_written
-written (Packets count) words w = ap line_with w.1 ∙ packets_written w.0 count w.2 w.3
-written Show words w = ap line_with w ∙ show_written
+written All words w = ap line_with w
+written (Packets count) words w =
+    number_written (codes "packets") count (Packets count) words w.0 refl
+    (item_at (nat_le 1 count) (Packets count) (le-leb 1 count (omega (arith, w.1))))
+written (Key key) words w =
+    number_written (codes "key") key (Key key) words w.0 refl (item_at (is_key key) (Key key) w.1)
+written (Release key) words w =
+    number_written (codes "release") key (Release key) words w.0 refl
+    (item_at (is_key key) (Release key) w.1)
+written (Tick count) words w =
+    number_written (codes "tick") count (Tick count) words w.0 refl
+    (item_at (nat_le 1 count && nat_le count tick_limit) (Tick count)
+    (and_from _ _ (le-leb 1 count (omega (arith, w.1))) (le-leb count tick_limit w.2)))
+written (Random word) words w =
+    number_written (codes "random") word (Random word) words w refl refl
+written Show words w = ap line_with w
 
 comment_written : (name : List ℕ) (more : List (List ℕ)) → line_with ((35 ∷ name) ∷ more) ≡ Nothing
 comment_written name more = refl
@@ -64,56 +74,98 @@ nothing_read line short w = short_line line short ∙ nothing_written (fields li
 
 -- ---- and back
 
-plain_case : (name : List ℕ) (all show : Bool) (item : RecordItem)
-    → (all ≡ true → name ≡ codes "all") → (show ≡ true → name ≡ codes "show")
-    → cond all (Some All) (cond show (Some Show) None) ≡ Some item → IsWritten item (name ∷ [])
-plain_case name true show All is_all is_show e = ap (λ word. word ∷ []) (is_all refl)
-plain_case name true show (Packets count) is_all is_show e = let clash : All ≡ Packets count =
-    cc in cc
-plain_case name true show Show is_all is_show e = let clash : All ≡ Show = cc in cc
-plain_case name false true All is_all is_show e = let clash : Show ≡ All = cc in cc
-plain_case name false true (Packets count) is_all is_show e = let clash : Show ≡ Packets count =
-    cc in cc
-plain_case name false true Show is_all is_show e = ap (λ word. word ∷ []) (is_show refl)
-plain_case name false false item is_all is_show e = let clash : None ≡ Some item = e in cc
+-- a choice that is something
+choice : (test : Bool) (one other : Option RecordItem) (item : RecordItem)
+    → cond test one other ≡ Some item → ((test ≡ true) × (one ≡ Some item)) ⊎ (other ≡ Some item)
+choice true one other item e = inl (refl, e)
+choice false one other item e = inr e
 
-positive_case : (zero : Bool) (count : ℕ) (item : RecordItem)
-    → cond zero None (Some (Packets count)) ≡ Some item → (zero ≡ false) × (item ≡ Packets count)
-positive_case true count item e = let clash : None ≡ Some item = e in cc
-positive_case false count item e = let same : item ≡ Packets count = cc in (refl, same)
+same_written : (words : List (List ℕ)) (found item : RecordItem) → found ≡ item
+    → IsWritten found words → IsWritten item words
+same_written words found item e w =
+    let P : RecordItem → Type 0 = λ i. IsWritten i words in subst P e w
 
-packets_case : (name number : List ℕ) (named : Bool) (found : Option ℕ) (item : RecordItem)
-    → (named ≡ true → name ≡ codes "packets") → decimal_field number ≡ found
-    → cond named (option_and_then packets_item found) None ≡ Some item
+plain_words : (name : List ℕ) (item : RecordItem) → plain_item name ≡ Some item
+    → IsWritten item (name ∷ [])
+plain_words name item e =
+    elim (choice (is_same name (codes "all")) _ _ item e) [
+      | inl c ↦ same_written _ All item (same_Some All item c.1)
+          (ap (λ word. word ∷ []) ((bytes_decides name (codes "all")).0 c.0))
+      | inr e ↦ elim (choice (is_same name (codes "show")) _ _ item e) [
+        | inl c ↦ same_written _ Show item (same_Some Show item c.1)
+            (ap (λ word. word ∷ []) ((bytes_decides name (codes "show")).0 c.0))
+        | inr none ↦ absurd (none-some item none)
+      ]
+    ]
+
+has_number : (name number : List ℕ) (count : ℕ) → decimal_field number ≡ Some count
+    → (word : List ℕ) → is_same name word ≡ true → HasNumber word count (name ∷ number ∷ [])
+has_number name number count e word same =
+    (number, ap (λ w. w ∷ number ∷ []) ((bytes_decides name word).0 same), e)
+
+-- the item of a name and a number, name by name
+packets_words : (words : List (List ℕ)) (count : ℕ) (item : RecordItem)
+    → HasNumber (codes "packets") count words
+    → item_where (nat_le 1 count) (Packets count) ≡ Some item → IsWritten item words
+packets_words words count item has e =
+    let p = cond_some (nat_le 1 count) (Packets count) item e in
+    same_written words (Packets count) item p.1 (has, omega (arith, leb-true 1 count p.0))
+
+key_words : (words : List (List ℕ)) (key : ℕ) (item : RecordItem)
+    → HasNumber (codes "key") key words → item_where (is_key key) (Key key) ≡ Some item
+    → IsWritten item words
+key_words words key item has e =
+    let p = cond_some (is_key key) (Key key) item e in
+    same_written words (Key key) item p.1 (has, p.0)
+
+release_words : (words : List (List ℕ)) (key : ℕ) (item : RecordItem)
+    → HasNumber (codes "release") key words → item_where (is_key key) (Release key) ≡ Some item
+    → IsWritten item words
+release_words words key item has e =
+    let p = cond_some (is_key key) (Release key) item e in
+    same_written words (Release key) item p.1 (has, p.0)
+
+tick_words : (words : List (List ℕ)) (count : ℕ) (item : RecordItem)
+    → HasNumber (codes "tick") count words
+    → item_where (nat_le 1 count && nat_le count tick_limit) (Tick count) ≡ Some item
+    → IsWritten item words
+tick_words words count item has e =
+    let p = cond_some (nat_le 1 count && nat_le count tick_limit) (Tick count) item e in
+    let bounds = and_parts (nat_le 1 count) (nat_le count tick_limit) p.0 in
+    same_written words (Tick count) item p.1
+    (has, omega (arith, leb-true 1 count bounds.0), leb-true count tick_limit bounds.1)
+
+number_words : (name number : List ℕ) (count : ℕ) (item : RecordItem)
+    → decimal_field number ≡ Some count → numbered_item name count ≡ Some item
     → IsWritten item (name ∷ number ∷ [])
-packets_case name number false found item is_named is_found e = let clash : None ≡ Some item = e in
-    cc
-packets_case name number true None item is_named is_found e = let clash : None ≡ Some item = e in cc
-packets_case name number true (Some count) All is_named is_found e =
-    let p = positive_case (count == 0) count All e in let clash : All ≡ Packets count = p.1 in cc
-packets_case name number true (Some count) Show is_named is_found e =
-    let p = positive_case (count == 0) count Show e in let clash : Show ≡ Packets count = p.1 in cc
-packets_case name number true (Some count) (Packets n) is_named is_found e =
-    let p = positive_case (count == 0) count (Packets n) e in
-    let same : n ≡ count = cc in
-    let zero : (count == 0) ≡ false = p.0 in
-    let some : 0 < count = grind (arith, nat_tests) in (
-      number,
-      ap (λ word. word ∷ number ∷ []) (is_named refl),
-      is_found
-          ∙ ap Some (sym same),
-      omega arith,
-    )
+number_words name number count item is_number e =
+    let has = has_number name number count is_number in
+    elim (choice (is_same name (codes "packets")) _ _ item e) [
+      | inl c ↦ packets_words _ count item (has (codes "packets") c.0) c.1
+      | inr e ↦ elim (choice (is_same name (codes "key")) _ _ item e) [
+        | inl c ↦ key_words _ count item (has (codes "key") c.0) c.1
+        | inr e ↦ elim (choice (is_same name (codes "release")) _ _ item e) [
+          | inl c ↦ release_words _ count item (has (codes "release") c.0) c.1
+          | inr e ↦ elim (choice (is_same name (codes "tick")) _ _ item e) [
+            | inl c ↦ tick_words _ count item (has (codes "tick") c.0) c.1
+            | inr e ↦ elim (choice (is_same name (codes "random")) _ _ item e) [
+              | inl c ↦ same_written _ (Random count) item (same_Some (Random count) item c.1)
+                  (has (codes "random") c.0)
+              | inr none ↦ absurd (none-some item none)
+            ]
+          ]
+        ]
+      ]
+    ]
 
 item_words : (words : List (List ℕ)) (item : RecordItem) → item_of words ≡ Some item
     → IsWritten item words
-item_words [] item e = let clash : None ≡ Some item = e in cc
-item_words (name ∷ []) item e =
-    plain_case name _ _ item (bytes_decides name (codes "all")).0
-    (bytes_decides name (codes "show")).0 e
+item_words [] item e = absurd (none-some item e)
+item_words (name ∷ []) item e = plain_words name item e
 item_words (name ∷ number ∷ []) item e =
-    packets_case name number _ _ item (bytes_decides name (codes "packets")).0 refl e
-item_words (name ∷ number ∷ other ∷ more) item e = let clash : None ≡ Some item = e in cc
+    option_and_then_some (numbered_item name) (decimal_field number) item e
+    (λ count is_number found. number_words name number count item is_number found)
+item_words (name ∷ number ∷ other ∷ more) item e = absurd (none-some item e)
 
 read_case : (found : Option RecordItem) (item : RecordItem) → item_line found ≡ Read item → found
     ≡ Some item

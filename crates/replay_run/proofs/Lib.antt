@@ -1,9 +1,11 @@
+pub mod ClockLaws
 pub mod CommandLaws
 pub mod CompletenessLaws
 pub mod CutLaws
 pub mod EndingLaws
 pub mod FieldLaws
 pub mod FirstPlaces
+pub mod InputLaws
 pub mod ItemLaws
 pub mod LineLaws
 pub mod RecordProgressLaws

@@ -2,14 +2,15 @@
 use Rattle.std.proofs.Common.{◌≡◌, ℕ, ◌+◌, ◌-◌, ◌≤◌, List, [], ◌∷◌, ◌++◌, map, length, take, drop}
 use Rattle.std.proofs.Common.{refl, sym, ap, ◌∙◌, append_assoc, append-nil, take_all}
 use Rattle.std.proofs.Common.{take-append-drop, drop_of_length-le, length-drop, eq-eqb, true≢false}
-use Rattle.std.proofs.Common.{arith, ◌≢◌, Bool, true, not, nat_eq, Option, Some, None, option_map}
+use Rattle.std.proofs.Common.{arith, ◌≢◌, Bool, true, false, not, nat_eq, Option, Some, None, option_map}
 use Rattle.std.proofs.Common.{cond}
 use Rattle.std.proofs.Math.Seq.{take-add}
 use Rattle.std.specs.Option.{option_eq}
 use Rattle.std.proofs.lemmas.List.{map-append}
 use Rattle.std.proofs.lemmas.List.Sums.{sum_by-append}
 use Rattle.receiver_core.specs.Fronts.{IsFront}
-use Rattle.receiver_core.specs.State.{Input, Packet, Show as Display}
+use Rattle.receiver_core.specs.State.{Input}
+use Rattle.receiver_core.specs.State.Input.{Packet}
 use Rattle.replay_run.specs.declared.record.RecordItem.{RecordItem}
 use Rattle.replay_run.specs.Midway.{item_of_count}
 use Rattle.replay_run.specs.Play.{inputs_of_item, packets_behind, inputs_of, packets_left}
@@ -67,9 +68,11 @@ pub packet_count-packet : (inputs : List Input) (packet : List ℕ)
     → packet_count (inputs ++ Packet packet ∷ []) ≡ packet_count inputs + 1
 packet_count-packet inputs packet = packet_count-append inputs (Packet packet ∷ [])
 
-pub packet_count-show : (inputs : List Input) → packet_count (inputs ++ Display ∷ [])
-    ≡ packet_count inputs
-packet_count-show inputs = packet_count-append inputs (Display ∷ []) ∙ omega arith
+pub packet_count-other : (inputs : List Input) (input : Input) → is_packet input ≡ false
+    → packet_count (inputs ++ input ∷ []) ≡ packet_count inputs
+packet_count-other inputs input other =
+    let none : packet_count (input ∷ []) ≡ 0 = rw other in
+    packet_count-append inputs (input ∷ []) ∙ omega arith
 
 -- ---- packets that are taken one by one
 

@@ -1,17 +1,23 @@
 -- The steps of reading a record, over plain values.
 use Rattle.std.proofs.Common.{◌≡◌, ◌≢◌, ℕ, ◌+◌, ◌<◌, ◌≤◌, true, false, List, [], ◌∷◌, ◌++◌, All}
 use Rattle.std.proofs.Common.{refl, sym, ap, ◌∙◌, subst, append_assoc, append-nil, length, Option}
-use Rattle.std.proofs.Common.{Some, None, arith, length-append, slice_get}
+use Rattle.std.proofs.Common.{Some, None, arith, length-append, slice_get, map}
+use Rattle.std.specs.Str.Lines.{lines}
 use Rattle.std.specs.List.{filter_map}
 use Rattle.std.proofs.lemmas.List.Elements.{All-push, filter_map-append}
 use Rattle.receiver_core.specs.Fronts.{IsFront}
 use Rattle.replay_run.specs.declared.record.RecordItem.{RecordItem}
+use Rattle.replay_run.specs.declared.record.RecordItem.TheVariants.{All as Every, Packets, Key}
+use Rattle.replay_run.specs.declared.record.RecordItem.TheVariants.{Release, Tick, Random, Show}
 use Rattle.replay_run.specs.declared.record.Line.{Line}
 use Rattle.replay_run.specs.declared.record.Line.TheVariants.{Item as Read, Nothing, Bad}
 use Rattle.replay_run.specs.RecordProgress.{RecordState, IsAt, IsWhole, IsBadBehind}
+use Rattle.replay_run.specs.Play.{milliseconds_of}
+use Rattle.replay_run.specs.Record.{line_of, tick_limit, IsWritten}
 use Rattle.replay_run.specs.Record.{lines_of, item_in, items_until_bad, items_before_bad, first_bad}
 use Rattle.replay_run.specs.RecordReader.{ReaderState, Gives, BeginsBad}
 use Rattle.replay_run.specs.Files.{file, GaveMore, GaveAtMost, record_limit}
+use Rattle.replay_run.proofs.ItemLaws.{read_item}
 use Rattle.replay_run.proofs.RecordLaws.{AreGood, items-good, whole_items, whole_bad, bad_items}
 use Rattle.replay_run.proofs.RecordLaws.{bad_number}
 
@@ -221,3 +227,32 @@ at_front notes now items a =
       joined = ap items_until_bad a.ahead ∙ items-good a.lines behind (record { each = a.good })
           ∙ ap (λ l. l ++ items_until_bad behind) a.items_are;
     }
+
+-- ---- the time that an item lets pass
+
+time_written : (item : RecordItem) (words : List (List ℕ)) → IsWritten item words
+    → milliseconds_of item ≤ tick_limit
+time_written Every words w = omega arith
+time_written (Packets count) words w = omega arith
+time_written (Key key) words w = omega arith
+time_written (Release key) words w = omega arith
+time_written (Tick count) words w = w.2
+time_written (Random word) words w = omega arith
+time_written Show words w = omega arith
+
+-- the first of some lines
+first_line : (bytes : List (List ℕ)) (line : Line) (more : List Line)
+    → map line_of bytes ≡ line ∷ more → (first : List ℕ) × (line_of first ≡ line)
+first_line [] line more e = let clash : [] ≡ line ∷ more = e in cc
+first_line (first ∷ others) line more e =
+    let lines : line_of first ∷ map line_of others ≡ line ∷ more = e in
+    let same : line_of first ≡ line = cc in (first, same)
+
+-- an item that is read lets no more pass than one may
+pub time_within : (old new : ReaderState) (item : RecordItem) → Gives old (Read item) new
+    → milliseconds_of item ≤ tick_limit
+unfolding lines_of
+time_within old new item gives =
+    let first = first_line (lines (old.held ++ [])) (Read item) (lines_of (new.held ++ []))
+    (gives [] (λ e. refl)) in
+    time_written item _ (read_item first.0 item first.1).1

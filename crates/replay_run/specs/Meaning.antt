@@ -31,7 +31,7 @@ replay_inputs stream notes = inputs_of (packets_of stream) (items_before_bad not
 
 -- the area that inputs leave of the area at the start
 abbrev pub area_behind : Reader → Selection → List ℕ → List Input → List ℕ
-area_behind read selection area inputs = (state_behind (opening read selection area) inputs).area
+area_behind read selection area inputs = (state_behind (opening read selection area) inputs).page.area
 
 -- how many packets were taken, behind these inputs
 abbrev pub end_piece : Reader → Selection → List ℕ → List Input → Piece

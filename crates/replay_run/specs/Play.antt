@@ -1,21 +1,32 @@
 -- What the items of a record hand to a receiver, over the packets of a stream. This project's own.
 use Rattle.std.specs.Prelude.{ℕ, Bool, true, false, List, [], ◌∷◌, ◌++◌, map, take, drop, count_by}
-use Rattle.receiver_core.specs.State.{Input, Packet, Show as Display}
+use Rattle.receiver_core.specs.State.{Input}
+use Rattle.receiver_core.specs.State.Input.{Packet, Key as KeyPress, Release as KeyRelease}
+use Rattle.receiver_core.specs.State.Input.{Tick as Passing, Random as RandomWord, Show as Display}
 use Rattle.replay_run.specs.declared.record.RecordItem.{RecordItem}
-use Rattle.replay_run.specs.declared.record.RecordItem.TheVariants.{All, Packets, Show}
+use Rattle.replay_run.specs.declared.record.RecordItem.TheVariants.{All, Packets, Key, Release}
+use Rattle.replay_run.specs.declared.record.RecordItem.TheVariants.{Tick, Random, Show}
 
--- what an item hands over where these packets are left: the packets that it takes, or the wish to
--- see the display list
+-- what an item hands over where these packets are left: the packets that it takes, or one other input
 abbrev pub inputs_of_item : RecordItem → List (List ℕ) → List Input
 inputs_of_item All packets = map Packet packets
 inputs_of_item (Packets count) packets = map Packet (take count packets)
+inputs_of_item (Key key) packets = KeyPress key ∷ []
+inputs_of_item (Release key) packets = KeyRelease key ∷ []
+inputs_of_item (Tick count) packets = Passing count ∷ []
+inputs_of_item (Random word) packets = RandomWord word ∷ []
 inputs_of_item Show packets = Display ∷ []
 
 -- and the packets that it leaves
 abbrev pub packets_behind : RecordItem → List (List ℕ) → List (List ℕ)
 packets_behind All packets = []
 packets_behind (Packets count) packets = drop count packets
-packets_behind Show packets = packets
+packets_behind _ packets = packets
+
+-- how many milliseconds an item lets pass
+abbrev pub milliseconds_of : RecordItem → ℕ
+milliseconds_of (Tick count) = count
+milliseconds_of _ = 0
 
 -- what items hand over, one after the other
 unfoldable pub inputs_of : List (List ℕ) → List RecordItem → List Input
@@ -31,7 +42,7 @@ packets_left packets (item ∷ items) = packets_left (packets_behind item packet
 -- how many packets were taken
 abbrev pub is_packet : Input → Bool
 is_packet (Packet packet) = true
-is_packet Display = false
+is_packet _ = false
 
 abbrev pub packet_count : List Input → ℕ
 packet_count inputs = count_by is_packet inputs

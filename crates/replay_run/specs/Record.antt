@@ -1,14 +1,16 @@
 -- The record: a file that says line by line what is done with the stream. Its form is this
 -- project's own.
-use Rattle.std.specs.Prelude.{◌≡◌, ℕ, ◌+◌, ◌<◌, Bool, true, false, ◌||◌, ◌==◌, ◌⊎◌, nat_eq, nat_le}
-use Rattle.std.specs.Prelude.{if◌then◌else◌, List, [], ◌∷◌, map, length, filter, position, codes}
+use Rattle.std.specs.Prelude.{◌≡◌, ℕ, ◌+◌, ◌<◌, ◌≤◌, Bool, true, false, ◌||◌, ◌&&◌, ◌==◌, ◌⊎◌}
+use Rattle.std.specs.Prelude.{nat_le, if◌then◌else◌, List, [], ◌∷◌, map, length, filter}
+use Rattle.std.specs.Prelude.{position, codes, IsTrue}
 use Rattle.std.specs.Prelude.{Option, Some, None, option_map, option_and_then}
 use Rattle.std.specs.List.{slice_split}
 use Rattle.std.specs.Str.Lines.{lines}
 use Rattle.bml_bytes.specs.Numerals.{decimal_field}
 use Rattle.bml_bytes.specs.Words.{is_same}
 use Rattle.replay_run.specs.declared.record.RecordItem.{RecordItem}
-use Rattle.replay_run.specs.declared.record.RecordItem.TheVariants.{All, Packets, Show}
+use Rattle.replay_run.specs.declared.record.RecordItem.TheVariants.{All, Packets, Key, Release}
+use Rattle.replay_run.specs.declared.record.RecordItem.TheVariants.{Tick, Random, Show}
 use Rattle.replay_run.specs.declared.record.Line.{Line}
 use Rattle.replay_run.specs.declared.record.Line.TheVariants.{Item as Read, Nothing, Bad}
 
@@ -52,16 +54,34 @@ plain_item name =
     else if is_same name (codes "show") then Some Show
     else None
 
--- so many packets, and at least one
-abbrev pub packets_item : ℕ → Option RecordItem
-packets_item count = if count == 0 then None else Some (Packets count)
+-- the numbers of the keys: the arrows and the digits, and enter, back, data and the colours
+abbrev pub is_key : ℕ → Bool
+is_key number = (nat_le 1 number && nat_le number 14) || (nat_le 18 number && nat_le number 24)
 
--- the item that the fields are: `all`, `show`, or `packets` and a number
+-- the most milliseconds that one item lets pass: an hour
+abbrev pub tick_limit : ℕ
+tick_limit = 3600000
+
+-- the item, where the test holds
+abbrev pub item_where : Bool → RecordItem → Option RecordItem
+item_where test item = if test then Some item else None
+
+-- at least one packet, a key that is pressed or released, at least one millisecond, a random word
+abbrev pub numbered_item : List ℕ → ℕ → Option RecordItem
+numbered_item name number =
+    if is_same name (codes "packets") then item_where (nat_le 1 number) (Packets number)
+    else if is_same name (codes "key") then item_where (is_key number) (Key number)
+    else if is_same name (codes "release") then item_where (is_key number) (Release number)
+    else if is_same name (codes "tick")
+    then item_where (nat_le 1 number && nat_le number tick_limit) (Tick number)
+    else if is_same name (codes "random") then Some (Random number)
+    else None
+
+-- the item that the fields are: `all` or `show`, or `packets`, `key`, `release`, `tick` or `random`
+-- and a number
 abbrev pub item_of : List (List ℕ) → Option RecordItem
 item_of (name ∷ []) = plain_item name
-item_of (name ∷ number ∷ []) =
-    if is_same name (codes "packets") then option_and_then packets_item (decimal_field number)
-    else None
+item_of (name ∷ number ∷ []) = option_and_then (numbered_item name) (decimal_field number)
 item_of _ = None
 
 -- a line with the item that its fields are, and a bad one where they are none
@@ -113,12 +133,20 @@ first_bad bytes = option_map (λ place. place + 1) (position is_bad (lines_of by
 
 -- ---- how lines are written
 
+-- the fields are this name and a number
+abbrev pub HasNumber : List ℕ → ℕ → List (List ℕ) → Type 0
+HasNumber name count words =
+    (number : List ℕ) × (words ≡ name ∷ number ∷ []) × (decimal_field number ≡ Some count)
+
 -- the fields of an item
 abbrev pub IsWritten : RecordItem → List (List ℕ) → Type 0
 IsWritten All words = words ≡ codes "all" ∷ []
-IsWritten (Packets count) words =
-    (number : List ℕ) × (words ≡ codes "packets" ∷ number ∷ [])
-    × (decimal_field number ≡ Some count) × (0 < count)
+IsWritten (Packets count) words = HasNumber (codes "packets") count words × (0 < count)
+IsWritten (Key key) words = HasNumber (codes "key") key words × IsTrue (is_key key)
+IsWritten (Release key) words = HasNumber (codes "release") key words × IsTrue (is_key key)
+IsWritten (Tick count) words =
+    HasNumber (codes "tick") count words × (0 < count) × (count ≤ tick_limit)
+IsWritten (Random word) words = HasNumber (codes "random") word words
 IsWritten Show words = words ≡ codes "show" ∷ []
 
 -- the fields of a line that asks for nothing: there are none, or the first begins with `#`

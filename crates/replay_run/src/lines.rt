@@ -15,19 +15,3 @@ pub fn push_end_line(packets: u64, out: &mut Vec<u8>) -> Result<(), NoMemory>
     push_count(packets, out)?;
     push_line_end(out)
 }
-
-#[cfg(test)]
-mod tests {
-    use super::*;
-    use std::test::Fail;
-
-    #[test]
-    fn printed(rt: HostRuntime) -> Result<(), Fail> {
-        let mut out = Vec::new(rt.alloc());
-        push_end_line(0, &mut out)?;
-        push_end_line(u64::MAX, &mut out)?;
-        let expected: &[u8] = b"end 0\nend 18446744073709551615\n";
-        assert_eq!(rt; out.as_slice(), expected);
-        Ok(())
-    }
-}

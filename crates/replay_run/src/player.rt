@@ -6,6 +6,7 @@ ghost use Rattle.bml_ports.specs.Sinks.{SinkState};
 ghost use Rattle.bml_ports.specs.Worlds.{WorldState};
 ghost use Rattle.ts_packets.specs.Cutter.{IsCertainAt};
 ghost use Rattle.replay_run.specs.Files.{packet_length, read_length, stream_limit};
+ghost use Rattle.replay_run.specs.Play.{milliseconds_of};
 
 use crate::output::write_piece;
 use crate::record::RecordItem;
@@ -53,6 +54,7 @@ impl Player {
         ensures start { IfOk result (λ player. (told : Outside)
             → StartsReplay selection empty_area told (moment player told)) }
         ensures idle { IfOk result (λ player. IsIdle player.receiver) }
+        ensures clock { IfOk result (λ player. player.receiver.clock ≡ 0) }
         ensures within { IfOk result (λ player. player.bytes ≤ stream_limit) }
         ensures readable { IfOk result (λ player. (world : WorldState)
             → IsTrue world.stream.readable → IsReadable player.cutter world) }
@@ -73,8 +75,8 @@ impl Player {
         self.packets
     }
 
-    /// Handles an item: takes the packets that it asks for, or shows the display list. It writes
-    /// what each of the packets' turns prints, and the display list.
+    /// Handles an item: takes the packets that it asks for, or hands the one other input on. It
+    /// writes what each of their turns prints, and the display list.
     pub fn handle<W: World, S: Sink>(
         &mut self,
         item: RecordItem,
@@ -84,9 +86,12 @@ impl Player {
         requires idle { IsIdle self.old.receiver }
         requires within { self.old.bytes ≤ stream_limit }
         requires readable { IsReadable self.old.cutter (W.told world.old) }
+        requires clock { self.old.receiver.clock + milliseconds_of item < 2 ^ 62 }
 
         ensures within { OnOk result (self.new.bytes ≤ stream_limit) }
         ensures idle { OnOk result (IsIdle self.new.receiver) }
+        ensures clock { OnOk result
+            (self.new.receiver.clock ≡ self.old.receiver.clock + milliseconds_of item) }
         ensures readable { OnOk result (IsReadable self.new.cutter (W.told world.new)) }
         ensures reads { OnlyReads Port.Stream (W.told world.old) (W.told world.new) }
         ensures writes { (S.told out.old).writes.faults ≤ (S.told out.new).writes.faults }
@@ -105,6 +110,10 @@ impl Player {
         match item {
             RecordItem::All => self.take(None, world, out),
             RecordItem::Packets(count) => self.take(Some(count), world, out),
+            RecordItem::Key(code) => self.key(code, out),
+            RecordItem::Release(code) => self.release(code, out),
+            RecordItem::Tick(count) => self.tick(count),
+            RecordItem::Random(word) => self.random(word),
             RecordItem::Show => self.show(out),
         }
     }
@@ -123,6 +132,7 @@ impl Player {
 
         ensures within { OnOk result (self.new.bytes ≤ stream_limit) }
         ensures idle { OnOk result (IsIdle self.new.receiver) }
+        ensures clock { OnOk result (self.new.receiver.clock ≡ self.old.receiver.clock) }
         ensures readable { OnOk result (IsReadable self.new.cutter (W.told world.new)) }
         ensures reads { OnlyReads Port.Stream (W.told world.old) (W.told world.new) }
         ensures writes { (S.told out.old).writes.faults ≤ (S.told out.new).writes.faults }
@@ -157,12 +167,101 @@ impl Player {
         most.map(|count| self.packets + u64::from(count))
     }
 
+    // Presses a key, and writes what its turn prints.
+    fn key<S: Sink>(&mut self, code: u8, out: &mut S) -> Result<(), Status>
+        requires idle { IsIdle self.old.receiver }
+        requires within { self.old.bytes ≤ stream_limit }
+
+        ensures idle { OnOk result (IsIdle self.new.receiver) }
+        ensures bytes { self.new.bytes ≡ self.old.bytes }
+        ensures cutter { self.new.cutter ≡ self.old.cutter }
+        ensures clock { OnOk result (self.new.receiver.clock ≡ self.old.receiver.clock) }
+        ensures writes { (S.told out.old).writes.faults ≤ (S.told out.new).writes.faults }
+        ensures cause { IfErr result (λ status. StopsTurns status
+            (S.told out.old).writes (S.told out.new).writes) }
+        ensures handled { OnOk result ((world : WorldState) → Handles (RecordItem.Key code)
+            (moment self.old (outside world (S.told out.old)))
+            (moment self.new (outside world (S.told out.new)))) }
+        ensures stopped { IfErr result
+            (λ status. (world : WorldState) → StopsHandling (RecordItem.Key code) status
+            (moment self.old (outside world (S.told out.old))) (outside world (S.told out.new))) }
+    {
+        self.piece.clear();
+        self.receiver.key(code, &mut self.piece)?;
+        write_piece(out, &self.piece)
+    }
+
+    // Releases a key, and writes what its turn prints.
+    fn release<S: Sink>(&mut self, code: u8, out: &mut S) -> Result<(), Status>
+        requires idle { IsIdle self.old.receiver }
+        requires within { self.old.bytes ≤ stream_limit }
+
+        ensures idle { OnOk result (IsIdle self.new.receiver) }
+        ensures bytes { self.new.bytes ≡ self.old.bytes }
+        ensures cutter { self.new.cutter ≡ self.old.cutter }
+        ensures clock { OnOk result (self.new.receiver.clock ≡ self.old.receiver.clock) }
+        ensures writes { (S.told out.old).writes.faults ≤ (S.told out.new).writes.faults }
+        ensures cause { IfErr result (λ status. StopsTurns status
+            (S.told out.old).writes (S.told out.new).writes) }
+        ensures handled { OnOk result ((world : WorldState) → Handles (RecordItem.Release code)
+            (moment self.old (outside world (S.told out.old)))
+            (moment self.new (outside world (S.told out.new)))) }
+        ensures stopped { IfErr result
+            (λ status. (world : WorldState) → StopsHandling (RecordItem.Release code) status
+            (moment self.old (outside world (S.told out.old))) (outside world (S.told out.new))) }
+    {
+        self.piece.clear();
+        self.receiver.release(code, &mut self.piece)?;
+        write_piece(out, &self.piece)
+    }
+
+    // Lets time pass, in which nothing is due.
+    fn tick(&mut self, count: u32) -> Result<(), Status>
+        requires idle { IsIdle self.old.receiver }
+        requires within { self.old.bytes ≤ stream_limit }
+        requires clock { self.old.receiver.clock + count < 2 ^ 62 }
+
+        ensures idle { OnOk result (IsIdle self.new.receiver) }
+        ensures bytes { self.new.bytes ≡ self.old.bytes }
+        ensures cutter { self.new.cutter ≡ self.old.cutter }
+        ensures clock { OnOk result (self.new.receiver.clock ≡ self.old.receiver.clock + count) }
+        ensures cause { IfErr result (λ status. status ≡ Status.NoMemory) }
+        ensures handled { OnOk result ((told : Outside) → Handles (RecordItem.Tick count)
+            (moment self.old told) (moment self.new told)) }
+        ensures stopped { IfErr result (λ status. (told : Outside)
+            → StopsHandling (RecordItem.Tick count) status (moment self.old told) told) }
+    {
+        self.piece.clear();
+        self.receiver.clock_step(count, &mut self.piece)?;
+        Ok(())
+    }
+
+    // Takes a random word.
+    fn random(&mut self, word: u32) -> Result<(), Status>
+        requires idle { IsIdle self.old.receiver }
+        requires within { self.old.bytes ≤ stream_limit }
+
+        ensures idle { OnOk result (IsIdle self.new.receiver) }
+        ensures bytes { self.new.bytes ≡ self.old.bytes }
+        ensures cutter { self.new.cutter ≡ self.old.cutter }
+        ensures clock { OnOk result (self.new.receiver.clock ≡ self.old.receiver.clock) }
+        ensures cause { IfErr result (λ status. status ≡ Status.NoMemory) }
+        ensures handled { OnOk result ((told : Outside) → Handles (RecordItem.Random word)
+            (moment self.old told) (moment self.new told)) }
+        ensures stopped { IfErr result (λ status. (told : Outside)
+            → StopsHandling (RecordItem.Random word) status (moment self.old told) told) }
+    {
+        self.receiver.random(word)?;
+        Ok(())
+    }
+
     // Shows the display list. All turns were made before.
     fn show<S: Sink>(&mut self, out: &mut S) -> Result<(), Status>
         requires idle { IsIdle self.old.receiver }
         requires within { self.old.bytes ≤ stream_limit }
 
         ensures idle { OnOk result (IsIdle self.new.receiver) }
+        ensures clock { OnOk result (self.new.receiver.clock ≡ self.old.receiver.clock) }
         ensures bytes { self.new.bytes ≡ self.old.bytes }
         ensures cutter { self.new.cutter ≡ self.old.cutter }
         ensures writes { (S.told out.old).writes.faults ≤ (S.told out.new).writes.faults }
@@ -187,6 +286,7 @@ impl Player {
         requires within { self.old.bytes ≤ stream_limit }
 
         ensures idle { OnOk result (IsIdle self.new.receiver) }
+        ensures clock { OnOk result (self.new.receiver.clock ≡ self.old.receiver.clock) }
         ensures bytes { self.new.bytes ≡ self.old.bytes }
         ensures packets { self.new.packets ≡ self.old.packets + 1 }
         ensures shorter { length self.new.cutter.held < length self.old.cutter.held }
@@ -215,6 +315,7 @@ impl Player {
     fn turns<S: Sink>(&mut self, out: &mut S) -> Result<(), Status>
         requires { self.old.bytes ≤ stream_limit }
         ensures idle { OnOk result (IsIdle self.new.receiver) }
+        ensures clock { OnOk result (self.new.receiver.clock ≡ self.old.receiver.clock) }
         ensures bytes { self.new.bytes ≡ self.old.bytes }
         ensures packets { self.new.packets ≡ self.old.packets }
         ensures cutter { self.new.cutter ≡ self.old.cutter }

@@ -2,14 +2,15 @@
 
 ghost use Rattle.std.specs.Prelude.{◌≡◌, ◌≢◌, ℕ, ◌+◌, ◌-◌, ◌<◌, ◌≤◌, ◌↔◌, ◌⊎◌, true, false, []};
 ghost use Rattle.std.specs.Prelude.{◌∷◌, ◌++◌, All, length, take, drop, min, not, position};
-ghost use Rattle.std.specs.Prelude.{slice_index, ◌==◌, MatchOption};
+ghost use Rattle.std.specs.Prelude.{slice_index, ◌==◌, MatchOption, IfSome, is_some};
 ghost use Rattle.std.specs.Str.Lines.{strip_carriage_return};
 ghost use Rattle.replay_run.specs.Reading.{IsFirstCut};
 ghost use Rattle.replay_run.specs.RecordReader.{capacity, longest_line, Gives, BeginsBad};
 ghost use Rattle.replay_run.specs.RecordReader.{IsUnfinished, IsOver, DropsFront};
 ghost use Rattle.replay_run.specs.Record.{line_feed, is_blank as is_blank_of, fields};
-ghost use Rattle.replay_run.specs.Record.{is_comment as is_comment_of, item_of};
+ghost use Rattle.replay_run.specs.Record.{is_comment as is_comment_of, is_key, item_of};
 ghost use Rattle.replay_run.specs.Record.{line_of as line_of_bytes, line_with};
+ghost use Rattle.replay_run.specs.Record.{numbered_item as numbered_item_of};
 ghost use Rattle.replay_run.specs.Record.{plain_item as plain_item_of};
 
 use arrayvec::ArrayVec;
@@ -25,6 +26,9 @@ const LINE_LIMIT: usize = 128;
 // The bytes of the longest good line with its end.
 const LONGEST_LINE: usize = LINE_LIMIT + 2;
 
+// The most milliseconds that one item lets pass: an hour.
+const TICK_LIMIT: u32 = 3_600_000;
+
 /// What a line of the record asks for.
 #[derive(Clone, Copy, Debug, PartialEq, Eq)]
 pub enum RecordItem {
@@ -32,6 +36,14 @@ pub enum RecordItem {
     All,
     /// Take so many packets, 1 to 4,294,967,295, or all that are left.
     Packets(u32),
+    /// Press a key: 1 to 14 or 18 to 24.
+    Key(u8),
+    /// Release a key: 1 to 14 or 18 to 24.
+    Release(u8),
+    /// Let so many milliseconds pass, 1 to 3,600,000.
+    Tick(u32),
+    /// Take a word for what scripts ask of chance.
+    Random(u32),
     /// Print the display list.
     Show,
 }
@@ -300,13 +312,42 @@ fn plain_item(name: &[u8]) -> Option<RecordItem>
 fn numbered_item(name: &[u8], number: &[u8]) -> Option<RecordItem>
     ensures { result ≡ item_of (name.now ∷ number.now ∷ []) }
 {
+    let number = read_decimal(number)?;
+    item_by_number(name, number)
+}
+
+// The item of this name with a number.
+fn item_by_number(name: &[u8], number: u32) -> Option<RecordItem>
+    ensures { result ≡ numbered_item_of name.now number }
+{
     let packets: &[u8] = b"packets";
-    if name != packets {
-        return None;
+    let key: &[u8] = b"key";
+    let release: &[u8] = b"release";
+    let tick: &[u8] = b"tick";
+    let random: &[u8] = b"random";
+    if name == packets {
+        (number >= 1).then_some(RecordItem::Packets(number))
+    } else if name == key {
+        key_of(number).map(RecordItem::Key)
+    } else if name == release {
+        key_of(number).map(RecordItem::Release)
+    } else if name == tick {
+        (1 <= number && number <= TICK_LIMIT).then_some(RecordItem::Tick(number))
+    } else if name == random {
+        Some(RecordItem::Random(number))
+    } else {
+        None
     }
-    match read_decimal(number)? {
-        0 => None,
-        count => Some(RecordItem::Packets(count)),
+}
+
+// The key of a number, where there is one.
+fn key_of(number: u32) -> Option<u8>
+    ensures some { is_some result ≡ is_key number }
+    ensures same { IfSome result (λ key. key ≡ number) }
+{
+    match number {
+        1..=14 | 18..=24 => u8::try_from(number).ok(),
+        _ => None,
     }
 }
 
@@ -365,159 +406,4 @@ fn append(bytes: &mut ArrayVec<u8, CAPACITY>, more: &[u8])
     ensures { bytes.new.items ≡ bytes.old.items ++ more.now }
 {
     let _ = bytes.try_extend_from_slice(more);
-}
-
-#[cfg(test)]
-mod tests {
-    use super::*;
-    use std::test::Fail;
-
-    // The number of items before the end or the first bad line, and whether a bad line was met,
-    // where the record comes in pieces of this length.
-    fn read(bytes: &[u8], piece: usize) -> Option<(u64, bool)> {
-        let mut reader = RecordReader::new();
-        let mut left = bytes;
-        let mut items: u64 = 0;
-        for _ in 0..u64::MAX {
-            match reader.next() {
-                NextLine::Line(Line::Item(_)) => items = items.saturating_add(1),
-                NextLine::Line(Line::Nothing) => {}
-                NextLine::Line(Line::Bad) => return Some((items, true)),
-                NextLine::End => return Some((items, false)),
-                NextLine::NeedMore => {
-                    let count = reader.feed(&left[..piece.min(left.len())]);
-                    if count == 0 {
-                        reader.finish();
-                    }
-                    left = &left[count..];
-                }
-            }
-        }
-        None
-    }
-
-    // What the one line of a record is.
-    fn only_line(bytes: &[u8]) -> NextLine {
-        let mut reader = RecordReader::new();
-        reader.feed(bytes);
-        reader.finish();
-        reader.next()
-    }
-
-    #[test]
-    fn lines(rt: HostRuntime) {
-        let table: [(&[u8], Line); 30] = [
-            (b"all", Line::Item(RecordItem::All)),
-            (b"show", Line::Item(RecordItem::Show)),
-            (b"packets 1", Line::Item(RecordItem::Packets(1))),
-            (b" packets\t 42\t", Line::Item(RecordItem::Packets(42))),
-            (b"packets 0000000007", Line::Item(RecordItem::Packets(7))),
-            (
-                b"packets 4294967295",
-                Line::Item(RecordItem::Packets(u32::MAX)),
-            ),
-            (b"packets 4294967296", Line::Bad),
-            (b"packets 00000000007", Line::Bad),
-            (b"packets 0", Line::Bad),
-            (b"packets", Line::Bad),
-            (b"packets -1", Line::Bad),
-            (b"packets 0x1", Line::Bad),
-            (b"packets 1 2", Line::Bad),
-            (b"packets1", Line::Bad),
-            (b"packet 1", Line::Bad),
-            (b"1 packets", Line::Bad),
-            (b"Packets 1", Line::Bad),
-            (b"all x", Line::Bad),
-            (b"all 1", Line::Bad),
-            (b"show 1", Line::Bad),
-            (b"shows", Line::Bad),
-            (b"all # all", Line::Bad),
-            (b"packets 1 #", Line::Bad),
-            (b" \t ", Line::Nothing),
-            (b"\n", Line::Nothing),
-            (b"#", Line::Nothing),
-            (b"#all", Line::Nothing),
-            (b"# packets 0", Line::Nothing),
-            (b"\t ## x", Line::Nothing),
-            (b"\x0b#", Line::Bad),
-        ];
-        for (bytes, line) in table {
-            assert_eq!(rt; only_line(bytes), NextLine::Line(line), "{bytes:?}");
-        }
-    }
-
-    #[test]
-    fn records(rt: HostRuntime) -> Result<(), Fail> {
-        let mut full = [b' '; 132];
-        full[..3].copy_from_slice(b"all");
-        let mut full_line = full;
-        full_line[128..131].copy_from_slice(b"\nal");
-        let mut full_crlf = full;
-        full_crlf[128..].copy_from_slice(b"\r\nal");
-        let mut over_line = full;
-        over_line[129] = b'\n';
-        let mut over_crlf = full;
-        over_crlf[129..131].copy_from_slice(b"\r\n");
-        let mut returns = full;
-        returns[128] = b'\r';
-        let mut comment = full;
-        comment[0] = b'#';
-        let blanks = [b'\t'; 129];
-        let table: [(&[u8], u64, bool); 35] = [
-            (b"", 0, false),
-            (b"all", 1, false),
-            (b"all\n", 1, false),
-            (b"all\r\n", 1, false),
-            (b"all\r", 0, true),
-            (b"all\r\r\n", 0, true),
-            (b"all\rall\n", 0, true),
-            (b" \tall\t \n", 1, false),
-            (b"\tall", 1, false),
-            (b"all\nall\r\nall", 3, false),
-            (b"all\nall\nload\nall\n", 2, true),
-            (b"packets 1\nshow\nall\nshow", 4, false),
-            (b"\n", 0, false),
-            (b"\r\n", 0, false),
-            (b"\r\r\n", 0, true),
-            (b"   \n", 0, false),
-            (b"all\n\n\r\nall\n\n", 2, false),
-            (b"# one\nall\n# all\n", 1, false),
-            (b"al", 0, true),
-            (b"alll", 0, true),
-            (b"ALL", 0, true),
-            (b"all all", 0, true),
-            (b"a ll", 0, true),
-            (&full[..128], 1, false),
-            (&full_line[..129], 1, false),
-            (&full_line[..], 1, true),
-            (&full_crlf[..130], 1, false),
-            (&full[..129], 0, true),
-            (&over_line[..130], 0, true),
-            (&over_crlf[..131], 0, true),
-            (&returns[..129], 0, true),
-            (&comment[..128], 0, false),
-            (&comment[..129], 0, true),
-            (&blanks[..128], 0, false),
-            (&blanks[..], 0, true),
-        ];
-        for (bytes, items, bad) in table {
-            for piece in [1, 7, 200] {
-                assert_eq!(rt;
-                    read(bytes, piece),
-                    Some((items, bad)),
-                    "{bytes:?} in pieces of {piece}"
-                );
-            }
-        }
-        let mut many = Vec::new(rt.alloc());
-        for _ in 0..3000 {
-            many.extend_from_slice(b"all\n")?;
-        }
-        for piece in [1, 4095, 4096, 12000] {
-            assert_eq!(rt; read(&many, piece), Some((3000, false)));
-        }
-        many.extend_from_slice(b"alas")?;
-        assert_eq!(rt; read(&many, 4096), Some((3000, true)));
-        Ok(())
-    }
 }

@@ -29,6 +29,8 @@ pub struct RecordItems {
 }
 
 impl RecordItems {
+    ghost use Rattle.replay_run.specs.Play.{milliseconds_of};
+    ghost use Rattle.replay_run.specs.Record.{tick_limit};
     ghost use Rattle.replay_run.specs.RecordProgress.{record_state, IsAt, IsReadable, IsWhole};
     ghost use Rattle.replay_run.specs.RecordProgress.{StopsItems, LeavesItems, work_left};
     ghost use Rattle.replay_run.specs.RecordReader.{longest_line};
@@ -63,6 +65,8 @@ impl RecordItems {
             (W.told world.old).notes.reads (W.told world.new).notes.reads self.new.bytes) }
         ensures further { (item : RecordItem) → result ≡ Ok (Some item)
             → self.old.lines < self.new.lines }
+        ensures time { (item : RecordItem) → result ≡ Ok (Some item)
+            → milliseconds_of item ≤ tick_limit }
 
         ensures item { (item : RecordItem) → result ≡ Ok (Some item)
             → (notes : List ℕ) (items : List RecordItem)

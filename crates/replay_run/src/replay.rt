@@ -1,15 +1,19 @@
 //! A replay of a record over a stream.
 
 ghost use Rattle.std.specs.Prelude.{◌≡◌, ◌≢◌, ℕ, ◌^◌, ◌<◌, ◌≤◌, List, OnOk, IfErr, IsErr, IsTrue};
-ghost use Rattle.std.specs.Prelude.{Some, None};
-ghost use Rattle.bml_ports.specs.Worlds.{port_of};
+ghost use Rattle.std.specs.Prelude.{Some, None, []};
+ghost use Rattle.bml_ports.specs.Worlds.{WorldState, port_of};
 ghost use Rattle.replay_run.specs.Causes.{IsCaused};
 ghost use Rattle.replay_run.specs.Lines.{end_line};
 ghost use Rattle.replay_run.specs.Meaning.{empty_area};
 ghost use Rattle.replay_run.specs.Opening.{AsksAtMost, AsksInOrder, IsUnasked, LacksFile};
-ghost use Rattle.replay_run.specs.Meaning.{empty_area};
 ghost use Rattle.replay_run.specs.Opening.{LeavesRest, StopsAtOpening, bytes_under};
-ghost use Rattle.replay_run.specs.Outside.{outside};
+ghost use Rattle.replay_run.specs.Files.{record_limit, stream_limit};
+ghost use Rattle.replay_run.specs.Midway.{IsReadable, moment};
+ghost use Rattle.replay_run.specs.Outside.{Outside, outside};
+ghost use Rattle.replay_run.specs.Progress.{StartsReplay};
+ghost use Rattle.replay_run.specs.RecordProgress as progress;
+ghost use Rattle.receiver_core.specs.Receiving.{IsIdle};
 ghost use Rattle.replay_run.specs.Replaying.{outcome_of, LacksName, OnlyOpens, OnlyReadsBoth};
 ghost use Rattle.replay_run.specs.Replaying.{ReplayEnds, ReplayHasReason, RunEnds, RunHasReason};
 ghost use Rattle.replay_run.specs.Replaying.{StopsLine, StopsOpening, StopsReplay};
@@ -66,10 +70,49 @@ pub fn play_record<W: World, S: Sink>(
         (outside (W.told world.old) (S.told out.old)) (outside (W.told world.new) (S.told out.new))
         (outcome_of result) }
 {
-    law_of_outputs();
-    law_of_receivers();
     let mut player = Player::new(alloc, selection)?;
     let mut items = RecordItems::new();
+    let played = play_items(alloc, selection, &mut player, &mut items, world, out);
+    drop(player);
+    played
+}
+
+// Handles the items of a record of which nothing was read, and writes the last line.
+fn play_items<W: World, S: Sink>(
+    alloc: Global,
+    selection: Selection,
+    player: &mut Player,
+    items: &mut RecordItems,
+    world: &mut W,
+    out: &mut S,
+) -> Result<(), Status>
+    requires stream { IsTrue (W.told world.old).stream.readable }
+    requires notes { IsTrue (W.told world.old).notes.readable }
+    requires start { (told : Outside)
+        → StartsReplay selection empty_area told (moment player.old told) }
+    requires idle { IsIdle player.old.receiver }
+    requires clock { player.old.receiver.clock ≡ 0 }
+    requires within { player.old.bytes ≤ stream_limit }
+    requires readable { (world : WorldState)
+        → IsTrue world.stream.readable → IsReadable player.old.cutter world }
+    requires items_start { (world : WorldState) (notes : List ℕ) → world.notes.left ≡ Some notes
+        → progress.IsAt notes (progress.record_state items.old world) [] }
+    requires items_within { items.old.bytes ≤ record_limit }
+    requires items_readable { (world : WorldState)
+        → IsTrue world.notes.readable → progress.IsReadable items.old.reader world }
+    ensures reads { OnlyReadsBoth (W.told world.old) (W.told world.new) }
+    ensures cause { IfErr result (λ status. StopsReplay status
+        (outside (W.told world.old) (S.told out.old))
+        (outside (W.told world.new) (S.told out.new))) }
+    ensures ends { ReplayEnds selection empty_area
+        (outside (W.told world.old) (S.told out.old)) (outside (W.told world.new) (S.told out.new))
+        (outcome_of result) }
+    ensures reason { ReplayHasReason
+        (outside (W.told world.old) (S.told out.old)) (outside (W.told world.new) (S.told out.new))
+        (outcome_of result) }
+{
+    law_of_outputs();
+    law_of_receivers();
     'items: loop {
         match items.next_item(world)? {
             Some(item) => player.handle(item, world, out)?,

@@ -99,32 +99,3 @@ fn numbered(words: &str, number: u64) -> ArrayString<48>
     line.push_str(buffer.format(number));
     line
 }
-
-#[cfg(test)]
-mod tests {
-    use super::*;
-
-    #[test]
-    fn statuses(rt: HostRuntime) {
-        for (status, number, line) in [
-            (Status::Done, 0, "done"),
-            (Status::Usage, 1, "usage"),
-            (Status::BadRecord { line: 3 }, 2, "bad record line 3"),
-            (Status::OpenFault, 3, "open fault"),
-            (Status::ReadFault, 4, "read fault"),
-            (Status::WriteFault, 5, "write fault"),
-            (Status::KeepFault, 6, "keep fault"),
-            (Status::BadArea { length: 1000 }, 7, "bad area length 1000"),
-            (
-                Status::BadArea { length: u64::MAX },
-                7,
-                "bad area length 18446744073709551615",
-            ),
-            (Status::TooLong, 8, "too long"),
-            (Status::NoMemory, 9, "no memory"),
-        ] {
-            assert_eq!(rt; status.number(), number);
-            assert_eq!(rt; status.line().as_str(), line);
-        }
-    }
-}

@@ -2,10 +2,6 @@
 
 use test_streams::{Announced, DATA_PID, Entry, Sent};
 
-pub const TEN: &[Entry] = &[Entry(1, 1, 10, &[])];
-
-pub const INDICATION: Sent = Sent::Indication(1, 4, TEN);
-
 pub const EMPTY: Sent = Sent::Indication(1, 4, &[Entry(1, 1, 0, &[])]);
 
 pub const FIRST: Sent = Sent::Block(1, 1, 0, b"abcd");
@@ -13,11 +9,6 @@ pub const FIRST: Sent = Sent::Block(1, 1, 0, b"abcd");
 pub const SECOND: Sent = Sent::Block(1, 1, 1, b"efgh");
 
 pub const THIRD: Sent = Sent::Block(1, 1, 2, b"ij");
-
-pub const FLIPPED: Sent = Sent::Flipped(1, 1, 0, b"abcd");
-
-/// A module of ten bytes in three blocks.
-pub const MODULE: &[Sent] = &[INDICATION, FIRST, SECOND, THIRD];
 
 pub const PROGRAMS: Sent = Sent::Programs(1);
 

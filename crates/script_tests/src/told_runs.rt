@@ -6,6 +6,7 @@ ghost use Rattle.es_eval.specs.Codes.{declared_by};
 ghost use Rattle.es_eval.specs.Machines.{IsNamedLive};
 
 use crate::told_scripts::{ALL_STEPS, program_of, push_global, word};
+use crate::value_words::push_word;
 use bml_bytes::{NoMemory, Text};
 use es_eval::{Globals, Outcome, are_few_functions, run, run_global};
 use es_reader::Program;
@@ -42,6 +43,74 @@ fn run_one(
     }
 }
 
+// Two programs, where both texts are some.
+fn programs_of(
+    alloc: Global,
+    first: &[u8],
+    second: &[u8],
+) -> Result<Option<Vec<Program>>, NoMemory> {
+    let mut programs = Vec::new(alloc);
+    for script in [first, second] {
+        match program_of(alloc, script)? {
+            Some(program) => programs.push(program)?,
+            None => return Ok(None),
+        }
+    }
+    Ok(Some(programs))
+}
+
+// Appends how runs end, each with so many steps.
+fn push_ends(
+    programs: &[Program],
+    runs: &[u8],
+    globals: &mut Globals,
+    heap: &mut Heap,
+    host: &mut RowHost,
+    steps: u32,
+    out: &mut Vec<u8>,
+) -> Result<(), NoMemory>
+    requires steps { steps ≤ 100000 }
+    requires functions { length (declared_by programs.now) < 2 ^ 48 }
+    requires live { All (IsNamedLive heap.old) globals.old }
+    ensures live { OnOk result (All (IsNamedLive heap.new) globals.new) }
+{
+    for named in runs.split(|code| *code == b' ') {
+        let outcome = run_one(programs, named, globals, heap, host, steps)?;
+        push_word(word(outcome), out)?;
+        push_word(b" ", out)?;
+    }
+    Ok(())
+}
+
+// Appends how runs of programs end, and the text of a global behind them.
+fn push_runs(
+    alloc: Global,
+    programs: &[Program],
+    runs: &[u8],
+    steps: u32,
+    shown: &[u8],
+    out: &mut Vec<u8>,
+) -> Result<(), NoMemory>
+    requires { steps ≤ 100000 }
+{
+    if !are_few_functions(programs) {
+        return Err(NoMemory);
+    }
+    let mut globals = Globals::new(alloc)?;
+    let mut heap = Heap::new(alloc);
+    let mut host = RowHost::new(alloc);
+    push_ends(
+        programs,
+        runs,
+        &mut globals,
+        &mut heap,
+        &mut host,
+        steps,
+        out,
+    )?;
+    push_global(&globals, &heap, shown, out)
+}
+
 // How runs of two programs end, each with so many steps, and the text of a global behind them.
 fn told(
     alloc: Global,
@@ -51,25 +120,12 @@ fn told(
     steps: u32,
     shown: &[u8],
 ) -> Result<Vec<u8>, NoMemory> {
-    let mut out = Vec::new(alloc);
-    let (Some(first), Some(second)) = (program_of(alloc, first)?, program_of(alloc, second)?) else {
-        out.extend_from_slice(b"no program")?;
-        return Ok(out);
-    };
-    let programs = vec![in alloc; first, second]?;
-    if !are_few_functions(&programs) {
-        return Err(NoMemory);
-    }
     let steps = if steps < ALL_STEPS { steps } else { ALL_STEPS };
-    let mut globals = Globals::new(alloc)?;
-    let mut heap = Heap::new(alloc);
-    let mut host = RowHost::new(alloc);
-    for named in runs.split(|code| *code == b' ') {
-        let outcome = run_one(&programs, named, &mut globals, &mut heap, &mut host, steps)?;
-        out.extend_from_slice(word(outcome))?;
-        out.push(b' ')?;
+    let mut out = Vec::new(alloc);
+    match programs_of(alloc, first, second)? {
+        Some(programs) => push_runs(alloc, &programs, runs, steps, shown, &mut out)?,
+        None => push_word(b"no program", &mut out)?,
     }
-    push_global(&globals, &heap, shown, &mut out)?;
     Ok(out)
 }
 

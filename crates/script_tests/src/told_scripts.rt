@@ -4,7 +4,8 @@
 ghost use Rattle.std.specs.Prelude.{◌≤◌, All, IfOk};
 ghost use Rattle.es_eval.specs.Machines.{IsNamedLive};
 
-use bml_bytes::{NoMemory, Text, push_decimal};
+use crate::value_words::push_word;
+use bml_bytes::{NoMemory, Text, push_count};
 use es_eval::{Globals, Outcome, StopCause, are_few_functions, run};
 use es_reader::{Program, SyntaxFault, read_program};
 use es_values::{Heap, RowHost};
@@ -104,25 +105,41 @@ pub fn word(outcome: Outcome) -> &'static [u8] {
     }
 }
 
-// What a script comes to with all steps. It is told if it comes to anything else with the fewest.
+// How a program ends that has so many steps, and the text of its global `s`.
+fn ended(alloc: Global, programs: &[Program], steps: u32) -> Result<Vec<u8>, NoMemory>
+    requires { steps ≤ 100000 }
+{
+    let mut value = Vec::new(alloc);
+    let outcome = ending(alloc, programs, steps, &mut value)?;
+    let mut out = word(outcome).to_vec(alloc)?;
+    push_word(b" ", &mut out)?;
+    push_word(&value, &mut out)?;
+    Ok(out)
+}
+
+// Appends what a program comes to with all steps, and the fewest steps. It is told if it comes to
+// anything else with these.
+fn push_told(alloc: Global, programs: &[Program], out: &mut Vec<u8>) -> Result<(), NoMemory> {
+    let line = ended(alloc, programs, ALL_STEPS)?;
+    push_word(&line, out)?;
+    push_word(b" ", out)?;
+    let fewest = fewest_steps(alloc, programs)?;
+    push_count(u64::from(fewest), out)?;
+    if ended(alloc, programs, fewest)? != line {
+        push_word(b" not with as many", out)?;
+    }
+    Ok(())
+}
+
+// What a script comes to.
 fn told(alloc: Global, script: &[u8]) -> Result<Vec<u8>, NoMemory> {
     let mut out = Vec::new(alloc);
-    let Some(program) = program_of(alloc, script)? else {
-        out.extend_from_slice(b"no program")?;
-        return Ok(out);
-    };
-    let programs = vec![in alloc; program]?;
-    let mut value = Vec::new(alloc);
-    let outcome = ending(alloc, &programs, ALL_STEPS, &mut value)?;
-    out.extend_from_slice(word(outcome))?;
-    out.push(b' ')?;
-    out.extend_from_slice(&value)?;
-    out.push(b' ')?;
-    let fewest = fewest_steps(alloc, &programs)?;
-    push_decimal(i64::from(fewest), &mut out)?;
-    let mut exact = Vec::new(alloc);
-    if ending(alloc, &programs, fewest, &mut exact)? != outcome || exact != value {
-        out.extend_from_slice(b" not with as many")?;
+    match program_of(alloc, script)? {
+        Some(program) => {
+            let programs = vec![in alloc; program]?;
+            push_told(alloc, &programs, &mut out)?;
+        }
+        None => push_word(b"no program", &mut out)?,
     }
     Ok(out)
 }

@@ -13,6 +13,3 @@ mod laws;
 
 pub use crate::demultiplexer::Demultiplexer;
 pub use crate::laws::{law_of_packets, law_of_room, law_of_same_lists};
-
-#[cfg(test)]
-mod tests;

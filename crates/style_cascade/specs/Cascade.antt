@@ -1,7 +1,7 @@
 -- The value that an element has for a property in a state (CSS level 1, 1.3 and 3.2; that what
 -- scripts write counts first, and that an inherited value is that of the present state of the
 -- element above, is this project's own).
-use Rattle.std.specs.Prelude.{ℕ, ◌+◌, List, [], ◌∷◌, Option, Some, None, is_some, map, option_and_then, slice_set, unwrap_or, if◌then◌else◌}
+use Rattle.std.specs.Prelude.{ℕ, ◌+◌, ◌*◌, List, [], ◌∷◌, Option, Some, None, is_some, length, map, option_and_then, replicate, slice_set, unwrap_or, if◌then◌else◌}
 use Rattle.std.specs.Option.{option_map_or, option_or}
 use Rattle.dom_tree.specs.Items.{Item, parent_of}
 use Rattle.dom_tree.specs.Walks.{path_of}
@@ -20,6 +20,11 @@ use Rattle.style_cascade.specs.declared.subjects.Subject.{Subject}
 pub record Sources : Type 0 where
   pub rules : List Rule
   pub writes : List (Option StyleValue)
+
+-- the sources of a document before a script has written: each place for a value is empty
+abbrev pub unwritten : List Item → List Rule → Sources
+unwritten items rules =
+    record { rules = rules; writes = replicate (51 * length items) None }
 
 -- what was written last for the node, the state and the property
 abbrev pub write_of : Sources → ℕ → State → Property → Option StyleValue

@@ -20,8 +20,6 @@ mod states;
 mod styles;
 mod subjects;
 mod tables;
-#[cfg(test)]
-mod tests;
 
 pub use crate::laws::{
     law_of_attribute_writes, law_of_inheritance, law_of_inline_values, law_of_states,

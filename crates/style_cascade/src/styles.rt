@@ -53,13 +53,14 @@ impl Model for Styles {
 }
 
 impl Styles {
-    ghost use Rattle.style_cascade.specs.Cascade.{asked_count, asked_places, first_own, places_above, style_value, values_asked, with_write, write_of};
+    ghost use Rattle.style_cascade.specs.Cascade.{asked_count, asked_places, first_own, places_above, style_value, unwritten, values_asked, with_write, write_of};
     ghost use Rattle.style_cascade.specs.Keeping.{IsRight, kept_value};
 
     /// The styles of a document with these rules. Nothing is written yet. What rules and inline
     /// texts say is worked out here: for each element each rule that asks for a name of it is
     /// looked at once.
     pub fn new(alloc: Global, tree: &Tree, rules: Rules) -> Result<Styles, NoMemory>
+        ensures sources { IfOk result (λ styles. styles.sources ≡ unwritten tree.now rules) }
         ensures rules { IfOk result (λ styles. styles.sources.rules ≡ rules) }
         ensures unwritten { IfOk result
             (λ styles. (node : ℕ) (state : State) (property : Property) →

@@ -1,6 +1,6 @@
 //! Tables of values by node, state and property.
 
-ghost use Rattle.std.specs.Prelude.{◌≡◌, ◌+◌, ◌*◌, ◌<◌, ◌≤◌, ℕ, None, length, slice_set, IfOk, IfSome, IsTrue};
+ghost use Rattle.std.specs.Prelude.{◌≡◌, ◌+◌, ◌*◌, ◌<◌, ◌≤◌, ℕ, None, length, replicate, slice_set, IfOk, IfSome, IsTrue};
 ghost use Rattle.style_reader.specs.Values.{fits};
 ghost use Rattle.style_cascade.specs.Candidates.{property_place};
 ghost use Rattle.style_cascade.specs.Writes.{cell_place as spec_cell_place};
@@ -44,6 +44,7 @@ impl Table {
     /// A table without values, for so many nodes.
     pub fn new(alloc: Global, nodes: u32) -> Result<Table, NoMemory>
         ensures length { IfOk result (λ table. length table ≡ 51 * nodes) }
+        ensures cells { IfOk result (λ table. table ≡ replicate (51 * nodes) None) }
         ensures empty { IfOk result (λ table. (node : ℕ) (state : State) (property : Property) →
             cell_of table node state property ≡ None) }
     {

@@ -22,8 +22,6 @@ mod properties;
 mod rules;
 mod selectors;
 mod sheets;
-#[cfg(test)]
-mod tests;
 mod values;
 
 pub use crate::declarations::Declaration;

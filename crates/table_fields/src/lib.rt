@@ -12,6 +12,3 @@ mod sections;
 pub use crate::descriptors::{Descriptor, Descriptors};
 pub use crate::laws::law_of_descriptors;
 pub use crate::sections::body;
-
-#[cfg(test)]
-mod tests;

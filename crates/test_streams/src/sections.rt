@@ -24,7 +24,7 @@ pub const MAP_PID: u16 = 496;
 #[derive(Clone, Copy)]
 pub struct Announced(pub u8, pub u16, pub u8);
 
-/// A section. A message is one of download 1, on PID 256 but for those of another PID.
+/// A section. A message is one of download 1, on PID 256.
 #[derive(Clone, Copy)]
 pub enum Sent {
     /// A PAT with one program, whose PMT comes on PID 496.
@@ -35,11 +35,6 @@ pub enum Sent {
     Indication(u32, u16, &'static [Entry]),
     /// A DownloadDataBlock: its module, the module's version, the block's number, and its bytes.
     Block(u16, u8, u16, &'static [u8]),
-    /// The same with the lowest bit of the block's last byte flipped.
-    Flipped(u16, u8, u16, &'static [u8]),
-    /// A DownloadInfoIndication and a DownloadDataBlock on another PID.
-    IndicationOn(u16, u32, u16, &'static [Entry]),
-    BlockOn(u16, u16, u8, u16, &'static [u8]),
 }
 
 impl Sent {
@@ -48,8 +43,7 @@ impl Sent {
         match *self {
             Sent::Programs(_) => 0,
             Sent::Map(..) => MAP_PID,
-            Sent::IndicationOn(pid, ..) | Sent::BlockOn(pid, ..) => pid,
-            Sent::Indication(..) | Sent::Block(..) | Sent::Flipped(..) => DATA_PID,
+            Sent::Indication(..) | Sent::Block(..) => DATA_PID,
         }
     }
 }
@@ -59,27 +53,13 @@ pub fn section_of(alloc: Global, sent: &Sent) -> Result<Vec<u8>, Unbuilt> {
     match *sent {
         Sent::Programs(program) => programs_of(alloc, program),
         Sent::Map(program, streams) => map_of(alloc, program, streams),
-        Sent::Indication(transaction, block_size, entries)
-        | Sent::IndicationOn(_, transaction, block_size, entries) => {
+        Sent::Indication(transaction, block_size, entries) => {
             indication_of(alloc, transaction, block_size, entries)
         }
-        Sent::Block(module, version, number, block)
-        | Sent::BlockOn(_, module, version, number, block) => {
+        Sent::Block(module, version, number, block) => {
             block_of(alloc, module, version, number, block)
         }
-        Sent::Flipped(module, version, number, block) => {
-            flipped(block_of(alloc, module, version, number, block)?)
-        }
     }
-}
-
-// The section with the lowest bit of the last byte before its CRC_32 flipped.
-fn flipped(mut section: Vec<u8>) -> Result<Vec<u8>, Unbuilt> {
-    let place = section.len().checked_sub(5).ok_or(Unbuilt::Length)?;
-    if let Some(byte) = section.as_mut_slice().get_mut(place) {
-        *byte ^= 0x01;
-    }
-    Ok(section)
 }
 
 // A PAT in force: its header, one program, and the CRC_32.
@@ -108,8 +88,8 @@ fn map_of(alloc: Global, program: u16, streams: &[Announced]) -> Result<Vec<u8>,
     with_crc(section)
 }
 
-/// A DownloadInfoIndication: its transaction, the size of a block, and the modules.
-pub fn indication_of(
+// A DownloadInfoIndication: its transaction, the size of a block, and the modules.
+fn indication_of(
     alloc: Global,
     transaction: u32,
     block_size: u16,
@@ -132,8 +112,8 @@ pub fn indication_of(
     message_section(alloc, 0x3B, 0x1002, transaction, payload.as_slice())
 }
 
-/// A DownloadDataBlock: its module, the module's version, the block's number, and its bytes.
-pub fn block_of(
+// A DownloadDataBlock: its module, the module's version, the block's number, and its bytes.
+fn block_of(
     alloc: Global,
     module: u16,
     version: u8,

@@ -3,7 +3,7 @@
 ghost use Rattle.std.specs.Prelude.{◌≡◌, ◌+◌, ◌++◌, length, OnOk};
 ghost use Rattle.std.specs.Io.{StartsWith};
 
-use crate::sections::{DATA_PID, DOCUMENT, Entry, Sent, block_of, indication_of, section_of};
+use crate::sections::{DATA_PID, Entry, Sent, section_of};
 use crate::unbuilt::Unbuilt;
 use bml_bytes::NoMemory;
 use std::alloc::Global;
@@ -15,9 +15,6 @@ const PACKET_LENGTH: usize = 188;
 const PAYLOAD_LENGTH: usize = 184;
 
 const UNIT_LENGTH: usize = 183;
-
-/// The size of the blocks that modules are cut into.
-const BLOCK_SIZE: u16 = 100;
 
 /// Packets, and for each PID below 512 the continuity counter of its next one.
 #[derive(Drop)]
@@ -47,47 +44,6 @@ impl Stream {
         let mut stream = Stream::new(alloc);
         for sent in sections {
             stream.push_sent(sent)?;
-        }
-        Ok(stream)
-    }
-
-    /// Module 0000 with these bytes, in blocks of 100, as a document's.
-    pub fn of_document(alloc: Global, document: &[u8]) -> Result<Stream, Unbuilt> {
-        let mut stream = Stream::new(alloc);
-        let size = size_of(document)?;
-        stream.push_indication(&[Entry(0, 1, size, DOCUMENT)])?;
-        stream.push_blocks(0, document)?;
-        Ok(stream)
-    }
-
-    /// Modules with these numbers and bytes, without info, in blocks of 100, one behind the other.
-    pub fn of_modules(alloc: Global, modules: &[(u16, &[u8])]) -> Result<Stream, Unbuilt> {
-        let mut stream = Stream::new(alloc);
-        let mut entries = Vec::new(alloc);
-        for (number, bytes) in modules {
-            entries.push(Entry(*number, 1, size_of(bytes)?, &[]))?;
-        }
-        stream.push_indication(entries.as_slice())?;
-        for (number, bytes) in modules {
-            stream.push_blocks(*number, bytes)?;
-        }
-        Ok(stream)
-    }
-
-    /// A module of one block of 200 bytes, whose section takes two packets. The packet between these two
-    /// is lost; all three packets come once more, where asked for.
-    pub fn with_lost_packet(alloc: Global, comes_again: bool) -> Result<Stream, Unbuilt> {
-        let indication = Sent::Indication(1, 200, &[Entry(1, 1, 200, &[])]);
-        let block = section_of(alloc, &Sent::Block(1, 1, 0, &[0x55; 200]))?;
-        let (front, back) = split(block.as_slice(), UNIT_LENGTH)?;
-        let mut stream = Stream::new(alloc);
-        stream.push_sent(&indication)?;
-        stream.push_packet(DATA_PID, Some(0), front)?;
-        stream.lose_packet(DATA_PID);
-        stream.push_packet(DATA_PID, None, back)?;
-        if comes_again {
-            stream.push_sent(&indication)?;
-            stream.push_section(DATA_PID, block.as_slice())?;
         }
         Ok(stream)
     }
@@ -129,11 +85,6 @@ impl Stream {
         Ok(())
     }
 
-    /// Leaves out the next packet on a PID.
-    pub fn lose_packet(&mut self, pid: u16) {
-        let _lost = self.next_counter(pid);
-    }
-
     /// Appends a packet with this payload, and 0xFF behind it. With a pointer_field a unit starts in it.
     pub fn push_packet(
         &mut self,
@@ -155,22 +106,6 @@ impl Stream {
         Ok(())
     }
 
-    // Appends an indication of modules in blocks of 100.
-    fn push_indication(&mut self, entries: &[Entry]) -> Result<(), Unbuilt> {
-        let section = indication_of(self.alloc, 1, BLOCK_SIZE, entries)?;
-        self.push_section(DATA_PID, section.as_slice())
-    }
-
-    // Appends the blocks of a module.
-    fn push_blocks(&mut self, module: u16, bytes: &[u8]) -> Result<(), Unbuilt> {
-        for (number, block) in bytes.chunks(usize::from(BLOCK_SIZE)).enumerate() {
-            let number = u16::try_from(number).map_err(|_| Unbuilt::Length)?;
-            let section = block_of(self.alloc, module, 1, number, block)?;
-            self.push_section(DATA_PID, section.as_slice())?;
-        }
-        Ok(())
-    }
-
     // The continuity counter of the next packet on a PID below 512; on others it is always 0.
     fn next_counter(&mut self, pid: u16) -> u8 {
         match self.counters.get_mut(usize::from(pid)) {
@@ -182,11 +117,6 @@ impl Stream {
             }
         }
     }
-}
-
-// A module's size as an entry has it.
-fn size_of(bytes: &[u8]) -> Result<u32, Unbuilt> {
-    u32::try_from(bytes.len()).map_err(|_| Unbuilt::Length)
 }
 
 // Bytes up to a place, and those behind it.

@@ -16,6 +16,3 @@ pub use laws::{
     packets_laid_end_to_end,
 };
 pub use packet::{PACKET_LENGTH, Packet, SYNC_BYTE};
-
-#[cfg(test)]
-mod tests;

@@ -17,6 +17,3 @@ pub use assembler::Assembler;
 pub use crc::{crc_behind_its_message, crc_of, is_intact, remainder_by_register};
 pub use laws::{sections_lie_end_to_end, sections_only_grow};
 pub use whole::sections_of;
-
-#[cfg(test)]
-mod tests;

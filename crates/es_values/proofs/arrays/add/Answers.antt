@@ -3,4 +3,4 @@ use Rattle.es_values.proofs.ArrayLemmas.{insert-new}
 use Rattle.es_values.proofs.arrays.add.Goals as goal
 
 pub returns : goal.returns
-returns c = c.in_ok-insert.ensures.entries ∙ insert-new c.args.properties.now.entries c.args.name c.args.value c.requires
+returns c = c.in_ok-put.ensures.ok ∙ insert-new c.args.properties.now c.args.name c.args.value c.requires

@@ -3,4 +3,4 @@ use Rattle.es_values.proofs.ArrayLemmas.{turned_upto}
 use Rattle.es_values.proofs.arrays.turned.Given as goal
 
 abbrev pub invariant-loop-place : goal.invariant-loop-place
-invariant-loop-place l = l.turned.entries ≡ turned_upto l.count l.properties.entries l.place
+invariant-loop-place l = l.turned ≡ turned_upto l.count l.properties l.place

@@ -1,10 +1,11 @@
 use Rattle.std.proofs.Common.{◌≡◌, ◌≤◌, take}
 use Rattle.std.specs.Prelude.{count_by}
 use Rattle.es_values.specs.Heaps.{is_element_from}
+use Rattle.es_values.specs.Slots.{standing}
 use Rattle.es_values.proofs.properties.count_from.Given as goal
 
-abbrev pub invariant-loop-at : goal.invariant-loop-at
-invariant-loop-at l = record {
-  counted : l.count ≡ count_by (is_element_from l.place) (take l.at l.properties.entries);
-  small : l.count ≤ l.at;
+abbrev pub invariant-loop-slot : goal.invariant-loop-slot
+invariant-loop-slot l = record {
+  counted : l.count ≡ count_by (is_element_from l.place) (standing (take l.slot-index l.slot-items));
+  small : l.count ≤ l.slot-index;
 }

@@ -3,4 +3,4 @@ use Rattle.es_values.specs.Conversions.{joined}
 use Rattle.es_values.proofs.properties.push_elements.Given as goal
 
 abbrev pub invariant-loop-place : goal.invariant-loop-place
-invariant-loop-place l = l.out.items ≡ l.initial.out.items ++ joined l.properties.entries l.separator l.place
+invariant-loop-place l = l.out.items ≡ l.initial.out.items ++ joined l.properties l.separator l.place

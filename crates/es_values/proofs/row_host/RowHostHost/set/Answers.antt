@@ -7,5 +7,5 @@ use Rattle.es_values.proofs.row_host.RowHostHost.set.Goals as goal
 
 pub invariant_of-self-2 : goal.invariant_of-self-2
 invariant_of-self-2 c =
-    subst (λ (entries : List (List ℕ × Value)). All (λ p. is_plain p.1 ≡ true) entries) (sym c.in_ok-insert.ensures.entries)
-    (inserted (λ v. is_plain v ≡ true) c.self.inside.values.entries c.in_ok-name.name c.in_ok-value.value c.self.invariant c.in_ok-value.ensures.plain)
+    subst (λ (entries : List (List ℕ × Value)). All (λ p. is_plain p.1 ≡ true) entries) (sym c.in_ok-put.ensures.ok)
+    (inserted (λ v. is_plain v ≡ true) c.self.inside.values c.in_ok-name.name c.in_ok-value.value c.self.invariant c.in_ok-value.ensures.plain)

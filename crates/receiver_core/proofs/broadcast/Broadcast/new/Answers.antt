@@ -1,6 +1,7 @@
 use Rattle.receiver_core.proofs.BroadcastLaws.{stands_first}
 use Rattle.receiver_core.proofs.broadcast.Broadcast.new.Goals as goal
 
-pub returns : goal.returns
-returns c =
-    stands_first c.new-services.result c.new-store.result c.set_components.new.self c.args.selection c.new-services.ensures.selection c.new-services.ensures.stands c.new-store.ensures.stands c.in_ok-set_components.ensures.stands
+pub returns-clause-stands : goal.returns-clause-stands
+returns-clause-stands c =
+    stands_first c.new-services.result c.new-store.result c.set_components.new.self c.in_ok-page.page c.args.selection c.args.area c.new-services.ensures.selection c.new-services.ensures.stands c.new-store.ensures.stands
+    c.in_ok-set_components.ensures.stands c.in_ok-page.ensures.stands

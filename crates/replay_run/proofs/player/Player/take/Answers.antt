@@ -1,6 +1,7 @@
-use Rattle.std.proofs.Common.{◌+◌, ◌∙◌, sym, ap, arith}
+use Rattle.std.proofs.Common.{◌+◌, ◌∙◌, sym, ap, arith, refl}
 use Rattle.std.proofs.lemmas.Result.{err_from_is_err_and}
 use Rattle.ts_packets.specs.Packets.{packets_of}
+use Rattle.receiver_core.specs.Receiving.{ReceiverState}
 use Rattle.replay_run.proofs.PlayLaws.{Allows, front_of_taken, told_apart, took_less}
 use Rattle.replay_run.proofs.ProgressLaws.{midway_seek, midway_none, midway_more, midway_over}
 use Rattle.replay_run.proofs.StoppingLaws.{only_reads_none, only_reads_more, no_packets}
@@ -11,6 +12,7 @@ pub packets-init : goal.packets-init
 packets-init g c = record {
   within = c.requires.within;
   idle = c.requires.idle;
+  clock = refl;
   readable = c.requires.readable;
   reads = only_reads_none _ _;
   later = omega arith;
@@ -34,6 +36,7 @@ packets-preserved-in-Continue-1 g c =
     record {
       within = rw taken.bytes before.within;
       idle = taken.idle;
+      clock = taken.clock ∙ before.clock;
       readable = λ e. before.readable (sym c.seek.ensures.drops.ended ∙ sym taken.ended ∙ e);
       reads = before.reads;
       later = omega (arith, before.later, taken.writes);
@@ -72,6 +75,7 @@ packets-preserved g c =
     record {
       within = read.within;
       idle = rw read.receiver before.idle;
+      clock = ap (λ (receiver : ReceiverState). receiver.clock) read.receiver ∙ before.clock;
       readable = read.readable;
       reads = only_reads_more _ _ _ _ before.reads read.reads;
       later = before.later;

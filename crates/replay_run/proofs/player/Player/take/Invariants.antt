@@ -14,6 +14,7 @@ abbrev pub invariant-packets : goal.invariant-packets
 invariant-packets g l = record {
   within : l.self.bytes ≤ stream_limit;
   idle : IsIdle l.self.receiver;
+  clock : l.self.receiver.clock ≡ l.initial.self.receiver.clock;
   readable : IsReadable l.self.cutter (g.W.World.told l.world);
   reads : OnlyReads Stream (g.W.World.told l.initial.world) (g.W.World.told l.world);
   later : (g.S.Sink.told l.initial.out).writes.faults ≤ (g.S.Sink.told l.out).writes.faults;

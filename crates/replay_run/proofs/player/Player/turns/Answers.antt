@@ -30,6 +30,7 @@ turns-preserved g c =
       bytes = c.turns.invariant.bytes;
       packets = c.turns.invariant.packets;
       cutter = c.turns.invariant.cutter;
+      clock = c.in_ok-section_turn.ensures.clock ∙ c.turns.invariant.clock;
       later = omega (arith, c.turns.invariant.later, c.in_ok-write_piece-in-true.ensures.writes);
     }
 

@@ -14,6 +14,7 @@ invariant-turns g l = record {
   bytes : l.self.bytes ≡ l.initial.self.bytes;
   packets : l.self.packets ≡ l.initial.self.packets;
   cutter : l.self.cutter ≡ l.initial.self.cutter;
+  clock : l.self.receiver.clock ≡ l.initial.self.receiver.clock;
   later : (g.S.Sink.told l.initial.out).writes.faults ≤ (g.S.Sink.told l.out).writes.faults;
 }
 

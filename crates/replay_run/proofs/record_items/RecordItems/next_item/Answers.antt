@@ -1,7 +1,9 @@
-use Rattle.std.proofs.Common.{◌≡◌, ◌+◌, ◌∙◌, sym, subst, ◌++◌, ◌∷◌, [], arith}
+use Rattle.std.proofs.Common.{◌≡◌, ◌≤◌, ◌+◌, ◌∙◌, sym, subst, ◌++◌, ◌∷◌, [], arith}
 use Rattle.replay_run.specs.declared.record.Line.TheVariants.{Item as Read, Nothing}
+use Rattle.replay_run.specs.Play.{milliseconds_of}
+use Rattle.replay_run.specs.Record.{tick_limit}
 use Rattle.replay_run.specs.RecordProgress.{IsAt}
-use Rattle.replay_run.proofs.RecordProgressLaws.{at_item, at_nothing, at_bad, at_whole}
+use Rattle.replay_run.proofs.RecordProgressLaws.{at_item, at_nothing, at_bad, at_whole, time_within}
 use Rattle.replay_run.proofs.StoppingLaws.{only_reads_more}
 use Rattle.replay_run.proofs.record_items.RecordItems.next_item.Goals as goal
 
@@ -18,6 +20,14 @@ returns-in-Line-Item-clause-item g c = λ item e notes items a.
     (c.next.ensures.good (Read c.in-Line-Item.item) (λ clash. cc)
     (rw c.in-Line-Item.field-0-is at c.in-Line-Item.is))
     c.next.ensures.drops.ended (c.lines.invariant.goes notes items a))
+
+pub returns-in-Line-Item-clause-time : goal.returns-in-Line-Item-clause-time
+returns-in-Line-Item-clause-time g c = λ item e.
+    let same : c.in-Line-Item.item ≡ item = cc in
+    subst (λ i. milliseconds_of i ≤ tick_limit) same
+    (time_within c.lines.self.reader c.next.new.self c.in-Line-Item.item
+    (c.next.ensures.good (Read c.in-Line-Item.item) (λ clash. cc)
+    (rw c.in-Line-Item.field-0-is at c.in-Line-Item.is)))
 
 pub returns-in-Line-Bad-clause-stopped : goal.returns-in-Line-Bad-clause-stopped
 returns-in-Line-Bad-clause-stopped g c = λ notes items a.

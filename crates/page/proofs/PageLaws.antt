@@ -1,0 +1,525 @@
+-- What calls of a page come to, whatever state it is in.
+use Rattle.std.proofs.Common.{◌≡◌, ◌∙◌, ℕ, ◌+◌, ◌<◌, suc, Bool, true, false, List, [], ◌∷◌, ◌++◌, length, drop, refl, sym, ap, ap₂, subst, append_assoc, append-nil, arith}
+use Rattle.std.specs.Prelude.{zero, Option, Some, None, IfOk, OnOk, is_err, option_map, option_and_then, Result, Ok, Err}
+use Rattle.std.specs.Option.{option_map_or, option_or}
+use Rattle.std.specs.Io.{StartsWith}
+use Rattle.std.proofs.lemmas.List.{take-append-drop}
+use Rattle.bml_reader.specs.declared.faults.DocFault.{DocFault}
+use Rattle.display_list.specs.Show.{clock_line}
+use Rattle.document_load.specs.Drafts.{DraftState}
+use Rattle.event_queue.specs.Queues.{first_of}
+use Rattle.event_queue.specs.declared.events.Event.{Event}
+use Rattle.module_store.specs.Resources.{start_path}
+use Rattle.module_store.specs.Standing.{ForStored, StoreState}
+use Rattle.module_store.specs.Store.{Stored}
+use Rattle.page.specs.Dispatches.{dispatch, dispatches, event_in, load_at, most_dispatches, next_and, next_event, next_load, turn, without_first}
+use Rattle.page.specs.Documents.{Document}
+use Rattle.page.specs.Doings.{Changes, Does}
+use Rattle.page.specs.Handling.{handled}
+use Rattle.page.specs.Inputs.{display_of, document_lines}
+use Rattle.page.specs.Kept.{IsDocument, KeptDocument}
+use Rattle.page.specs.Loading.{load, load_effect, loadable_reading, opened, wanted_path}
+use Rattle.page.specs.Pendings.{Loads, wanted_of}
+use Rattle.page.specs.Runs.{Effect}
+use Rattle.page.specs.Standing.{AreDocuments, HasMade, HasMadeOf, Makes, MakesWith, MayMake, PageState, StandsFor, TakesLoad}
+use Rattle.page.specs.State.{State, Step, Wanted, step_behind, step_of, still}
+use Rattle.page.specs.State.Wanted.{StartDocument, NoDocument}
+use Rattle.page.specs.declared.loading.Load.{Load}
+use Rattle.page.specs.declared.loading.Load.TheVariants as came
+use Rattle.page.specs.declared.loading.Loading.{Loading}
+use Rattle.page.specs.declared.loading.Loading.TheVariants as kept
+
+-- ---- pages that differ in what stands for no part of a state
+
+abbrev pub with_spent : Bool → PageState → PageState
+with_spent spent page = record page { spent = spent }
+
+pub spent_stands : (page : PageState) (spent : Bool) (stored : Stored) (s : State) → StandsFor page stored s → StandsFor (with_spent spent page) stored s
+spent_stands page spent stored s stands = record {
+  reader = stands.reader;
+  document = stands.document;
+  wanted = stands.wanted;
+  current = stands.current;
+  clock = stands.clock;
+  random = stands.random;
+  area = stands.area;
+}
+
+pub makes_spent : (step : State → Step) (old new : PageState) (before after : List ℕ) (spent : Bool) → Makes step old new before after → Makes step old (with_spent spent new) before after
+makes_spent step old new before after spent made = record {
+  text = made.text;
+  printed = made.printed;
+  makes = λ stored s stands.
+      let has = made.makes stored s stands in
+      record { stands = spent_stands new spent stored (step s).state has.stands; text_is = has.text_is };
+}
+
+pub makes_with_spent : (state : StoreState) (step : Stored → State → Step) (old new : PageState) (before after : List ℕ) (spent : Bool) → MakesWith state step old new before after → MakesWith state step old (with_spent spent new) before after
+makes_with_spent state step old new before after spent made = record {
+  text = made.text;
+  printed = made.printed;
+  makes = λ stored is s stands.
+      let has = made.makes stored is s stands in
+      record { stands = spent_stands new spent stored (step stored s).state has.stands; text_is = has.text_is };
+}
+
+-- the same of a call that spends the page where it found no memory
+pub makes_after : {A E : Type 0} (step : State → Step) (old page now : PageState) (before after : List ℕ) (called result : Result A E) → OnOk called (Makes step old page before after) → result ≡ called → now ≡ with_spent (is_err called) page
+    → OnOk result (Makes step old now before after)
+makes_after {A} {E} step old page now before after (Err fault) result made same spent = subst (λ (r : Result A E). OnOk r (Makes step old now before after)) (sym same) tt
+makes_after {A} {E} step old page now before after (Ok done) result made same spent =
+    subst (λ (r : Result A E). OnOk r (Makes step old now before after)) (sym same) (subst (λ (p : PageState). Makes step old p before after) (sym spent) (makes_spent step old page before after false made))
+
+-- ---- the document of a page
+
+abbrev pub with_document : Option KeptDocument → ℕ → PageState → PageState
+with_document document worked page = record page { document = document; worked = worked }
+
+abbrev pub with_loading : Loading → PageState → PageState
+with_loading loading page = record page { loading = loading }
+
+-- with another document, which is that of the state
+pub document_stands : (page : PageState) (document : Option KeptDocument) (worked : ℕ) (stored : Stored) (s : State) (d : Option Document) → StandsFor page stored s → AreDocuments document d
+    → StandsFor (with_document document worked page) stored (record s { document = d })
+document_stands page document worked stored s d stands are = record {
+  reader = stands.reader;
+  document = are;
+  wanted = stands.wanted;
+  current = stands.current;
+  clock = stands.clock;
+  random = stands.random;
+  area = stands.area;
+}
+
+-- where a document is kept, it is that of the state
+document_there : (page : PageState) (stored : Stored) (s : State) (k : KeptDocument) → page.document ≡ Some k → StandsFor page stored s → (d : Document) × (s.document ≡ Some d) × IsDocument k d
+document_there page stored s k is stands = by s.document refl (subst (λ (x : Option KeptDocument). AreDocuments x s.document) is stands.document)
+  where
+    by : (o : Option Document) → s.document ≡ o → AreDocuments (Some k) o → (d : Document) × (s.document ≡ Some d) × IsDocument k d
+    by None e are = absurd are
+    by (Some d) e are = (d, e, are)
+
+none_there : (page : PageState) (stored : Stored) (s : State) → page.document ≡ None → StandsFor page stored s → s.document ≡ None
+none_there page stored s is stands = by s.document refl (subst (λ (x : Option KeptDocument). AreDocuments x s.document) is stands.document)
+  where
+    by : (o : Option Document) → s.document ≡ o → AreDocuments None o → s.document ≡ None
+    by None e are = e
+    by (Some d) e are = absurd are
+
+-- the state with the document that it has
+same_document : (s : State) (d : Option Document) → s.document ≡ d → s ≡ record s { document = d }
+same_document s d e = ap (λ (x : Option Document). record s { document = x }) e
+
+-- ---- keys
+
+abbrev pub in_document : (Document → Effect) → State → Step
+in_document effect s = option_map_or (λ d. step_of s (effect d)) s.document (still s)
+
+pub none_done : (effect : Document → Effect) (page : PageState) (before : List ℕ) → page.document ≡ None → Makes (in_document effect) page page before before
+none_done effect page before is = record {
+  text = [];
+  printed = sym (append-nil before);
+  makes = λ stored s stands.
+      subst (λ (o : Option Document). HasMade page stored [] (option_map_or (λ d. step_of s (effect d)) o (still s))) (sym (none_there page stored s is stands)) (record { stands = stands; text_is = refl });
+}
+
+pub done_in_document : (effect : Document → Effect) (page : PageState) (k new : KeptDocument) (worked : ℕ) (before after : List ℕ) → page.document ≡ Some k → Does effect k new before after
+    → Makes (in_document effect) page (with_document (Some new) worked page) before after
+done_in_document effect page k new worked before after is does = record {
+  text = does.text;
+  printed = does.printed;
+  makes = λ stored s stands.
+      let there = document_there page stored s k is stands in
+      let done = does.does there.0 there.2 in
+      subst (λ (o : Option Document). HasMade (with_document (Some new) worked page) stored does.text (option_map_or (λ d. step_of s (effect d)) o (still s))) (sym there.1)
+      (record { stands = document_stands page (Some new) worked stored s (Some (effect there.0).document) stands done.is; text_is = done.text_is });
+}
+
+-- the same of a call that spends the page where it found no memory
+pub posted_by : {A E : Type 0} (effect : Document → Effect) (old page : PageState) (k new : KeptDocument) (worked : ℕ) (now : PageState) (before after : List ℕ) (called result : Result A E) → page ≡ old → page.document ≡ Some k
+    → OnOk called (Does effect k new before after) → result ≡ called → now ≡ with_spent (is_err called) (with_document (Some new) worked page) → OnOk result (Makes (in_document effect) old now before after)
+posted_by {A} {E} effect old page k new worked now before after (Err fault) result view is does same spent = subst (λ (r : Result A E). OnOk r (Makes (in_document effect) old now before after)) (sym same) tt
+posted_by {A} {E} effect old page k new worked now before after (Ok done) result view is does same spent =
+    subst (λ (r : Result A E). OnOk r (Makes (in_document effect) old now before after)) (sym same)
+    (subst (λ (p : PageState). Makes (in_document effect) p now before after) view
+    (subst (λ (p : PageState). Makes (in_document effect) page p before after) (sym spent)
+    (makes_spent (in_document effect) page (with_document (Some new) worked page) before after false (done_in_document effect page k new worked before after is does))))
+
+-- ---- what is shown
+
+abbrev pub shown_step : State → Step
+shown_step s = record { state = s; text = display_of s }
+
+display_with : (s : State) (d : Option Document) → s.document ≡ d → display_of s ≡ clock_line s.clock ++ option_map_or document_lines d []
+unfolding display_of
+display_with s d e = ap (λ (o : Option Document). clock_line s.clock ++ option_map_or document_lines o []) e
+
+pub shown_without : (page : PageState) (before after : List ℕ) → page.document ≡ None → after ≡ before ++ clock_line page.clock → Makes shown_step page page before after
+shown_without page before after is printed = record {
+  text = clock_line page.clock;
+  printed = printed;
+  makes = λ stored s stands. record {
+    stands = stands;
+    text_is = ap clock_line stands.clock ∙ sym (append-nil (clock_line s.clock)) ∙ sym (display_with s None (none_there page stored s is stands));
+  };
+}
+
+rest_after : (longer front : List ℕ) → StartsWith longer front → longer ≡ front ++ drop (length front) longer
+rest_after longer front starts = sym (take-append-drop (length front) longer) ∙ ap (λ (l : List ℕ). l ++ drop (length front) longer) starts
+
+-- what stands behind the same front is the same
+same_behind : (front one other : List ℕ) → front ++ one ≡ front ++ other → one ≡ other
+same_behind [] one other e = e
+same_behind (x ∷ front) one other e = same_behind front one other cc
+
+pub shown_with : (page : PageState) (k new : KeptDocument) (worked : ℕ) (before between after : List ℕ) → page.document ≡ Some k → between ≡ before ++ clock_line page.clock
+    → ((d : Document) → IsDocument k d → after ≡ between ++ document_lines d) → Changes (λ d. d) k new → StartsWith after between → Makes shown_step page (with_document (Some new) worked page) before after
+shown_with page k new worked before between after is printed shown same grows = record {
+  text = clock_line page.clock ++ drop (length between) after;
+  printed = rest_after after between grows ∙ ap (λ (l : List ℕ). l ++ drop (length between) after) printed ∙ append_assoc before (clock_line page.clock) (drop (length between) after);
+  makes = λ stored s stands.
+      let there = document_there page stored s k is stands in
+      let lines = same_behind between (drop (length between) after) (document_lines there.0) (sym (rest_after after between grows) ∙ shown there.0 there.2) in
+      record {
+        stands = subst (StandsFor (with_document (Some new) worked page) stored) (sym (same_document s (Some there.0) there.1)) (document_stands page (Some new) worked stored s (Some there.0) stands (same there.0 there.2));
+        text_is = ap₂ (λ (a b : List ℕ). a ++ b) (ap clock_line stands.clock) lines ∙ sym (display_with s (Some there.0) there.1);
+      };
+}
+
+pub displayed_without : {A E : Type 0} (old page new : PageState) (before after : List ℕ) (result : Result A E) → page ≡ old → page.document ≡ None → new ≡ page → after ≡ before ++ clock_line page.clock
+    → OnOk result (Makes shown_step old new before after)
+displayed_without old page new before after (Err fault) view is same printed = tt
+displayed_without old page new before after (Ok done) view is same printed =
+    subst (λ (p : PageState). Makes shown_step p new before after) view (subst (λ (p : PageState). Makes shown_step page p before after) (sym same) (shown_without page before after is printed))
+
+displayed_as : {A E : Type 0} (old page new : PageState) (k shown : KeptDocument) (before between after : List ℕ) (result : Result A E) → page ≡ old → page.document ≡ Some k → new ≡ with_document (Some shown) shown.worked page
+    → between ≡ before ++ clock_line page.clock → OnOk result ((d : Document) → IsDocument k d → after ≡ between ++ document_lines d) → Changes (λ d. d) k shown → StartsWith after between → OnOk result (Makes shown_step old new before after)
+displayed_as old page new k shown before between after (Err fault) view is same printed lines changes grows = tt
+displayed_as old page new k shown before between after (Ok done) view is same printed lines changes grows =
+    subst (λ (p : PageState). Makes shown_step p new before after) view
+    (subst (λ (p : PageState). Makes shown_step page p before after) (sym same) (shown_with page k shown shown.worked before between after is printed lines changes grows))
+
+pub displayed_with : {A E : Type 0} (old page new : PageState) (k shown : KeptDocument) (before between after left : List ℕ) (called result : Result A E) → page ≡ old → page.document ≡ Some k → new ≡ with_document (Some shown) shown.worked page
+    → between ≡ before ++ clock_line page.clock → OnOk called ((d : Document) → IsDocument k d → after ≡ between ++ document_lines d) → Changes (λ d. d) k shown → StartsWith after between → left ≡ after → result ≡ called
+    → OnOk result (Makes shown_step old new before left)
+displayed_with {A} {E} old page new k shown before between after left called result view is same printed lines changes grows e called_is =
+    subst (λ (r : Result A E). OnOk r (Makes shown_step old new before left)) (sym called_is)
+    (subst (λ (l : List ℕ). OnOk called (Makes shown_step old new before l)) (sym e) (displayed_as old page new k shown before between after called view is same printed lines changes grows))
+
+-- ---- dispatches
+
+pub may_make : (made is : Bool) (state : StoreState) (step : Stored → State → Option Step) (old new : PageState) (before after : List ℕ) → made ≡ is → MayMake made state step old new before after → MayMake is state step old new before after
+may_make made is state step old new before after e may = subst (λ (b : Bool). MayMake b state step old new before after) e may
+
+pub loaded_first : (state : StoreState) (old new : PageState) (before after : List ℕ) → MayMake true state next_load old new before after → MayMake true state dispatch old new before after
+unfolding dispatch
+loaded_first state old new before after made = record {
+  text = made.text;
+  printed = made.printed;
+  makes = λ stored is s stands. by stored s (next_load stored s) (next_event s) (made.makes stored is s stands);
+}
+  where
+    by : (stored : Stored) (s : State) (loads events : Option Step) → HasMadeOf true new stored made.text s loads → HasMadeOf true new stored made.text s (option_or loads events)
+    by stored s None events has = absurd has
+    by stored s (Some t) events has = has
+
+-- nothing was loaded: the page stands for the same state, and what comes next is an event
+none_loaded : (page : PageState) (stored : Stored) (text : List ℕ) (s : State) (loads : Option Step) → HasMadeOf false page stored text s loads → (loads ≡ None) × HasMade page stored text (still s)
+none_loaded page stored text s None has = (refl, has)
+none_loaded page stored text s (Some t) has = absurd has
+
+events_next : (stored : Stored) (s : State) → next_load stored s ≡ None → dispatch stored s ≡ next_event s
+unfolding dispatch
+events_next stored s e = ap (λ (o : Option Step). option_or o (next_event s)) e
+
+pub none_acts : (state : StoreState) (old page : PageState) (before after : List ℕ) → page.document ≡ None → MayMake false state next_load old page before after → MayMake false state dispatch old page before after
+none_acts state old page before after is made = record {
+  text = made.text;
+  printed = made.printed;
+  makes = λ stored known s stands.
+      let none = none_loaded page stored made.text s (next_load stored s) (made.makes stored known s stands) in
+      let nothing = events_next stored s none.0 ∙ ap (option_and_then (event_in s)) (none_there page stored s is none.1.stands) in
+      subst (HasMadeOf false page stored made.text s) (sym nothing) none.1;
+}
+
+empty_of : (queue : List Event) → first_of queue ≡ None → drop 1 queue ≡ queue
+empty_of [] e = refl
+empty_of (event ∷ queue) e = absurd cc
+
+first_in : (page : PageState) (k : KeptDocument) (d : Document) → IsDocument k d → k.queue ≡ d.queue
+first_in page k d is = ap (λ (x : KeptDocument). x.queue) is.others
+
+event_next : (s : State) (d : Document) (event : Option Event) → s.document ≡ Some d → first_of d.queue ≡ event → next_event s ≡ option_map (λ event. step_of s (handled event (without_first d))) event
+event_next s d event e first = ap (option_and_then (event_in s)) e ∙ ap (option_map (λ event. step_of s (handled event (without_first d)))) first
+
+pub none_waits : (state : StoreState) (old page : PageState) (k new : KeptDocument) (worked : ℕ) (before after : List ℕ) → page.document ≡ Some k → first_of k.queue ≡ None → Changes without_first k new
+    → MayMake false state next_load old page before after → MayMake false state dispatch old (with_document (Some new) worked page) before after
+none_waits state old page k new worked before after is first changes made = record {
+  text = made.text;
+  printed = made.printed;
+  makes = λ stored known s stands.
+      let none = none_loaded page stored made.text s (next_load stored s) (made.makes stored known s stands) in
+      let there = document_there page stored s k is none.1.stands in
+      let d = there.0 in
+      let empty : first_of d.queue ≡ None = ap first_of (sym (first_in page k d there.2)) ∙ first in
+      let nothing = events_next stored s none.0 ∙ event_next s d None there.1 empty in
+      let same : without_first d ≡ d = ap (λ (queue : List Event). record d { queue = queue }) (empty_of d.queue empty) in
+      let is_now : IsDocument new d = subst (IsDocument new) same (changes d there.2) in
+      subst (HasMadeOf false (with_document (Some new) worked page) stored made.text s) (sym nothing)
+      (record {
+        stands = subst (StandsFor (with_document (Some new) worked page) stored) (sym (same_document s (Some d) there.1)) (document_stands page (Some new) worked stored s (Some d) none.1.stands is_now);
+        text_is = none.1.text_is;
+      });
+}
+
+pub event_made : (state : StoreState) (old page : PageState) (k between new : KeptDocument) (event : Event) (worked : ℕ) (before middle after : List ℕ) → page.document ≡ Some k → first_of k.queue ≡ Some event
+    → Changes without_first k between → Does (handled event) between new middle after → MayMake false state next_load old page before middle → MayMake true state dispatch old (with_document (Some new) worked page) before after
+event_made state old page k between new event worked before middle after is first changes does made = record {
+  text = made.text ++ does.text;
+  printed = does.printed ∙ ap (λ (l : List ℕ). l ++ does.text) made.printed ∙ append_assoc before made.text does.text;
+  makes = λ stored known s stands.
+      let none = none_loaded page stored made.text s (next_load stored s) (made.makes stored known s stands) in
+      let there = document_there page stored s k is none.1.stands in
+      let d = there.0 in
+      let some : first_of d.queue ≡ Some event = ap first_of (sym (first_in page k d there.2)) ∙ first in
+      let next = events_next stored s none.0 ∙ event_next s d (Some event) there.1 some in
+      let done = does.does (without_first d) (changes d there.2) in
+      subst (HasMadeOf true (with_document (Some new) worked page) stored (made.text ++ does.text) s) (sym next)
+      (record {
+        stands = document_stands page (Some new) worked stored s (Some (handled event (without_first d)).document) none.1.stands done.is;
+        text_is = ap (λ (l : List ℕ). l ++ does.text) none.1.text_is ∙ done.text_is;
+      });
+}
+
+-- ---- loads
+
+-- the load of what is wanted
+load_next : (stored : Stored) (s : State) (wanted : Wanted) → s.wanted ≡ wanted → next_load stored s ≡ option_and_then (load_at stored s) (wanted_path wanted stored)
+unfolding next_load
+load_next stored s wanted e = ap (λ (w : Wanted). option_and_then (load_at stored s) (wanted_path w stored)) e
+
+-- nothing is wanted
+pub none_wanted : (state : StoreState) (page : PageState) (before : List ℕ) → page.loading ≡ kept.Nothing → MayMake false state next_load page page before before
+none_wanted state page before is = record {
+  text = [];
+  printed = sym (append-nil before);
+  makes = λ stored known s stands.
+      let none : next_load stored s ≡ None = load_next stored s NoDocument (sym stands.wanted ∙ ap wanted_of is) in
+      subst (HasMadeOf false page stored [] s) (sym none) (record { stands = stands; text_is = refl });
+}
+
+-- what is wanted is the start document
+start_next : (page : PageState) (stored : Stored) (s : State) (reading : Option (Result DraftState DocFault)) → wanted_of page.loading ≡ StartDocument → StandsFor page stored s
+    → loadable_reading stored (start_path stored) ≡ reading → next_load stored s ≡ option_map (load s (start_path stored)) reading
+start_next page stored s reading wanted stands is =
+    load_next stored s StartDocument (sym stands.wanted ∙ wanted) ∙ ap (option_map (load s (start_path stored))) is
+
+pub load_waits : (state : StoreState) (page : PageState) (loading : Loading) (before after : List ℕ) → wanted_of page.loading ≡ StartDocument → Loads state page.loading (came.Waits loading) before after
+    → MayMake false state next_load page (with_loading loading page) before after
+load_waits state page loading before after wanted loads = record {
+  text = loads.text;
+  printed = loads.printed;
+  makes = λ stored known s stands.
+      let goes = loads.loads stored known stands.current s.read stands.reader in
+      subst (HasMadeOf false (with_loading loading page) stored loads.text s) (sym (start_next page stored s None wanted stands goes.none))
+      (record {
+        stands = record {
+          reader = stands.reader;
+          document = stands.document;
+          wanted = goes.wanted ∙ sym wanted ∙ stands.wanted;
+          current = goes.current;
+          clock = stands.clock;
+          random = stands.random;
+          area = stands.area;
+        };
+        text_is = goes.silent;
+      });
+}
+
+-- nothing is wanted behind a load
+nothing_wanted : (page : PageState) (document : Option KeptDocument) (worked : ℕ) (stored : Stored) (s : State) (d : Option Document) → StandsFor page stored s → AreDocuments document d
+    → StandsFor (with_document document worked (with_loading kept.Nothing page)) stored (record s { document = d; wanted = NoDocument })
+nothing_wanted page document worked stored s d stands are = record {
+  reader = stands.reader;
+  document = are;
+  wanted = refl;
+  current = tt;
+  clock = stands.clock;
+  random = stands.random;
+  area = stands.area;
+}
+
+pub load_refused : (state : StoreState) (page : PageState) (before after : List ℕ) → wanted_of page.loading ≡ StartDocument → Loads state page.loading came.Refused before after
+    → MayMake true state next_load page (with_document None 0 (with_loading kept.Nothing page)) before after
+load_refused state page before after wanted loads = record {
+  text = loads.text;
+  printed = loads.printed;
+  makes = λ stored known s stands.
+      let refused = loads.loads stored known stands.current s.read stands.reader in
+      subst (HasMadeOf true (with_document None 0 (with_loading kept.Nothing page)) stored loads.text s) (sym (start_next page stored s (Some (Err refused.fault)) wanted stands refused.reading_is))
+      (record { stands = nothing_wanted page None 0 stored s None stands tt; text_is = refused.text_is });
+}
+
+pub load_made : (state : StoreState) (page : PageState) (k new : KeptDocument) (worked : ℕ) (before between after : List ℕ) → wanted_of page.loading ≡ StartDocument → Loads state page.loading (came.Loaded k) before between
+    → Does load_effect k new between after → MayMake true state next_load page (with_document (Some new) worked (with_loading kept.Nothing page)) before after
+load_made state page k new worked before between after wanted loads does = record {
+  text = loads.text ++ does.text;
+  printed = does.printed ∙ ap (λ (l : List ℕ). l ++ does.text) loads.printed ∙ append_assoc before loads.text does.text;
+  makes = λ stored known s stands.
+      let has = loads.loads stored known stands.current s.read stands.reader in
+      let done = does.does (opened s.read has.0) has.2 in
+      subst (HasMadeOf true (with_document (Some new) worked (with_loading kept.Nothing page)) stored (loads.text ++ does.text) s) (sym (start_next page stored s (Some (Ok has.0)) wanted stands has.1))
+      (record {
+        stands = nothing_wanted page (Some new) worked stored s (Some (load_effect (opened s.read has.0)).document) stands done.is;
+        text_is = ap₂ (λ (a b : List ℕ). a ++ b) has.3 done.text_is;
+      });
+}
+
+pub load_nothing : (state : StoreState) (old page : PageState) (loading : Loading) (before : List ℕ) → page ≡ old → page.loading ≡ kept.Nothing → loading ≡ kept.Nothing → MayMake false state next_load old (with_loading loading page) before before
+load_nothing state old page loading before view is e =
+    subst (λ (p : PageState). MayMake false state next_load p (with_loading loading page) before before) view
+    (subst (λ (l : Loading). MayMake false state next_load page (with_loading l page) before before) (is ∙ sym e) (none_wanted state page before is))
+
+-- what was taken of a load is what the load makes of the state
+takes_load : (state : StoreState) (page now : PageState) (what : Load) (made : Bool) (before middle after : List ℕ) → wanted_of page.loading ≡ StartDocument → Loads state page.loading what before middle
+    → TakesLoad what made (with_loading kept.Nothing page) now middle after → MayMake made state next_load page now before after
+takes_load state page now (came.Waits loading) made before middle after wanted loads takes =
+    may_make false made state next_load page now before after (sym takes.0)
+    (subst (λ (p : PageState). MayMake false state next_load page p before after) (sym takes.1)
+    (subst (λ (l : List ℕ). MayMake false state next_load page (with_loading loading page) before l) (sym takes.2) (load_waits state page loading before middle wanted loads)))
+takes_load state page now came.Refused made before middle after wanted loads takes =
+    may_make true made state next_load page now before after (sym takes.0)
+    (subst (λ (p : PageState). MayMake true state next_load page p before after) (sym takes.1)
+    (subst (λ (l : List ℕ). MayMake true state next_load page (with_document None 0 (with_loading kept.Nothing page)) before l) (sym takes.2) (load_refused state page before middle wanted loads)))
+takes_load state page now (came.Loaded k) made before middle after wanted loads takes =
+    may_make true made state next_load page now before after (sym takes.0)
+    (subst (λ (p : PageState). MayMake true state next_load page p before after) (sym takes.2)
+    (load_made state page k takes.1 takes.1.worked before middle after wanted loads takes.3))
+
+pub load_taken : {E : Type 0} (state : StoreState) (old page now : PageState) (loading emptied : Loading) (what : Load) (before middle after : List ℕ) (result : Result Bool E) → page ≡ old → loading ≡ page.loading → emptied ≡ kept.Nothing
+    → wanted_of loading ≡ StartDocument → Loads state loading what before middle → IfOk result (λ made. TakesLoad what made (with_loading emptied page) now middle after) → IfOk result (λ made. MayMake made state next_load old now before after)
+load_taken state old page now loading emptied what before middle after (Err fault) view is none wanted loads takes = takes
+load_taken state old page now loading emptied what before middle after (Ok made) view is none wanted loads takes =
+    subst (λ (p : PageState). MayMake made state next_load p now before after) view
+    (takes_load state page now what made before middle after (ap wanted_of (sym is) ∙ wanted) (subst (λ (l : Loading). Loads state l what before middle) is loads)
+    (subst (λ (l : Loading). TakesLoad what made (with_loading l page) now middle after) none takes))
+
+-- ---- turns
+
+-- the page stands for a state behind this text, and so many dispatches of a turn are left
+pub record IsAhead (page : PageState) (stored : Stored) (text : List ℕ) (left : ℕ) (whole : Step) : Type 0 where
+  pub now : State
+  pub stands : StandsFor page stored now
+  pub whole_is : whole ≡ step_behind text (dispatches left stored now)
+
+-- in the midst of a turn, behind so many dispatches
+pub record IsTurning (state : StoreState) (made : ℕ) (old page : PageState) (before after : List ℕ) : Type 0 where
+  pub text : List ℕ
+  pub printed : after ≡ before ++ text
+  pub left : ℕ
+  pub left_is : left + made ≡ most_dispatches
+  pub ahead : ForStored state (λ stored. (s : State) → StandsFor old stored s → IsAhead page stored text left (turn stored s))
+
+pub turn_begins : (state : StoreState) (page : PageState) (before : List ℕ) → IsTurning state 0 page page before before
+unfolding turn
+turn_begins state page before = record {
+  text = [];
+  printed = sym (append-nil before);
+  left = most_dispatches;
+  left_is = omega arith;
+  ahead = λ stored is s stands. record { now = s; stands = stands; whole_is = refl };
+}
+
+-- the next dispatch, where there is one
+next_made : (more : ℕ) (stored : Stored) (s : State) → dispatches (suc more) stored s ≡ next_and (dispatches more stored) s (dispatch stored s)
+unfolding dispatches
+next_made more stored s = refl
+
+none_left : (stored : Stored) (s : State) → dispatches zero stored s ≡ still s
+unfolding dispatches
+none_left stored s = refl
+
+pub most_is : most_dispatches ≡ 256
+unfolding most_dispatches
+most_is = refl
+
+some_left : (left made : ℕ) → left + made ≡ 256 → made < 256 → (more : ℕ) × (left ≡ suc more)
+some_left zero made e h = absurd (omega arith)
+some_left (suc more) made e h = (more, refl)
+
+behind_both : (text more : List ℕ) (t : Step) → step_behind text (step_behind more t) ≡ step_behind (text ++ more) t
+behind_both text more t = ap (λ (l : List ℕ). record { state = t.state; text = l }) (sym (append_assoc text more t.text))
+
+-- one dispatch more
+one_more : (page new : PageState) (stored : Stored) (text more : List ℕ) (left next : ℕ) (whole : Step) → left ≡ suc next → (ahead : IsAhead page stored text left whole) → HasMadeOf true new stored more ahead.now (dispatch stored ahead.now)
+    → IsAhead new stored (text ++ more) next whole
+one_more page new stored text more left next whole is ahead has = by (dispatch stored ahead.now) refl has
+  where
+    by : (o : Option Step) → dispatch stored ahead.now ≡ o → HasMadeOf true new stored more ahead.now o → IsAhead new stored (text ++ more) next whole
+    by None e has = absurd has
+    by (Some t) e has = record {
+      now = t.state;
+      stands = has.stands;
+      whole_is =
+          ahead.whole_is ∙ ap (λ (n : ℕ). step_behind text (dispatches n stored ahead.now)) is
+          ∙ ap (step_behind text) (next_made next stored ahead.now ∙ ap (next_and (dispatches next stored) ahead.now) e)
+          ∙ behind_both text t.text (dispatches next stored t.state)
+          ∙ ap (λ (l : List ℕ). step_behind (text ++ l) (dispatches next stored t.state)) (sym has.text_is);
+    }
+
+pub turn_goes : (state : StoreState) (made : ℕ) (old page new : PageState) (before between after : List ℕ) → made < 256 → IsTurning state made old page before between → MayMake true state dispatch page new between after
+    → IsTurning state (made + 1) old new before after
+turn_goes state made old page new before between after h turning may =
+    let next = some_left turning.left made (turning.left_is ∙ most_is) h in
+    record {
+      text = turning.text ++ may.text;
+      printed = may.printed ∙ ap (λ (l : List ℕ). l ++ may.text) turning.printed ∙ append_assoc before turning.text may.text;
+      left = next.0;
+      left_is = omega (arith, turning.left_is, next.1);
+      ahead = λ stored is s stands.
+          let ahead = turning.ahead stored is s stands in
+          one_more page new stored turning.text may.text turning.left next.0 (turn stored s) next.1 ahead (may.makes stored is ahead.now ahead.stands);
+    }
+
+-- behind the last dispatch
+ended_at : (new : PageState) (stored : Stored) (text : List ℕ) (now : State) (whole : Step) → StandsFor new stored now → whole ≡ step_behind text (still now) → HasMade new stored text whole
+ended_at new stored text now whole stands is = subst (HasMade new stored text) (sym is) (record { stands = stands; text_is = sym (append-nil text) })
+
+none_more : (page new : PageState) (stored : Stored) (text more : List ℕ) (left next : ℕ) (whole : Step) → left ≡ suc next → (ahead : IsAhead page stored text left whole) → HasMadeOf false new stored more ahead.now (dispatch stored ahead.now)
+    → HasMade new stored (text ++ more) whole
+none_more page new stored text more left next whole is ahead has = by (dispatch stored ahead.now) refl has
+  where
+    by : (o : Option Step) → dispatch stored ahead.now ≡ o → HasMadeOf false new stored more ahead.now o → HasMade new stored (text ++ more) whole
+    by (Some t) e has = absurd has
+    by None e has =
+        subst (λ (l : List ℕ). HasMade new stored l whole) (sym (ap (λ (l : List ℕ). text ++ l) has.text_is ∙ append-nil text))
+        (ended_at new stored text ahead.now whole has.stands
+        (ahead.whole_is ∙ ap (λ (n : ℕ). step_behind text (dispatches n stored ahead.now)) is
+        ∙ ap (step_behind text) (next_made next stored ahead.now ∙ ap (next_and (dispatches next stored) ahead.now) e)))
+
+pub turn_stops : (state : StoreState) (made : ℕ) (old page new : PageState) (before between after : List ℕ) → made < 256 → IsTurning state made old page before between → MayMake false state dispatch page new between after
+    → MakesWith state turn old new before after
+turn_stops state made old page new before between after h turning may =
+    let next = some_left turning.left made (turning.left_is ∙ most_is) h in
+    record {
+      text = turning.text ++ may.text;
+      printed = may.printed ∙ ap (λ (l : List ℕ). l ++ may.text) turning.printed ∙ append_assoc before turning.text may.text;
+      makes = λ stored is s stands.
+          let ahead = turning.ahead stored is s stands in
+          none_more page new stored turning.text may.text turning.left next.0 (turn stored s) next.1 ahead (may.makes stored is ahead.now ahead.stands);
+    }
+
+zero_left : (left made : ℕ) → left + made ≡ 256 → made ≡ 256 → left ≡ zero
+zero_left left made e h = omega arith
+
+pub turn_ends : (state : StoreState) (made : ℕ) (old page : PageState) (before after : List ℕ) → made ≡ 256 → IsTurning state made old page before after → MakesWith state turn old page before after
+turn_ends state made old page before after h turning =
+    let none = zero_left turning.left made (turning.left_is ∙ most_is) h in
+    record {
+      text = turning.text;
+      printed = turning.printed;
+      makes = λ stored is s stands.
+          let ahead = turning.ahead stored is s stands in
+          ended_at page stored turning.text ahead.now (turn stored s) ahead.stands
+          (ahead.whole_is ∙ ap (λ (n : ℕ). step_behind turning.text (dispatches n stored ahead.now)) none ∙ ap (step_behind turning.text) (none_left stored ahead.now));
+    }

@@ -1,0 +1,187 @@
+-- What becomes of what is kept of a document that is wanted, where changes in modules are posted.
+use Rattle.std.proofs.Common.{◌≡◌, ◌∙◌, ℕ, ◌<◌, Bool, true, false, cond, eqb, ◌&&◌, List, [], ◌∷◌, refl, sym, ap, ap₂, subst, arith}
+use Rattle.std.specs.Prelude.{◌||◌, AllPairs, map}
+use Rattle.std.specs.List.{list_any}
+use Rattle.std.proofs.lemmas.Bool.{eq-eqb, eqb-true}
+use Rattle.multipart_entities.specs.declared.paths.Path.{Path}
+use Rattle.carousel_blocks.specs.declared.changes.Change.{Change}
+use Rattle.psi_tables.specs.declared.components.Component.{Component}
+use Rattle.psi_tables.specs.Components.{AreApart}
+use Rattle.module_store.specs.Resources.{look, start_component, start_path}
+use Rattle.module_store.specs.Resources.Resource.{Found}
+use Rattle.module_store.specs.Staying.{tells_of, is_gone}
+use Rattle.module_store.specs.Store.{Stored, changes_by, with_section, gone_by, with_map}
+use Rattle.page.specs.declared.loading.Loading.{Loading}
+use Rattle.page.specs.declared.loading.Loading.TheVariants as kept
+use Rattle.page.specs.Pendings.{IsCurrent, loading_behind, wanted_of}
+use Rattle.page.specs.PendingStates.{IsStart, PendingState}
+use Rattle.page.specs.Standing.{PageState, StandsFor, behind_all, behind_change}
+use Rattle.page.specs.State.{State}
+
+-- ---- what several changes leave
+
+-- of a document that is wanted
+abbrev pub loading_behind_all : List (ℕ × Change) → Loading → Loading
+loading_behind_all [] loading = loading
+loading_behind_all (change ∷ changes) loading = loading_behind_all changes (loading_behind change.0 change.1 loading)
+
+abbrev with_loading : PageState → Loading → PageState
+with_loading page loading = record page { loading = loading }
+
+-- they change nothing else of a page
+behind_all_is : (changes : List (ℕ × Change)) (page : PageState) → behind_all changes page ≡ with_loading page (loading_behind_all changes page.loading)
+behind_all_is [] page = refl
+behind_all_is (change ∷ changes) page = behind_all_is changes (behind_change change.0 change.1 page)
+
+wanted_anew : (told : Bool) (pending : PendingState) → wanted_of (cond told kept.Wanted (kept.Pending pending)) ≡ wanted_of (kept.Pending pending)
+wanted_anew true pending = refl
+wanted_anew false pending = refl
+
+wanted_behind : (component : ℕ) (change : Change) (loading : Loading) → wanted_of (loading_behind component change loading) ≡ wanted_of loading
+wanted_behind component change kept.Wanted = refl
+wanted_behind component change (kept.Pending pending) = wanted_anew (eqb pending.path.component component && eqb change.«module» pending.path.«module») pending
+wanted_behind component change kept.Nothing = refl
+
+wanted_behind_all : (changes : List (ℕ × Change)) (loading : Loading) → wanted_of (loading_behind_all changes loading) ≡ wanted_of loading
+wanted_behind_all [] loading = refl
+wanted_behind_all (change ∷ changes) loading = wanted_behind_all changes (loading_behind change.0 change.1 loading) ∙ wanted_behind change.0 change.1 loading
+
+still_wanted : (changes : List (ℕ × Change)) → loading_behind_all changes kept.Wanted ≡ kept.Wanted
+still_wanted [] = refl
+still_wanted (change ∷ changes) = still_wanted changes
+
+still_nothing : (changes : List (ℕ × Change)) → loading_behind_all changes kept.Nothing ≡ kept.Nothing
+still_nothing [] = refl
+still_nothing (change ∷ changes) = still_nothing changes
+
+-- one of them is of this module of that component
+abbrev is_told : ℕ → ℕ → List (ℕ × Change) → Bool
+is_told component number changes = list_any (λ change. eqb component change.0 && eqb change.1.«module» number) changes
+
+-- a document that was read is forgotten exactly where one of them is of its module
+pending_behind_all : (changes : List (ℕ × Change)) (pending : PendingState)
+    → loading_behind_all changes (kept.Pending pending) ≡ cond (is_told pending.path.component pending.path.«module» changes) kept.Wanted (kept.Pending pending)
+pending_behind_all [] pending = refl
+pending_behind_all (change ∷ changes) pending = by (eqb pending.path.component change.0 && eqb change.1.«module» pending.path.«module») (pending_behind_all changes pending)
+  where
+    by : (b : Bool) → loading_behind_all changes (kept.Pending pending) ≡ cond (is_told pending.path.component pending.path.«module» changes) kept.Wanted (kept.Pending pending)
+        → loading_behind_all changes (cond b kept.Wanted (kept.Pending pending)) ≡ cond (b || is_told pending.path.component pending.path.«module» changes) kept.Wanted (kept.Pending pending)
+    by true later = still_wanted changes
+    by false later = later
+
+-- ---- a document that was read stays the one that is there
+
+-- its path is that of the start document: module 0000 of component 0x40
+is_low : (stored : Stored) (pending : PendingState) → IsStart stored pending → (pending.path.component < 256) × (pending.path.«module» < 65536)
+is_low stored pending is = subst (λ (path : Path). (path.component < 256) × (path.«module» < 65536)) (sym is.path_is) (omega arith, omega arith)
+
+still_start : (one other : Stored) (pending : PendingState) (is : IsStart one pending) → look other pending.path ≡ Found is.bytes → start_path other ≡ start_path one → IsStart other pending
+still_start one other pending is found start = record {
+  path_is = is.path_is ∙ sym start;
+  bytes = is.bytes;
+  found = found;
+  reading_is = is.reading_is;
+  draft_is = is.draft_is;
+}
+
+-- where its component is the one, no change of the module is told
+told_in_component : (component number : ℕ) (changes : List Change) → is_told component number (map (λ change. (component, change)) changes) ≡ tells_of number changes
+told_in_component component number [] = refl
+told_in_component component number (change ∷ changes) =
+    ap₂ (λ (same later : Bool). (same && eqb change.«module» number) || later) (eq-eqb component component refl) (told_in_component component number changes)
+
+untold : (component own number : ℕ) (changes : List Change) → is_told own number (map (λ change. (component, change)) changes) ≡ false → component ≡ own → tells_of number changes ≡ false
+untold component own number changes none same =
+    sym (told_in_component component number changes) ∙ subst (λ (c : ℕ). is_told c number (map (λ change. (component, change)) changes) ≡ false) (sym same) none
+
+same_test : (a b : ℕ) (x y : Bool) → eqb a b ≡ x → eqb b a ≡ y → x ≡ y
+same_test a b true true e f = refl
+same_test a b true false e f = sym (eq-eqb b a (sym (eqb-true a b e))) ∙ f
+same_test a b false true e f = sym e ∙ eq-eqb a b (sym (eqb-true b a f))
+same_test a b false false e f = refl
+
+gone_is_told : (tag number : ℕ) (gone : List (ℕ × Change)) → is_gone tag number gone ≡ is_told tag number gone
+gone_is_told tag number [] = refl
+gone_is_told tag number (change ∷ gone) =
+    ap₂ (λ (same later : Bool). (same && eqb change.1.«module» number) || later) (same_test change.0 tag (eqb change.0 tag) (eqb tag change.0) refl refl) (gone_is_told tag number gone)
+
+-- what is found in a module stays, until a change of it is told
+abbrev FoundInSections : Type 0
+FoundInSections = (stored : Stored) (component : ℕ) (section : List ℕ) (path : Path) (bytes : List ℕ) → path.«module» < 65536 → look stored path ≡ Found bytes
+    → (component ≡ path.component → tells_of path.«module» (changes_by component section stored) ≡ false) → look (with_section component section stored) path ≡ Found bytes
+
+abbrev StartInSections : Type 0
+StartInSections = (stored : Stored) (component : ℕ) (section : List ℕ) (bytes : List ℕ) → look stored (start_path stored) ≡ Found bytes
+    → (component ≡ start_component → tells_of 0 (changes_by component section stored) ≡ false) → start_path (with_section component section stored) ≡ start_path stored
+
+abbrev FoundInMaps : Type 0
+FoundInMaps = (stored : Stored) (components : List Component) (path : Path) (bytes : List ℕ) → path.component < 256 → path.«module» < 65536 → AllPairs AreApart components → look stored path ≡ Found bytes
+    → is_gone path.component path.«module» (gone_by components stored) ≡ false → look (with_map components stored) path ≡ Found bytes
+
+abbrev StartInMaps : Type 0
+StartInMaps = (stored : Stored) (components : List Component) (bytes : List ℕ) → AllPairs AreApart components → look stored (start_path stored) ≡ Found bytes
+    → is_gone start_component 0 (gone_by components stored) ≡ false → start_path (with_map components stored) ≡ start_path stored
+
+pending_in_sections : FoundInSections → StartInSections → (stored : Stored) (component : ℕ) (section : List ℕ) (pending : PendingState) (told : Bool)
+    → is_told pending.path.component pending.path.«module» (map (λ change. (component, change)) (changes_by component section stored)) ≡ told
+    → IsStart stored pending → IsCurrent (with_section component section stored) (cond told kept.Wanted (kept.Pending pending))
+pending_in_sections found start stored component section pending true e is = tt
+pending_in_sections found start stored component section pending false e is =
+    let none = untold component pending.path.component pending.path.«module» (changes_by component section stored) e in
+    still_start stored (with_section component section stored) pending is
+    (found stored component section pending.path is.bytes (is_low stored pending is).1 is.found none)
+    (start stored component section is.bytes (ap (look stored) (sym is.path_is) ∙ is.found)
+    (subst (λ (path : Path). component ≡ path.component → tells_of path.«module» (changes_by component section stored) ≡ false) is.path_is none))
+
+current_in_sections : FoundInSections → StartInSections → (stored : Stored) (component : ℕ) (section : List ℕ) (loading : Loading) → IsCurrent stored loading
+    → IsCurrent (with_section component section stored) (loading_behind_all (map (λ change. (component, change)) (changes_by component section stored)) loading)
+current_in_sections found start stored component section kept.Wanted is =
+    subst (λ (x : Loading). IsCurrent (with_section component section stored) x) (sym (still_wanted (map (λ change. (component, change)) (changes_by component section stored)))) tt
+current_in_sections found start stored component section (kept.Pending pending) is =
+    subst (λ (x : Loading). IsCurrent (with_section component section stored) x) (sym (pending_behind_all (map (λ change. (component, change)) (changes_by component section stored)) pending))
+    (pending_in_sections found start stored component section pending _ refl is)
+current_in_sections found start stored component section kept.Nothing is =
+    subst (λ (x : Loading). IsCurrent (with_section component section stored) x) (sym (still_nothing (map (λ change. (component, change)) (changes_by component section stored)))) tt
+
+pending_in_maps : FoundInMaps → StartInMaps → (stored : Stored) (components : List Component) (pending : PendingState) (told : Bool) → AllPairs AreApart components
+    → is_told pending.path.component pending.path.«module» (gone_by components stored) ≡ told → IsStart stored pending → IsCurrent (with_map components stored) (cond told kept.Wanted (kept.Pending pending))
+pending_in_maps found start stored components pending true apart e is = tt
+pending_in_maps found start stored components pending false apart e is =
+    let low = is_low stored pending is in
+    let none = gone_is_told pending.path.component pending.path.«module» (gone_by components stored) ∙ e in
+    still_start stored (with_map components stored) pending is
+    (found stored components pending.path is.bytes low.0 low.1 apart is.found none)
+    (start stored components is.bytes apart (ap (look stored) (sym is.path_is) ∙ is.found)
+    (subst (λ (path : Path). is_gone path.component path.«module» (gone_by components stored) ≡ false) is.path_is none))
+
+current_in_maps : FoundInMaps → StartInMaps → (stored : Stored) (components : List Component) (loading : Loading) → AllPairs AreApart components → IsCurrent stored loading
+    → IsCurrent (with_map components stored) (loading_behind_all (gone_by components stored) loading)
+current_in_maps found start stored components kept.Wanted apart is = subst (λ (x : Loading). IsCurrent (with_map components stored) x) (sym (still_wanted (gone_by components stored))) tt
+current_in_maps found start stored components (kept.Pending pending) apart is =
+    subst (λ (x : Loading). IsCurrent (with_map components stored) x) (sym (pending_behind_all (gone_by components stored) pending)) (pending_in_maps found start stored components pending _ apart refl is)
+current_in_maps found start stored components kept.Nothing apart is = subst (λ (x : Loading). IsCurrent (with_map components stored) x) (sym (still_nothing (gone_by components stored))) tt
+
+-- ---- the page
+
+-- with another store, and what it leaves current of the document that is wanted
+stands_behind : (changes : List (ℕ × Change)) (page : PageState) (one other : Stored) (s : State) → StandsFor page one s → IsCurrent other (loading_behind_all changes page.loading) → StandsFor (behind_all changes page) other s
+stands_behind changes page one other s stands current = subst (λ (p : PageState). StandsFor p other s) (sym (behind_all_is changes page)) (record {
+  reader = stands.reader;
+  document = stands.document;
+  wanted = wanted_behind_all changes page.loading ∙ stands.wanted;
+  current = current;
+  clock = stands.clock;
+  random = stands.random;
+  area = stands.area;
+})
+
+pub stands_in_sections : FoundInSections → StartInSections → (page : PageState) (stored : Stored) (s : State) (component : ℕ) (section : List ℕ) → StandsFor page stored s
+    → StandsFor (behind_all (map (λ change. (component, change)) (changes_by component section stored)) page) (with_section component section stored) s
+stands_in_sections found start page stored s component section stands =
+    stands_behind (map (λ change. (component, change)) (changes_by component section stored)) page stored (with_section component section stored) s stands
+    (current_in_sections found start stored component section page.loading stands.current)
+
+pub stands_in_maps : FoundInMaps → StartInMaps → (page : PageState) (stored : Stored) (s : State) (components : List Component) → AllPairs AreApart components → StandsFor page stored s
+    → StandsFor (behind_all (gone_by components stored) page) (with_map components stored) s
+stands_in_maps found start page stored s components apart stands =
+    stands_behind (gone_by components stored) page stored (with_map components stored) s stands (current_in_maps found start stored components page.loading apart stands.current)

@@ -1,0 +1,10 @@
+use Rattle.std.proofs.Common.{◌≡◌}
+use Rattle.page.proofs.PageLaws.{IsTurning}
+use Rattle.page.proofs.pages.Page.make_dispatches.Given as goal
+
+abbrev pub invariant-dispatches : goal.invariant-dispatches
+invariant-dispatches l = record {
+  turning : IsTurning l.store l._dispatch l.initial.self l.self l.initial.out.items l.out.items;
+  clock : l.self.clock ≡ l.initial.self.clock;
+  area : l.self.area ≡ l.initial.self.area;
+}

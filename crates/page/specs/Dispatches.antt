@@ -1,0 +1,52 @@
+-- Dispatches and turns: what a page does with the documents and the events that wait. (This project's own,
+-- after ARIB STD-B24, volume 2.)
+use Rattle.std.specs.Prelude.{ℕ, zero, suc, [], drop, Option, Some, None, option_map, option_and_then}
+use Rattle.std.specs.Option.{option_or}
+use Rattle.multipart_entities.specs.declared.paths.Path.{Path}
+use Rattle.module_store.specs.Store.{Stored}
+use Rattle.event_queue.specs.Queues.{first_of}
+use Rattle.page.specs.Documents.{Document}
+use Rattle.page.specs.Handling.{handled}
+use Rattle.page.specs.Loading.{load, loadable_reading, wanted_path}
+use Rattle.page.specs.State.{State, Step, step_behind, step_of}
+
+-- the load of the wanted document, where it can be loaded
+abbrev pub load_at : Stored → State → Path → Option Step
+load_at stored s path = option_map (load s path) (loadable_reading stored path)
+
+unfoldable pub next_load : Stored → State → Option Step
+next_load stored s = option_and_then (load_at stored s) (wanted_path s.wanted stored)
+
+-- the first of the events that wait in a document, which it leaves
+abbrev pub without_first : Document → Document
+without_first d = record d { queue = drop 1 d.queue }
+
+abbrev pub event_in : State → Document → Option Step
+event_in s d = option_map (λ event. step_of s (handled event (without_first d))) (first_of d.queue)
+
+abbrev pub next_event : State → Option Step
+next_event s = option_and_then (event_in s) s.document
+
+-- A dispatch first looks whether the wanted document can be loaded, and loads it; else it takes the first event
+-- of the queue, and handles it. There is none where there is neither.
+unfoldable pub dispatch : Stored → State → Option Step
+dispatch stored s = option_or (next_load stored s) (next_event s)
+
+-- ---- turns
+
+-- the next dispatch, where there is one, and what comes behind it
+abbrev pub next_and : (State → Step) → State → Option Step → Step
+next_and more s None = record { state = s; text = [] }
+next_and more s (Some t) = step_behind t.text (more t.state)
+
+-- at most so many dispatches, one behind the other, as long as there is one
+unfoldable pub dispatches : ℕ → Stored → State → Step
+dispatches zero stored s = record { state = s; text = [] }
+dispatches (suc more) stored s = next_and (dispatches more stored) s (dispatch stored s)
+
+-- a turn makes at most 256, and what waits then waits for the next turn
+unfoldable pub most_dispatches : ℕ
+most_dispatches = 256
+
+unfoldable pub turn : Stored → State → Step
+turn stored s = dispatches most_dispatches stored s

@@ -1,0 +1,48 @@
+-- What comes to a page beside its turns: changes of modules, keys, the clock and random words; and what it
+-- shows. (This project's own, after ARIB STD-B24, volume 2.)
+use Rattle.std.specs.Prelude.{ℕ, Bool, List, [], ◌∷◌, ◌++◌, Option, None}
+use Rattle.std.specs.Option.{option_map_or}
+use Rattle.dom_tree.specs.NodeNumbers.{number_of}
+use Rattle.carousel_blocks.specs.declared.changes.Change.{Change}
+use Rattle.display_list.specs.Show.{clock_line, display_lines}
+use Rattle.display_list.specs.Shown.{shown_by}
+use Rattle.page.specs.Documents.{Document}
+use Rattle.page.specs.Handling.{key_effect}
+use Rattle.page.specs.Lines.{line_of_change}
+use Rattle.page.specs.State.{State, Step, step_behind, step_of, still}
+
+-- a change in a module is told, and changes nothing of the page
+abbrev pub change_step : ℕ → Change → State → Step
+change_step component change s = record { state = s; text = line_of_change component change }
+
+-- changes in modules, each with its component, one behind the other
+abbrev pub changes_step : List (ℕ × Change) → State → Step
+changes_step [] s = still s
+changes_step (change ∷ changes) s =
+    step_behind (change_step change.0 change.1 s).text
+    (changes_step changes (change_step change.0 change.1 s).state)
+
+-- a key is pressed or released; without a document nothing is posted
+abbrev pub key_step : ℕ → Bool → State → Step
+key_step key down s =
+    option_map_or (λ d. step_of s (key_effect key down d)) s.document (still s)
+
+-- the moment when something is due next; nothing is, as there are no timers yet
+abbrev pub due_next : State → Option ℕ
+due_next s = None
+
+-- the clock goes to a moment
+abbrev pub with_clock : ℕ → State → State
+with_clock moment s = record s { clock = moment }
+
+-- one random word more
+abbrev pub with_random : ℕ → State → State
+with_random word s = record s { random = s.random ++ word ∷ [] }
+
+-- the display list of the document as it is now, behind the line of the clock; without a document it is that
+-- line alone
+abbrev pub document_lines : Document → List ℕ
+document_lines d = display_lines (shown_by d.items d.sources d.focus) (number_of d.focus.focus)
+
+unfoldable pub display_of : State → List ℕ
+display_of s = clock_line s.clock ++ option_map_or document_lines s.document []

@@ -1,0 +1,134 @@
+-- The load of a document: when it can be loaded, what it is then, and what its load does (after BML, ARIB
+-- STD-B24 volume 2, in this project's own profile).
+use Rattle.std.specs.Prelude.{ℕ, ◌==◌, not, Bool, true, false, if◌then◌else◌, List, [], ◌∷◌, ◌++◌, filter, length, map, Option, Some, None, Result, Ok, Err, codes as ascii}
+use Rattle.std.specs.List.{list_all, list_any, range_with_len}
+use Rattle.bml_bytes.specs.Codes.{codes}
+use Rattle.dom_tree.specs.Items.{Item}
+use Rattle.style_cascade.specs.Cascade.{unwritten}
+use Rattle.bml_reader.specs.declared.faults.DocFault.{DocFault}
+use Rattle.bml_reader.specs.Readings.{reading_of}
+use Rattle.multipart_entities.specs.declared.paths.Path.{Path}
+use Rattle.module_store.specs.Resources.{Resource, look, start_path}
+use Rattle.module_store.specs.Resources.Resource.{Found, Waiting, Missing}
+use Rattle.module_store.specs.Store.{Stored}
+use Rattle.es_reader.specs.Readers.{Reader}
+use Rattle.document_load.specs.Drafts.{DraftState, draft_of, with_gifts}
+use Rattle.document_load.specs.Needs.{needs_of}
+use Rattle.document_load.specs.Scripts.{HandlerState, bad_numbers, handlers_by, programs_by, sources_of}
+use Rattle.document_load.specs.StyleTexts.{document_rules}
+use Rattle.page.specs.Acting.{begun, first_focus, no_focus}
+use Rattle.page.specs.Documents.{Document}
+use Rattle.page.specs.Lines.{load_lines, refuse_line}
+use Rattle.page.specs.Runs.{Effect, and_then, done, no_event, nothing_done, run_program}
+use Rattle.page.specs.State.{State, Step, Wanted}
+use Rattle.page.specs.State.Wanted.{StartDocument, NoDocument}
+
+-- ---- which documents can be loaded
+
+-- it is found or missing, and so isn't waited for
+abbrev pub is_settled : Resource → Bool
+is_settled (Found bytes) = true
+is_settled Waiting = false
+is_settled Missing = true
+
+abbrev pub are_settled : Stored → List Path → Bool
+are_settled stored needs = list_all (λ need. is_settled (look stored need)) needs
+
+-- what is found is given to the document as text; nothing is given for what is missing
+abbrev pub text_found : Resource → Option (List ℕ)
+text_found (Found bytes) = Some (codes bytes)
+text_found Waiting = None
+text_found Missing = None
+
+abbrev pub text_at : Stored → Path → Option (List ℕ)
+text_at stored need = text_found (look stored need)
+
+-- the document with these nodes, for each of whose needs what is found now is given
+abbrev pub given_draft : Stored → Path → List Item → DraftState
+given_draft stored path items =
+    with_gifts (map (text_at stored) (needs_of path items)) (draft_of path items)
+
+-- A document can be loaded once none of its needs is waited for, and one that is refused has no needs.
+abbrev pub once_settled : Stored → Path → Result (List Item) DocFault
+    → Option (Result DraftState DocFault)
+once_settled stored path (Ok items) =
+    if are_settled stored (needs_of path items) then Some (Ok (given_draft stored path items))
+    else None
+once_settled stored path (Err fault) = Some (Err fault)
+
+abbrev pub reading_in : Stored → Path → Resource → Option (Result DraftState DocFault)
+reading_in stored path (Found bytes) = once_settled stored path (reading_of bytes)
+reading_in stored path Waiting = None
+reading_in stored path Missing = None
+
+-- what is there under a path to be loaded: a document with what it needs, or why it is refused
+abbrev pub loadable_reading : Stored → Path → Option (Result DraftState DocFault)
+loadable_reading stored path = reading_in stored path (look stored path)
+
+-- the path of the document that is wanted; that of the start document is found anew each time
+abbrev pub wanted_path : Wanted → Stored → Option Path
+wanted_path StartDocument stored = Some (start_path stored)
+wanted_path NoDocument stored = None
+
+-- ---- the document, before its scripts run
+
+abbrev pub opened : Reader → DraftState → Document
+opened read draft =
+    record {
+      items = draft.items;
+      sources = unwritten draft.items (document_rules draft);
+      focus = no_focus;
+      queue = [];
+      programs = programs_by read (sources_of draft);
+      handlers = handlers_by read (sources_of draft);
+      globals = [];
+      heap = [];
+    }
+
+-- ---- its scripts
+
+-- the programs that no handler names are those of the script elements, in document order
+abbrev pub is_named : List HandlerState → ℕ → Bool
+is_named handlers place = list_any (λ handler. handler.program == place) handlers
+
+abbrev pub unnamed_places : ℕ → List HandlerState → List ℕ
+unnamed_places count handlers =
+    filter (λ place. not (is_named handlers place)) (range_with_len 0 count)
+
+abbrev pub script_places : Document → List ℕ
+script_places d = unnamed_places (length d.programs) d.handlers
+
+-- they run one behind the other
+abbrev pub run_scripts : List ℕ → Document → Effect
+run_scripts [] d = nothing_done d
+run_scripts (place ∷ places) d =
+    and_then (run_scripts places) (run_program (ascii "script") no_event place d)
+
+-- ---- its beginning
+
+-- Where no script gave the focus to an element, that with the nav-index 0 gets it; then its `load` waits, and
+-- the `focus` of that element.
+abbrev pub begin : Document → Effect
+begin d = done (λ a. begun (first_focus a) a) d
+
+unfoldable pub load_effect : Document → Effect
+load_effect d = and_then begin (run_scripts (script_places d) d)
+
+-- ---- the load
+
+abbrev pub loaded : State → Path → DraftState → Step
+loaded s path draft =
+    let e = load_effect (opened s.read draft) in
+    record {
+      state = record s { document = Some e.document; wanted = NoDocument };
+      text = load_lines path (bad_numbers s.read (sources_of draft)) ++ e.text;
+    }
+
+-- behind a document that is refused there is none, and none is wanted
+abbrev pub load : State → Path → Result DraftState DocFault → Step
+load s path (Ok draft) = loaded s path draft
+load s path (Err fault) =
+    record {
+      state = record s { document = None; wanted = NoDocument };
+      text = refuse_line path fault;
+    }

@@ -1,0 +1,94 @@
+-- A device of the proofs: what is kept of a document that is wanted, and what comes of its load, whatever the
+-- store stands for.
+use Rattle.std.specs.Prelude.{◌≡◌, ◌==◌, ◌&&◌, Bool, false, if◌then◌else◌, ℕ, List, [], ◌++◌, slice_get, Option, Some, None, Result, Ok, Err}
+use Rattle.bml_reader.specs.declared.faults.DocFault.{DocFault}
+use Rattle.carousel_blocks.specs.declared.changes.Change.{Change}
+use Rattle.multipart_entities.specs.declared.paths.Path.{Path}
+use Rattle.module_store.specs.Resources.{look, start_path}
+use Rattle.module_store.specs.Resources.Resource.{Waiting}
+use Rattle.module_store.specs.Standing.{ForStored, StoreState}
+use Rattle.module_store.specs.Store.{Stored}
+use Rattle.es_reader.specs.Readers.{Reader, IsReader}
+use Rattle.document_load.specs.Drafts.{DraftState}
+use Rattle.document_load.specs.Scripts.{bad_numbers, sources_of}
+use Rattle.page.specs.Kept.{IsDocument}
+use Rattle.page.specs.Lines.{load_lines, refuse_line}
+use Rattle.page.specs.Loading.{loadable_reading, opened}
+use Rattle.page.specs.PendingStates.{IsStart}
+use Rattle.page.specs.State.{Wanted}
+use Rattle.page.specs.State.Wanted.{StartDocument, NoDocument}
+use Rattle.page.specs.declared.loading.Load.{Load}
+use Rattle.page.specs.declared.loading.Load.TheVariants as load
+use Rattle.page.specs.declared.loading.Loading.{Loading}
+use Rattle.page.specs.declared.loading.Loading.TheVariants as kept
+
+-- what is wanted: one that was read and waits is still wanted
+abbrev pub wanted_of : Loading → Wanted
+wanted_of kept.Wanted = StartDocument
+wanted_of (kept.Pending pending) = StartDocument
+wanted_of kept.Nothing = NoDocument
+
+-- one that was read is the one that is there
+abbrev pub IsCurrent : Stored → Loading → Type 0
+IsCurrent stored (kept.Pending pending) = IsStart stored pending
+IsCurrent stored _ = Unit {0}
+
+-- ---- what changes tell of it
+
+-- a document was read, and this change in a component is of its module
+abbrev pub is_told_by : ℕ → Change → Loading → Bool
+is_told_by component change (kept.Pending pending) =
+    (pending.path.component == component) && (change.«module» == pending.path.«module»)
+is_told_by component change _ = false
+
+-- then it is wanted anew
+abbrev pub loading_behind : ℕ → Change → Loading → Loading
+loading_behind component change loading =
+    if is_told_by component change loading then kept.Wanted else loading
+
+-- ---- a load
+
+-- the need at this place is waited for
+pub record WaitsAt (store : StoreState) (needs : List Path) (place : ℕ) : Type 0 where
+  pub need : Path
+  pub is_there : slice_get needs place ≡ Some need
+  pub waits : ForStored store (λ stored. look stored need ≡ Waiting)
+
+-- a document that goes on waiting knows the place of a need that is waited for
+abbrev pub KnowsItsPlace : StoreState → Load → Type 0
+KnowsItsPlace store (load.Waits (kept.Pending pending)) =
+    WaitsAt store pending.draft.needs pending.place
+KnowsItsPlace store _ = Unit {0}
+
+pub record GoesOn (stored : Stored) (reading : Option (Result DraftState DocFault))
+    (loading : Loading) (text : List ℕ) : Type 0 where
+  pub none : reading ≡ None
+  pub wanted : wanted_of loading ≡ StartDocument
+  pub current : IsCurrent stored loading
+  pub silent : text ≡ []
+
+pub record IsRefused (path : Path) (reading : Option (Result DraftState DocFault))
+    (text : List ℕ) : Type 0 where
+  pub fault : DocFault
+  pub reading_is : reading ≡ Some (Err fault)
+  pub text_is : text ≡ refuse_line path fault
+
+-- what comes of a reading under the start path, and the lines that tell it
+abbrev pub LoadsAs : Reader → Stored → Load → List ℕ → Type 0
+LoadsAs read stored (load.Waits loading) text =
+    GoesOn stored (loadable_reading stored (start_path stored)) loading text
+LoadsAs read stored load.Refused text =
+    IsRefused (start_path stored) (loadable_reading stored (start_path stored)) text
+LoadsAs read stored (load.Loaded document) text =
+    (draft : DraftState)
+    × (loadable_reading stored (start_path stored) ≡ Some (Ok draft))
+    × IsDocument document (opened read draft)
+    × (text ≡ load_lines (start_path stored) (bad_numbers read (sources_of draft)))
+
+-- A text was printed, and this came of what was kept of a document that is wanted.
+pub record Loads (store : StoreState) (old : Loading) (new : Load) (before after : List ℕ)
+    : Type 0 where
+  pub text : List ℕ
+  pub printed : after ≡ before ++ text
+  pub loads : ForStored store (λ stored. IsCurrent stored old → (read : Reader) → IsReader read
+      → LoadsAs read stored new text)

@@ -1,0 +1,114 @@
+-- For which state a page stands, with the store that it is lent. (This project's own.)
+use Rattle.std.specs.Prelude.{◌≡◌, ◌++◌, Bool, true, false, ℕ, List, [], ◌∷◌, Option, Some, None}
+use Rattle.carousel_blocks.specs.declared.changes.Change.{Change}
+use Rattle.module_store.specs.Standing.{ForStored, StoreState}
+use Rattle.module_store.specs.Store.{Stored}
+use Rattle.es_reader.specs.Readers.{IsReader}
+use Rattle.page.specs.Documents.{Document}
+use Rattle.page.specs.Doings.{Does}
+use Rattle.page.specs.Kept.{IsDocument, KeptDocument}
+use Rattle.page.specs.Loading.{load_effect}
+use Rattle.page.specs.Pendings.{IsCurrent, loading_behind, wanted_of}
+use Rattle.page.specs.State.{State, Step, still}
+use Rattle.page.specs.declared.loading.Load.{Load}
+use Rattle.page.specs.declared.loading.Load.TheVariants as came
+use Rattle.page.specs.declared.loading.Loading.{Loading}
+
+pub record PageState : Type 0 where
+  -- the time and the persistent area
+  pub clock : ℕ
+  pub area : List ℕ
+  -- how many style values were worked out for the document
+  pub worked : ℕ
+  -- whether a call found no memory
+  pub spent : Bool
+  -- devices of the proofs
+  pub document : Option KeptDocument
+  pub loading : Loading
+  pub random : List ℕ
+
+-- what is kept is the document that is there, or there is none
+abbrev pub AreDocuments : Option KeptDocument → Option Document → Type 0
+AreDocuments None None = Unit {0}
+AreDocuments (Some kept) (Some d) = IsDocument kept d
+AreDocuments None (Some d) = ⊥
+AreDocuments (Some kept) None = ⊥
+
+-- The page is in this state. What it has read of a document that waits is what the store has of it.
+pub record StandsFor (page : PageState) (stored : Stored) (s : State) : Type 0 where
+  pub reader : IsReader s.read
+  pub document : AreDocuments page.document s.document
+  pub wanted : wanted_of page.loading ≡ s.wanted
+  pub current : IsCurrent stored page.loading
+  pub clock : page.clock ≡ s.clock
+  pub random : page.random ≡ s.random
+  pub area : page.area ≡ s.area
+
+-- a call found no memory
+abbrev pub IsSpent : PageState → Type 0
+IsSpent page = page.spent ≡ true
+
+-- ---- calls
+
+-- the page is in the state that the step leaves, and this is what it prints
+pub record HasMade (page : PageState) (stored : Stored) (text : List ℕ) (t : Step) : Type 0 where
+  pub stands : StandsFor page stored t.state
+  pub text_is : text ≡ t.text
+
+-- A text was printed, and whatever state the page was in, with whatever store, it has made the step.
+pub record Makes (step : State → Step) (old new : PageState) (before after : List ℕ)
+    : Type 0 where
+  pub text : List ℕ
+  pub printed : after ≡ before ++ text
+  pub makes : (stored : Stored) (s : State) → StandsFor old stored s
+      → HasMade new stored text (step s)
+
+-- The same of a step that looks at what the store has.
+pub record MakesWith (store : StoreState) (step : Stored → State → Step) (old new : PageState)
+    (before after : List ℕ) : Type 0 where
+  pub text : List ℕ
+  pub printed : after ≡ before ++ text
+  pub makes : ForStored store (λ stored. (s : State) → StandsFor old stored s
+      → HasMade new stored text (step stored s))
+
+-- What became of a step that is there or not: it was there and is made, or there was none, and
+-- nothing was printed.
+abbrev pub HasMadeOf : Bool → PageState → Stored → List ℕ → State → Option Step
+    → Type 0
+HasMadeOf true page stored text s None = ⊥
+HasMadeOf true page stored text s (Some t) = HasMade page stored text t
+HasMadeOf false page stored text s None = HasMade page stored text (still s)
+HasMadeOf false page stored text s (Some t) = ⊥
+
+-- The same of a step that is there or not; `made` tells whether it was.
+pub record MayMake (made : Bool) (store : StoreState) (step : Stored → State → Option Step)
+    (old new : PageState) (before after : List ℕ) : Type 0 where
+  pub text : List ℕ
+  pub printed : after ≡ before ++ text
+  pub makes : ForStored store (λ stored. (s : State) → StandsFor old stored s
+      → HasMadeOf made new stored text s (step stored s))
+
+-- what becomes of a page behind what came of a load, of which `made` tells whether it was one
+abbrev pub TakesLoad : Load → Bool → PageState → PageState → List ℕ → List ℕ
+    → Type 0
+TakesLoad (came.Waits loading) made old new before after =
+    (made ≡ false) × (new ≡ record old { loading = loading }) × (after ≡ before)
+TakesLoad came.Refused made old new before after =
+    (made ≡ true) × (new ≡ record old { document = None; worked = 0 }) × (after ≡ before)
+TakesLoad (came.Loaded first) made old new before after =
+    (made ≡ true)
+    × (document : KeptDocument)
+    × (new ≡ record old { document = Some document; worked = document.worked })
+    × Does load_effect first document before after
+
+-- ---- changes in the store
+
+-- behind a change in a module of a component
+abbrev pub behind_change : ℕ → Change → PageState → PageState
+behind_change component change page =
+    record page { loading = loading_behind component change page.loading }
+
+-- and behind several, each with its component
+abbrev pub behind_all : List (ℕ × Change) → PageState → PageState
+behind_all [] page = page
+behind_all (change ∷ changes) page = behind_all changes (behind_change change.0 change.1 page)

@@ -1,0 +1,344 @@
+//! The page: what becomes of the documents that come, and of keys and the clock.
+
+ghost use Rattle.std.specs.Io.{StartsWith};
+ghost use Rattle.std.specs.Prelude.{◌≡◌, ◌≤◌, ◌++◌, ℕ, List, [], None, false, IfOk, IsErr, OnErr, OnOk, is_err};
+ghost use Rattle.es_reader.specs.Readers.{Reader, IsReader};
+ghost use Rattle.module_store.specs.Store.{Stored};
+ghost use Rattle.page.specs.Dispatches.{dispatch as spec_dispatch, next_load, turn as spec_turn};
+ghost use Rattle.page.specs.Inputs.{display_of, key_step, with_clock, with_random};
+ghost use Rattle.page.specs.Lines.{line_of_change};
+ghost use Rattle.page.specs.Standing.{IsSpent, Makes, MakesWith, MayMake, StandsFor, TakesLoad, behind_change};
+ghost use Rattle.page.specs.State.{State, opening};
+
+use crate::acting_documents::ActingDocument;
+use crate::lines::push_change_line;
+use crate::loading::{Load, Loading};
+use bml_bytes::{AreaBytes, NoMemory, law_of_fronts};
+use display_list::push_clock_line;
+use module_store::{Change, Store};
+use std::alloc::Global;
+use std::collections::VecDeque;
+use std::marker::Model;
+use std::mem;
+
+/// The most dispatches of a turn; this project's own limit.
+const MOST_DISPATCHES: u32 = 256;
+
+/// A page of the data broadcast: the document that is there or wanted, the time, and the persistent
+/// area.
+///
+/// What came to it before a turn is handled in it, by [`turn`](Page::turn). Once a call has
+/// answered
+/// `NoMemory` the page is spent: each later one that can answer it does.
+#[derive(Drop)]
+pub struct Page {
+    alloc: Global,
+    document: Option<ActingDocument>,
+    loading: Loading,
+    clock: u64,
+    random: VecDeque<u32>,
+    area: AreaBytes,
+    spent: bool,
+}
+
+impl Model for Page {
+    ghost use Rattle.std.specs.Option.{option_map_or};
+    ghost use Rattle.page.specs.Standing.{PageState};
+
+    ghost Value = { PageState };
+
+    ghost view = { λ p. record {
+      clock = p.clock;
+      area = p.area;
+      worked = option_map_or (λ document. document.worked) p.document 0;
+      spent = p.spent;
+      document = p.document;
+      loading = p.loading;
+      random = p.random.items;
+    } };
+}
+
+impl Page {
+    /// A page with this persistent area: there is no document, and the start document is wanted.
+    pub fn fresh(alloc: Global, area: AreaBytes) -> Result<Page, NoMemory>
+        ensures stands { IfOk result (λ page. (read : Reader) (stored : Stored) → IsReader read
+            → StandsFor page stored (opening read area)) }
+        ensures unspent { IfOk result (λ page. page.spent ≡ false) }
+        ensures worked { IfOk result (λ page. page.worked ≡ 0) }
+        ensures clock { IfOk result (λ page. page.clock ≡ 0) }
+        ensures area { IfOk result (λ page. page.area ≡ area) }
+    {
+        Ok(Page {
+            alloc,
+            document: None,
+            loading: Loading::Wanted,
+            clock: 0,
+            random: VecDeque::new(alloc),
+            area,
+            spent: false,
+        })
+    }
+
+    /// Takes a change in a module of a component, and appends its line. Nothing is posted for it.
+    pub fn post_change(
+        &mut self,
+        component: u8,
+        change: &Change,
+        out: &mut Vec<u8>,
+    ) -> Result<(), NoMemory>
+        ensures told { OnOk result
+            (out.new.items ≡ out.old.items ++ line_of_change component change.now) }
+        ensures behind { OnOk result (self.new ≡ behind_change component change.now self.old) }
+        ensures grows { StartsWith out.new.items out.old.items }
+        ensures spent { OnErr result (IsSpent self.new) }
+        ensures after_spent { IsSpent self.old → IsErr result }
+    {
+        if self.spent {
+            return Err(NoMemory);
+        }
+        self.loading.follow(component, change);
+        let told = push_change_line(component, change, out);
+        self.spent_by(told)
+    }
+
+    /// Posts what a key does that is pressed (`down`) or released: where the used-key-list of the
+    /// document's body has the key's group, `keydown` and then `default`, or `keyup`. A post where
+    /// 256 events wait is lost, which a line tells. Nothing is dispatched.
+    pub fn post_key(&mut self, code: u8, down: bool, out: &mut Vec<u8>) -> Result<(), NoMemory>
+        ensures posted { OnOk result
+            (Makes (key_step code down) self.old self.new out.old.items out.new.items) }
+        ensures clock { self.new.clock ≡ self.old.clock }
+        ensures area { self.new.area ≡ self.old.area }
+        ensures grows { StartsWith out.new.items out.old.items }
+        ensures unspent { OnOk result (self.new.spent ≡ false) }
+        ensures spent { OnErr result (IsSpent self.new) }
+        ensures after_spent { IsSpent self.old → IsErr result }
+    {
+        if self.spent {
+            return Err(NoMemory);
+        }
+        let Some(document) = &mut self.document else {
+            return Ok(());
+        };
+        let posted = document.post_key(code, down, out);
+        self.spent_by(posted)
+    }
+
+    /// The moment when something is due next. Nothing is: there are no timers yet.
+    pub fn next_due(&self) -> Option<u64>
+        ensures { result ≡ None }
+    {
+        None
+    }
+
+    /// The clock goes to a moment, in milliseconds, and what is due then is posted: nothing is.
+    pub fn post_due(&mut self, moment: u64, out: &mut Vec<u8>) -> Result<(), NoMemory>
+        requires { self.old.clock ≤ moment }
+        ensures moved { OnOk result (Makes (λ s. record { state = with_clock moment s; text = [] })
+            self.old self.new out.old.items out.new.items) }
+        ensures clock { OnOk result (self.new.clock ≡ moment) }
+        ensures area { self.new.area ≡ self.old.area }
+        ensures silent { out.new ≡ out.old }
+        ensures unspent { OnOk result (self.new.spent ≡ false) }
+        ensures spent { OnErr result (IsSpent self.new) }
+        ensures after_spent { IsSpent self.old → IsErr result }
+    {
+        let _ = out;
+        if self.spent {
+            return Err(NoMemory);
+        }
+        self.clock = moment;
+        Ok(())
+    }
+
+    /// Appends a word to the random words that are left.
+    pub fn add_random(&mut self, word: u32) -> Result<(), NoMemory>
+        ensures added { OnOk result ((stored : Stored) (s : State) → StandsFor self.old stored s
+            → StandsFor self.new stored (with_random word s)) }
+        ensures clock { self.new.clock ≡ self.old.clock }
+        ensures area { self.new.area ≡ self.old.area }
+        ensures unspent { OnOk result (self.new.spent ≡ false) }
+        ensures spent { OnErr result (IsSpent self.new) }
+        ensures after_spent { IsSpent self.old → IsErr result }
+    {
+        if self.spent {
+            return Err(NoMemory);
+        }
+        let added = match self.random.push_back(word) {
+            Ok(()) => Ok(()),
+            Err(_) => Err(NoMemory),
+        };
+        self.spent_by(added)
+    }
+
+    /// Makes a turn: at most 256 dispatches, each of which loads the wanted document, where it can
+    /// be loaded, or else handles the event that waits longest; and appends what they print. The
+    /// store is that of the page's earlier turns, whose changes since were all posted.
+    pub fn turn(&mut self, store: &mut Store, out: &mut Vec<u8>) -> Result<(), NoMemory>
+        ensures turned { OnOk result (MakesWith store.old spec_turn
+            self.old self.new out.old.items out.new.items) }
+        ensures store { store.new ≡ store.old }
+        ensures clock { self.new.clock ≡ self.old.clock }
+        ensures area { self.new.area ≡ self.old.area }
+        ensures grows { StartsWith out.new.items out.old.items }
+        ensures unspent { OnOk result (self.new.spent ≡ false) }
+        ensures spent { OnErr result (IsSpent self.new) }
+        ensures after_spent { IsSpent self.old → IsErr result }
+    {
+        if self.spent {
+            return Err(NoMemory);
+        }
+        let turned = self.make_dispatches(store, out);
+        self.spent_by(turned)
+    }
+
+    /// Appends the display list: `show` with the time, and the boxes, texts and pictures of the
+    /// document, where there is one, and its focus.
+    pub fn show(&mut self, out: &mut Vec<u8>) -> Result<(), NoMemory>
+        ensures shown { OnOk result (Makes (λ s. record { state = s; text = display_of s })
+            self.old self.new out.old.items out.new.items) }
+        ensures clock { self.new.clock ≡ self.old.clock }
+        ensures area { self.new.area ≡ self.old.area }
+        ensures grows { StartsWith out.new.items out.old.items }
+        ensures unspent { OnOk result (self.new.spent ≡ false) }
+        ensures spent { OnErr result (IsSpent self.new) }
+        ensures after_spent { IsSpent self.old → IsErr result }
+    {
+        if self.spent {
+            return Err(NoMemory);
+        }
+        let shown = self.push_display(out);
+        self.spent_by(shown)
+    }
+
+    /// How many values of styles were worked out for the document, and 0 without one.
+    pub fn worked(&self) -> u64
+        ensures { result ≡ self.now.worked }
+    {
+        match &self.document {
+            Some(document) => document.worked(),
+            None => 0,
+        }
+    }
+
+    /// The persistent area. Nothing changes it yet.
+    pub fn area(&self) -> &AreaBytes
+        ensures { result.now ≡ self.now.area }
+    {
+        &self.area
+    }
+
+    /// The time, in milliseconds.
+    pub fn clock(&self) -> u64
+        ensures { result ≡ self.now.clock }
+    {
+        self.clock
+    }
+
+    // Where a call found no memory, the page is spent.
+    fn spent_by(&mut self, called: Result<(), NoMemory>) -> Result<(), NoMemory>
+        ensures same { result ≡ called }
+        ensures page { self.new ≡ record self.old { spent = is_err called } }
+    {
+        self.spent = called.is_err();
+        called
+    }
+
+    // Makes dispatches, one behind the other, as long as there is one, and at most 256.
+    fn make_dispatches(&mut self, store: &Store, out: &mut Vec<u8>) -> Result<(), NoMemory>
+        ensures turned { OnOk result (MakesWith store.now spec_turn
+            self.old self.new out.old.items out.new.items) }
+        ensures clock { self.new.clock ≡ self.old.clock }
+        ensures area { self.new.area ≡ self.old.area }
+        ensures grows { StartsWith out.new.items out.old.items }
+    {
+        law_of_fronts();
+        'dispatches: for _dispatch in 0..MOST_DISPATCHES {
+            if !self.dispatch(store, out)? {
+                return Ok(());
+            }
+        }
+        Ok(())
+    }
+
+    // Makes the next dispatch, and tells whether there was one.
+    fn dispatch(&mut self, store: &Store, out: &mut Vec<u8>) -> Result<bool, NoMemory>
+        ensures made { IfOk result (λ made. MayMake made store.now spec_dispatch
+            self.old self.new out.old.items out.new.items) }
+        ensures clock { self.new.clock ≡ self.old.clock }
+        ensures area { self.new.area ≡ self.old.area }
+        ensures grows { StartsWith out.new.items out.old.items }
+    {
+        if self.load(store, out)? {
+            return Ok(true);
+        }
+        let Some(document) = &mut self.document else {
+            return Ok(false);
+        };
+        let Some(event) = document.take_event() else {
+            return Ok(false);
+        };
+        document.handle(event, out)?;
+        Ok(true)
+    }
+
+    // Loads the document that is wanted, where it can be loaded, and tells whether it was loaded or
+    // refused.
+    fn load(&mut self, store: &Store, out: &mut Vec<u8>) -> Result<bool, NoMemory>
+        ensures made { IfOk result (λ made. MayMake made store.now next_load
+            self.old self.new out.old.items out.new.items) }
+        ensures clock { self.new.clock ≡ self.old.clock }
+        ensures area { self.new.area ≡ self.old.area }
+        ensures grows { StartsWith out.new.items out.old.items }
+    {
+        let loading = mem::replace(&mut self.loading, Loading::Nothing);
+        if let Loading::Nothing = loading {
+            return Ok(false);
+        }
+        let came = loading.load(self.alloc, store, out)?;
+        self.take_load(came, out)
+    }
+
+    // Takes what came of a load: goes on waiting, or has the document that is loaded, or none where
+    // it is refused. Tells whether it was loaded or refused.
+    fn take_load(&mut self, came: Load, out: &mut Vec<u8>) -> Result<bool, NoMemory>
+        ensures taken { IfOk result (λ made. TakesLoad came made
+            self.old self.new out.old.items out.new.items) }
+        ensures clock { self.new.clock ≡ self.old.clock }
+        ensures area { self.new.area ≡ self.old.area }
+        ensures grows { StartsWith out.new.items out.old.items }
+    {
+        match came {
+            Load::Waits(loading) => {
+                drop(mem::replace(&mut self.loading, loading));
+                Ok(false)
+            }
+            Load::Refused => {
+                drop(mem::replace(&mut self.document, None));
+                Ok(true)
+            }
+            Load::Loaded(mut document) => {
+                let begun = document.begin(out);
+                drop(mem::replace(&mut self.document, Some(document)));
+                begun?;
+                Ok(true)
+            }
+        }
+    }
+
+    // Appends the line of the clock, and what the document shows.
+    fn push_display(&mut self, out: &mut Vec<u8>) -> Result<(), NoMemory>
+        ensures shown { OnOk result (Makes (λ s. record { state = s; text = display_of s })
+            self.old self.new out.old.items out.new.items) }
+        ensures clock { self.new.clock ≡ self.old.clock }
+        ensures area { self.new.area ≡ self.old.area }
+        ensures grows { StartsWith out.new.items out.old.items }
+    {
+        law_of_fronts();
+        push_clock_line(self.clock, out)?;
+        match &mut self.document {
+            Some(document) => document.show(out),
+            None => Ok(()),
+        }
+    }
+}

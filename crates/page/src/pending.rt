@@ -1,0 +1,139 @@
+//! A document that was read, and the needs that it waits for.
+
+ghost use Rattle.std.specs.Io.{StartsWith};
+ghost use Rattle.std.specs.Prelude.{◌≡◌, ◌<◌, true, None, IfOk, IfSome, OnOk, length};
+ghost use Rattle.module_store.specs.Standing.{ForStored};
+ghost use Rattle.page.specs.Loading.{are_settled};
+ghost use Rattle.page.specs.declared.loading.Loading.TheVariants as kept;
+ghost use Rattle.page.specs.Gifts.{GivesFound, with_found};
+ghost use Rattle.page.specs.Pendings.{KnowsItsPlace, Loads, WaitsAt};
+
+use crate::acting_documents::ActingDocument;
+use crate::lines::push_load_lines;
+use crate::loading::{Load, Loading};
+use bml_bytes::NoMemory;
+use document_load::Draft;
+use module_store::{Look, Store};
+use multipart_entities::Path;
+use std::alloc::Global;
+use std::marker::Model;
+
+/// A document that was read, and waits until nothing that it needs is waited for.
+#[derive(Drop)]
+pub struct Pending {
+    path: Path,
+    draft: Draft,
+    /// Where the need stands that was waited for last. Look-ups begin there, so that a document
+    /// with many needs costs little as long as one of them stays away.
+    place: usize,
+}
+
+impl Model for Pending {
+    ghost use Rattle.std.specs.Prelude.{◌≤◌, length};
+    ghost use Rattle.page.specs.PendingStates.{PendingState};
+
+    ghost Value = { PendingState };
+
+    ghost view = { λ p. record { path = p.path; draft = p.draft; place = p.place } };
+
+    ghost invariant = { λ p. p.place ≤ length p.draft.needs };
+}
+
+impl Pending {
+    /// A document that was read at a path.
+    pub fn new(path: Path, draft: Draft) -> Pending
+        ensures path { result.path ≡ path }
+        ensures draft { result.draft ≡ draft }
+    {
+        Pending {
+            path,
+            draft,
+            place: 0,
+        }
+    }
+
+    /// The path at which it was read.
+    pub fn path(&self) -> &Path
+        ensures { result.now ≡ self.now.path }
+    {
+        &self.path
+    }
+
+    /// Loads the document with what is found of its needs, where none of them is waited for, and
+    /// appends its lines. Else it goes on waiting.
+    pub fn load(self, alloc: Global, store: &Store, out: &mut Vec<u8>) -> Result<Load, NoMemory>
+        ensures loads { IfOk result
+            (λ load. Loads store.now (kept.Pending self) load out.old.items out.new.items) }
+        ensures knows { IfOk result (λ load. KnowsItsPlace store.now load) }
+        ensures grows { StartsWith out.new.items out.old.items }
+    {
+        let waited = self.waited_for(store);
+        let Pending {
+            path,
+            mut draft,
+            ..
+        } = self;
+        if let Some(place) = waited {
+            return Ok(Load::Waits(Loading::Pending(Pending { path, draft, place })));
+        }
+        give_all_found(store, &mut draft)?;
+        let document = draft.finish()?;
+        push_load_lines(&path, document.bad.as_slice(), out)?;
+        let acting = ActingDocument::new(alloc, document)?;
+        Ok(Load::Loaded(acting))
+    }
+
+    // Where a need stands that is waited for.
+    fn waited_for(&self, store: &Store) -> Option<usize>
+        ensures settled { result ≡ None → ForStored store.now
+            (λ stored. are_settled stored self.now.draft.needs ≡ true) }
+        ensures waits { IfSome result (λ place. WaitsAt store.now self.now.draft.needs place) }
+    {
+        let (before, behind) = self.draft.needs().split_at(self.place);
+        match first_waited(store, behind) {
+            Some(place) => Some(self.place + place),
+            None => first_waited(store, before),
+        }
+    }
+}
+
+// Where the first need stands that is waited for.
+fn first_waited(store: &Store, needs: &[Path]) -> Option<usize>
+    ensures settled { result ≡ None
+        → ForStored store.now (λ stored. are_settled stored needs.now ≡ true) }
+    ensures waits { IfSome result (λ place. WaitsAt store.now needs.now place) }
+{
+    'needs: for (place, need) in needs.iter().enumerate() {
+        if let Look::Waiting = store.resource(need) {
+            return Some(place);
+        }
+    }
+    None
+}
+
+// Gives a draft what is found of each of its needs.
+fn give_all_found(store: &Store, draft: &mut Draft) -> Result<(), NoMemory>
+    ensures { OnOk result (GivesFound store.now draft.old draft.new) }
+{
+    let count = draft.needs().len();
+    'gifts: for number in 0..count {
+        give_found(store, number, draft)?;
+    }
+    Ok(())
+}
+
+// Gives a draft what is found of its need of that number.
+fn give_found(store: &Store, number: usize, draft: &mut Draft) -> Result<(), NoMemory>
+    requires { number < length draft.old.needs }
+    ensures found { OnOk result
+        (ForStored store.now (λ stored. draft.new ≡ with_found stored number draft.old)) }
+    ensures needs { OnOk result (draft.new.needs ≡ draft.old.needs) }
+{
+    let Some(need) = draft.need(number) else {
+        return Ok(());
+    };
+    if let Look::Found(bytes) = store.resource(need) {
+        draft.give(number, bytes)?;
+    }
+    Ok(())
+}

@@ -1,0 +1,334 @@
+-- What handlers and default actions act on stays sound, whatever they do to it.
+use Rattle.std.proofs.Common.{◌≡◌, ℕ, ◌<◌, ◌≤◌, Bool, true, false, List, length, Option, Some, None, refl, sym, ◌∙◌, ap, subst}
+use Rattle.std.specs.Prelude.{All, codes, if◌then◌else◌, is_some, nat_lt, pos}
+use Rattle.std.specs.Option.{option_map_or}
+use Rattle.std.proofs.lemmas.Bool.{eqb-true}
+use Rattle.bml_bytes.specs.Words.{is_same}
+use Rattle.dom_tree.specs.Items.{IsElement, Item, changed_at, parent_of, tag_of, with_attribute, with_text}
+use Rattle.dom_tree.specs.NodeNumbers.{number_of}
+use Rattle.dom_tree.specs.Walks.{IsTree, KeepsPlaces}
+use Rattle.dom_tree.specs.declared.node_ids.NodeId.{NodeId}
+use Rattle.style_cascade.specs.States.{is_node}
+use Rattle.style_cascade.specs.declared.states.Focus.{Focus}
+use Rattle.focus_keys.specs.Defaults.{Action}
+use Rattle.focus_keys.specs.Defaults.Action.{NoAction, Moves, Activates, Accesses}
+use Rattle.focus_keys.specs.Targets.{can_have_focus, nav_target_of}
+use Rattle.focus_keys.specs.Views.{styled_by}
+use Rattle.es_values.specs.declared.hosts.HostAnswer.{HostAnswer}
+use Rattle.es_values.specs.declared.hosts.HostAnswer.TheVariants.{Value as Answer, Ended, NotCallable}
+use Rattle.es_values.specs.declared.values.HostRef.{HostRef}
+use Rattle.es_values.specs.declared.values.HostRef.TheVariants as ref
+use Rattle.es_values.specs.declared.values.Value.{Value}
+use Rattle.es_values.specs.declared.values.Value.TheVariants.{Undefined, Host}
+use Rattle.es_values.specs.Conversions.{text_of}
+use Rattle.es_values.specs.Objects.{ObjectState}
+use Rattle.event_queue.specs.Queues.{most_events}
+use Rattle.event_queue.specs.declared.events.Event.{Event}
+use Rattle.event_queue.specs.declared.events.Event.TheVariants as events
+use Rattle.dom_objects.specs.Writes.{Change, change_of, changed_items}
+use Rattle.dom_objects.specs.Writes.Change.{NoChange, ChangesText, ChangesAttribute, ChangesStyle}
+use Rattle.dom_objects.specs.declared.current_events.CurrentEvent.{CurrentEvent}
+use Rattle.page.specs.Acting.{Acting, Answered, acted, activated, begun, called, document_call, element_call, first_argument, first_focus, focus_on, focused, gives, key_posts, left_by, moved_to, no_focus, node_id, not_callable, parts_of, posted, posted_for, read_by, written}
+use Rattle.page_laws.specs.Soundness.{has_element, has_node, is_good, is_good_event, is_good_place, names_well}
+use Rattle.page_laws.proofs.ItemLemmas.{changed-tree}
+use Rattle.page_laws.proofs.QueueLemmas.{posted-all, posted-room}
+use Rattle.page_laws.proofs.ReadLemmas.{HangBefore, IsGiven, has_target, id-given, is_given, value-given}
+use Rattle.page_laws.proofs.TargetLemmas.{IsGoodAction, focus-element, nav-element}
+
+-- what is known of trees
+pub record TreeLaws : Type 0 where
+  pub texts : (items : List Item) (node : ℕ) (text : List ℕ)
+      → KeepsPlaces items (changed_at (with_text text) node items)
+  pub attributes : (items : List Item) (node : ℕ) (name value : List ℕ)
+      → KeepsPlaces items (changed_at (with_attribute name value) node items)
+  pub within : (items : List Item) (node up : ℕ) → parent_of items node ≡ Some up
+      → node < length items
+  pub before : (items : List Item) → IsTree items → (node up : ℕ)
+      → parent_of items node ≡ Some up → (up < node) × IsElement items up
+
+-- the nodes are a tree, with the numbers and the tags of those at first
+pub record AreAsFirst (items now : List Item) : Type 0 where
+  pub tree : IsTree now
+  pub count : length now ≡ length items
+  pub tags : (node : ℕ) → tag_of now node ≡ tag_of items node
+
+pub record IsGoodFocus (items : List Item) (focus : Focus) : Type 0 where
+  pub has : is_good_place items (number_of focus.focus) ≡ true
+  pub active : is_good_place items (number_of focus.active) ≡ true
+
+pub record IsGoodQueue (items : List Item) (queue : List Event) : Type 0 where
+  pub room : length queue ≤ most_events
+  pub events : All (λ event. is_good_event items event ≡ true) queue
+
+-- What is acted on is sound, by the nodes as they were at first.
+pub record IsSoundActing (items : List Item) (a : Acting) : Type 0 where
+  pub nodes : AreAsFirst items a.items
+  pub focus : IsGoodFocus items a.focus
+  pub queue : IsGoodQueue items a.queue
+  pub target : has_target items a.event ≡ true
+
+-- the value of an answer names what is there, if it has one
+abbrev pub IsGivenAnswer : List Item → HostAnswer → Type 0
+IsGivenAnswer items (Answer value) = IsGiven items value
+IsGivenAnswer items Ended = Unit {0}
+IsGivenAnswer items NotCallable = Unit {0}
+
+-- and what is acted on behind it is sound
+pub record IsSoundAnswer (items : List Item) (r : Answered) : Type 0 where
+  pub answer : IsGivenAnswer items r.answer
+  pub acting : IsSoundActing items r.acting
+
+-- ---- what names well at first does so now, and the other way round
+
+pub element-same : (items now : List Item) → AreAsFirst items now → (node : ℕ)
+    → has_element now node ≡ has_element items node
+element-same items now n node = ap is_some (n.tags node)
+
+pub node-same : (items now : List Item) → AreAsFirst items now → (node : ℕ)
+    → has_node now node ≡ has_node items node
+node-same items now n node = ap (nat_lt node) n.count
+
+pub place-same : (items now : List Item) → AreAsFirst items now → (node : Option ℕ)
+    → is_good_place now node ≡ is_good_place items node
+place-same items now n None = refl
+place-same items now n (Some node) = element-same items now n node
+
+target-same : (items now : List Item) → AreAsFirst items now → (current : CurrentEvent)
+    → has_target now current ≡ has_target items current
+target-same items now n current = by current.event
+  where
+    by : (event : Option Event)
+        → option_map_or (λ event. has_node now current.target) event true
+        ≡ option_map_or (λ event. has_node items current.target) event true
+    by None = refl
+    by (Some event) = node-same items now n current.target
+
+names-same : (items now : List Item) → AreAsFirst items now → (reference : HostRef)
+    → names_well now reference ≡ names_well items reference
+names-same items now n (ref.Node node) = node-same items now n node
+names-same items now n (ref.Style node state) = element-same items now n node
+names-same items now n _ = refl
+
+given-same : (items now : List Item) → AreAsFirst items now → (value : Value)
+    → is_given now value ≡ is_given items value
+given-same items now n (Host reference) = names-same items now n reference
+given-same items now n _ = refl
+
+pub good-same : (items now : List Item) → AreAsFirst items now → (limit : ℕ) (value : Value)
+    → is_good now limit value ≡ is_good items limit value
+good-same items now n limit (Host reference) = names-same items now n reference
+good-same items now n limit _ = refl
+
+pub event-same : (items now : List Item) → AreAsFirst items now → (event : Event)
+    → is_good_event now event ≡ is_good_event items event
+event-same items now n (events.Focus node) = element-same items now n node
+event-same items now n (events.Blur node) = element-same items now n node
+event-same items now n (events.Click node) = element-same items now n node
+event-same items now n _ = refl
+
+module _ (laws : TreeLaws) (items : List Item) where
+  hang : (now : List Item) → IsTree now → HangBefore now
+  hang now tree node up e = ((laws.before now tree node up e).0, laws.within now node up e)
+
+  -- ---- posts
+
+  pub posted-sound : (event : Event) (a : Acting) → is_good_event items event ≡ true
+      → IsSoundActing items a → IsSoundActing items (posted event a)
+  posted-sound event a h s = record {
+    nodes = s.nodes;
+    focus = s.focus;
+    queue = record {
+      room = posted-room event a.queue s.queue.room;
+      events = posted-all (λ e. is_good_event items e ≡ true) event a.queue h s.queue.events;
+    };
+    target = s.target;
+  }
+
+  -- with another focus
+  abbrev with_focus : Focus → Acting → Acting
+  with_focus focus a = record a { focus = focus }
+
+  focus-sound : (focus : Focus) (a : Acting) → IsGoodFocus items focus → IsSoundActing items a
+      → IsSoundActing items (with_focus focus a)
+  focus-sound focus a h s =
+      record { nodes = s.nodes; focus = h; queue = s.queue; target = s.target }
+
+  on-good : (node : ℕ) → has_element items node ≡ true → IsGoodFocus items (focus_on node)
+  on-good node h = record { has = h; active = refl }
+
+  blur-sound : (node : Option ℕ) (a : Acting) → is_good_place items node ≡ true
+      → IsSoundActing items a → IsSoundActing items (posted_for events.Blur node a)
+  blur-sound None a h s = s
+  blur-sound (Some node) a h s = posted-sound (events.Blur node) a h s
+
+  -- ---- moves of the focus
+
+  pub moved-sound : (node : ℕ) (a : Acting) → has_element items node ≡ true
+      → IsSoundActing items a → IsSoundActing items (moved_to node a)
+  unfolding moved_to
+  moved-sound node a h s = by (is_node node a.focus.focus)
+    where
+      by : (has : Bool) → IsSoundActing items (if has then a
+          else posted (events.Focus node)
+          (posted_for events.Blur (number_of a.focus.focus) (with_focus (focus_on node) a)))
+      by true = s
+      by false =
+          posted-sound (events.Focus node) _ h
+          (blur-sound (number_of a.focus.focus) (with_focus (focus_on node) a) s.focus.has
+          (focus-sound (focus_on node) a (on-good node h) s))
+
+  has-element : (node : ℕ) (focus : Option NodeId) → is_node node focus ≡ true
+      → is_good_place items (number_of focus) ≡ true → has_element items node ≡ true
+  has-element node None e h = absurd (cc e)
+  has-element node (Some found) e h =
+      subst (λ (n : ℕ). has_element items n ≡ true) (eqb-true found.0 node e) h
+
+  left-sound : (node : ℕ) (a : Acting) → IsSoundActing items a
+      → IsSoundActing items (left_by node a)
+  unfolding left_by
+  left-sound node a s = by (is_node node a.focus.focus) refl
+    where
+      by : (has : Bool) → is_node node a.focus.focus ≡ has → IsSoundActing items
+          (if has then posted (events.Blur node) (with_focus no_focus a) else a)
+      by true e =
+          posted-sound (events.Blur node) (with_focus no_focus a)
+          (has-element node a.focus.focus e s.focus.has)
+          (focus-sound no_focus a (record { has = refl; active = refl }) s)
+      by false e = s
+
+  activated-sound : (node : ℕ) (a : Acting) → has_element items node ≡ true
+      → IsSoundActing items a → IsSoundActing items (activated node a)
+  activated-sound node a h s =
+      posted-sound (events.Click node) _ h
+      (focus-sound (record { focus = a.focus.focus; active = Some (node_id node) }) a
+      (record { has = s.focus.has; active = h }) s)
+
+  pub acted-sound : (action : Action) (a : Acting) → IsGoodAction items action
+      → IsSoundActing items a → IsSoundActing items (acted action a)
+  acted-sound NoAction a h s = s
+  acted-sound (Moves node) a h s = moved-sound node a h s
+  acted-sound (Activates node) a h s = activated-sound node a h s
+  acted-sound (Accesses node) a h s =
+      posted-sound (events.Click node) (moved_to node a) h (moved-sound node a h s)
+
+  pub keys-sound : (down : Bool) (key : ℕ) (a : Acting) → IsSoundActing items a
+      → IsSoundActing items (key_posts down key a)
+  keys-sound true key a s =
+      posted-sound (events.Default key) _ refl (posted-sound (events.KeyDown key) a refl s)
+  keys-sound false key a s = posted-sound (events.KeyUp key) a refl s
+
+  -- ---- the first focus
+
+  first-good : (a : Acting) → IsSoundActing items a
+      → is_good_place items (first_focus a) ≡ true
+  first-good a s = by (is_some a.focus.focus)
+    where
+      by : (has : Bool) → is_good_place items (if has then None
+          else nav_target_of (styled_by a.items a.sources a.focus) (pos 0)) ≡ true
+      by true = refl
+      by false =
+          sym (place-same items a.items s.nodes _)
+          ∙ nav-element (styled_by a.items a.sources a.focus) (pos 0)
+
+  begun-by : (node : Option ℕ) (a : Acting) → is_good_place items node ≡ true
+      → IsSoundActing items a → IsSoundActing items (begun node a)
+  begun-by None a h s = posted-sound events.Load a refl s
+  begun-by (Some node) a h s =
+      posted-sound (events.Focus node) _ h
+      (posted-sound events.Load _ refl (focus-sound (focus_on node) a (on-good node h) s))
+
+  pub begun-sound : (a : Acting) → IsSoundActing items a
+      → IsSoundActing items (begun (first_focus a) a)
+  begun-sound a s = begun-by (first_focus a) a (first-good a s) s
+
+  -- ---- what scripts read and write
+
+  pub read-given : (a : Acting) → IsSoundActing items a → (base : HostRef) (name : List ℕ)
+      → IsGiven items (read_by a base name)
+  read-given a s base name =
+      sym (given-same items a.items s.nodes (read_by a base name))
+      ∙ value-given (parts_of a) (hang a.items s.nodes.tree)
+      (place-same items a.items s.nodes (number_of a.focus.focus) ∙ s.focus.has)
+      (target-same items a.items s.nodes a.event ∙ s.target) base name
+
+  changed-nodes : (f : Item → Item) (place : ℕ)
+      → ((now : List Item) → KeepsPlaces now (changed_at f place now)) → (now : List Item)
+      → AreAsFirst items now → AreAsFirst items (changed_at f place now)
+  changed-nodes f place keeps now n = record {
+    tree = changed-tree f place keeps now n.tree;
+    count = (keeps now).count ∙ n.count;
+    tags = λ node. (keeps now).tags node ∙ n.tags node;
+  }
+
+  written-nodes : (change : Change) (now : List Item) → AreAsFirst items now
+      → AreAsFirst items (changed_items change now)
+  written-nodes NoChange now n = n
+  written-nodes (ChangesText node text) now n =
+      changed-nodes (with_text text) node (λ all. laws.texts all node text) now n
+  written-nodes (ChangesAttribute node name value) now n =
+      changed-nodes (with_attribute name value) node (λ all. laws.attributes all node name value)
+      now n
+  written-nodes (ChangesStyle node state property value) now n = n
+
+  pub written-sound : (a : Acting) → IsSoundActing items a → (base : HostRef)
+      (name text : List ℕ) → IsSoundActing items (written a base name text)
+  written-sound a s base name text = record {
+    nodes = written-nodes (change_of a.items base name text) a.items s.nodes;
+    focus = s.focus;
+    queue = s.queue;
+    target = s.target;
+  }
+
+  -- ---- what scripts call
+
+  chosen-sound : (t : Bool) (one other : Answered) → IsSoundAnswer items one
+      → IsSoundAnswer items other → IsSoundAnswer items (if t then one else other)
+  chosen-sound true one other h more = h
+  chosen-sound false one other h more = more
+
+  gives-sound : (value : Value) (a : Acting) → IsGiven items value → IsSoundActing items a
+      → IsSoundAnswer items (gives value a)
+  gives-sound value a h s = record { answer = h; acting = s }
+
+  none-sound : (a : Acting) → IsSoundActing items a → IsSoundAnswer items (not_callable a)
+  none-sound a s = record { answer = tt; acting = s }
+
+  document-sound : (a : Acting) → IsSoundActing items a → (name id : List ℕ)
+      → IsSoundAnswer items (document_call a name id)
+  document-sound a s name id =
+      chosen-sound (is_same name (codes "getElementById")) _ _
+      (gives-sound _ a (sym (given-same items a.items s.nodes _) ∙ id-given a.items id) s)
+      (none-sound a s)
+
+  focused-sound : (node : ℕ) (a : Acting) → IsSoundActing items a
+      → IsSoundActing items (focused node a)
+  focused-sound node a s =
+      by (can_have_focus (styled_by a.items a.sources a.focus) node) refl
+    where
+      by : (can : Bool) → can_have_focus (styled_by a.items a.sources a.focus) node ≡ can
+          → IsSoundActing items (if can then moved_to node a else a)
+      by true e =
+          moved-sound node a
+          (sym (element-same items a.items s.nodes node)
+          ∙ focus-element (styled_by a.items a.sources a.focus) node e) s
+      by false e = s
+
+  element-sound : (a : Acting) → IsSoundActing items a → (node : ℕ) (name : List ℕ)
+      → IsSoundAnswer items (element_call a node name)
+  element-sound a s node name =
+      chosen-sound (is_same name (codes "focus")) _ _
+      (gives-sound Undefined (focused node a) refl (focused-sound node a s))
+      (chosen-sound (is_same name (codes "blur")) _ _
+      (gives-sound Undefined (left_by node a) refl (left-sound node a s)) (none-sound a s))
+
+  pub called-sound : (a : Acting) → IsSoundActing items a → (base : HostRef) (name : List ℕ)
+      (arguments : List Value) (heap : List ObjectState)
+      → IsSoundAnswer items (called a base name arguments heap)
+  unfolding called
+  called-sound a s ref.Document name arguments heap =
+      document-sound a s name (text_of heap (first_argument arguments))
+  called-sound a s (ref.Node node) name arguments heap =
+      chosen-sound (is_some (tag_of a.items node)) _ _ (element-sound a s node name)
+      (none-sound a s)
+  called-sound a s ref.Browser name arguments heap = gives-sound _ a refl s
+  called-sound a s _ name arguments heap = none-sound a s

@@ -1,0 +1,11 @@
+pub mod WalkLemmas
+pub mod ItemLemmas
+pub mod ReadLemmas
+pub mod TargetLemmas
+pub mod QueueLemmas
+pub mod ActingLemmas
+pub mod RunLemmas
+pub mod HandlerLemmas
+pub mod DocumentLemmas
+pub mod PageLemmas
+pub mod ReceiverLemmas

@@ -1,0 +1,258 @@
+-- What scripts read of a document names what is there.
+use Rattle.std.proofs.Common.{◌≡◌, ℕ, zero, suc, ◌<◌, Bool, true, false, List, [], ◌∷◌, ◌++◌, length, Option, Some, None, refl, ap, arith}
+use Rattle.std.specs.Prelude.{All, IfSome, codes, if◌then◌else◌, is_some, unwrap_or}
+use Rattle.std.specs.List.{AllByRecursion}
+use Rattle.std.specs.Map.{lookup}
+use Rattle.std.specs.Option.{option_map_or}
+use Rattle.std.proofs.lemmas.Bool.{lt-ltb}
+use Rattle.std.proofs.lemmas.List.Elements.{All-append, All-from_recursion, All-nil}
+use Rattle.std.proofs.lemmas.Map.Entries.{All-lookup}
+use Rattle.bml_bytes.specs.Words.{is_same}
+use Rattle.dom_tree.specs.Items.{Item, has_id, parent_of, tag_of, text_of}
+use Rattle.dom_tree.specs.NodeNumbers.{number_of}
+use Rattle.dom_tree.specs.Walks.{after, before, children_of, first, hangs_in, last, node_of_id, places, siblings_of}
+use Rattle.style_reader.specs.declared.properties.Property.{Property}
+use Rattle.style_cascade.specs.declared.states.State.{State}
+use Rattle.es_values.specs.declared.values.HostRef.{HostRef}
+use Rattle.es_values.specs.declared.values.HostRef.TheVariants as ref
+use Rattle.es_values.specs.declared.values.Value.{Value}
+use Rattle.es_values.specs.declared.values.Value.TheVariants.{Undefined, Null, Str, Object, Function, Host}
+use Rattle.es_values.specs.Values.{is_plain}
+use Rattle.event_queue.specs.declared.events.Event.{Event}
+use Rattle.event_queue.specs.declared.events.Event.TheVariants as events
+use Rattle.event_queue.specs.Events.{name_of}
+use Rattle.dom_objects.specs.Parts.{Parts, state_of_number}
+use Rattle.dom_objects.specs.Reads.{Rows, attribute_value, document_rows, element_rows, event_rows, key_rows, node_rows, node_value, own_rows, is_input_tag, is_object_tag, property_named, read_in, read_value, style_read, style_text, text_rows, walk_rows}
+use Rattle.dom_objects.specs.declared.current_events.CurrentEvent.{CurrentEvent}
+use Rattle.page_laws.specs.Soundness.{has_element, has_node, is_good, is_good_place, names_well}
+use Rattle.page_laws.proofs.WalkLemmas.{IsBelow, after-below, before-below, first-below, last-below, places-below}
+
+-- What a document gives: no object and no function, and a reference names what is there.
+abbrev pub is_given : List Item → Value → Bool
+is_given items (Host reference) = names_well items reference
+is_given items (Object number) = false
+is_given items (Function number) = false
+is_given items other = true
+
+abbrev pub IsGiven : List Item → Value → Type 0
+IsGiven items value = is_given items value ≡ true
+
+pub given-plain : (items : List Item) (value : Value) → IsGiven items value
+    → is_plain value ≡ true
+given-plain items (Object number) h = h
+given-plain items (Function number) h = h
+given-plain items _ h = refl
+
+pub given-good : (items : List Item) (limit : ℕ) (value : Value) → IsGiven items value
+    → is_good items limit value ≡ true
+given-good items limit (Host reference) h = h
+given-good items limit (Function number) h = absurd (cc h)
+given-good items limit _ h = refl
+
+-- ---- nodes
+
+pub node-given : (items : List Item) (node : Option ℕ) → IsBelow (length items) node
+    → IsGiven items (node_value node)
+node-given items None h = refl
+node-given items (Some node) h = lt-ltb node (length items) h
+
+-- an element is a node
+pub element-node : (items : List Item) (node : ℕ) → has_element items node ≡ true
+    → node < length items
+element-node [] node h = absurd (cc h)
+element-node (item ∷ items) zero h = omega arith
+element-node (item ∷ items) (suc node) h = omega (arith, element-node items node h)
+
+pub place-below : (items : List Item) (node : Option ℕ) → is_good_place items node ≡ true
+    → IsBelow (length items) node
+place-below items None h = tt
+place-below items (Some node) h = element-node items node h
+
+-- that a node hangs in one that is before it
+abbrev pub HangBefore : List Item → Type 0
+HangBefore items =
+    (node up : ℕ) → parent_of items node ≡ Some up → (up < node) × (node < length items)
+
+parent-below : (items : List Item) → HangBefore items → (node : ℕ)
+    → IsBelow (length items) (parent_of items node)
+parent-below items hang node = by (parent_of items node) refl
+  where
+    by : (up : Option ℕ) → parent_of items node ≡ up → IsBelow (length items) up
+    by None e = tt
+    by (Some up) e = omega (arith, hang node up e)
+
+-- ---- rows
+
+abbrev RowsGive : List Item → Rows → Type 0
+RowsGive items rows = All (λ row. IsGiven items row.1) rows
+
+abbrev EachGives : List Item → Rows → Type 0
+EachGives items rows = AllByRecursion (λ row. IsGiven items row.1) rows
+
+each-gives : (items : List Item) (rows : Rows) → EachGives items rows → RowsGive items rows
+each-gives items rows all = All-from_recursion (λ row. IsGiven items row.1) rows all
+
+-- what is read of rows is the value of one, or Undefined
+read-given : (items : List Item) (rows : Rows) → RowsGive items rows → (name : List ℕ)
+    → IsGiven items (read_in rows name)
+read-given items rows all name =
+    by (lookup (is_same name) rows) (All-lookup (IsGiven items) (is_same name) rows all)
+  where
+    by : (found : Option Value) → IfSome found (IsGiven items)
+        → IsGiven items (unwrap_or found Undefined)
+    by None h = refl
+    by (Some value) h = h
+
+-- ---- the rows of nodes
+
+walks-give : (items : List Item) → HangBefore items → (node : ℕ)
+    → RowsGive items (walk_rows items node)
+walks-give items hang node =
+    let limit = length items in
+    let children = places-below (hangs_in (Some node)) items in
+    let siblings = places-below (hangs_in (parent_of items node)) items in
+    each-gives items (walk_rows items node) (
+      node-given items (parent_of items node) (parent-below items hang node),
+      (
+        node-given items (first (children_of items node))
+            (first-below limit (children_of items node) children),
+        (
+          node-given items (last (children_of items node))
+              (last-below limit (children_of items node) children),
+          (
+            node-given items (before (siblings_of items node) node)
+                (before-below limit (siblings_of items node) node siblings),
+            (
+              node-given items (after (siblings_of items node) node)
+                  (after-below limit (siblings_of items node) node siblings),
+              tt,
+            ),
+          ),
+        ),
+      ),
+    )
+
+-- the value of an attribute is a text
+own-give : (items : List Item) (node : ℕ) (tag : List ℕ)
+    → RowsGive items (own_rows items node tag)
+own-give items node tag =
+    each-gives items (own_rows items node tag) (by (is_object_tag tag) (is_input_tag tag))
+  where
+    by : (object input : Bool) → EachGives items
+        (if object
+        then (codes "data", attribute_value items node (codes "data"))
+        ∷ (codes "type", attribute_value items node (codes "type")) ∷ []
+        else if input
+        then (codes "value", attribute_value items node (codes "value")) ∷ []
+        else [])
+    by true input = (refl, (refl, tt))
+    by false true = (refl, tt)
+    by false false = tt
+
+elements-give : (items : List Item) (node : ℕ) (tag : List ℕ) → has_element items node ≡ true
+    → RowsGive items (element_rows items node tag)
+elements-give items node tag there =
+    each-gives items (element_rows items node tag)
+    (refl, (refl, (refl, (refl, (there, (there, (there, tt)))))))
+
+texts-give : (items : List Item) (text : List ℕ) → RowsGive items (text_rows text)
+texts-give items text = each-gives items (text_rows text) (refl, (refl, tt))
+
+node_rows-give : (items : List Item) → HangBefore items → (node : ℕ)
+    → RowsGive items (node_rows items node)
+unfolding node_rows
+node_rows-give items hang node = by (tag_of items node) refl (text_of items node)
+  where
+    by : (tag : Option (List ℕ)) → tag_of items node ≡ tag → (text : Option (List ℕ))
+        → RowsGive items (option_map_or
+        (λ tag. walk_rows items node ++ (element_rows items node tag ++ own_rows items node tag))
+        tag (option_map_or (λ text. walk_rows items node ++ text_rows text) text []))
+    by (Some tag) e text =
+        let there : has_element items node ≡ true = ap is_some e in
+        All-append (λ row. IsGiven items row.1) (walk_rows items node)
+        (element_rows items node tag ++ own_rows items node tag) (walks-give items hang node)
+        (All-append (λ row. IsGiven items row.1) (element_rows items node tag)
+        (own_rows items node tag) (elements-give items node tag there) (own-give items node tag))
+    by None e (Some text) =
+        All-append (λ row. IsGiven items row.1) (walk_rows items node) (text_rows text)
+        (walks-give items hang node) (texts-give items text)
+    by None e None = All-nil (λ (row : List ℕ × Value). IsGiven items row.1)
+
+-- ---- the rows of the document, of the current event and of styles
+
+keys-give : (items : List Item) (event : Event) → EachGives items (key_rows event)
+keys-give items (events.KeyDown key) = (refl, tt)
+keys-give items (events.KeyUp key) = (refl, tt)
+keys-give items (events.Default key) = (refl, tt)
+keys-give items _ = tt
+
+-- the target of the current event, if there is one, is a node
+abbrev pub has_target : List Item → CurrentEvent → Bool
+has_target items current = option_map_or (λ event. has_node items current.target) current.event true
+
+events-give : (items : List Item) (parts : Parts) → has_target items parts.event ≡ true
+    → EachGives items (event_rows parts)
+events-give items parts h = by parts.event.event h
+  where
+    by : (event : Option Event)
+        → option_map_or (λ event. has_node items parts.event.target) event true ≡ true
+        → EachGives items (option_map_or
+        (λ event. (codes "type", Str (name_of event))
+        ∷ (codes "target", Host (ref.Node parts.event.target)) ∷ key_rows event) event [])
+    by None h = tt
+    by (Some event) h = (refl, (h, keys-give items event))
+
+document-gives : (items : List Item) (parts : Parts)
+    → is_good_place items (number_of parts.focus.focus) ≡ true
+    → EachGives items (document_rows parts)
+document-gives items parts h = (
+  by parts.event.event,
+  (
+    node-given items (number_of parts.focus.focus)
+        (place-below items (number_of parts.focus.focus) h),
+    tt,
+  ),
+)
+  where
+    by : (event : Option Event) → IsGiven items (option_map_or (λ event. Host ref.Event) event Null)
+    by None = refl
+    by (Some event) = refl
+
+style-given : (items : List Item) (parts : Parts) (node number : ℕ) (name : List ℕ)
+    → IsGiven items (style_read parts node number name)
+unfolding style_read
+style-given items parts node number name =
+    by (if is_some (tag_of parts.items node) then state_of_number number else None)
+    (property_named name)
+  where
+    by : (state : Option State) (property : Option Property) → IsGiven items (option_map_or
+        (λ state. option_map_or (style_text parts node state) property Undefined) state Undefined)
+    by None property = refl
+    by (Some state) None = refl
+    by (Some state) (Some property) = refl
+
+-- ---- all references
+
+-- what is read of a document whose focus and whose current event name what is there
+pub value-given : (parts : Parts) → HangBefore parts.items
+    → is_good_place parts.items (number_of parts.focus.focus) ≡ true
+    → has_target parts.items parts.event ≡ true → (base : HostRef) (name : List ℕ)
+    → IsGiven parts.items (read_value parts base name)
+unfolding read_value
+value-given parts hang focus event ref.Document name =
+    read-given parts.items (document_rows parts)
+    (each-gives parts.items (document_rows parts) (document-gives parts.items parts focus)) name
+value-given parts hang focus event ref.Event name =
+    read-given parts.items (event_rows parts)
+    (each-gives parts.items (event_rows parts) (events-give parts.items parts event)) name
+value-given parts hang focus event (ref.Node node) name =
+    read-given parts.items (node_rows parts.items node) (node_rows-give parts.items hang node) name
+value-given parts hang focus event (ref.Style node number) name =
+    style-given parts.items parts node number name
+value-given parts hang focus event _ name = refl
+
+-- the node of an id, if there is one
+pub id-given : (items : List Item) (id : List ℕ) → IsGiven items (node_value (node_of_id items id))
+id-given items id =
+    node-given items (node_of_id items id)
+    (first-below (length items) (places (has_id id) items) (places-below (has_id id) items))

@@ -1,0 +1,102 @@
+-- The run of a script leaves what it acts on sound, and the world of the scripts.
+use Rattle.std.proofs.Common.{◌≡◌, ℕ, Bool, true, List, refl, ap, arith}
+use Rattle.std.specs.Prelude.{◌||◌}
+use Rattle.std.specs.List.{list_any}
+use Rattle.dom_tree.specs.Items.{Item}
+use Rattle.es_values.specs.declared.hosts.HostAnswer.{HostAnswer}
+use Rattle.es_values.specs.declared.hosts.HostAnswer.TheVariants.{Value as Answer, Ended, NotCallable}
+use Rattle.es_values.specs.declared.values.HostRef.{HostRef}
+use Rattle.es_values.specs.declared.values.HostRef.TheVariants as ref
+use Rattle.es_values.specs.declared.values.Value.{Value}
+use Rattle.es_values.specs.declared.values.Value.TheVariants.{Host, Function, Object}
+use Rattle.es_values.specs.Conversions.{text_of}
+use Rattle.es_values.specs.Hosts.{IsAnswer, KeepsHeap}
+use Rattle.es_values.specs.Objects.{ObjectState}
+use Rattle.es_values.specs.Values.{is_function}
+use Rattle.es_eval.specs.Evaluation.{run_at}
+use Rattle.script_laws.specs.Soundness.{function_limit}
+use Rattle.es_eval.specs.Syntax.{Program}
+use Rattle.es_eval.specs.Worlds.{Run}
+use Rattle.es_eval.specs.Worlds.Run.{Over, Reads, Writes, Calls}
+use Rattle.script_laws.specs.Passing.{PassesOwn, is_named}
+use Rattle.script_laws.specs.Staying.{AnswerPasses, AreFit, StaysWithin}
+use Rattle.page.specs.Acting.{Acting, called, read_by, written}
+use Rattle.page.specs.Runs.{End, ended}
+use Rattle.page_laws.specs.Soundness.{is_good, names_well}
+use Rattle.page_laws.proofs.ActingLemmas.{IsGivenAnswer, IsSoundActing, TreeLaws, called-sound, read-given, written-sound}
+use Rattle.page_laws.proofs.ReadLemmas.{IsGiven, given-good, given-plain}
+
+-- that what programs hand over and leave passes
+abbrev pub PlacesStay : Type 0
+PlacesStay =
+    (good : Value → Bool) (least : ℕ) (programs : List Program) (place : ℕ)
+    (globals : List (List ℕ × Value)) (heap : List ObjectState) (budget : ℕ)
+    → PassesOwn (function_limit programs) good → AreFit good least globals heap
+    → StaysWithin good least (run_at programs place globals heap budget)
+
+-- ---- answers
+
+given-answer : (heap : List ObjectState) (items : List Item) (value : Value)
+    → IsGiven items value → IsAnswer heap (Answer value)
+given-answer heap items (Object number) h = absurd (cc h)
+given-answer heap items (Function number) h = absurd (cc h)
+given-answer heap items _ h = (refl, tt)
+
+answer-is : (items : List Item) (heap : List ObjectState) (answer : HostAnswer)
+    → IsGivenAnswer items answer → IsAnswer heap answer
+answer-is items heap (Answer value) h = given-answer heap items value h
+answer-is items heap Ended h = tt
+answer-is items heap NotCallable h = tt
+
+answer-passes : (items : List Item) (limit : ℕ) (answer : HostAnswer)
+    → IsGivenAnswer items answer → AnswerPasses (is_good items limit) answer
+answer-passes items limit (Answer value) h = given-good items limit value h
+answer-passes items limit Ended h = tt
+answer-passes items limit NotCallable h = tt
+
+-- a heap that a call leaves as it is
+same-heap : (heap : List ObjectState) (arguments : List Value) → KeepsHeap heap arguments heap
+same-heap heap arguments = record {
+  objects = omega arith;
+  functions = λ number e. ap (λ t. t || list_any (is_function number) arguments) e;
+}
+
+-- ---- runs
+
+pub record EndsSound (items : List Item) (limit least : ℕ) (e : End) : Type 0 where
+  pub acting : IsSoundActing items e.acting
+  pub fit : AreFit (is_good items limit) least e.world.globals e.world.heap
+
+pub run-sound : TreeLaws → (items : List Item) (limit least : ℕ) (run : Run) (a : Acting)
+    → StaysWithin (is_good items limit) least run → IsSoundActing items a
+    → EndsSound items limit least (ended run a)
+unfolding ended
+run-sound laws items limit least (Over outcome w) a stays s = record { acting = s; fit = stays }
+run-sound laws items limit least (Reads base name go) a stays s =
+    let given = read-given laws items a s base name in
+    let value = read_by a base name in
+    run-sound laws items limit least (go value) a
+    (stays.1 value (given-plain items value given) (given-good items limit value given)) s
+run-sound laws items limit least (Writes base name value heap go) a stays s =
+    run-sound laws items limit least go (written a base name (text_of heap value)) stays.4
+    (written-sound laws items a s base name (text_of heap value))
+run-sound laws items limit least (Calls base name arguments heap go) a stays s =
+    let r = called-sound laws items a s base name arguments heap in
+    let answer = (called a base name arguments heap).answer in
+    run-sound laws items limit least (go answer heap) (called a base name arguments heap).acting
+    (stays.2 answer heap (answer-is items heap answer r.answer) (same-heap heap arguments)
+    (answer-passes items limit answer r.answer) stays.1.fit) r.acting
+
+-- ---- programs
+
+own-references : (items : List Item) (reference : HostRef) → is_named reference ≡ true
+    → names_well items reference ≡ true
+own-references items (ref.Node node) h = absurd (cc h)
+own-references items (ref.Style node state) h = absurd (cc h)
+own-references items _ h = refl
+
+-- what scripts make by themselves names what is there
+pub own-pass : (items : List Item) (limit : ℕ) → PassesOwn limit (is_good items limit)
+own-pass items limit (Host reference) h = own-references items reference h
+own-pass items limit (Function number) h = h
+own-pass items limit _ h = refl

@@ -1,0 +1,86 @@
+-- What a page keeps names what is there: nodes of its document, objects of its heap, functions of
+-- its programs. (This project's own.)
+use Rattle.std.specs.Prelude.{◌≡◌, ℕ, nat_lt, ◌<◌, ◌≤◌, Bool, true, is_some, List, length, All, IfSome, Option, map}
+use Rattle.std.specs.Option.{option_map_or}
+use Rattle.dom_tree.specs.Items.{Item, tag_of}
+use Rattle.dom_tree.specs.NodeNumbers.{number_of}
+use Rattle.dom_tree.specs.Walks.{IsTree}
+use Rattle.es_values.specs.declared.values.HostRef.{HostRef}
+use Rattle.es_values.specs.declared.values.HostRef.TheVariants.{Node, Style}
+use Rattle.es_values.specs.declared.values.Value.{Value}
+use Rattle.es_values.specs.declared.values.Value.TheVariants.{Function, Host}
+use Rattle.es_values.specs.Heaps.{IsLive}
+use Rattle.es_values.specs.Heaps as heaps
+use Rattle.script_laws.specs.Soundness.{function_limit}
+use Rattle.es_eval.specs.Sources.{program_of}
+use Rattle.event_queue.specs.Queues.{most_events}
+use Rattle.event_queue.specs.declared.events.Event.{Event}
+use Rattle.event_queue.specs.declared.events.Event.TheVariants as events
+use Rattle.document_load.specs.Scripts.{HandlerState}
+use Rattle.script_laws.specs.Passing.{HeapPasses}
+use Rattle.page.specs.Documents.{Document}
+use Rattle.page.specs.State.{State}
+
+-- a node of the document, and an element of it
+abbrev pub has_node : List Item → ℕ → Bool
+has_node items node = nat_lt node (length items)
+
+abbrev pub has_element : List Item → ℕ → Bool
+has_element items node = is_some (tag_of items node)
+
+-- A reference to a node names one that is there, and one to a style an element's. The document, the
+-- browser, the registers and the current event are always there.
+abbrev pub names_well : List Item → HostRef → Bool
+names_well items (Node node) = has_node items node
+names_well items (Style node state) = has_element items node
+names_well items other = true
+
+-- so does a value that is a reference, and a function is built in or one of the programs'
+abbrev pub is_good : List Item → ℕ → Value → Bool
+is_good items limit (Host reference) = names_well items reference
+is_good items limit (Function number) = nat_lt number limit
+is_good items limit other = true
+
+-- what happens to the focus, and a click, happens to an element
+abbrev pub is_good_event : List Item → Event → Bool
+is_good_event items (events.Focus node) = has_element items node
+is_good_event items (events.Blur node) = has_element items node
+is_good_event items (events.Click node) = has_element items node
+is_good_event items other = true
+
+-- there is none, or it is an element
+abbrev pub is_good_place : List Item → Option ℕ → Bool
+is_good_place items node = option_map_or (has_element items) node true
+
+-- a handler is one of an element, and runs one of so many programs
+pub record IsGoodHandler (items : List Item) (programs : ℕ) (handler : HandlerState)
+    : Type 0 where
+  pub node : has_element items handler.node ≡ true
+  pub program : handler.program < programs
+
+-- each function of a document has a number below this one
+abbrev pub limit_of : Document → ℕ
+limit_of d = function_limit (map program_of d.programs)
+
+abbrev pub is_good_in : Document → Value → Bool
+is_good_in d = is_good d.items (limit_of d)
+
+pub record IsSoundDocument (d : Document) : Type 0 where
+  pub tree : IsTree d.items
+  -- what has the focus, and what is active
+  pub focus : is_good_place d.items (number_of d.focus.focus) ≡ true
+  pub active : is_good_place d.items (number_of d.focus.active) ≡ true
+  -- the events that wait
+  pub room : length d.queue ≤ most_events
+  pub events : All (λ event. is_good_event d.items event ≡ true) d.queue
+  -- the handlers
+  pub handlers : All (IsGoodHandler d.items (length d.programs)) d.handlers
+  -- the variables and the objects of the scripts
+  pub globals : All (λ global. is_good_in d global.1 ≡ true) d.globals
+  pub properties : HeapPasses (is_good_in d) d.heap
+  pub live : All (λ global. IsLive d.heap global.1) d.globals
+  pub objects : heaps.IsSound d.heap
+
+-- without a document there is nothing that could name something
+abbrev pub IsSound : State → Type 0
+IsSound s = IfSome s.document IsSoundDocument

@@ -1,0 +1,11 @@
+//! What holds of pages, whatever comes to them: laws above the page.
+//!
+//! A page is sound where what it keeps names what is there: nodes of its document, objects of its
+//! heap, functions of its programs (`specs/Soundness.antt`). [`law_of_soundness`] says that it is
+//! so at first, and stays so, and [`law_of_sound_receivers`] that the page of a receiver is sound
+//! whatever came to it.
+#![tactic(auto)]
+
+mod laws;
+
+pub use crate::laws::{law_of_sound_receivers, law_of_soundness};

@@ -1,6 +1,0 @@
-use Rattle.std.proofs.Common.{◌≡◌, length}
-use Rattle.receiver_core.proofs.GiftLaws.{GivesBelow}
-use Rattle.receiver_core.proofs.pending.give_all_found.Given as goal
-
-abbrev pub invariant-gifts : goal.invariant-gifts
-invariant-gifts l = record { gives : GivesBelow l.store l.number l.fn.draft l.draft; all : l.count ≡ length l.fn.draft.needs }

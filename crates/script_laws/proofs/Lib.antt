@@ -1,0 +1,10 @@
+pub mod ListLemmas
+pub mod HeapLemmas
+pub mod RowLemmas
+pub mod StateLemmas
+pub mod MemberLemmas
+pub mod CallLemmas
+pub mod ExpressionLemmas
+pub mod StatementLemmas
+pub mod RunLemmas
+pub mod EndLemmas

@@ -1,0 +1,4 @@
+pub mod Passing
+pub mod Soundness
+pub mod Staying
+pub mod Keeping
