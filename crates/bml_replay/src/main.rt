@@ -6,11 +6,10 @@
 #![tactic(auto)]
 
 mod command_line;
-mod ports;
 
 use crate::command_line::{Asked, HELP, SYNOPSIS, VERSION, read_words, request_of};
-use crate::ports::{AreaFile, FileWorld, StandardOutput};
 use bml_ports::Text;
+use bml_ports_std::{AreaFile, FileWorld, StandardOutput};
 use replay_run::{Status, run};
 use std::process::ExitCode;
 

@@ -1,4 +1,4 @@
-//! Ports that fail in mid-stream, and records with a bad line.
+//! Ports that fail in mid-stream, and a record with a bad line.
 
 use crate::messages::{EMPTY, FIRST, SECOND, THIRD};
 use crate::runs::{Ports, REPLAY, SOUND, replayed};
@@ -6,94 +6,99 @@ use replay_run::Status;
 use std::test::Fail;
 use test_streams::Stream;
 
+// Each read of the stream gives a packet at most.
+const PACKETS: Ports = Ports {
+    piece: 188,
+    ..SOUND
+};
+
+const LINE: &[u8] = b"module 40 0001 01 0\n";
+
+// The ports, the record, how the run ends, and the lines that it has written by then.
+const ROWS: &[(Ports, &[u8], Status, &[u8])] = &[
+    (
+        Ports {
+            stream_read: 3,
+            ..PACKETS
+        },
+        b"all\n",
+        Status::ReadFault,
+        LINE,
+    ),
+    (
+        Ports {
+            stream_read: 2,
+            ..PACKETS
+        },
+        b"all\n",
+        Status::ReadFault,
+        b"",
+    ),
+    (
+        Ports {
+            record_read: 1,
+            ..SOUND
+        },
+        b"all\n",
+        Status::ReadFault,
+        b"",
+    ),
+    (
+        Ports {
+            record_read: 2,
+            ..SOUND
+        },
+        b"all\n",
+        Status::ReadFault,
+        LINE,
+    ),
+    (Ports { write: 1, ..SOUND }, b"all\n", Status::WriteFault, b""),
+    (
+        Ports { write: 2, ..SOUND },
+        b"all\n",
+        Status::WriteFault,
+        LINE,
+    ),
+    (
+        Ports { room: 6, ..SOUND },
+        b"all\n",
+        Status::WriteFault,
+        b"module",
+    ),
+    (
+        Ports {
+            opening: 1,
+            ..SOUND
+        },
+        b"all\n",
+        Status::OpenFault,
+        b"",
+    ),
+    (
+        Ports {
+            opening: 2,
+            ..SOUND
+        },
+        b"all\n",
+        Status::OpenFault,
+        b"",
+    ),
+    (
+        SOUND,
+        b"all\nkey x\nall\n",
+        Status::BadRecord { line: 2 },
+        LINE,
+    ),
+];
+
 // The lines before that are written, and no others.
 #[test]
 fn faults_in_the_middle(rt: HostRuntime) -> Result<(), Fail> {
-    let alloc = rt.alloc();
-    let stream = Stream::of_sections(alloc, &[EMPTY, FIRST, SECOND, THIRD])?;
-    let packets = Ports {
-        piece: 188,
-        ..SOUND
-    };
-    let line = "module 40 0001 01 0\n";
-    for (ports, record, status, lines) in [
-        (
-            Ports {
-                stream_read: 3,
-                ..packets
-            },
-            "all\n",
-            Status::ReadFault,
-            line,
-        ),
-        (
-            Ports {
-                stream_read: 2,
-                ..packets
-            },
-            "all\n",
-            Status::ReadFault,
-            "",
-        ),
-        (
-            Ports {
-                record_read: 1,
-                ..SOUND
-            },
-            "all\n",
-            Status::ReadFault,
-            "",
-        ),
-        (
-            Ports {
-                record_read: 2,
-                ..SOUND
-            },
-            "all\n",
-            Status::ReadFault,
-            line,
-        ),
-        (Ports { write: 1, ..SOUND }, "all\n", Status::WriteFault, ""),
-        (
-            Ports { write: 2, ..SOUND },
-            "all\n",
-            Status::WriteFault,
-            line,
-        ),
-        (
-            Ports { room: 6, ..SOUND },
-            "all\n",
-            Status::WriteFault,
-            "module",
-        ),
-        (
-            Ports {
-                opening: 1,
-                ..SOUND
-            },
-            "all\n",
-            Status::OpenFault,
-            "",
-        ),
-        (
-            Ports {
-                opening: 2,
-                ..SOUND
-            },
-            "all\n",
-            Status::OpenFault,
-            "",
-        ),
-        (
-            SOUND,
-            "all\nkey x\nall\n",
-            Status::BadRecord { line: 2 },
-            line,
-        ),
-    ] {
-        let run = replayed(alloc, REPLAY, stream.bytes(), record.as_bytes(), ports)?;
-        assert_eq!(rt; run.status, status, "for {record}");
-        assert_eq!(rt; run.sink.written(), lines.as_bytes(), "for {status:?}");
+    let stream = Stream::of_sections(rt.alloc(), &[EMPTY, FIRST, SECOND, THIRD])?;
+    for (ports, record, status, lines) in ROWS {
+        let run = replayed(rt.alloc(), REPLAY, stream.bytes(), record, *ports)?;
+        assert_eq!(rt; run.status, *status);
+        assert_eq!(rt; run.sink.written(), *lines, "for {status:?}");
     }
     Ok(())
 }

@@ -1,25 +1,20 @@
 //! Tests that cross crates: runs over ports in memory, of streams that `test_streams` writes. It has no
 //! code of its own.
 //!
-//! What the built program shows over files stands in the rows of `tables/`, and here what they can't
-//! show: reads and writes that fail, a stream in pieces, a record without end, words that touch
-//! nothing; and two whole runs with every layer in them.
+//! What the built program shows over files stands in the rows of `tables/` and in those of the tools
+//! that run them, which cost no proof; and here what they can't show: openings, reads and writes that
+//! fail in the middle, a stream in pieces, a record without end. All have ample memory, and compare
+//! what was answered and written, so a layer that answers `NoMemory` fails here.
 //!
-//! Each status that a run can end with but `NoMemory` is reached: `Usage` in `commands`, `Done` in
-//! `whole_runs` and `pieces`, `BadRecord`, `OpenFault`, `ReadFault` and `WriteFault` in `faults`,
-//! `TooLong` in `long_records`; `KeepFault` and `BadArea` are none yet, since nothing is kept. All have
-//! ample memory, and compare what was answered and written, so a layer that answers `NoMemory` fails
-//! here.
+//! `area_files` is of `bml_ports_std`: no run asks for the file of the area yet.
 //!
-//! Below a run stand the tables of `command_words`, `record_lines` and `statuses`, of what
-//! `replay_run` gives besides; `written_streams` holds what `test_streams` writes against bytes that
-//! are written out by hand.
+//! `Done` is reached in `pieces`, `BadRecord`, `OpenFault`, `ReadFault` and `WriteFault` in `faults`,
+//! `TooLong` in `long_records`, and `Usage` by rows of commands; `KeepFault` and `BadArea` are none
+//! yet, since nothing is kept.
 #![tactic(auto)]
 
 #[cfg(test)]
-mod command_words;
-#[cfg(test)]
-mod commands;
+mod area_files;
 #[cfg(test)]
 mod faults;
 #[cfg(test)]
@@ -29,12 +24,4 @@ mod messages;
 #[cfg(test)]
 mod pieces;
 #[cfg(test)]
-mod record_lines;
-#[cfg(test)]
 mod runs;
-#[cfg(test)]
-mod statuses;
-#[cfg(test)]
-mod whole_runs;
-#[cfg(test)]
-mod written_streams;
