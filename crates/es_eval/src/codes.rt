@@ -12,7 +12,7 @@ use es_expressions::Node;
 use es_reader::Program;
 
 /// A node: the place of its program among the programs, and its number there.
-#[derive(Clone, Copy, Debug)]
+#[derive(Clone, Copy)]
 pub struct Code {
     pub program: usize,
     pub node: u32,
@@ -20,7 +20,7 @@ pub struct Code {
 
 /// Statements in a row: those of a program, of a function by its place in its program, or of a
 /// block.
-#[derive(Clone, Copy, Debug)]
+#[derive(Clone, Copy)]
 pub enum Listing {
     Top(usize),
     Body(usize, usize),

@@ -15,7 +15,7 @@ use std::alloc::Global;
 
 /// An expression. The arguments of a call or of `new` are its node's parts from the place 1 on, and
 /// those of a list with commas from 0 on.
-#[derive(Debug, Drop)]
+#[derive(Drop)]
 pub enum Shape {
     This,
     Null,
@@ -43,7 +43,7 @@ pub enum Shape {
 }
 
 /// What stands first in the head of a `for`.
-#[derive(Clone, Copy, Debug)]
+#[derive(Clone, Copy)]
 pub enum FirstShape {
     NoFirst,
     FirstExpression(Code),
@@ -51,14 +51,14 @@ pub enum FirstShape {
 }
 
 /// What stands before the `in` of a `for`.
-#[derive(Debug, Drop)]
+#[derive(Drop)]
 pub enum VisitorShape {
     VisitTarget(Code),
     VisitVar(Text),
 }
 
 /// A statement.
-#[derive(Debug, Drop)]
+#[derive(Drop)]
 pub enum StatementShape {
     Block,
     Var,
@@ -76,7 +76,7 @@ pub enum StatementShape {
 }
 
 /// The name that a `var` declares, and its value where it has one.
-#[derive(Debug, Drop)]
+#[derive(Drop)]
 pub struct DeclaratorShape {
     pub name: Text,
     pub value: Option<Code>,

@@ -8,7 +8,7 @@ use bml_bytes::Text;
 use es_values::{HostRef, Value};
 
 /// What an expression gives, or how a statement is completed (ECMA-262 second edition, 8.9).
-#[derive(Debug, Drop)]
+#[derive(Drop)]
 pub enum Given {
     Value(Value),
     Normal,
@@ -19,7 +19,7 @@ pub enum Given {
 
 /// What comes next: a node is entered, with its step; something is given to the item that was put
 /// last; the host is asked for a member, to write one or to call one; or the script is over.
-#[derive(Debug, Drop)]
+#[derive(Drop)]
 pub enum Now {
     Evaluate(Code),
     Execute(Code),
@@ -31,7 +31,7 @@ pub enum Now {
 }
 
 /// An item: what is done with what is given.
-#[derive(Debug, Drop)]
+#[derive(Drop)]
 pub enum Work {
     Operand(OperandWork),
     Member(MemberWork),
@@ -41,7 +41,7 @@ pub enum Work {
 }
 
 /// What is done with the value of an operand.
-#[derive(Debug, Drop)]
+#[derive(Drop)]
 pub enum OperandWork {
     /// The left one of an operator, with the right one.
     Left(Operator, Code),
@@ -60,7 +60,7 @@ pub enum OperandWork {
 }
 
 /// What is done with the base or key of a member that is read or deleted.
-#[derive(Debug, Drop)]
+#[derive(Drop)]
 pub enum MemberWork {
     /// A base, with the key that is to come.
     IndexBase(Code),
@@ -76,7 +76,7 @@ pub enum MemberWork {
 
 /// What is done with a part of a call. The call's code is that of its node, whose parts behind the
 /// first are the arguments.
-#[derive(Debug, Drop)]
+#[derive(Drop)]
 pub enum CallWork {
     /// A base, with the key and the call.
     IndexBase(Code, Code),
@@ -90,7 +90,7 @@ pub enum CallWork {
 }
 
 /// What is called.
-#[derive(Debug, Drop)]
+#[derive(Drop)]
 pub enum Callee {
     Value(Value),
     Constructor(Value),
@@ -98,7 +98,7 @@ pub enum Callee {
 }
 
 /// A call, with the arguments that are there and the place of the part that is next.
-#[derive(Debug, Drop)]
+#[derive(Drop)]
 pub struct OpenCall {
     pub callee: Callee,
     pub given: Vec<Value>,
@@ -107,14 +107,14 @@ pub struct OpenCall {
 }
 
 /// What a target names: a name, or the member of a value.
-#[derive(Debug, Drop)]
+#[derive(Drop)]
 pub enum Place {
     Name(Text),
     Member(Value, Text),
 }
 
 /// What is done with a target, once what it names is there.
-#[derive(Debug, Drop)]
+#[derive(Drop)]
 pub enum Use {
     Assign(Code),
     Update(Operator, Code),
@@ -125,7 +125,7 @@ pub enum Use {
 }
 
 /// The names of an object that a `for .. in` still visits.
-#[derive(Debug, Drop)]
+#[derive(Drop)]
 pub struct Visit {
     pub visitor: VisitorShape,
     pub object: u64,
@@ -135,7 +135,7 @@ pub struct Visit {
 }
 
 /// What is done with a part of a target, or with what is written to one.
-#[derive(Debug, Drop)]
+#[derive(Drop)]
 pub enum TargetWork {
     IndexBase(Code, Use),
     IndexKey(Value, Use),
@@ -152,7 +152,7 @@ pub enum TargetWork {
 }
 
 /// A `while` or `for`: its test, what comes behind each turn, and its body.
-#[derive(Clone, Copy, Debug)]
+#[derive(Clone, Copy)]
 pub struct Loop {
     pub test: Option<Code>,
     pub update: Option<Code>,
@@ -160,7 +160,7 @@ pub struct Loop {
 }
 
 /// What is done with a part of a statement.
-#[derive(Debug, Drop)]
+#[derive(Drop)]
 pub enum StatementWork {
     /// The statements of a row, from a place on.
     Statements(Listing, usize),
