@@ -174,32 +174,44 @@ FREE = "0011111100"
 HELD = "0010111100"
 FOCUS_LINE = "focus 0 0 0 0\n"
 
-# The element that has the focus, a key, which elements are focused and clicked then, and whether the
-# one that has the focus is shown.
+# The element that has the focus, keys, which elements are focused and clicked then, and whether the one
+# that has the focus is shown. The `div` is active from enter on, and then it isn't hidden.
 KEYS = [
-    ("3", 1, "f6", True),
-    ("3", 2, "f7", True),
-    ("3", 3, "f8", True),
-    ("3", 4, "", False),
-    ("3", 18, "c3", True),
-    ("3", 21, "f5 c5", True),
-    ("3", 22, "c3", False),
-    ("3", 23, "f8 c8", True),
-    ("3", 24, "", False),
-    ("3", 5, "", False),
-    ("3", 14, "", False),
-    ("3", 19, "", False),
-    ("3", 20, "", False),
-    ("7", 1, "", True),
-    ("7", 2, "", True),
-    ("7", 3, "", True),
-    ("7", 18, "c7", True),
-    ("7", 21, "f4 c4", True),
-    (None, 1, "", False),
-    (None, 4, "", False),
-    (None, 18, "", False),
-    (None, 21, "", False),
-    (None, 23, "", False),
+    ("3", "1", "f6", True),
+    ("3", "2", "f7", True),
+    ("3", "3", "f8", True),
+    ("3", "4", "", False),
+    ("3", "18", "c3", True),
+    ("3", "18 1", "c3 f4", True),
+    ("3", "21", "f5 c5", True),
+    ("3", "22", "c3", False),
+    ("3", "23", "f8 c8", True),
+    ("3", "24", "", False),
+    ("3", "5", "", False),
+    ("3", "14", "", False),
+    ("3", "19", "", False),
+    ("3", "20", "", False),
+    ("7", "1", "", True),
+    ("7", "2", "", True),
+    ("7", "3", "", True),
+    ("7", "18", "c7", True),
+    ("7", "21", "f4 c4", True),
+    (None, "1", "", False),
+    (None, "4", "", False),
+    (None, "18", "", False),
+    (None, "21", "", False),
+    (None, "23", "", False),
+]
+
+# Values of used-key-list, and which of all keys pass.
+ALL_GROUPS = "basic data-button numeric-tuning"
+PASSING = [
+    ("basic", "1 2 3 4 18 19"),
+    ("numeric-tuning", "5 6 7 8 9 10 11 12 13 14"),
+    ("data-button", "20 21 22 23 24"),
+    ("basic data-button", "1 2 3 4 18 19 20 21 22 23 24"),
+    (ALL_GROUPS, "1 2 3 4 5 6 7 8 9 10 11 12 13 14 18 19 20 21 22 23 24"),
+    ("none", ""),
 ]
 
 
@@ -251,17 +263,31 @@ for (var i = 1; i <= 10; i++) {{
 def keys():
     """Returns the runs of keys that are pressed where an element has the focus."""
     found = []
-    for holder, key, told, is_shown in KEYS:
+    for holder, pressed, told, is_shown in KEYS:
         start = "" if holder is None else f"document.getElementById('e{holder}').focus();"
         text = f"var told = ''; function log(x) {{ told += ' ' + x; {WRITE} = told; }} {start}"
         document = focus_page(text, "onfocus='log(&quot;fN&quot;);' onclick='log(&quot;cN&quot;);'")
         words = ([] if holder is None else [f"f{holder}"]) + told.split()
         seen = "".join(f" {word}" for word in words) or "-"
         told_lines = written(seen) + (FOCUS_LINE if is_shown else "")
-        found.append(run_of(f"key {key} at {holder}", document, told_lines, f"all\nkey {key}\nshow\n"))
+        record = "".join(f"key {key}\n" for key in pressed.split())
+        found.append(run_of(f"{pressed} at {holder}", document, told_lines, f"all\n{record}show\n"))
+    return found
+
+
+def passing():
+    """Returns the runs that tell which keys pass a used-key-list."""
+    pressed = "".join(f"key {key}\n" for key in [*range(1, 15), *range(18, 25)])
+    text = f"var told = ''; function log() {{ told += ' ' + document.currentEvent.keyCode; {WRITE} = told; }}"
+    found = []
+    for groups, keys_told in PASSING:
+        body = BODY.replace(ALL_GROUPS, groups)
+        document = f"<bml>{body}<a style='nav-index:0' onkeydown='log();'/>{script(text)}</bml>"
+        seen = "".join(f" {key}" for key in keys_told.split()) or "-"
+        found.append(run_of(groups, document, written(seen) + FOCUS_LINE, f"all\n{pressed}show\n"))
     return found
 
 
 def runs():
     """Returns all these runs."""
-    return [*objects(), *events(), *focuses(), *keys()]
+    return [*objects(), *events(), *focuses(), *keys(), *passing()]

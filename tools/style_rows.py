@@ -98,6 +98,7 @@ INLINE = [
     ("q{left:1px}", ""),
 ]
 
+LINK = "<link href='/40/0001'/>"
 # Documents with style texts, the sheet in module 0001, and left, top and width of the element `d`.
 STYLED = [
     ("<style>d{left:1px} b{}</style>", None, "1px 0px 0px"),
@@ -128,6 +129,20 @@ STYLED = [
     ("<link href='/40/0001'/><style>d{top:2px}</style>", "d{left:1px} @import", "1px 2px 0px"),
     # tags compare by case
     ("<STYLE>d{left:1px}</STYLE><Link href='/40/0001'/><styles>d{left:1px}</styles>", "d{top:1px}", "0px 0px 0px"),
+]
+
+# Long sheets, of so many pieces behind a front, which a slow reader would go through again and again,
+# and the same of `d`.
+LONG = [
+    ("", "{", 250_000, "0px 0px 0px"),
+    ("", "@", 250_000, "0px 0px 0px"),
+    ("", "@{", 125_000, "0px 0px 0px"),
+    ("", "/*", 125_000, "0px 0px 0px"),
+    ("", "a,", 125_000, "0px 0px 0px"),
+    ("d{", "top:1px;", 31_250, "0px 1px 0px"),
+    ("", "{}", 125_000, "0px 0px 0px"),
+    ("", "*/ /*/", 41_666, "0px 0px 0px"),
+    ("", "d{top:0;left:9px} ", 13_888, "9px 0px 0px"),
 ]
 
 # Names of properties in scripts, texts, and what they are read as, or None where they are no values.
@@ -252,9 +267,11 @@ def sheets():
 
 
 def styled():
-    """Returns the runs of documents with several style texts."""
+    """Returns the runs of documents with several style texts, and with long ones."""
     text = f"var s = document.getElementById('d').normalStyle; {WRITE} = s.left + ' ' + s.top + ' ' + s.width;"
-    return [run_of(markup, page(f"{markup}<d id='d'/>", text), written(told), resource=sheet) for markup, sheet, told in STYLED]
+    rows = [(markup, markup, sheet, told) for markup, sheet, told in STYLED]
+    rows += [(f"{count} of {piece}", LINK, front + count * piece, told) for front, piece, count, told in LONG]
+    return [run_of(name, page(f"{markup}<d id='d'/>", text), written(told), resource=sheet) for name, markup, sheet, told in rows]
 
 
 def values():
