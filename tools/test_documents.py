@@ -2,7 +2,8 @@
 """Runs the rows of tables against a built program: test_documents.py --program PROGRAM [TABLE ..]
 
 With no table named it runs all those of the folder tables/, whose README.md explains their format,
-the shuffled blocks of shuffled_blocks.py, and the records and commands of line_rows.py. First it makes the streams of all rows. Then it runs
+the shuffled blocks of shuffled_blocks.py, and the rows of line_rows.py, document_rows.py,
+style_rows.py and node_rows.py. First it makes the streams of all rows. Then it runs
 the program for each row, in a folder of its own and for at most 60 seconds, and compares standard
 output, standard error and status with what the row wants. It prints a line for each table, with
 what differs behind it, and a sum.
@@ -17,8 +18,11 @@ import sys
 import tempfile
 from pathlib import Path
 
+import document_rows
 import line_rows
+import node_rows
 import shuffled_blocks
+import style_rows
 from make_stream import Fault
 from tables import runs_of
 
@@ -29,7 +33,14 @@ LIMIT = 60  # seconds for each run
 def all_tables():
     """Returns what makes the runs of each table, by their names."""
     tables = {path.stem: lambda path=path: runs_of(path) for path in sorted(TABLES.glob("*.txt"))}
-    made = {"shuffled-blocks": shuffled_blocks.runs, "record-lines": line_rows.record_lines, "command-words": line_rows.command_words}
+    made = {
+        "shuffled-blocks": shuffled_blocks.runs,
+        "record-lines": line_rows.record_lines,
+        "command-words": line_rows.command_words,
+        "document-texts": document_rows.runs,
+        "style-texts": style_rows.runs,
+        "nodes-and-focus": node_rows.runs,
+    }
     return {**tables, **made}
 
 

@@ -1,27 +1,16 @@
-//! Tests of the libraries that make documents: trees, their reader, styles, keys, display lists,
-//! needs, events and what scripts see of them. It has no code of its own.
+//! Tests of the libraries that make documents: each public call that may want memory succeeds where
+//! there is some, which no clause says. It has no code of its own.
 //!
-//! They stand here since a crate with tests is proved twice, and these libraries are proved once. A
-//! file has the tests of one library, but for `small_documents`, which is for several.
+//! They stand here since a crate with tests is proved twice, and these libraries are proved once.
+//! What documents are and do is shown by runs of the program, which cost no proof: by the rows of
+//! `tools/document_rows.py`, `tools/style_rows.py` and `tools/node_rows.py`, and by `tables/`.
 #![tactic(auto)]
 
-#[cfg(test)]
-mod cascades;
-#[cfg(test)]
-mod documents;
 #[cfg(test)]
 mod drafts;
 #[cfg(test)]
 mod objects;
 #[cfg(test)]
-mod queues;
-#[cfg(test)]
-mod shows;
-#[cfg(test)]
 mod small_documents;
 #[cfg(test)]
-mod style_texts;
-#[cfg(test)]
-mod targets;
-#[cfg(test)]
-mod trees;
+mod styles;
