@@ -3,58 +3,27 @@
 use bml_bytes::*;
 use std::test::Fail;
 
-const HIRAGANA_A: u16 = 0xA4A2;
+// Letters, characters of two bytes, and bytes that are none with the next one.
+const BYTES: &[u8] =
+    b"bml\xA4\xA2!\x8E\xB1\xA0\xA1\xFE\xFE\xFF\xA1\xFF\xA1\xA0\xA4\x8E\xB1\x8EA\x8E";
 
-const HALF_WIDTH_A: u16 = 0x8EB1;
+const CODES: &[u16] = &[
+    0x62, 0x6D, 0x6C, 0xA4A2, 0x21, 0x8EB1, 0xA0, 0xA1FE, 0xFE, 0xFF, 0xA1, 0xFF, 0xA1, 0xA0, 0xA4,
+    0x8EB1, 0x8E, 0x41, 0x8E,
+];
 
+// Signs beside letters have no case.
 #[test]
 fn texts(rt: HostRuntime) -> Result<(), Fail> {
-    let cases: [(&[u8], &[u16]); 8] = [
-        (b"", &[]),
-        (b"bml", &[0x62, 0x6D, 0x6C]),
-        (b"\xA4\xA2!", &[HIRAGANA_A, 0x21]),
-        (b"\x8E\xB1\xA4", &[HALF_WIDTH_A, 0xA4]),
-        (b"\xA4\x8E\xB1", &[0xA4, HALF_WIDTH_A]),
-        (b"\x8EA\x8E", &[0x8E, 0x41, 0x8E]),
-        (b"\xA0\xA1\xFE\xFE\xFF", &[0xA0, 0xA1FE, 0xFE, 0xFF]),
-        (b"\xA1\xFF\xA1\xA0", &[0xA1, 0xFF, 0xA1, 0xA0]),
-    ];
-    for (bytes, codes) in cases {
-        let text = Text::of_bytes(rt.alloc(), bytes)?;
-        let mut out = b"<".to_vec(rt.alloc())?;
-        text.push_bytes(&mut out)?;
-        assert_eq!(rt; &out[1..], bytes);
-        assert_eq!(rt; text.codes(), codes);
-        let same = Text::of_codes(rt.alloc(), codes)?;
-        assert!(rt; same == text.share()?, "of {bytes:?}");
-        assert_eq!(rt;
-            (text.len(), text.code(0)),
-            (codes.len(), codes.first().copied())
-        );
-    }
-    Ok(())
-}
-
-// A word, and whether the bytes are it, and are it in any case.
-#[test]
-fn words(rt: HostRuntime) -> Result<(), Fail> {
-    let cases: [(&[u8], &str, bool, bool); 8] = [
-        (b"body", "body", true, true),
-        (b"Body", "body", false, true),
-        (b"[@z`{", "[@Z`{", false, true),
-        (b"bod", "body", false, false),
-        (b"body2", "body", false, false),
-        (b"bodz", "body", false, false),
-        (b"", "", true, true),
-        (b"\xA4\xC1", "A", false, false),
-    ];
-    for (bytes, word, is_same, is_same_in_any_case) in cases {
-        let text = Text::of_bytes(rt.alloc(), bytes)?;
-        assert_eq!(rt;
-            (text.is_word(word), text.is_word_in_any_case(word)),
-            (is_same, is_same_in_any_case)
-        );
-    }
+    let text = Text::of_bytes(rt.alloc(), BYTES)?;
+    assert_eq!(rt; text.codes(), CODES);
+    assert!(rt; Text::of_codes(rt.alloc(), CODES)? == text.share()?);
+    let mut out = Vec::new(rt.alloc());
+    text.push_bytes(&mut out)?;
+    assert_eq!(rt; out.as_slice(), BYTES);
+    let word = Text::of_bytes(rt.alloc(), b"[@z`{")?;
+    assert!(rt; word.is_word_in_any_case("[@Z`{") && !word.is_word("[@Z`{"));
+    assert!(rt; !word.is_word_in_any_case("{@z`["));
     Ok(())
 }
 
