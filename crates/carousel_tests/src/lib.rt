@@ -1,17 +1,15 @@
 //! Tests of the libraries that bring modules: bytes and texts, ports in memory, packets, sections,
-//! tables, messages, carousels and entities. It has no code of its own.
+//! tables, messages and entities. It has no code of its own.
 //!
 //! What they answer is stated exactly by their contracts, so a test has values from outside, as bytes
-//! written out by hand, and calls with memory to spare. What whole runs show has no test here: of
-//! packets of several PIDs, of components and their store, and of most forms that streams, messages
-//! and entities take. These are rows of `tables/`, and runs in `replay_tests`.
+//! written out by hand, and calls with memory to spare. What whole runs show has no test here: the
+//! packets of several PIDs, carousels, components and their store, and most forms that streams,
+//! messages and entities take. These are rows of `tables/`, and runs in `replay_tests`.
 //!
 //! They stand here since a crate with tests is proved twice, and these libraries are proved once. A
 //! file has the tests of one library, but for `packets`, which has those of two.
 #![tactic(auto)]
 
-#[cfg(test)]
-mod carousels;
 #[cfg(test)]
 mod entities;
 #[cfg(test)]

@@ -3,44 +3,12 @@
 use dsmcc_messages::*;
 use std::test::Fail;
 
-/// A DII of one module of 10 bytes, in version 1 and in blocks of 4.
-pub const DII: [u8; 54] = [
-    // the section's header
-    0x3B, 0xB0, 0x33, 0x00, 0x00, 0xC1, 0x00, 0x00,
-    // the message's header: 0x11, 0x03, messageId, transactionId, reserved, adaptationLength,
-    // messageLength
-    0x11, 0x03, 0x10, 0x02, 0x00, 0x00, 0x00, 0x01, 0x00, 0x00, 0x00, 0x1E,
-    // downloadId, blockSize, windowSize, ackPeriod, tCDownloadWindow, tCDownloadScenario
-    0x00, 0x00, 0x00, 0x01, 0x00, 0x04, 0x00, 0x00, 0x00, 0x00, 0x00, 0x00, 0x00, 0x00, 0x00, 0x00,
-    // compatibility length, numberOfModules
-    0x00, 0x00, 0x00, 0x01,
-    // moduleId, moduleSize, moduleVersion, infoLength
-    0x00, 0x01, 0x00, 0x00, 0x00, 0x0A, 0x01, 0x00,
-    // privateDataLength
-    0x00, 0x00,
-    // CRC_32
-    0x8C, 0x06, 0xDE, 0xBC,
-];
-
-/// Its block 0.
-pub const DDB: [u8; 34] = [
-    // the section's header
-    0x3C, 0xB0, 0x1F, 0x00, 0x00, 0xC1, 0x00, 0x00,
-    // the message's header, with the downloadId
-    0x11, 0x03, 0x10, 0x03, 0x00, 0x00, 0x00, 0x01, 0x00, 0x00, 0x00, 0x0A,
-    // moduleId, moduleVersion, reserved, blockNumber
-    0x00, 0x01, 0x01, 0x00, 0x00, 0x00,
-    // the block
-    0x61, 0x62, 0x63, 0x64,
-    // CRC_32
-    0xFE, 0xB5, 0xE6, 0x1D,
-];
-
 // A DDB with adaptation bytes.
-const ADAPTED: [u8; 34] = [
+const DDB: [u8; 34] = [
     // the section's header
     0x3C, 0xB0, 0x1F, 0x00, 0x00, 0xC1, 0x00, 0x00,
-    // the message's header, with the downloadId
+    // the message's header: 0x11, 0x03, messageId, downloadId, reserved, adaptationLength,
+    // messageLength
     0x11, 0x03, 0x10, 0x03, 0x00, 0x00, 0x00, 0x01, 0x00, 0x03, 0x00, 0x0A,
     // adaptation bytes
     0x09, 0x09, 0x09,
@@ -53,18 +21,18 @@ const ADAPTED: [u8; 34] = [
 ];
 
 // A DII with adaptation bytes and two entries of module 1.
-const TWICE: [u8; 74] = [
+const DII: [u8; 74] = [
     // the section's header
     0x3B, 0xB0, 0x47, 0x00, 0x00, 0xC1, 0x00, 0x00,
-    // the message's header
+    // the message's header, with the transactionId
     0x11, 0x03, 0x10, 0x02, 0x00, 0x00, 0x00, 0x07, 0x00, 0x02, 0x00, 0x32,
     // adaptation bytes
     0x05, 0x05,
-    // downloadId to tCDownloadScenario
+    // downloadId, blockSize, windowSize, ackPeriod, tCDownloadWindow, tCDownloadScenario
     0x00, 0x00, 0x00, 0x01, 0x00, 0x04, 0x00, 0x00, 0x00, 0x00, 0x00, 0x00, 0x00, 0x00, 0x00, 0x00,
     // compatibility length, numberOfModules
     0x00, 0x00, 0x00, 0x03,
-    // module 1
+    // module 1: moduleId, moduleSize, moduleVersion, infoLength, info
     0x00, 0x01, 0x00, 0x00, 0x00, 0x0A, 0x01, 0x02, 0xC2, 0x00,
     // module 1 once more
     0x00, 0x01, 0x00, 0x00, 0x00, 0x14, 0x02, 0x00,
@@ -87,7 +55,7 @@ fn fields(entry: Option<&Entry>) -> Option<(u32, u8, &[u8])> {
 // Of two entries with one number the first is found.
 #[test]
 fn indications(rt: HostRuntime) -> Result<(), Fail> {
-    let dii = read_dii(rt.alloc(), &TWICE)?;
+    let dii = read_dii(rt.alloc(), &DII)?;
     assert_eq!(rt; (dii.transaction, dii.download, dii.block_size), (7, 1, 4));
     assert_eq!(rt; dii.entries.as_slice().len(), 3);
     assert!(rt; fields(dii.entry(1)) == Some((10, 1, [0xC2, 0x00].as_slice())));
@@ -98,17 +66,17 @@ fn indications(rt: HostRuntime) -> Result<(), Fail> {
 // What stands in a section behind a shorter message is unread.
 #[test]
 fn blocks_and_descriptors(rt: HostRuntime) -> Result<(), Fail> {
-    let adapted = Ddb {
+    let block = Ddb {
         download: 1,
         module: 0x0102,
         version: 3,
         number: 0x0405,
         block: b"z",
     };
-    assert!(rt; read_ddb(&ADAPTED) == Ok(adapted));
+    assert!(rt; read_ddb(&DDB) == Ok(block));
     let mut shorter = DDB;
-    shorter[19] = 8;
-    assert_eq!(rt; read_ddb(&shorter)?.block, b"ab".as_slice());
+    shorter[19] = 9;
+    assert!(rt; read_ddb(&shorter)?.block.is_empty());
     let info = b"\x01\x03abc\xC2\x00\x01\x01d";
     assert!(rt; find_descriptor(info, MEDIA_TYPE)? == Some(b"abc".as_slice()));
     Ok(())

@@ -33,7 +33,7 @@ fn reads_the_header(rt: HostRuntime) -> Result<(), Fail> {
 // The packets of a stream of at most 3,904 bytes.
 fn packets_of(alloc: Global, stream: &[u8]) -> Result<Vec<Packet>, AllocError> {
     let mut cutter = Cutter::new();
-    let _held = cutter.feed(stream);
+    let _taken = cutter.feed(stream);
     cutter.finish();
     let mut packets = Vec::new(alloc);
     for _ in 0..8 {

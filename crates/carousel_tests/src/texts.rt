@@ -4,65 +4,54 @@ use bml_bytes::*;
 use std::test::Fail;
 
 // Letters, characters of two bytes, and bytes that are none with the next one.
-const BYTES: &[u8] =
-    b"bml\xA4\xA2!\x8E\xB1\xA0\xA1\xFE\xFE\xFF\xA1\xFF\xA1\xA0\xA4\x8E\xB1\x8EA\x8E";
+const BYTES: &[u8] = b"bm\xA4\xA2!\x8E\xB1\xA0\xFE\xFF\xA1\xA0\xA4\x8E\xB1\x8EA\x8E";
 
 const CODES: &[u16] = &[
-    0x62, 0x6D, 0x6C, 0xA4A2, 0x21, 0x8EB1, 0xA0, 0xA1FE, 0xFE, 0xFF, 0xA1, 0xFF, 0xA1, 0xA0, 0xA4,
-    0x8EB1, 0x8E, 0x41, 0x8E,
+    0x62, 0x6D, 0xA4A2, 0x21, 0x8EB1, 0xA0, 0xFE, 0xFF, 0xA1, 0xA0, 0xA4, 0x8EB1, 0x8E, 0x41, 0x8E,
 ];
 
 // Signs beside letters have no case.
 #[test]
 fn texts(rt: HostRuntime) -> Result<(), Fail> {
     let text = Text::of_bytes(rt.alloc(), BYTES)?;
-    assert_eq!(rt; text.codes(), CODES);
+    assert!(rt; text.codes() == CODES);
     assert!(rt; Text::of_codes(rt.alloc(), CODES)? == text.share()?);
     let mut out = Vec::new(rt.alloc());
     text.push_bytes(&mut out)?;
-    assert_eq!(rt; out.as_slice(), BYTES);
+    assert!(rt; out.as_slice() == BYTES);
     let word = Text::of_bytes(rt.alloc(), b"[@z`{")?;
     assert!(rt; word.is_word_in_any_case("[@Z`{") && !word.is_word("[@Z`{"));
-    assert!(rt; !word.is_word_in_any_case("{@z`["));
     Ok(())
 }
 
 #[test]
 fn what_is_printed(rt: HostRuntime) -> Result<(), Fail> {
     let mut out = Vec::new(rt.alloc());
-    for value in [0, 7, 10, 1024, -1, -20, i64::MAX, i64::MIN] {
+    for value in [0, 1024, -20, i64::MAX, i64::MIN] {
         push_decimal(value, &mut out)?;
         out.push(b' ')?;
     }
-    for (value, digits) in [(0x2F, 2), (0, 4), (0xABC, 4), (0xDEAD_BEEF, 8), (7, 1)] {
-        push_hex(value, digits, &mut out)?;
-    }
-    let text = Text::of_bytes(rt.alloc(), b"\x00\x1F !~\x7F\x80%\xA4\xA2\n")?;
-    push_word(" text ", &mut out)?;
-    Escapes::Controls.push(&text, &mut out)?;
-    push_line_end(&mut out)?;
-    Escapes::ControlsAndSpace.push(&text, &mut out)?;
-    push_count(0, &mut out)?;
-    push_word(" ", &mut out)?;
+    push_hex(0xABC, 4, &mut out)?;
     push_count(u64::MAX, &mut out)?;
-    let expected: &[u8] = b"0 7 10 1024 -1 -20 9223372036854775807 -9223372036854775808 \
-        2f00000abcdeadbeef7 text %00%1F !~%7F\x80%25\xA4\xA2%0A\n\
-        %00%1F%20!~%7F\x80%25\xA4\xA2%0A0 18446744073709551615";
-    assert_eq!(rt; out.as_slice(), expected);
+    push_line_end(&mut out)?;
+    let text = Text::of_bytes(rt.alloc(), b"\x1F !~\x7F\x80%\xA4\xA2\n")?;
+    Escapes::Controls.push(&text, &mut out)?;
+    Escapes::ControlsAndSpace.push(&text, &mut out)?;
+    let expected: &[u8] = b"0 1024 -20 9223372036854775807 -9223372036854775808 \
+        0abc18446744073709551615\n\
+        %1F !~%7F\x80%25\xA4\xA2%0A%1F%20!~%7F\x80%25\xA4\xA2%0A";
+    assert!(rt; out.as_slice() == expected);
     Ok(())
 }
 
 #[test]
 fn what_is_read(rt: HostRuntime) -> Result<(), Fail> {
-    let fields: [(&[u8], Option<u32>); 9] = [
+    let fields: [(&[u8], Option<u32>); 6] = [
         (b"", None),
-        (b"0", Some(0)),
         (b"0000000012", Some(12)),
         (b"00000000012", None),
         (b"4294967295", Some(u32::MAX)),
         (b"4294967296", None),
-        (b"12a", None),
-        (b"-1", None),
         (b"1/:", None),
     ];
     for (field, number) in fields {
