@@ -1,23 +1,21 @@
 //! Tests of the libraries that bring modules: bytes and texts, ports in memory, packets, sections,
-//! tables, messages, carousels, entities and the store of modules. It has no code of its own.
+//! tables, messages, carousels and entities. It has no code of its own.
+//!
+//! What they answer is stated exactly by their contracts, so a test has values from outside, as bytes
+//! written out by hand, and calls with memory to spare. What whole runs show has no test here: the
+//! packets of several PIDs, carousels but for two calls, components and their store, and most forms that streams,
+//! messages and entities take. These are rows of `tables/`, and runs in `replay_tests`.
 //!
 //! They stand here since a crate with tests is proved twice, and these libraries are proved once. A
-//! file has the tests of one library, but for `packet_bytes` and `sections_sent`, which are for
-//! several: streams and sections are written by `test_streams`, or stand in the tests byte by byte.
+//! file has the tests of one library, but for `packets`, which has those of two.
 #![tactic(auto)]
 
 #[cfg(test)]
 mod carousels;
 #[cfg(test)]
-mod demultiplexers;
-#[cfg(test)]
 mod entities;
 #[cfg(test)]
-mod fields;
-#[cfg(test)]
 mod messages;
-#[cfg(test)]
-mod packet_bytes;
 #[cfg(test)]
 mod packets;
 #[cfg(test)]
@@ -26,12 +24,6 @@ mod paths;
 mod ports;
 #[cfg(test)]
 mod remainders;
-#[cfg(test)]
-mod sections;
-#[cfg(test)]
-mod sections_sent;
-#[cfg(test)]
-mod stores;
 #[cfg(test)]
 mod tables;
 #[cfg(test)]

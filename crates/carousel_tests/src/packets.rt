@@ -1,122 +1,11 @@
-//! Tests of `ts_packets`: streams of which this page says by hand where the packets stand.
+//! Tests of `ts_packets` and `ts_sections`: a packet written out by hand, and a stream of which this
+//! page says which packets and sections it has.
 
 use std::alloc::{AllocError, Global};
 use std::test::Fail;
+use test_streams::Stream;
 use ts_packets::{Cut, Cutter, Packet};
-
-/// What a stream is made of, in turn.
-enum Part {
-    /// A whole packet, whose payload is this byte again and again.
-    Whole(u8),
-    /// The first 100 bytes of such a packet.
-    Start(u8),
-    /// So many bytes of this value.
-    Fill(u8, u16),
-}
-
-use Part::{Fill, Start, Whole};
-
-fn push_all(stream: &mut Vec<u8>, part: &Part) -> Result<(), AllocError> {
-    let (header, byte, count) = match part {
-        Whole(mark) => (true, *mark, 184),
-        Start(mark) => (true, *mark, 96),
-        Fill(byte, count) => (false, *byte, *count),
-    };
-    if header {
-        stream.extend_from_slice(&[0x47, 0, byte, 0x10])?;
-    }
-    for _ in 0..count {
-        stream.push(byte)?;
-    }
-    Ok(())
-}
-
-/// Feeds a stream in pieces, and collects the byte at place 2 of each packet.
-fn marks(alloc: Global, stream: &[u8], piece_len: usize) -> Result<Vec<u8>, Fail> {
-    let mut found = Vec::new(alloc);
-    let mut cutter = Cutter::new();
-    for piece in stream.chunks(piece_len.max(1)) {
-        if cutter.is_finished() {
-            return Err(Fail::from("finished too early"));
-        }
-        if cutter.feed(piece) != piece.len() {
-            return Err(Fail::from("a piece did not fit"));
-        }
-        take_all(&mut cutter, &mut found)?;
-    }
-    cutter.finish();
-    take_all(&mut cutter, &mut found)?;
-    if cutter.next() != Cut::End {
-        return Err(Fail::from("no end"));
-    }
-    Ok(found)
-}
-
-fn take_all(cutter: &mut Cutter, found: &mut Vec<u8>) -> Result<(), AllocError> {
-    for _ in 0..30 {
-        if let Cut::Packet(packet) = cutter.next() {
-            for mark in packet.bytes().iter().skip(2).take(1) {
-                found.push(*mark)?;
-            }
-        }
-    }
-    Ok(())
-}
-
-#[test]
-fn finds_the_packets(rt: HostRuntime) -> Result<(), Fail> {
-    let table: [(&str, &[Part], &[u8]); 12] = [
-        ("nothing", &[], &[]),
-        ("one packet, and the end right behind it", &[Whole(1)], &[1]),
-        ("three", &[Whole(1), Whole(2), Whole(3)], &[1, 2, 3]),
-        ("a byte less than a packet", &[Fill(0x47, 187)], &[]),
-        ("a last short piece is none", &[Whole(1), Start(2)], &[1]),
-        (
-            "other bytes in front",
-            &[Fill(9, 300), Whole(1), Whole(2)],
-            &[1, 2],
-        ),
-        (
-            "a sync byte in front",
-            &[Fill(0x47, 1), Whole(1), Whole(2)],
-            &[1, 2],
-        ),
-        (
-            "a byte behind a packet hides it",
-            &[Whole(1), Fill(9, 1), Whole(2), Whole(3)],
-            &[2, 3],
-        ),
-        (
-            "other bytes at the end hide the last",
-            &[Whole(1), Whole(2), Fill(9, 5)],
-            &[1],
-        ),
-        ("sync bytes alone", &[Fill(0x47, 565)], &[0x47, 0x47, 0x47]),
-        // 188 bytes after the first sync byte stands the last byte of the packet behind it, a sync
-        // byte too
-        (
-            "a packet of sync bytes, found one byte early",
-            &[Fill(0x47, 1), Whole(0x47), Whole(5)],
-            &[0, 5],
-        ),
-        (
-            "more than the buffer holds",
-            &[Fill(9, 4000), Whole(1), Whole(2), Fill(9, 4000), Whole(3)],
-            &[1, 3],
-        ),
-    ];
-    for (name, parts, want) in table {
-        let mut stream = Vec::new(rt.alloc());
-        for part in parts {
-            push_all(&mut stream, part)?;
-        }
-        for piece_len in [1, 7, 188, 189, 3904] {
-            let found = marks(rt.alloc(), &stream, piece_len)?;
-            assert_eq!(rt; found.as_slice(), want, "{name}, in pieces of {piece_len}");
-        }
-    }
-    Ok(())
-}
+use ts_sections::{is_intact, sections_of};
 
 #[test]
 fn reads_the_header(rt: HostRuntime) -> Result<(), Fail> {
@@ -137,6 +26,34 @@ fn reads_the_header(rt: HostRuntime) -> Result<(), Fail> {
         ],
         [true, false, false, true]
     );
-    assert_eq!(rt; packet.payload().map(|payload| payload.len()), Some(1));
+    assert!(rt; packet.payload() == Some([0xAA].as_slice()));
+    Ok(())
+}
+
+// The packets of a stream of at most 3,904 bytes.
+fn packets_of(alloc: Global, stream: &[u8]) -> Result<Vec<Packet>, AllocError> {
+    let mut cutter = Cutter::new();
+    let _taken = cutter.feed(stream);
+    cutter.finish();
+    let mut packets = Vec::new(alloc);
+    for _ in 0..8 {
+        if let Cut::Packet(packet) = cutter.next() {
+            packets.push(packet)?;
+        }
+    }
+    Ok(packets)
+}
+
+// The sections of a DII and of two blocks, of 519 and of 10 bytes, in five packets: the last one
+// begins with the last byte of the fourth packet.
+#[test]
+fn packets_and_their_sections(rt: HostRuntime) -> Result<(), Fail> {
+    let stream = Stream::with_pointer(rt.alloc())?;
+    let packets = packets_of(rt.alloc(), stream.bytes())?;
+    let sections = sections_of(rt.alloc(), packets.as_slice())?;
+    assert_eq!(rt; (packets.len(), sections.len()), (5, 3));
+    for section in sections.iter() {
+        assert!(rt; is_intact(section.as_slice()));
+    }
     Ok(())
 }
