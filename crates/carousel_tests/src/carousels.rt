@@ -8,8 +8,11 @@ use std::test::Fail;
 
 #[test]
 fn a_block_is_kept_once(rt: HostRuntime) -> Result<(), Fail> {
+    // The module's info has a type in place of a compression.
+    let mut dii = DII;
+    dii[50] = 0x01;
     let mut carousel = Carousel::new(rt.alloc());
-    carousel.set_dii(read_dii(rt.alloc(), &DII)?)?;
+    carousel.set_dii(read_dii(rt.alloc(), &dii)?)?;
     let block = Ddb {
         download: 1,
         module: 1,
