@@ -52,7 +52,12 @@ const ROWS: &[(Ports, &[u8], Status, &[u8])] = &[
         Status::ReadFault,
         LINE,
     ),
-    (Ports { write: 1, ..SOUND }, b"all\n", Status::WriteFault, b""),
+    (
+        Ports { write: 1, ..SOUND },
+        b"all\n",
+        Status::WriteFault,
+        b"",
+    ),
     (
         Ports { write: 2, ..SOUND },
         b"all\n",
