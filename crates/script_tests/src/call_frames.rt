@@ -1,12 +1,10 @@
-//! The frames of calls, one operation after the other, worked out by hand from the rules of a
-//! stack.
+//! The frames of calls, one operation after the other.
 
 use crate::value_words::push_word;
 use bml_bytes::{NoMemory, Text, push_count, push_decimal, read_decimal};
 use es_frames::Frames;
 use es_values::{Num, Value};
 use std::alloc::Global;
-use std::process::Abort;
 
 fn number_value(number: u32) -> Value {
     Value::Number(Num::of_count(number as usize))
@@ -97,8 +95,8 @@ fn act(
     }
 }
 
-// What frames answer to words.
-fn told(alloc: Global, words: &[u8]) -> Result<Vec<u8>, NoMemory> {
+/// What frames answer to words.
+pub fn told(alloc: Global, words: &[u8]) -> Result<Vec<u8>, NoMemory> {
     let mut frames = Frames::new(alloc);
     let mut out = Vec::new(alloc);
     for word in words.split(|code| *code == b' ') {
@@ -109,29 +107,4 @@ fn told(alloc: Global, words: &[u8]) -> Result<Vec<u8>, NoMemory> {
         }
     }
     Ok(out)
-}
-
-const ROWS: &[(&[u8], &[u8])] = &[
-    // No frame.
-    (b"d h v0 fa s1 t r", b"0 - - - no - - "),
-    // Names and values.
-    (
-        b"c8 c9 d h fa fc v1 v2 s7 z6 v0 v1 r v1 r d",
-        b"2 9 1 - U - yes no U 7 9 U 8 0 ",
-    ),
-    // Items.
-    (b"c8 p1 p2 c9 t p3 p4 t r t t t", b"- 4 9 2 1 - "),
-];
-
-// Asserts what is told.
-fn tell_each(rt: &impl Abort, alloc: Global, rows: &[(&[u8], &[u8])]) {
-    for (words, expected) in rows {
-        let line = told(alloc, words).expect(rt, "memory");
-        assert_eq!(rt; line.as_slice(), *expected, "of {words:?}");
-    }
-}
-
-#[test]
-fn frames_of_calls(rt: HostRuntime) {
-    tell_each(&rt, rt.alloc(), ROWS);
 }

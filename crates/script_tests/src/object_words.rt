@@ -1,4 +1,4 @@
-//! Objects as words in tables: each property is its name and one letter as its value.
+//! Objects as words: each property is its name and one letter as its value.
 //!
 //! `U` is Undefined, `N` Null, `T` true, `F` a function, `A` and `O` are the objects 0 and 1, `E`
 //! is the empty text, `S` the text ` 1 `, `X` and `Y` are 10 and 17, `i` and `x` the texts `1` and

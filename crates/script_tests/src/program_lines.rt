@@ -1,17 +1,16 @@
-//! Programs as lines, for tables: their trees and functions, or the names of their `var`s outside
-//! of functions, or where they go wrong.
+//! Programs as lines: their trees and functions, or the names of their `var`s outside of functions,
+//! or where they go wrong.
 
 use bml_bytes::{NoMemory, Text, push_count, push_word};
 use es_expressions::{Form, Symbol};
 use es_reader::{FunctionDecl, Program, SyntaxFault, read_program};
 use std::alloc::Global;
-use std::process::Abort;
 
 // More than a line here has of statements, of functions and of steps through a tree.
 const MOST: u32 = 1_000;
 
-// What is printed of a program: its nodes, its nodes with their places, or the names of its `var`s
-// outside of functions.
+/// What is printed of a program: its nodes, its nodes with their places, or the names of its `var`s
+/// outside of functions.
 #[derive(Clone, Copy)]
 pub enum Detail {
     Forms,
@@ -192,8 +191,8 @@ fn push_variables(program: &Program, out: &mut Vec<u8>) -> Result<(), NoMemory> 
     Ok(())
 }
 
-// A line for a text: its program, `deep`, or `bad` and the place.
-fn line_of(alloc: Global, bytes: &[u8], detail: Detail) -> Result<Vec<u8>, NoMemory> {
+/// A line for a text: its program, `deep`, or `bad` and the place.
+pub fn told(alloc: Global, bytes: &[u8], detail: Detail) -> Result<Vec<u8>, NoMemory> {
     let mut out = Vec::new(alloc);
     let text = Text::of_bytes(alloc, bytes)?;
     match read_program(alloc, &text) {
@@ -209,12 +208,4 @@ fn line_of(alloc: Global, bytes: &[u8], detail: Detail) -> Result<Vec<u8>, NoMem
         Err(SyntaxFault::NoMemory) => return Err(NoMemory),
     }
     Ok(out)
-}
-
-/// Asserts the lines of texts.
-pub fn read_each(rt: &impl Abort, alloc: Global, detail: Detail, cases: &[(&[u8], &[u8])]) {
-    for (bytes, expected) in cases {
-        let line = line_of(alloc, bytes, detail).expect(rt, "memory");
-        assert_eq!(rt; line.as_slice(), *expected, "of {bytes:?}");
-    }
 }

@@ -1,4 +1,4 @@
-//! Calls of what is built in, for tables: what a call answers, and how many steps it takes.
+//! Calls of what is built in: what a call answers, and how many steps it takes.
 //!
 //! Values are words as `value_words` has them. The heap has an object, 0, and the arrays 1 and 2 of
 //! `a` and `b` and of `7`, and each of them is charged one step when it becomes a text.
@@ -12,7 +12,6 @@ use bml_bytes::{NoMemory, Text, push_count};
 use es_builtins::{Built, call_function, call_method, construct, value_named};
 use es_values::{Budget, Heap, Value};
 use std::alloc::Global;
-use std::process::Abort;
 
 /// What is called: a function, a function with `new`, or a method of a value.
 #[derive(Clone, Copy, Debug)]
@@ -22,10 +21,10 @@ pub enum Call<'a> {
     Method(&'a [u8], &'a [u8]),
 }
 
-// What a call answers with 1,000 steps, and how many of them it takes. It is told if it answers
-// anything else with just these steps, or isn't over budget and without effect with one step
-// fewer.
-fn told(alloc: Global, call: Call, args: &[u8]) -> Result<Vec<u8>, NoMemory> {
+/// What a call answers with 1,000 steps, and how many of them it takes. It is told if it answers
+/// anything else with just these steps, or isn't over budget and without effect with one step
+/// fewer.
+pub fn told(alloc: Global, call: Call, args: &[u8]) -> Result<Vec<u8>, NoMemory> {
     let mut out = Vec::new(alloc);
     let left = push_answer(alloc, call, args, 1000, &mut out)?;
     let charge = 1000_u32.saturating_sub(left);
@@ -39,6 +38,18 @@ fn told(alloc: Global, call: Call, args: &[u8]) -> Result<Vec<u8>, NoMemory> {
     }
     out.push(b' ')?;
     push_count(u64::from(charge), &mut out)?;
+    Ok(out)
+}
+
+/// What a call of a function answers, and the same call with `new`, which is told if that answers
+/// anything else.
+pub fn told_both(alloc: Global, name: &[u8], args: &[u8]) -> Result<Vec<u8>, NoMemory> {
+    let mut out = told(alloc, Call::Function(name), args)?;
+    let made = told(alloc, Call::New(name), args)?;
+    if made != out {
+        push_word(b", with new ", &mut out)?;
+        push_word(&made, &mut out)?;
+    }
     Ok(out)
 }
 
@@ -131,33 +142,5 @@ fn push_built(heap: &Heap, built: &Built, out: &mut Vec<u8>) -> Result<(), NoMem
         Built::Value(value) => push_value(heap, value, out),
         Built::NotCallable => push_word(b"not callable", out),
         Built::OverBudget => push_word(b"over", out),
-    }
-}
-
-/// Asserts what a call answers and how many steps it takes.
-pub fn tell(rt: &impl Abort, alloc: Global, call: Call, args: &[u8], expected: &[u8]) {
-    let line = told(alloc, call, args).expect(rt, "memory");
-    assert_eq!(rt; line.as_slice(), expected, "of {call:?} and {args:?}");
-}
-
-/// Asserts it of calls of a function with these arguments.
-pub fn tell_function(rt: &impl Abort, alloc: Global, name: &[u8], rows: &[(&[u8], &[u8])]) {
-    for (args, expected) in rows {
-        tell(rt, alloc, Call::Function(name), args, expected);
-    }
-}
-
-/// Asserts it of calls of a function, and of the same with `new`.
-pub fn tell_both(rt: &impl Abort, alloc: Global, name: &[u8], rows: &[(&[u8], &[u8])]) {
-    for (args, expected) in rows {
-        tell(rt, alloc, Call::Function(name), args, expected);
-        tell(rt, alloc, Call::New(name), args, expected);
-    }
-}
-
-/// Asserts it of calls of a method of these values with these arguments.
-pub fn tell_method(rt: &impl Abort, alloc: Global, name: &[u8], rows: &[(&[u8], &[u8], &[u8])]) {
-    for (base, args, expected) in rows {
-        tell(rt, alloc, Call::Method(base, name), args, expected);
     }
 }

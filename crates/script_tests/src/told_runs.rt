@@ -1,5 +1,5 @@
-//! Runs in tables, for tests: of two programs over the same globals, objects and host, and of
-//! globals that are called by their names.
+//! Runs: of two programs over the same globals, objects and host, and of globals that are called by
+//! their names.
 
 ghost use Rattle.std.specs.Prelude.{◌≤◌, ◌<◌, ◌^◌, length, All, OnOk};
 ghost use Rattle.es_eval.specs.Codes.{declared_by};
@@ -12,7 +12,6 @@ use es_eval::{Globals, Outcome, are_few_functions, run, run_global};
 use es_reader::Program;
 use es_values::{Heap, RowHost};
 use std::alloc::Global;
-use std::process::Abort;
 
 // Runs the program whose place is written, or else calls the global of that name.
 fn run_one(
@@ -111,8 +110,9 @@ fn push_runs(
     push_global(&globals, &heap, shown, out)
 }
 
-// How runs of two programs end, each with so many steps, and the text of a global behind them.
-fn told(
+/// How runs of two programs end, each with so many steps, and the text of a global behind them. A run
+/// is the place of one of the programs, or the name of a global that is called.
+pub fn told(
     alloc: Global,
     first: &[u8],
     second: &[u8],
@@ -127,25 +127,4 @@ fn told(
         None => push_word(b"no program", &mut out)?,
     }
     Ok(out)
-}
-
-/// Asserts how a script ends that has so many steps, and the text of one of its globals.
-pub fn tell_ends(rt: &impl Abort, alloc: Global, cases: &[(u32, &[u8], &[u8], &[u8])]) {
-    for (steps, script, shown, expected) in cases {
-        let line = told(alloc, script, b"", b"0", *steps, shown).expect(rt, "memory");
-        assert_eq!(rt;
-            line.as_slice(),
-            *expected,
-            "of {steps} steps and {script:?}"
-        );
-    }
-}
-
-/// Asserts how runs end, each with so many steps, and the text of the global `s` behind them. A run
-/// is the place of one of two programs, or the name of a global that is called.
-pub fn tell_runs(rt: &impl Abort, alloc: Global, cases: &[(u32, &[u8], &[u8], &[u8], &[u8])]) {
-    for (steps, first, second, runs, expected) in cases {
-        let line = told(alloc, first, second, runs, *steps, b"s").expect(rt, "memory");
-        assert_eq!(rt; line.as_slice(), *expected, "of {runs:?} and {first:?}");
-    }
 }

@@ -1,5 +1,5 @@
-//! Scripts in tables, for tests: how a script ends, the text of its global `s`, and the fewest
-//! steps with which it isn't stopped for want of steps.
+//! Scripts: how a script ends, the text of its global `s`, and the fewest steps with which it isn't
+//! stopped for want of steps. It is run with just these, and with one fewer.
 
 ghost use Rattle.std.specs.Prelude.{◌≤◌, All, IfOk};
 ghost use Rattle.es_eval.specs.Machines.{IsNamedLive};
@@ -10,7 +10,6 @@ use es_eval::{Globals, Outcome, StopCause, are_few_functions, run};
 use es_reader::{Program, SyntaxFault, read_program};
 use es_values::{Heap, RowHost};
 use std::alloc::Global;
-use std::process::Abort;
 
 /// The steps that a handler has.
 pub const ALL_STEPS: u32 = 100_000;
@@ -131,8 +130,8 @@ fn push_told(alloc: Global, programs: &[Program], out: &mut Vec<u8>) -> Result<(
     Ok(())
 }
 
-// What a script comes to.
-fn told(alloc: Global, script: &[u8]) -> Result<Vec<u8>, NoMemory> {
+/// What a script comes to.
+pub fn told(alloc: Global, script: &[u8]) -> Result<Vec<u8>, NoMemory> {
     let mut out = Vec::new(alloc);
     match program_of(alloc, script)? {
         Some(program) => {
@@ -142,12 +141,4 @@ fn told(alloc: Global, script: &[u8]) -> Result<Vec<u8>, NoMemory> {
         None => push_word(b"no program", &mut out)?,
     }
     Ok(out)
-}
-
-/// Asserts what scripts come to.
-pub fn tell_each(rt: &impl Abort, alloc: Global, cases: &[(&[u8], &[u8])]) {
-    for (script, expected) in cases {
-        let line = told(alloc, script).expect(rt, "memory");
-        assert_eq!(rt; line.as_slice(), *expected, "of {script:?}");
-    }
 }

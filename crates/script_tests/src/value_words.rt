@@ -1,4 +1,4 @@
-//! Values as words in tables.
+//! Values as words.
 //!
 //! A value is `#` and a number, `"` and a text, `@` and an object's number, `F` and a function's
 //! number, or a letter: `U` for Undefined, `N` for Null, `t` and `f` for a Bool, `D` for the
