@@ -4,4 +4,6 @@ pub mod FieldLaws
 pub mod Fronts
 pub mod NumberLaws
 pub mod NumeralLaws
+pub mod OwnCodeLaws
+pub mod TestLaws
 pub mod WordLaws

@@ -5,6 +5,7 @@ use Rattle.std.proofs.Math.Nat.{one-le-pow, pow-zero, pow-suc, pow-succ', mod-eq
 use Rattle.std.proofs.lemmas.Nat.{div-mul-add, mul-add-lt}
 use Rattle.std.proofs.lemmas.List.Elements.{All-cons, All-head, All-tail, All-take}
 use Rattle.std.proofs.Math.Seq.{take-length}
+use Rattle.std.specs.Int.{to_be_bytes, w16, w32}
 use Rattle.std.specs.List.{All}
 use Rattle.byteorder.specs.Endian.{big_from}
 use Rattle.byteorder.specs.Numbers.{big_from-cons}
@@ -136,3 +137,12 @@ unfolding digits_in
 digits_in-one base digit h =
     let whole : digit / 1 ≡ digit = omega arith in
     rw (pow-zero base, whole, mod-eq_of_lt h) refl
+
+-- the bytes in which Rust writes a number
+pub two-bytes : (number : ℕ) → to_be_bytes w16 number ≡ digits_in 256 2 number
+unfolding digits_in
+two-bytes number = let e : number / 1 % 256 ≡ number % 256 = omega arith in rw e refl
+
+pub four-bytes : (number : ℕ) → to_be_bytes w32 number ≡ digits_in 256 4 number
+unfolding digits_in
+four-bytes number = let e : number / 1 % 256 ≡ number % 256 = omega arith in rw e refl

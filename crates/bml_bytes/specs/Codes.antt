@@ -1,6 +1,6 @@
 -- The codes of a text. A text of this project is a list of codes: one for each character of EUC-JP that
 -- takes two bytes, and one for each other byte (EUC-JP, as ARIB STD-B24 volume 2 has it).
-use Rattle.std.specs.Prelude.{ℕ, ◌+◌, ◌*◌, ◌/◌, ◌%◌, ◌<◌, nat_le, nat_lt, ◌==◌, Bool, ◌&&◌, ◌||◌, if◌then◌else◌, List, [], ◌∷◌, All}
+use Rattle.std.specs.Prelude.{ℕ, ◌+◌, ◌*◌, ◌/◌, ◌%◌, ◌<◌, nat_le, nat_lt, ◌==◌, ◌≡◌, ◌⊎◌, Bool, true, ◌&&◌, ◌||◌, if◌then◌else◌, List, [], ◌∷◌, All}
 use Rattle.std.specs.List.{flat_map}
 
 -- a byte of a character of JIS X 0208 or JIS X 0213 in EUC-JP, which takes two of them
@@ -30,3 +30,7 @@ bytes_of codes = flat_map code_bytes codes
 -- each element is a byte
 abbrev pub AreBytes : List ℕ → Type 0
 AreBytes bytes = All (λ byte. byte < 256) bytes
+
+-- a code that a byte or a pair has
+abbrev pub IsByteOrPair : ℕ → Type 0
+IsByteOrPair code = (code < 256) ⊎ (is_pair (code / 256) (code % 256) ≡ true)

@@ -21,6 +21,7 @@ pub use crate::area::AreaBytes;
 pub use crate::cursors::Cursor;
 pub use crate::laws::{
     law_of_big_numbers, law_of_codes, law_of_decimals, law_of_digits, law_of_fields, law_of_fronts,
+    law_of_own_codes, law_of_same_texts, law_of_tests, law_of_written_numbers,
 };
 pub use crate::line_fields::{Escapes, push_count, push_line_end, push_word};
 pub use crate::numerals::{push_decimal, push_hex, read_decimal};
