@@ -4,10 +4,10 @@ use Rattle.std.specs.Prelude.{slice_range}
 use Rattle.std.proofs.Math.Seq.{drop-append_seam}
 use Rattle.ts_packets.specs.Packet.{is_readable}
 use Rattle.ts_sections.specs.Sections.{Byte, Mark, tokens_of_packet, begins_whole, sections_of_piece, sections, completed_by}
-use Rattle.ts_sections.specs.Ahead.{Kept, Tokens, in_front, is_repeated, goes_on, tokens_behind, sections_of_open, sections_from, sections_ahead}
+use Rattle.ts_sections.specs.devices.Ahead.{Kept, Tokens, in_front, is_repeated, goes_on, tokens_behind, sections_of_open, sections_from, sections_ahead}
 use Rattle.ts_sections.specs.Assembly.{AssemblerState, StandsFor}
-use Rattle.ts_sections.specs.Piece.{ends_in}
-use Rattle.ts_sections.specs.Remainder.{is_done_from, tokens_from}
+use Rattle.ts_sections.specs.devices.Piece.{ends_in}
+use Rattle.ts_sections.specs.devices.Remainder.{is_done_from, tokens_from}
 use Rattle.ts_sections.proofs.PieceLemmas.{sections_of_piece-none, sections_of_piece-step}
 use Rattle.ts_sections.proofs.TokenLemmas.{bytes_to_mark-bytes, pieces-bytes, sections_from-run}
 use Rattle.ts_sections.proofs.RemainderLemmas.{stands_for}

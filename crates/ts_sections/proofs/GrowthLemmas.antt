@@ -3,7 +3,7 @@ use Rattle.std.proofs.Common.{◌≡◌, ℕ, Bool, true, false, not, ◌&&◌, 
 use Rattle.std.proofs.Math.Seq.{drop-append_seam}
 use Rattle.ts_packets.specs.Packet.{is_readable}
 use Rattle.ts_sections.specs.Sections.{Token, Byte, Mark, tokens_of_packet, bytes_to_mark, sections_of_piece, sections, completed_by}
-use Rattle.ts_sections.specs.Ahead.{Tokens, in_front, is_repeated, goes_on, tokens_behind, sections_of_open, sections_of_tokens, sections_from}
+use Rattle.ts_sections.specs.devices.Ahead.{Tokens, in_front, is_repeated, goes_on, tokens_behind, sections_of_open, sections_of_tokens, sections_from}
 use Rattle.ts_sections.proofs.PieceLemmas.{sections_of_piece-append}
 use Rattle.ts_sections.proofs.TokenLemmas.{in_front-twice}
 use Rattle.ts_sections.proofs.RunLemmas.{sections-ahead}

@@ -12,3 +12,4 @@ pub mod GrowthLemmas
 pub mod TakeLemmas
 pub mod RemainderLemmas
 pub mod AssemblerLemmas
+pub mod SendingLaws

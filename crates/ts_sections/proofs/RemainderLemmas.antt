@@ -3,10 +3,10 @@ use Rattle.std.proofs.Common.{◌≡◌, ℕ, ◌+◌, ◌-◌, ◌≤◌, true,
 use Rattle.std.specs.Prelude.{slice_range, unwrap_or}
 use Rattle.std.proofs.lemmas.List.{length-map, take-take, take_all, drop_all, drop-take, drop-drop}
 use Rattle.ts_sections.specs.Sections.{Byte, Mark, sections}
-use Rattle.ts_sections.specs.Ahead.{Kept, Tokens, in_front, tokens_behind, sections_of_open, sections_from, sections_ahead}
+use Rattle.ts_sections.specs.devices.Ahead.{Kept, Tokens, in_front, tokens_behind, sections_of_open, sections_from, sections_ahead}
 use Rattle.ts_sections.specs.Assembly.{GivesNext, HasGivenAll, StandsFor}
-use Rattle.ts_sections.specs.Piece.{PieceState, TakesAll, TakesSection}
-use Rattle.ts_sections.specs.Remainder.{tokens_from, tokens_of, IsWithin, Passes, Finds, Finishes, Drains, kept_of, section_of, state_of}
+use Rattle.ts_sections.specs.devices.Piece.{PieceState, TakesAll, TakesSection}
+use Rattle.ts_sections.specs.devices.Remainder.{tokens_from, tokens_of, IsWithin, Passes, Finds, Finishes, Drains, kept_of, section_of, state_of}
 use Rattle.ts_sections.specs.declared.remainder.Remainder.{Remainder}
 use Rattle.ts_sections.specs.declared.remainder.Found.{Found}
 use Rattle.ts_sections.specs.declared.remainder.Found.TheVariants.{Gathered, InPacket}

@@ -5,7 +5,7 @@ use Rattle.std.specs.List.{flat_map}
 use Rattle.std.specs.Str.{bytes_eq}
 use Rattle.ts_packets.specs.Packet.{is_readable}
 use Rattle.ts_sections.specs.Sections.{Token, readable_packets, unrepeated, tokens_of_packet, follows, onto_first_run, runs, pieces_of_run, sections_of_piece, sections}
-use Rattle.ts_sections.specs.Ahead.{Tokens, in_front, tokens_behind, sections_of_tokens, sections_from}
+use Rattle.ts_sections.specs.devices.Ahead.{Tokens, in_front, tokens_behind, sections_of_tokens, sections_from}
 
 -- the joined payloads of a run
 abbrev joined : List (List ℕ) → List Token

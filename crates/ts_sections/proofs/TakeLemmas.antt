@@ -4,8 +4,8 @@ use Rattle.std.proofs.lemmas.Bool.{false_from_ne_true, both_ways}
 use Rattle.std.proofs.Math.Seq.{take-add}
 use Rattle.std.proofs.lemmas.List.{take-append-drop, take_all, drop_all}
 use Rattle.ts_sections.specs.Sections.{bytes_to_mark, section_size, begins_whole}
-use Rattle.ts_sections.specs.Ahead.{Tokens, sections_of_open, sections_from}
-use Rattle.ts_sections.specs.Piece.{PieceState, IsPart, known_of, IsSound, TakesAll, TakesSection}
+use Rattle.ts_sections.specs.devices.Ahead.{Tokens, sections_of_open, sections_from}
+use Rattle.ts_sections.specs.devices.Piece.{PieceState, IsPart, known_of, IsSound, TakesAll, TakesSection}
 use Rattle.ts_sections.specs.declared.piece.Stage.{Stage}
 use Rattle.ts_sections.specs.declared.piece.Stage.TheVariants.{Unread, Gathering, Given}
 use Rattle.ts_sections.proofs.PieceLemmas.{IsWholeFront-from, IsWholeFront-to, section_size-append, first-append, sections_of_piece-none, sections_of_piece-stuffing, sections_of_piece-whole}

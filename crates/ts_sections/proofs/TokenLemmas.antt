@@ -2,7 +2,7 @@
 use Rattle.std.proofs.Common.{◌≡◌, ℕ, true, false, List, [], ◌∷◌, ◌++◌, take, drop, map, refl, sym, ap, append_assoc, Option, Some, None}
 use Rattle.std.specs.List.{flat_map}
 use Rattle.ts_sections.specs.Sections.{Token, Byte, Mark, bytes_to_mark, pieces, section_size, begins_whole, sections_of_piece}
-use Rattle.ts_sections.specs.Ahead.{Tokens, in_front, sections_of_open, sections_of_tokens, sections_from}
+use Rattle.ts_sections.specs.devices.Ahead.{Tokens, in_front, sections_of_open, sections_of_tokens, sections_from}
 use Rattle.ts_sections.proofs.PieceLemmas.{sections_of_piece-whole}
 
 pub bytes_to_mark-bytes : (bytes : List ℕ) (tokens : List Token) → bytes_to_mark (map Byte bytes ++ tokens) ≡ bytes ++ bytes_to_mark tokens

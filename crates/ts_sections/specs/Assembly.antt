@@ -2,7 +2,7 @@
 -- waiting. The sections of packets are those of `Sections`. (This project's own.)
 use Rattle.std.specs.Prelude.{◌≡◌, ℕ, List, [], ◌∷◌, ◌++◌, Option, MatchOption}
 use Rattle.ts_sections.specs.Sections.{sections}
-use Rattle.ts_sections.specs.Ahead.{Kept, sections_ahead}
+use Rattle.ts_sections.specs.devices.Ahead.{Kept, TellsAhead}
 
 -- an assembler, as its callers see it
 pub record AssemblerState : Type 0 where
@@ -20,8 +20,7 @@ pub record StandsFor (state : AssemblerState) (packets given : List (List ℕ)) 
   -- the sections of the packets, in their order, are those given and then those waiting
   pub all : given ++ state.waiting ≡ sections packets
   -- what is kept tells the sections ahead, whatever packets come behind (a device of the proofs)
-  pub ahead : (behind : List (List ℕ))
-      → sections (packets ++ behind) ≡ given ++ sections_ahead state.kept behind
+  pub ahead : TellsAhead state.kept packets given
 
 -- ---- one call of `next`
 

@@ -5,9 +5,9 @@ ghost use Rattle.std.specs.Io.BufRead.{Rests};
 ghost use Rattle.ts_packets.specs.Packet.{payload_of};
 ghost use Rattle.ts_sections.specs.contracts.assembler.Assembler.{the_row};
 ghost use Rattle.ts_sections.specs.Sections.{completed_by, pointer_passes};
-ghost use Rattle.ts_sections.specs.Ahead.{is_repeated, goes_on, sections_of_open};
+ghost use Rattle.ts_sections.specs.devices.Ahead.{is_repeated, goes_on, sections_of_open};
 ghost use Rattle.ts_sections.specs.Assembly.{StandsFor, IsDrained, NextSection, HasGivenAll, GivesNext};
-ghost use Rattle.ts_sections.specs.Remainder.{Finishes, IsRemainder, IsFoundIn, last_bytes, section_of, state_of};
+ghost use Rattle.ts_sections.specs.devices.Remainder.{Finishes, IsRemainder, IsFoundIn, last_bytes, section_of, state_of};
 
 use crate::piece::Piece;
 use crate::remainder::{Found, Remainder};
@@ -27,7 +27,7 @@ pub struct Assembler {
 
 impl Model for Assembler {
     ghost use Rattle.ts_sections.specs.Assembly.{AssemblerState};
-    ghost use Rattle.ts_sections.specs.Remainder.{state_of, IsRemainder};
+    ghost use Rattle.ts_sections.specs.devices.Remainder.{state_of, IsRemainder};
 
     ghost Value = { AssemblerState };
 

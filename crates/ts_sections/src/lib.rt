@@ -3,7 +3,8 @@
 //!
 //! An [`Assembler`] gives, packet by packet, exactly the sections that the list of all packets
 //! handed in carries, in their order, each as soon as its last byte is there. The laws say that
-//! more packets only add sections at the end, and how sections lie in a piece.
+//! more packets only add sections at the end, how sections lie in a piece, and what is read of
+//! packets and sections as a sender lays them out.
 #![tactic(auto)]
 
 mod assembler;
@@ -15,5 +16,8 @@ mod whole;
 
 pub use assembler::Assembler;
 pub use crc::{crc_behind_its_message, crc_of, is_intact, remainder_by_register};
-pub use laws::{sections_lie_end_to_end, sections_only_grow};
+pub use laws::{
+    packets_in_one_run, pieces_behind_their_marks, section_before_stuffing,
+    sections_lie_end_to_end, sections_only_grow,
+};
 pub use whole::sections_of;

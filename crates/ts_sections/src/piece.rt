@@ -2,8 +2,8 @@
 //! making.
 ghost use Rattle.std.specs.Prelude.{◌≡◌, ◌≢◌, ℕ, ◌+◌, ◌-◌, ◌*◌, ◌%◌, ◌<◌, ◌≤◌, true, false, List, [], ◌∷◌, ◌++◌, length, take, min, slice_index, Some, None, IsTrue, ◌↔◌};
 ghost use Rattle.ts_sections.specs.Sections.{section_size, begins_whole};
-ghost use Rattle.ts_sections.specs.Ahead.{sections_of_open};
-ghost use Rattle.ts_sections.specs.Piece.{IsPart, Takes, ends_in};
+ghost use Rattle.ts_sections.specs.devices.Ahead.{sections_of_open};
+ghost use Rattle.ts_sections.specs.devices.Piece.{IsPart, Takes, ends_in};
 
 use arrayvec::ArrayVec;
 use std::marker::Model;
@@ -48,7 +48,7 @@ pub struct Piece {
 }
 
 impl Model for Piece {
-    ghost use Rattle.ts_sections.specs.Piece.{PieceState, known_of, IsSound};
+    ghost use Rattle.ts_sections.specs.devices.Piece.{PieceState, known_of, IsSound};
 
     ghost Value = { PieceState };
 

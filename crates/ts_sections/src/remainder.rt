@@ -1,7 +1,7 @@
 //! What of a packet isn't taken in yet.
 ghost use Rattle.std.specs.Prelude.{◌≡◌, ◌<◌, [], length, drop, MatchOption};
 ghost use Rattle.ts_sections.specs.Sections.{tokens_of_packet, marked};
-ghost use Rattle.ts_sections.specs.Remainder.{tokens_of, is_done, IsWithin, Passes, Finds, Drains};
+ghost use Rattle.ts_sections.specs.devices.Remainder.{tokens_of, is_done, IsWithin, Passes, Finds, Drains};
 
 use crate::piece::{Piece, Taken, starts_section};
 use ts_packets::Packet;

@@ -1,7 +1,7 @@
 use Rattle.std.proofs.Common.{◌≡◌, List, ℕ, Option, refl, sym, ap, subst, ◌∙◌}
-use Rattle.ts_sections.specs.Ahead.{Kept}
+use Rattle.ts_sections.specs.devices.Ahead.{Kept}
 use Rattle.ts_sections.specs.Assembly.{AssemblerState, GivesNext}
-use Rattle.ts_sections.specs.Remainder.{last_bytes, section_of, state_of}
+use Rattle.ts_sections.specs.devices.Remainder.{last_bytes, section_of, state_of}
 use Rattle.ts_sections.proofs.assembler.Assembler.next.Goals as goal
 
 pub returns-in-Some : goal.returns-in-Some

@@ -1,6 +1,6 @@
 use Rattle.std.proofs.Common.{sym, subst, ◌∙◌}
 use Rattle.ts_sections.specs.Assembly.{AssemblerState, StandsFor}
-use Rattle.ts_sections.specs.Remainder.{kept_of}
+use Rattle.ts_sections.specs.devices.Remainder.{kept_of}
 use Rattle.ts_sections.proofs.AssemblerLemmas.{ahead-beginning, ahead-going_on, stands_behind}
 use Rattle.ts_sections.proofs.assembler.Assembler.push.Goals.{then-not-goes_on, else-not-goes_on}
 use Rattle.ts_sections.proofs.assembler.Assembler.push.Goals as goal

@@ -2,7 +2,7 @@
 -- project's own.)
 use Rattle.std.specs.Prelude.{◌≡◌, ◌≢◌, ℕ, ◌<◌, ◌≤◌, Bool, true, false, List, [], ◌∷◌, ◌++◌, length, take, drop, map, slice_index, Option, Some, None}
 use Rattle.ts_sections.specs.Sections.{Byte, section_size, begins_whole}
-use Rattle.ts_sections.specs.Ahead.{Tokens, in_front, sections_of_open, sections_from}
+use Rattle.ts_sections.specs.devices.Ahead.{Tokens, in_front, sections_of_open, sections_from}
 use Rattle.ts_sections.specs.declared.piece.Stage.{Stage}
 use Rattle.ts_sections.specs.declared.piece.Stage.TheVariants.{Unread, Gathering, Given}
 use Rattle.ts_sections.specs.declared.piece.Taken.{Taken}

@@ -1,11 +1,11 @@
 -- A device of the proofs: what an assembler keeps, and a recursion, packet by packet, that tells
 -- from it which sections are still to come. What it comes to is said over whole lists in `Sections`
 -- and `Assembly`. (This project's own.)
-use Rattle.std.specs.Prelude.{ℕ, Bool, true, false, not, ◌&&◌, List, [], ◌∷◌, ◌++◌, Option, Some, None, if◌then◌else◌}
+use Rattle.std.specs.Prelude.{◌≡◌, ℕ, Bool, true, false, not, ◌&&◌, List, [], ◌∷◌, ◌++◌, Option, Some, None, if◌then◌else◌}
 use Rattle.std.specs.List.{flat_map}
 use Rattle.std.specs.Str.{bytes_eq}
 use Rattle.ts_packets.specs.Packet.{is_readable}
-use Rattle.ts_sections.specs.Sections.{Token, tokens_of_packet, follows, bytes_to_mark, pieces, sections_of_piece}
+use Rattle.ts_sections.specs.Sections.{Token, tokens_of_packet, follows, bytes_to_mark, pieces, sections_of_piece, sections}
 
 pub record Kept : Type 0 where
   -- the packet that was read last
@@ -69,3 +69,8 @@ sections_from piece tokens =
 abbrev pub sections_ahead : Kept → List (List ℕ) → List (List ℕ)
 sections_ahead kept packets =
     sections_from kept.piece (in_front true kept.pending (tokens_behind kept.before packets))
+
+-- of these packets, with others behind them, the sections behind those given are the ones ahead
+abbrev pub TellsAhead : Kept → List (List ℕ) → List (List ℕ) → Type 0
+TellsAhead kept packets given =
+    (behind : List (List ℕ)) → sections (packets ++ behind) ≡ given ++ sections_ahead kept behind

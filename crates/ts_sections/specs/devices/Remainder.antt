@@ -1,9 +1,9 @@
 -- A device of the proofs: what of the packet pushed last isn't taken in yet. (This project's own.)
 use Rattle.std.specs.Prelude.{◌≡◌, ℕ, ◌≤◌, Bool, true, not, ◌&&◌, List, [], ◌∷◌, ◌++◌, length, drop, map, slice_range, Option, Some, None, IfSome, MatchOption, unwrap_or}
 use Rattle.ts_sections.specs.Sections.{Token, Byte, Mark, begins_whole}
-use Rattle.ts_sections.specs.Ahead.{Kept, Tokens, in_front, sections_of_open, sections_from, sections_ahead}
+use Rattle.ts_sections.specs.devices.Ahead.{Kept, Tokens, in_front, sections_of_open, sections_from, sections_ahead}
 use Rattle.ts_sections.specs.Assembly.{AssemblerState, HasGivenAll}
-use Rattle.ts_sections.specs.Piece.{PieceState, ends_in}
+use Rattle.ts_sections.specs.devices.Piece.{PieceState, ends_in}
 use Rattle.ts_sections.specs.declared.remainder.Remainder.{Remainder}
 use Rattle.ts_sections.specs.declared.remainder.Found.{Found}
 use Rattle.ts_sections.specs.declared.remainder.Found.TheVariants.{Gathered, InPacket}
