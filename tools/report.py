@@ -109,10 +109,21 @@ class Report(NamedTuple):
     notes: list[str]
 
 
-def shown_text(line):
+def plain_text(line):
     """Returns a line as it is shown: its texts are EUC-JP, and each other byte is written in hexadecimal digits."""
     text = line.decode("euc_jp", errors="backslashreplace")
-    return escape(re.sub("[\x00-\x1f\x7f]", lambda it: f"\\x{ord(it[0]):02x}", text), quote=False)
+    return re.sub("[\x00-\x1f\x7f]", lambda it: f"\\x{ord(it[0]):02x}", text)
+
+
+def shown_text(line):
+    """Returns a line as it is shown, in HTML."""
+    return escape(plain_text(line), quote=False)
+
+
+def kind_of(line):
+    """Returns the kind of a line, by which it is shown."""
+    word = line.split(b" ")[0].decode("ascii", errors="replace")
+    return word if word in KINDS else "other"
 
 
 def parts_of(lines):
@@ -141,7 +152,8 @@ def items_of(record):
         fields = line.rstrip("\r").split()
         if not fields or fields[0].startswith("#"):
             continue
-        name = KEYS.get(int(fields[1])) if fields[0] in ("key", "release") and re.fullmatch("[0-9]{1,10}", fields[-1]) else None
+        is_key = fields[0] in ("key", "release") and len(fields) == 2 and re.fullmatch("[0-9]{1,10}", fields[1])
+        name = KEYS.get(int(fields[1])) if is_key else None
         items[-1].append(" ".join(fields) + (f" ({name})" if name else ""))
         if fields == ["show"]:
             items.append([])
@@ -209,8 +221,7 @@ def warning_table(report, places):
 
 def line_html(place, line, mark=""):
     """Returns a line with its number; its class is its kind."""
-    word = line.split(b" ")[0].decode("ascii", errors="replace")
-    kinds = " ".join(it for it in (word if word in KINDS else "other", mark) if it)
+    kinds = " ".join(it for it in (kind_of(line), mark) if it)
     return f'<p id="L{place + 1}" class="{kinds}">{shown_text(line)}</p>'
 
 
