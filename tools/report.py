@@ -238,7 +238,7 @@ def display_html(shown, before, room):
     was = list((Counter(before) - Counter(shown.lines)).elements())
     told, marks = "nothing was shown before", []
     if before:
-        told = f"{len(new):,} lines are new (dashed in magenta), {len(was):,} are there no more (dashed in grey)"
+        told = f"new lines: {len(new):,} (dashed in magenta), lines gone: {len(was):,} (dashed in grey)"
         told = told if new or was else "the same lines as before in another order"
         marks = outlines(was, "#a0a0a0") + outlines(new, "#ff40ff")
     picture = drawing(shown.clock, shapes_of(shown.lines) + marks) if shown.lines != before else ""
@@ -258,7 +258,8 @@ def display_html(shown, before, room):
 def part_html(report, number, before, room):
     """Returns a part with its lines and its display list, and how much its drawing has."""
     part = report.parts[number - 1]
-    shown = f"up to the display list at {part.clock} ms" if part.shown else "behind the last display list"
+    shown = "behind the last display list" if number > 1 else "without a display list"
+    shown = f"up to the display list at {part.clock} ms" if part.shown else shown
     written = [f'<section id="P{number}"><h3>Part {number}: {shown}</h3>']
     if number <= len(report.items) and report.items[number - 1]:
         written.append(f"<p><small>The record: {escape('; '.join(report.items[number - 1]))}</small></p>")

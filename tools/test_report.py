@@ -147,7 +147,7 @@ class Reports(InFolder):
         one, two, three = b"box 0 0 9 9 1 1 1", b"box 10 0 9 9 1 1 1", b"focus 7 7 3 3"
         html = self.report([b"show 0", one, one, b"show 1", one, two, b"show 2", one, two, b"show 3", two, one, three, b"show 4"])
         self.assertEqual(html.count("nothing was shown before"), 1)
-        self.assertEqual(html.count("1 lines are new (dashed in magenta), 1 are there no more (dashed in grey)"), 1)
+        self.assertEqual(html.count("new lines: 1 (dashed in magenta), lines gone: 1 (dashed in grey)"), 1)
         self.assertEqual(html.count("the same as the one before"), 1)
         self.assertEqual(html.count('<p id="L6" class="box new">'), 1)
         self.assertEqual(html.count('class="was">box 0 0 9 9 1 1 1</p>'), 2)
