@@ -135,6 +135,11 @@ class Page:
             words = {"text": text} if text and kind == "keyDown" else {}
             self.browser.ask("Input.dispatchKeyEvent", self.session, type=kind, key=name, code=name, windowsVirtualKeyCode=code, **words)
 
+    def resize(self, width, height):
+        """Shows it in a window of that size."""
+        words = {"width": width, "height": height, "deviceScaleFactor": 1, "mobile": False}
+        self.browser.ask("Emulation.setDeviceMetricsOverride", self.session, **words)
+
     def picture(self, width, height, scale=1):
         """Returns a picture of its top left corner, as the bytes of a PNG."""
         clip = {"x": 0, "y": 0, "width": width, "height": height, "scale": scale}

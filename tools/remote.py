@@ -43,6 +43,19 @@ MOST_BODY = 1000  # bytes of a request
 MOST_LINES = 5000  # of those that are shown beside the picture
 
 
+def policy_of(page):
+    """Returns the policy under which a browser runs the script of the page, and nothing else."""
+    script = page.split("<script>")[1].split("</script>")[0]
+    digest = base64.b64encode(hashlib.sha256(script.encode()).digest()).decode()
+    return (
+        f"default-src 'none'; script-src 'sha256-{digest}'; style-src 'unsafe-inline'; connect-src 'self'; img-src data:; "
+        "base-uri 'none'; form-action 'none'; frame-ancestors 'none'"
+    )
+
+
+POLICY = policy_of(PAGE)
+
+
 class Failed(Exception):
     """Why a replay gave no lines."""
 
@@ -167,16 +180,6 @@ class Session:
             }
 
 
-def policy_of(page):
-    """Returns the policy under which a browser runs the script of the page, and nothing else."""
-    script = page.split("<script>")[1].split("</script>")[0]
-    digest = base64.b64encode(hashlib.sha256(script.encode()).digest()).decode()
-    return (
-        f"default-src 'none'; script-src 'sha256-{digest}'; style-src 'unsafe-inline'; connect-src 'self'; img-src data:; "
-        "base-uri 'none'; form-action 'none'; frame-ancestors 'none'"
-    )
-
-
 class Refused(Exception):
     """A request that isn't served, with its status."""
 
@@ -193,7 +196,7 @@ class Handler(BaseHTTPRequestHandler):
     def answer(self, status, kind, data, more=()):
         self.send_response(status)
         heads = {"Content-Type": kind, "Content-Length": str(len(data)), "Cache-Control": "no-store", "Referrer-Policy": "no-referrer"}
-        heads |= {"X-Content-Type-Options": "nosniff", "Content-Security-Policy": policy_of(PAGE), **dict(more)}
+        heads |= {"X-Content-Type-Options": "nosniff", "Content-Security-Policy": POLICY, **dict(more)}
         for name, value in heads.items():
             self.send_header(name, value)
         self.end_headers()
@@ -273,6 +276,11 @@ class Server(ThreadingHTTPServer):
     def __init__(self, session, port=0):
         super().__init__(("127.0.0.1", port), Handler)
         self.session, self.word = session, secrets.token_urlsafe(16)
+
+    def handle_error(self, request, client_address):
+        """Keeps quiet about a browser that went away in the middle of an answer."""
+        if not isinstance(sys.exc_info()[1], (ConnectionError, TimeoutError)):
+            super().handle_error(request, client_address)
 
     def address(self):
         return f"http://127.0.0.1:{self.server_address[1]}/{self.word}/"

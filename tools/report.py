@@ -51,7 +51,7 @@ table{border-collapse:collapse}td,th{text-align:left;padding:.1em .8em;border-bo
 section{content-visibility:auto;contain-intrinsic-size:auto 400px;border-top:1px solid #d8dce0}
 section svg{width:100%;max-width:640px;height:auto;display:block;margin:.5em 0}
 nav{position:sticky;top:0;background:#fff;padding:.6em 0;border-bottom:2px solid #202428;z-index:1}
-input,select{font:inherit}small{color:#586068}[hidden]{display:none!important}
+input,select{font:inherit}#part{width:5em}section{scroll-margin-top:4em}p[id]{scroll-margin-top:5em}small{color:#586068}[hidden]{display:none!important}
 """
 SCRIPT = """
 const lines = [...document.querySelectorAll("section p[id]")];
@@ -74,6 +74,7 @@ function filter() {
 let waiting = 0;
 text.addEventListener("input", () => { clearTimeout(waiting); waiting = setTimeout(filter, 200); });
 kind.addEventListener("change", filter);
+document.querySelector("#part").addEventListener("change", event => { location.hash = "P" + event.target.value; });
 """
 
 
@@ -295,7 +296,8 @@ def page(report):
         *module_table(report, places),
         "<h2>The run, part by part</h2>",
         '<nav><label>Lines with <input id="text" type="search"></label>',
-        f'<label>of the kind <select id="kind"><option value="">any</option>{kinds}</select></label> <span id="found"></span></nav>',
+        f'<label>of the kind <select id="kind"><option value="">any</option>{kinds}</select></label> <span id="found"></span>',
+        f'<label>part <input id="part" type="number" min="1" max="{len(report.parts)}"> of {len(report.parts):,}</label></nav>',
         *written,
         f"<script>{SCRIPT}</script></body></html>\n",
     ])

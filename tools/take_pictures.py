@@ -19,6 +19,13 @@ SCALE = 0.7
 REPORTS = [("menu-keys", 900, 1540), ("service", 900, 960)]
 
 
+def take(page, name, width, height):
+    """Takes the picture of a page in a window of that size."""
+    page.resize(width, height)
+    page.value("new Promise(done => requestAnimationFrame(() => requestAnimationFrame(done)))")
+    (PICTURES / name).write_bytes(page.picture(width, height, SCALE))
+
+
 def report_picture(started, program, name, size):
     """Takes the picture of the report of an example."""
     example = EXAMPLES / name
@@ -28,8 +35,7 @@ def report_picture(started, program, name, size):
             subprocess.run([program, *(example / "args").read_text().split()], cwd=example, stdout=file, check=True)
         html = report.page(report.report_of(output, str(example / "stream.ts"), str(example / "record.txt")))
         Path(f"{room}/report.html").write_text(html, encoding="utf-8")
-        page = started.open(f"file://{room}/report.html")
-        (PICTURES / f"report-{name}.png").write_bytes(page.picture(*size, SCALE))
+        take(started.open(f"file://{room}/report.html"), f"report-{name}.png", *size)
 
 
 def remote_picture(started, program):
@@ -40,9 +46,8 @@ def remote_picture(started, program):
     with remote.Server(session) as server:
         threading.Thread(target=server.serve_forever, daemon=True).start()
         page = started.open(server.address())
-        started.ask("Emulation.setDeviceMetricsOverride", page.session, width=1440, height=480, deviceScaleFactor=1, mobile=False)
         page.wait("document.querySelector('#picture text') !== null")
-        (PICTURES / "remote.png").write_bytes(page.picture(1440, 480, SCALE))
+        take(page, "remote.png", 1440, 480)
         server.shutdown()
 
 

@@ -31,7 +31,7 @@ PROGRAM = None  # with which recordings are replayed
 TOOL = Path(remote.__file__)
 EXAMPLE = Path(__file__).resolve().parent.parent / "examples" / "menu-keys"
 # A program that prints a display list for each `show` of its record, with the keys so far. A key 20 fails, a key 21 takes long.
-SCRIPT = """#!/usr/bin/env python3
+SCRIPT = f"#!{sys.executable} -S\n" + """
 import sys, time
 keys, clock = [], 0
 assert sys.argv[1] == "replay"

@@ -234,6 +234,8 @@ class InBrowser(InFolder):
         self.assertEqual(page.value("found.textContent"), f"{len(shown)} of {count} lines")
         page.value("kind.value = ''; kind.dispatchEvent(new Event('change'))")
         self.assertEqual(page.value("document.querySelectorAll('p[hidden], section[hidden], details[open]').length"), 0)
+        page.value("part.value = part.max; part.dispatchEvent(new Event('change'))")
+        self.assertEqual(page.value("document.querySelector(location.hash) === [...document.querySelectorAll('section')].at(-1)"), True)
 
     def no_text_acts(self, started):
         """Opens a report in which all is hostile: it has no picture and its title is its own."""
