@@ -67,13 +67,23 @@ class Press(NamedTuple):
     lines: bytes
 
 
-class Run(NamedTuple):
-    """What the program printed for a record, without the line `end`, how many of the lines the run before had, and what is displayed last."""
+class Printed(NamedTuple):
+    """What a replay printed, without the line `end`: how many lines, and a digest of them."""
+
+    count: int
+    digest: bytes
+
+
+class Shown(NamedTuple):
+    """What the page shows of a replay: the lines that no replay of a shorter record printed, and the display list behind them."""
 
     lines: list[bytes]
-    before: int
     clock: int
     drawing: str
+
+
+def digest_of(lines):
+    return hashlib.sha256(b"\n".join(lines)).digest()
 
 
 def key_press(code):
@@ -123,7 +133,8 @@ class Session:
         if items[-1] or len(items) == 1:
             self.record += b"show\n"
         self.presses, self.fault = [], ""
-        self.runs = []  # of the record before each press that is in it, and of the whole one; None where a replay failed
+        self.printed = []  # for the record before each press that is in it, and for the whole one; None where a replay failed
+        self.shown = None  # of the last replay that didn't fail
         self.lock = threading.Lock()
         self.replay()
 
@@ -133,23 +144,24 @@ class Session:
 
     def replay(self):
         """Replays the record, and keeps what was printed, or else why nothing was."""
-        self.runs = self.runs[: len(self.presses)]
-        before, self.fault = next((run.lines for run in reversed(self.runs) if run), []), ""
+        self.printed, self.fault = self.printed[: len(self.presses)], ""
+        before = next(filter(None, reversed(self.printed)), Printed(0, digest_of([])))
         try:
             lines = replayed(self.command, self.text())
-            if lines[: len(before)] != before:
+            new = lines[before.count :]
+            shown = display_lists(new)[-1]
+            self.shown = Shown(new, shown.clock, drawing(shown.clock, shapes_of(shown.lines)))
+            self.printed.append(Printed(len(lines), digest_of(lines)))
+            if digest_of(lines[: before.count]) != before.digest:
                 self.fault = "The lines of the presses before aren't what they were: has the stream or the program changed?"
-            shown = display_lists(lines)[-1]
-            self.runs.append(Run(lines, len(before), shown.clock, drawing(shown.clock, shapes_of(shown.lines))))
         except Failed as fault:
             self.fail(str(fault))
         except (BadOutput, IndexError):
             self.fail("The program printed a display list that no run prints, or none.")
 
     def fail(self, fault):
-        is_old = any(self.runs)
-        self.fault = fault + ("\nThe picture is that of the record before." if is_old else "")
-        self.runs.append(None)
+        self.fault = fault + ("\nThe picture is that of the record before." if self.shown else "")
+        self.printed.append(None)
 
     def press(self, press):
         with self.lock:
@@ -165,8 +177,8 @@ class Session:
     def state(self):
         """Returns what the page shows."""
         with self.lock:
-            run, shown = self.runs[-1], next((run for run in reversed(self.runs) if run), None)
-            new = run.lines[run.before :] if run else []
+            shown = self.shown
+            new = shown.lines if self.printed[-1] else []
             lines = [[kind_of(line), plain_text(line)] for line in new[:MOST_LINES]]
             if len(new) > MOST_LINES:
                 lines.append(["other", f"({len(new) - MOST_LINES} more lines)"])

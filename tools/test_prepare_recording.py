@@ -546,6 +546,14 @@ class CommandLine(InFolder):
             self.assertEqual(file.read(), packets)
         self.assertEqual(sorted(os.listdir(self.folder)), ["in.ts", "same.ts"])
 
+    def test_what_another_run_left_stays(self):
+        self.write(b"".join(packets_of(tables())))
+        os.symlink(f"{self.folder}/none", f"{self.target}.part")
+        status, printed, told = run("unpack", self.source, self.target)
+        self.assertEqual((status, printed), (1, ""))
+        self.assertIn(f"{self.target}.part is there: another run writes it, or one was broken off; remove it then", told)
+        self.assertEqual(sorted(os.listdir(self.folder)), ["in.ts", "out.ts.part"])
+
     def test_what_is_no_stream_is_told_without_a_traceback(self):
         dice = random.Random(5)
         module, sent = compressed(1)

@@ -256,10 +256,12 @@ class CommandLine(Served):
         self.assertEqual(lines[-1], ["load", f"load replay --data-pid 256 {self.program}"])
 
 
-class Replaying(Served):
-    """Tests over the example menu-keys."""
+class OverExample(Served):
+    """Tests over the example menu-keys, with the program that is named."""
 
     def serve_example(self):
+        if not PROGRAM:
+            self.skipTest("no program is named")
         return self.serve(command=[PROGRAM, "replay", "--data-pid", "256", str(EXAMPLE / "stream.ts")])
 
     def replay(self, record):
@@ -269,11 +271,8 @@ class Replaying(Served):
         command = [PROGRAM, "replay", "--data-pid", "256", EXAMPLE / "stream.ts", path]
         return subprocess.run(command, capture_output=True, check=True, timeout=60).stdout.decode("ascii").splitlines()
 
-    def setUp(self):
-        super().setUp()
-        if not PROGRAM:
-            self.skipTest("no program is named")
 
+class Replaying(OverExample):
     def test_a_menu_is_picked_from(self):
         session = self.serve_example()
         states = [self.state(), self.state("/press", {"key": 2}), self.state("/press", {"key": 18})]
@@ -285,53 +284,56 @@ class Replaying(Served):
         self.assertEqual(self.state("/undo", {}), states[1])
         self.assertEqual(len(session.presses), 1)
 
-    @unittest.skipUnless(browser.program(), "there is no Chromium")
-    def test_the_page_is_driven_by_its_keys(self):
-        self.serve_example()
-        with browser.Browser() as started:
-            page = started.open(self.server.address())
-            page.wait("document.querySelector('#picture text') !== null")
-            first = page.value("document.querySelector('#picture').innerHTML")
-            page.key("ArrowDown", 40)
-            page.wait("told.textContent.startsWith('Presses: 1, the last one down')")
-            second = page.value("document.querySelector('#picture').innerHTML")
-            page.value("document.querySelector('[data-key=\"18\"]').click()")
-            page.wait("told.textContent.startsWith('Presses: 2, the last one enter')")
-            self.assertEqual(len({first, second, page.value("document.querySelector('#picture').innerHTML")}), 3)
-            lines = page.value("[...document.querySelectorAll('#lines p')].map(it => it.textContent)")
-            self.assertIn("text 100 300 200 40 7 24 picked 1", lines)
-            saved = page.value("fetch(document.querySelector('a[download]').href).then(it => it.text())")
-            self.assertEqual(saved, page.value("record.textContent"))
-            self.assertEqual(self.replay(saved.encode())[-len(lines) - 1 :], [*lines, "end 11"])
-            page.value("document.activeElement.blur()")
-            page.key("t", 84, "t")
-            page.wait("told.textContent.endsWith('Clock: 1000 ms')")
-            for _ in range(2):
-                page.key("u", 85, "u")
-            page.wait("told.textContent.startsWith('Presses: 1,')")
-            self.assertEqual(page.value("document.querySelector('#picture').innerHTML"), second)
-            self.assertEqual(started.errors, [])
-
 
 @unittest.skipUnless(browser.program(), "there is no Chromium")
-class InBrowser(Served):
+class InBrowser(OverExample):
+    """Tests in one browser, which is started for all of them."""
+
+    @classmethod
+    def setUpClass(cls):
+        cls.started = cls.enterClassContext(browser.Browser())
+
     def test_no_text_is_a_mark_and_faults_are_told(self):
         self.serve()
-        with browser.Browser() as started:
-            page = started.open(self.server.address())
-            page.wait("document.querySelector('#picture text') !== null")
-            page.value("document.querySelector('[data-key=\"24\"]').click()")
-            page.wait("told.textContent.startsWith('Presses: 1, the last one yellow')")
-            self.assertIn("<img src=x onerror=document.title=1>[24]", page.value("lines.textContent"))
-            self.assertIn("<img src=x onerror=document.title=1>[24]", page.value("document.querySelector('#picture text').textContent"))
-            self.assertEqual(page.value("[document.title, document.querySelectorAll('img').length]"), ["Remote control", 0])
-            self.assertEqual(page.value("document.querySelector('#lines .stop').textContent"), "stop Budget keydown")
-            page.key("d", 68, "d")
-            page.wait("fault.textContent.includes('bad record line 7')")
-            self.assertEqual(page.value("document.querySelectorAll('#picture text').length"), 1)
+        page = self.started.open(self.server.address())
+        page.wait("document.querySelector('#picture text') !== null")
+        page.value("document.querySelector('[data-key=\"24\"]').click()")
+        page.wait("told.textContent.startsWith('Presses: 1, the last one yellow')")
+        self.assertIn("<img src=x onerror=document.title=1>[24]", page.value("lines.textContent"))
+        self.assertIn("<img src=x onerror=document.title=1>[24]", page.value("document.querySelector('#picture text').textContent"))
+        self.assertEqual(page.value("[document.title, document.querySelectorAll('img').length]"), ["Remote control", 0])
+        self.assertEqual(page.value("document.querySelector('#lines .stop').textContent"), "stop Budget keydown")
+        page.key("d", 68, "d")
+        page.wait("fault.textContent.includes('bad record line 7')")
+        self.assertEqual(page.value("document.querySelectorAll('#picture text').length"), 1)
+        page.key("u", 85, "u")
+        page.wait("fault.textContent === ''")
+        self.assertEqual(self.started.errors, [])
+
+    def test_the_page_is_driven_by_its_keys(self):
+        self.serve_example()
+        page = self.started.open(self.server.address())
+        page.wait("document.querySelector('#picture text') !== null")
+        first = page.value("document.querySelector('#picture').innerHTML")
+        page.key("ArrowDown", 40)
+        page.wait("told.textContent.startsWith('Presses: 1, the last one down')")
+        second = page.value("document.querySelector('#picture').innerHTML")
+        page.value("document.querySelector('[data-key=\"18\"]').click()")
+        page.wait("told.textContent.startsWith('Presses: 2, the last one enter')")
+        self.assertEqual(len({first, second, page.value("document.querySelector('#picture').innerHTML")}), 3)
+        lines = page.value("[...document.querySelectorAll('#lines p')].map(it => it.textContent)")
+        self.assertIn("text 100 300 200 40 7 24 picked 1", lines)
+        saved = page.value("fetch(document.querySelector('a[download]').href).then(it => it.text())")
+        self.assertEqual(saved, page.value("record.textContent"))
+        self.assertEqual(self.replay(saved.encode())[-len(lines) - 1 :], [*lines, "end 11"])
+        page.value("document.activeElement.blur()")
+        page.key("t", 84, "t")
+        page.wait("told.textContent.endsWith('Clock: 1000 ms')")
+        for _ in range(2):
             page.key("u", 85, "u")
-            page.wait("fault.textContent === ''")
-            self.assertEqual(started.errors, [])
+        page.wait("told.textContent.startsWith('Presses: 1,')")
+        self.assertEqual(page.value("document.querySelector('#picture').innerHTML"), second)
+        self.assertEqual(self.started.errors, [])
 
 
 if __name__ == "__main__":
