@@ -27,7 +27,7 @@ from html import escape
 from pathlib import Path
 from typing import NamedTuple
 
-from draw_display import WORDS, BadOutput, DisplayList, display_lists, drawing, numbers, rectangle, shapes_of
+from draw_display import BadOutput, DisplayList, display_lists, drawing, numbers, rectangle, shapes_of
 
 MOST_ROWS = 1000  # of a table
 MOST_DRAWN = 10_000_000  # characters of all drawings together
