@@ -7,7 +7,8 @@ reads the lines of OUTPUT and writes FOLDER/report.html. It has the warnings (sc
 refused, modules skipped), the modules with their sizes and when they came, and then the run in parts, each up to a display list: its lines,
 its drawing (tools/draw_display.py), and what differs from the display list before. A filter shows the lines of one kind, or with a text.
 The lines don't tell when something happened but by their order and the clock of each display list. With the record of
-the run each part also names the items that it comes from, with the stream its size.
+the run each part also names the items that it comes from, and the packets that they took: a record that takes them in portions,
+`packets 1000` and `show`, tells in which of these a module came. With the stream its size is told.
 
 Everything in OUTPUT may come from a broadcast, and is escaped. The script of the report is the same in all of them, and its policy
 (Content-Security-Policy) lets a browser run that script alone. What is drawn stops at 10 MB, and tables at 1,000 rows.
@@ -17,6 +18,7 @@ Status: 0 where it was written, 1 where a file can't be read or written, 2 where
 import argparse
 import base64
 import hashlib
+import math
 import os
 import re
 import sys
@@ -25,7 +27,7 @@ from html import escape
 from pathlib import Path
 from typing import NamedTuple
 
-from draw_display import WORDS, BadOutput, DisplayList, display_lists, drawing, numbers, rectangle, shapes_of
+from draw_display import BadOutput, DisplayList, display_lists, drawing, numbers, rectangle, shapes_of
 
 MOST_ROWS = 1000  # of a table
 MOST_DRAWN = 10_000_000  # characters of all drawings together
@@ -101,12 +103,14 @@ class Acquired(NamedTuple):
 
 
 class Report(NamedTuple):
-    """What a report tells: the lines of the run, its parts, the items of the record for each of them, and sentences about the run."""
+    """What a report tells: the lines of the run, its parts, the items of the record for each of them, the packets that these take, and
+    sentences about the run. Without a record there are neither items nor packets."""
 
     name: str
     lines: list[bytes]
     parts: list[Part]
     items: list[list[str]]
+    packets: list[str]
     notes: list[str]
 
 
@@ -161,6 +165,25 @@ def items_of(record):
     return items
 
 
+def packets_of(items, count):
+    """Returns which packets each list of items takes, counted from 1; the run took so many in all, or it isn't known how many."""
+    most = math.inf if count is None else count
+    told, taken = [], 0
+    for part in items:
+        first = taken
+        for item in part:
+            number = re.fullmatch("packets ([0-9]{1,10})", item)
+            if number or item == "all":
+                taken = min(taken + int(number[1]), most) if number else most
+        if first == math.inf:
+            told.append("not known")
+        elif taken == math.inf:
+            told.append(f"from {first + 1:,} on")
+        else:
+            told.append(f"{first + 1:,} to {taken:,}" if taken > first else "none")
+    return told
+
+
 def acquisitions(lines, places):
     """Returns the modules that came, in the order of their lines, and of each that went or was skipped the last line that says so."""
     came, went = [], {}
@@ -202,11 +225,12 @@ def module_table(report, places):
         name = it.component, it.number
         word, line = went.get(name, ("", 0))
         state = f"another one in line {link(last[name])}" if last[name] > it.line else f"{word} in line {link(line)}" if word else "held"
-        cells = [order, *(escape(cell) for cell in it[:3]), f"{it.size:,}", link(it.line), it.part, between(report.parts[it.part - 1]), state]
-        rows.append(cells)
+        packets = report.packets[it.part - 1] if it.part <= len(report.packets) else "not known"
+        when = [link(it.line), it.part, packets, between(report.parts[it.part - 1])]
+        rows.append([order, *(escape(cell) for cell in it[:3]), f"{it.size:,}", *when, state])
     total = sum(it.size for it in came)
     head = [f"<h2>Modules</h2><p>Modules that came: {len(came):,}, with {total:,} bytes together.</p>"]
-    heads = ["", "component", "module", "version", "bytes", "line", "part", "clock (ms)", "at the end"]
+    heads = ["", "component", "module", "version", "bytes", "line", "part", "packets", "clock (ms)", "at the end"]
     return head + (table(heads, rows) if rows else [])
 
 
@@ -263,7 +287,8 @@ def part_html(report, number, before, room):
     shown = f"up to the display list at {part.clock} ms" if part.shown else shown
     written = [f'<section id="P{number}"><h3>Part {number}: {shown}</h3>']
     if number <= len(report.items) and report.items[number - 1]:
-        written.append(f"<p><small>The record: {escape('; '.join(report.items[number - 1]))}</small></p>")
+        items = escape("; ".join(report.items[number - 1]))
+        written.append(f"<p><small>The record: {items}. Packets: {report.packets[number - 1]}.</small></p>")
     told = [line_html(place, line) for place, line in enumerate(part.lines, part.first)]
     written += ['<div class="lines">', *told]
     drawn = 0
@@ -303,13 +328,12 @@ def page(report):
     ])
 
 
-def notes_of(lines, parts, items, stream):
-    """Returns sentences about the whole run."""
+def notes_of(count, parts, items, stream):
+    """Returns sentences about the whole run, which took so many packets."""
     shows = sum(1 for part in parts if part.shown)
     notes = [f"{shows:,} display lists."]
-    ended = re.fullmatch(rb"end ([0-9]{1,20})", lines[-1]) if lines else None
-    notes.append(f"The record was read to its end; {int(ended[1]):,} packets were taken." if ended else
-                 "The last line is no `end`: the run stopped before the end of its record, or the file was cut.")
+    cut = "The last line is no `end`: the run stopped before the end of its record, or the file was cut."
+    notes.append(cut if count is None else f"The record was read to its end; {count:,} packets were taken.")
     if items and len(items) - 1 != shows:
         notes.append(f"The record asks for {len(items) - 1:,} display lists: it is another one, or the run stopped in it.")
     if stream:
@@ -324,7 +348,10 @@ def report_of(output, stream=None, record=None):
         lines.pop()
     parts = parts_of(lines)
     items = items_of(Path(record).read_bytes()) if record else []
-    return Report(f"Report of {os.path.basename(output)}", lines, parts, items, notes_of(lines, parts, items, stream))
+    ended = re.fullmatch(rb"end ([0-9]{1,20})", lines[-1]) if lines else None
+    count = int(ended[1]) if ended else None
+    notes = notes_of(count, parts, items, stream)
+    return Report(f"Report of {os.path.basename(output)}", lines, parts, items, packets_of(items, count), notes)
 
 
 def main(words):

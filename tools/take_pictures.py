@@ -47,7 +47,7 @@ def remote_picture(started, program):
         threading.Thread(target=server.serve_forever, daemon=True).start()
         page = started.open(server.address())
         page.wait("document.querySelector('#picture text') !== null")
-        take(page, "remote.png", 1440, 480)
+        take(page, "remote.png", 1440, 570)
         server.shutdown()
 
 

@@ -326,10 +326,12 @@ class InBrowser(OverExample):
         saved = page.value("fetch(document.querySelector('a[download]').href).then(it => it.text())")
         self.assertEqual(saved, page.value("record.textContent"))
         self.assertEqual(self.replay(saved.encode())[-len(lines) - 1 :], [*lines, "end 11"])
-        page.value("document.activeElement.blur()")
+        page.value("document.querySelector('[data-key=\"18\"]').focus()")
+        page.key("Enter", 13, "\r")
+        page.wait("told.textContent.startsWith('Presses: 3, the last one enter')")
         page.key("t", 84, "t")
         page.wait("told.textContent.endsWith('Clock: 1000 ms')")
-        for _ in range(2):
+        for _ in range(3):
             page.key("u", 85, "u")
         page.wait("told.textContent.startsWith('Presses: 1,')")
         self.assertEqual(page.value("document.querySelector('#picture').innerHTML"), second)

@@ -128,10 +128,24 @@ class Reports(InFolder):
         lines = [b"module 40 0001 01 1000", b"module 40 0002 01 7", b"show 5", b"module 40 0001 02 2000", b"gone 40 0002", b"show 9", b"end 1"]
         html = self.report(lines)
         self.assertIn("Modules that came: 3, with 3,007 bytes together.", html)
-        cells = "<td>1</td><td>40</td><td>0001</td><td>01</td><td>1,000</td><td>{}</td><td>1</td><td>0 to 5</td><td>another one in line {}</td>"
-        self.assertIn(cells.format(report.link(1), report.link(4)), html)
-        self.assertIn(f"<td>{report.link(4)}</td><td>2</td><td>5 to 9</td><td>held</td>", html)
+        cells = "<td>1</td><td>40</td><td>0001</td><td>01</td><td>1,000</td><td>{}</td><td>1</td><td>{}</td><td>0 to 5</td><td>another one in line {}</td>"
+        self.assertIn(cells.format(report.link(1), "not known", report.link(4)), html)
+        self.assertIn(f"<td>{report.link(4)}</td><td>2</td><td>not known</td><td>5 to 9</td><td>held</td>", html)
         self.assertIn(f"<td>gone in line {report.link(5)}</td>", html)
+        record = self.write("record.txt", b"packets 4\ntick 5\nshow\nall\ntick 4\nshow\n")
+        html = self.report([*lines[:-1], b"end 1234"], "--record", record)
+        self.assertIn(cells.format(report.link(1), "1 to 4", report.link(4)), html)
+        self.assertIn(f"<td>{report.link(4)}</td><td>2</td><td>5 to 1,234</td><td>5 to 9</td><td>held</td>", html)
+
+    def test_packets_are_those_that_the_items_take(self):
+        rows = [
+            ([["packets 4", "show"], ["packets 5", "key 2 (down)", "packets 1", "show"], []], 10, ["1 to 4", "5 to 10", "none"]),
+            ([["show"], ["packets 4", "show"], ["packets 5", "all", "show"], ["all"]], 6, ["none", "1 to 4", "5 to 6", "none"]),
+            ([["packets 4", "show"], ["all", "show"], ["packets 1", "show"], []], None, ["1 to 4", "from 5 on", "not known", "not known"]),
+            ([["packets 4", "show"], ["packets 3"]], None, ["1 to 4", "5 to 7"]),
+        ]
+        for items, count, wanted in rows:
+            self.assertEqual(report.packets_of(items, count), wanted)
 
     def test_lines_that_warn_are_told(self):
         lines = [b"skip 40 0002 large", b"stop Budget keydown", b"lost keydown", b"stop Depth load", b"refuse /40/0000 Malformed", b"badscript /40/0000 2"]
@@ -159,8 +173,9 @@ class Reports(InFolder):
     def test_a_record_names_the_items_of_each_part(self):
         record = self.write("record.txt", b"# how\n\nall\r\nshow\nkey 2\n key\t18\nrelease 14 \ntick 5\nshow\nkey <b>\nshow x\n")
         html = self.report([b"show 0", b"show 5", b"end 1"], "--record", record, "--stream", record)
-        for items in ("all; show", "key 2 (down); key 18 (enter); release 14 (9); tick 5; show", "key &lt;b&gt;; show x"):
-            self.assertIn(f"The record: {items}</small>", html)
+        items = [("all; show", "1 to 1"), ("key 2 (down); key 18 (enter); release 14 (9); tick 5; show", "none"), ("key &lt;b&gt;; show x", "none")]
+        for texts, packets in items:
+            self.assertIn(f"The record: {texts}. Packets: {packets}.</small>", html)
         self.assertIn(f"The stream record.txt has {os.path.getsize(record)} bytes.", html)
         self.assertNotIn("it is another one", html)
         self.assertIn("The record asks for 2 display lists: it is another one", self.report([b"show 0"], "--record", record))
