@@ -36,6 +36,7 @@ class Reader:
         self.names = {it.name for it in self.crates.iterdir() if (it / "src").is_dir()}
         self.sources = Sources(self.crates, self.names)
         self.files = {}
+        self.library = {}   # what is used of the toolchain's library: path -> names
         self.laws = {}      # (crate, source) -> laws that say what a device computes
         self.edges = {}     # what a definition names: node -> nodes
 
@@ -53,6 +54,7 @@ class Reader:
         """What a name behind a path of modules means: a node, or None where it is the toolchain's own."""
         found = re.match(r"Rattle\.(\w+)\.(.+)$", path)
         if not found or found[1] not in self.names:
+            self.library.setdefault(path, set()).add(name)
             return None
         crate, rest = found[1], found[2]
         if rest.startswith("proofs."):
@@ -211,6 +213,10 @@ def types_as_text(reader, nodes):
     return [f"- `{path}`: " + ", ".join(names) for path, names in files.items()]
 
 
+def library_as_text(reader):
+    return [f"- `{path}`: " + ", ".join(f"`{name}`" for name in sorted(names)) for path, names in sorted(reader.library.items())]
+
+
 def counted(number, word):
     return f"{number:,} {word}" + ("" if number == 1 else "s")
 
@@ -258,6 +264,12 @@ def page(reader, what):
         "with `as` is seen as the type behind that word. Of a trait all clauses count: they say what the outside may do.",
         "",
         *types_as_text(reader, everything),
+        "",
+        "## Of the toolchain's library",
+        "",
+        "Lists, numbers, options and the like are those of the toolchain, which is trusted. These are used here.",
+        "",
+        *library_as_text(reader),
     ]
     return "\n".join(out) + "\n"
 
