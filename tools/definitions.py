@@ -192,6 +192,12 @@ class Reader:
         return given
 
 
+def as_markdown(text):
+    """A text of a comment, in which `*` and `<` are themselves outside of backquotes."""
+    parts = text.split("`")
+    return "`".join(part if n % 2 else re.sub(r"([*<])", r"\\\1", part) for n, part in enumerate(parts))
+
+
 def files_as_text(reader, nodes):
     """The files of these definitions in reading order, with the count of definitions and of their lines."""
     out, count, lines = [], 0, 0
@@ -201,7 +207,7 @@ def files_as_text(reader, nodes):
         count += len(names)
         lines += sum(file.lines[it] for it in names)
         shown = f"crates/{crate}/specs/{module.replace('.', '/')}.antt"
-        out += [f"### `{shown}`", "", file.sentence(), "", ", ".join(f"`{it}`" for it in names), ""]
+        out += [f"### `{shown}`", "", as_markdown(file.sentence()), "", ", ".join(f"`{it}`" for it in names), ""]
     return out, count, lines
 
 
