@@ -36,6 +36,7 @@ class Reader:
         self.names = {it.name for it in self.crates.iterdir() if (it / "src").is_dir()}
         self.sources = Sources(self.crates, self.names)
         self.files = {}
+        self.library = {}   # what is used of the toolchain's library: path -> names
         self.laws = {}      # (crate, source) -> laws that say what a device computes
         self.edges = {}     # what a definition names: node -> nodes
 
@@ -53,6 +54,7 @@ class Reader:
         """What a name behind a path of modules means: a node, or None where it is the toolchain's own."""
         found = re.match(r"Rattle\.(\w+)\.(.+)$", path)
         if not found or found[1] not in self.names:
+            self.library.setdefault(path, set()).add(name)
             return None
         crate, rest = found[1], found[2]
         if rest.startswith("proofs."):
@@ -190,6 +192,12 @@ class Reader:
         return given
 
 
+def as_markdown(text):
+    """A text of a comment, in which `*` and `<` are themselves outside of backquotes."""
+    parts = text.split("`")
+    return "`".join(part if n % 2 else re.sub(r"([*<])", r"\\\1", part) for n, part in enumerate(parts))
+
+
 def files_as_text(reader, nodes):
     """The files of these definitions in reading order, with the count of definitions and of their lines."""
     out, count, lines = [], 0, 0
@@ -199,7 +207,7 @@ def files_as_text(reader, nodes):
         count += len(names)
         lines += sum(file.lines[it] for it in names)
         shown = f"crates/{crate}/specs/{module.replace('.', '/')}.antt"
-        out += [f"### `{shown}`", "", file.sentence(), "", ", ".join(f"`{it}`" for it in names), ""]
+        out += [f"### `{shown}`", "", as_markdown(file.sentence()), "", ", ".join(f"`{it}`" for it in names), ""]
     return out, count, lines
 
 
@@ -209,6 +217,10 @@ def types_as_text(reader, nodes):
         files.setdefault(f"crates/{crate}/src/{source}", []).append(
             f"`{name}`" + reader.sources.remark(crate, source, name))
     return [f"- `{path}`: " + ", ".join(names) for path, names in files.items()]
+
+
+def library_as_text(reader):
+    return [f"- `{path}`: " + ", ".join(f"`{name}`" for name in sorted(names)) for path, names in sorted(reader.library.items())]
 
 
 def counted(number, word):
@@ -258,6 +270,12 @@ def page(reader, what):
         "with `as` is seen as the type behind that word. Of a trait all clauses count: they say what the outside may do.",
         "",
         *types_as_text(reader, everything),
+        "",
+        "## Of the toolchain's library",
+        "",
+        "Lists, numbers, options and the like are those of the toolchain, which is trusted. These are used here.",
+        "",
+        *library_as_text(reader),
     ]
     return "\n".join(out) + "\n"
 

@@ -213,13 +213,20 @@ handed_on = odd_by_steps 3
 """, "handed_on"),
     "low/specs/Odd": ("""-- A device of the proofs: whether a number is odd, step by step; by `law_of_odd` it is what `Laws` says.
 use Rattle.std.specs.Prelude.{ℕ}
+use Rattle.low.specs.devices.Halving.{halved}
 
 abbrev pub odd_by_steps : ℕ → ℕ
-odd_by_steps n = a_step n
+odd_by_steps n = a_step (halved n)
 
 a_step : ℕ → ℕ
 a_step n = n
 """, "odd_by_steps a_step"),
+    "low/specs/devices/Halving": ("""-- Halves, as `law_of_odd` tells of them.
+use Rattle.std.specs.Prelude.{ℕ}
+
+abbrev pub halved : ℕ → ℕ
+halved n = n
+""", "halved"),
     "low/specs/Laws": ("""-- Odd numbers. This project's own.
 use Rattle.std.specs.Prelude.{ℕ}
 pub use Rattle.low.specs.Odd.{odd_by_steps}
@@ -249,7 +256,7 @@ unused = Unit {0}
 """, ""),
 }
 
-DEVICES = {"odd_by_steps", "a_step"}
+DEVICES = {"odd_by_steps", "a_step", "halved"}
 TYPES = {"Value", "Holder", "Modelled", "World"}
 
 # forms that have to be refused, each at the end of low/specs/Forms
@@ -303,7 +310,7 @@ def check_small_trees(tell):
     found = {}
     for node in reader.edges:
         if node[0] == "spec":
-            found.setdefault(f"{node[1]}/specs/{node[2]}", set()).add(node[3])
+            found.setdefault(f"{node[1]}/specs/{node[2].replace('.', '/')}", set()).add(node[3])
     for path, (_, names) in SPECS.items():
         wanted = set(names.split())
         if found.get(path, set()) != wanted:
