@@ -8,11 +8,15 @@ size, and pictures are a frame with their type and name. Colours 0 to 8 are thos
 each other colour is a grey with its number beside it. Texts are EUC-JP, one behind the other in their box, cut at its edges and not broken into rows.
 
 A drawing is a help for the eye. What was shown is what the lines say; a drawing is neither proved nor a receiver's.
+
+tools/report.py and tools/remote.py draw by the functions here. All text in the lines comes from a broadcast: it is escaped, and its control
+characters are drawn as pictures of them, so that what comes is well-formed XML and nothing in it is a mark.
 """
 
 import re
 import sys
 from pathlib import Path
+from typing import NamedTuple
 from xml.sax.saxutils import escape
 
 WIDTH, HEIGHT = 960, 540
@@ -26,20 +30,33 @@ class BadOutput(Exception):
     """A line that no run prints."""
 
 
+class DisplayList(NamedTuple):
+    """A display list: its clock, its lines, and the number of its line `show`, counted from 0."""
+
+    clock: int
+    lines: list[bytes]
+    place: int
+
+
 def colour(number):
-    return FIXED[number] if number < len(FIXED) else OTHER
+    return FIXED[number] if 0 <= number < len(FIXED) else OTHER
 
 
-def text_of(field):
-    """The text of a field of bytes, with its escapes read."""
-    raw = re.sub(rb"%([0-9A-F]{2})", lambda it: bytes([int(it[1], 16)]), field)
-    return raw.decode("euc_jp", errors="replace")
+def unescaped(field):
+    """The bytes that a field stands for."""
+    return re.sub(rb"%([0-9A-F]{2})", lambda it: bytes([int(it[1], 16)]), field)
+
+
+def readable(raw):
+    """Bytes in EUC-JP as a text, in which control characters are pictures of them."""
+    text = raw.decode("euc_jp", errors="replace")
+    return re.sub("[\x00-\x1f\x7f]", lambda it: chr(0x2400 + ord(it[0])) if it[0] < " " else "\u2421", text)
 
 
 def numbers(fields, count):
     """The numbers in the first fields of a line."""
-    if len(fields) < count or not all(re.fullmatch(rb"-?[0-9]+", it) for it in fields[:count]):
-        raise BadOutput
+    if len(fields) < count or not all(re.fullmatch(rb"-?[0-9]{1,20}", it) for it in fields[:count]):
+        raise BadOutput("with a line that no run prints")
     return [int(it) for it in fields[:count]]
 
 
@@ -84,12 +101,11 @@ class Pen:
         x, y, width, height, number, size = numbers(fields, 6)
         if self.box != (x, y, width, height):
             self.box, self.right, self.down = (x, y, width, height), 0, 0
-        raw = re.sub(rb"%([0-9A-F]{2})", lambda it: bytes([int(it[1], 16)]), b" ".join(fields[6:]))
         drawn = []
-        for place, row in enumerate(raw.split(b"\n")):
+        for place, row in enumerate(unescaped(b" ".join(fields[6:])).split(b"\n")):
             if place > 0:
                 self.right, self.down = 0, self.down + size
-            written = row.decode("euc_jp", errors="replace")
+            written = readable(row)
             if written and number != CLEAR:
                 drawn.append(label(self.right, self.down + size - size // 5, size, colour(number), written))
             self.right += advance(row, size)
@@ -102,7 +118,7 @@ class Pen:
 
 def picture(fields):
     x, y, width, height = numbers(fields, 4)
-    kind, name = (text_of(it) for it in fields[4:6])
+    kind, name = (readable(unescaped(it)) for it in (fields[4:6] + [b"", b""])[:2])
     frame = 'fill="#c0c0c0" stroke="#404040" stroke-dasharray="4 2"'
     return [rectangle(x, y, width, height, frame), label(x + 4, y + 14, 11, "#000000", f"{kind} {name}")]
 
@@ -113,9 +129,39 @@ def focus(fields):
 
 
 KINDS = {b"box": box, b"picture": picture, b"focus": focus}
+WORDS = {*KINDS, b"text"}
+
+
+def display_lists(lines):
+    """The display lists in the lines of a run. A list goes on up to the first line that none has."""
+    found, is_open = [], False
+    for place, line in enumerate(lines):
+        word, *fields = line.split(b" ")
+        if word == b"show":
+            found.append(DisplayList(numbers(fields, 1)[0], [], place))
+            is_open = True
+        elif word in WORDS and is_open:
+            found[-1].lines.append(line)
+        else:
+            is_open = False
+    return found
+
+
+def shapes_of(lines):
+    """The shapes that the lines of a display list are drawn by."""
+    shapes, pen = [], Pen()
+    for line in lines:
+        word, *fields = line.split(b" ")
+        if word == b"text":
+            shapes += pen.texts(fields)
+        else:
+            pen = Pen()
+            shapes += KINDS[word](fields)
+    return shapes
 
 
 def drawing(clock, shapes):
+    """The picture of a display list with these shapes."""
     head = f'<svg xmlns="http://www.w3.org/2000/svg" width="{WIDTH}" height="{HEIGHT}" viewBox="0 0 {WIDTH} {HEIGHT}"'
     # what is behind the display is the programme's picture
     behind = rectangle(0, 0, WIDTH, HEIGHT, 'fill="#303848"')
@@ -123,34 +169,20 @@ def drawing(clock, shapes):
     return "\n".join([f'{head} font-family="monospace" xml:space="preserve">', title, behind, *shapes, "</svg>"]) + "\n"
 
 
-def drawings(lines):
-    """The display lists of a run's lines: for each its clock and its shapes."""
-    found, pen = [], Pen()
-    for line in lines:
-        word, *fields = line.split(b" ")
-        if word == b"show":
-            found.append((numbers(fields, 1)[0], []))
-        elif word == b"text" and found:
-            found[-1][1].extend(pen.texts(fields))
-        elif word in KINDS and found:
-            pen = Pen()
-            found[-1][1].extend(KINDS[word](fields))
-    return found
-
-
 def main(words):
     if len(words) != 2:
         print("usage: draw_display.py OUTPUT FOLDER", file=sys.stderr)
         return 1
     try:
-        found = drawings(Path(words[0]).read_bytes().split(b"\n"))
+        found = display_lists(Path(words[0]).read_bytes().split(b"\n"))
+        drawn = [drawing(it.clock, shapes_of(it.lines)) for it in found]
     except (OSError, BadOutput) as error:
         print(f"draw_display.py: {words[0]} is no output of a run {error}", file=sys.stderr)
         return 1
     folder = Path(words[1])
     folder.mkdir(parents=True, exist_ok=True)
-    for number, (clock, shapes) in enumerate(found, 1):
-        (folder / f"show-{number}.svg").write_text(drawing(clock, shapes), encoding="utf-8")
+    for number, text in enumerate(drawn, 1):
+        (folder / f"show-{number}.svg").write_text(text, encoding="utf-8")
     print(f"{len(found)} display lists drawn")
     return 0
 

@@ -125,6 +125,8 @@ def unpack(source, target):
         if os.path.exists(target) and not stat.S_ISREG(os.stat(target).st_mode):
             raise Fault(f"{target} is no file that can be replaced")
         part = f"{target}.part"
+        if os.path.lexists(part):
+            raise Fault(f"{part} is there: another run writes it, or one was broken off; remove it then")
         with open(part, "xb+") as made:
             try:
                 terminal = Terminal(os.fstat(file.fileno()).st_size)

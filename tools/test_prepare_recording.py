@@ -11,8 +11,6 @@ import contextlib
 import io
 import os
 import random
-import shutil
-import struct
 import subprocess
 import sys
 import tempfile
@@ -21,6 +19,7 @@ import zlib
 from unittest import mock
 
 import carousels
+import multiplexed_recordings
 import prepare_recording
 import recordings
 import transport
@@ -40,6 +39,7 @@ from generated_recordings import (
     sections_on,
     tables,
 )
+from multiplexed_recordings import with_components
 from recordings import Assembler, pid_of
 from transport import DATA_STREAM, PACKET_SIZE, Compression, ElementaryStream, Module
 
@@ -86,12 +86,12 @@ class InFolder(unittest.TestCase):
             self.assertEqual(replayed, [*words, end])
         return lines
 
-    def replay(self, stream):
+    def replay(self, stream, *options):
         names = [f"{self.folder}/replay.ts", f"{self.folder}/record.txt"]
         for name, data in zip(names, [stream, b"all\nshow\n"]):
             with open(name, "wb") as file:
                 file.write(data)
-        return subprocess.run([PROGRAM, "replay", *names], capture_output=True, check=True).stdout.decode("latin-1").splitlines()
+        return subprocess.run([PROGRAM, "replay", *options, *names], capture_output=True, check=True).stdout.decode("latin-1").splitlines()
 
 
 def word(at, field):
@@ -546,6 +546,14 @@ class CommandLine(InFolder):
             self.assertEqual(file.read(), packets)
         self.assertEqual(sorted(os.listdir(self.folder)), ["in.ts", "same.ts"])
 
+    def test_what_another_run_left_stays(self):
+        self.write(b"".join(packets_of(tables())))
+        os.symlink(f"{self.folder}/none", f"{self.target}.part")
+        status, printed, told = run("unpack", self.source, self.target)
+        self.assertEqual((status, printed), (1, ""))
+        self.assertIn(f"{self.target}.part is there: another run writes it, or one was broken off; remove it then", told)
+        self.assertEqual(sorted(os.listdir(self.folder)), ["in.ts", "out.ts.part"])
+
     def test_what_is_no_stream_is_told_without_a_traceback(self):
         dice = random.Random(5)
         module, sent = compressed(1)
@@ -578,7 +586,7 @@ class Generated(InFolder):
         self.assertGreater(unpacked, PLANS // 2)
 
 
-@unittest.skipUnless(shutil.which("ffmpeg"), "ffmpeg isn't there")
+@unittest.skipUnless(multiplexed_recordings.is_possible(), "ffmpeg isn't there")
 class Multiplexed(InFolder):
     def made(self, options):
         """Returns a stream that ffmpeg made, with a picture and a sound."""
@@ -588,20 +596,12 @@ class Multiplexed(InFolder):
         with open(self.source, "rb") as file:
             return file.read()
 
-    def with_component(self, packet):
-        """Returns the packet of a PMT with one component of data more."""
-        section = sections_on(pid_of(packet), packet)[0]
-        info = transport.descriptor(transport.STREAM_IDENTIFIER, b"\x40") + transport.descriptor(transport.DATA_COMPONENT, b"\x00\x07")
-        stream = struct.pack(">BHH", DATA_STREAM, 0xE000 | PID, 0xF000 | len(info)) + info
-        new = transport.with_header(section[:8], section[8:-4] + stream)
-        return transport.section_packets(pid_of(packet), [packet[3] % 16], new)[0]
-
     def test_a_multiplexed_stream_is_listed_unpacked_and_replayed(self):
         page = b"Content-Type: text/X-arib-bml\r\nContent-Location: startup.bml\r\n\r\n<bml><head/><body><p>sea</p></body></bml>"
         for size, options in ((188, []), (192, ["-mpegts_m2ts_mode", "1"])):
             with self.subTest(size):
                 data = self.made(options)
-                modules = [compressed(0, page), compressed(1)]
+                modules, component = [compressed(0, page), compressed(1)], ElementaryStream(DATA_STREAM, PID, 0x40)
                 sections = [transport.dii_section(1, 1, 100, [module for module, _ in modules])]
                 sections += [section for module, sent in modules for section in blocks(module, sent)]
                 carousel, rows, front = packets_of(on(PID, sections)), [], size - PACKET_SIZE
@@ -610,7 +610,7 @@ class Multiplexed(InFolder):
                 maps = {pid for _, pid in transport.read_pat(pat)}
                 for at in range(0, len(data), size):
                     one = data[at + front : at + size]
-                    rows.append(data[at : at + front] + (self.with_component(one) if pid_of(one) in maps else one))
+                    rows.append(data[at : at + front] + (with_components(one, [component], 1) if pid_of(one) in maps else one))
                     if at >= 50 * size and carousel:
                         rows.append(data[at : at + front] + carousel.pop(0))
                 stream, told = self.unpacked(b"".join(rows))
@@ -626,6 +626,54 @@ class Multiplexed(InFolder):
                 self.assertEqual(printed.count(", complete, no Type"), 2)
                 if PROGRAM:
                     self.assertIn("load /40/0000/startup.bml", self.replay(stream))
+
+    def stages(self, sent):
+        """Returns four stages of two services: the first one's second component leaves and comes back under another tag, and
+        the second service gets one."""
+        one, two, other = (ElementaryStream(DATA_STREAM, PID + at, tag) for at, tag in enumerate([0x40, 0x50, 0x40]))
+        moved, counters, stages = two._replace(component=0x51), {}, []
+        maps = [({101: [one, two]}, [one, two]), ({101: [one], 102: [other]}, [two, other]), ({101: [one, moved], 102: [other]}, [two]), ({101: []}, [])]
+        for components, come in maps:
+            packets = []
+            for stream in come:
+                for section in self.sections(stream, sent):
+                    taken = transport.counters_from(counters.get(stream.pid, 0), transport.packets_taken(section))
+                    counters[stream.pid] = (taken[-1] + 1) % 16
+                    packets += transport.section_packets(stream.pid, taken, section)
+            stages.append(multiplexed_recordings.Stage(components, packets, 800))
+        return stages
+
+    def sections(self, stream, sent):
+        """Returns a round of the carousel of a component: two modules, compressed where sent says so, whose texts name its PID."""
+        texts = [TEXT + b"%d %d" % (stream.pid, number) for number in range(2)]
+        modules = [compressed(number, text) if sent else (Module(number, 1, len(text)), text) for number, text in enumerate(texts)]
+        dii = transport.dii_section(1, 1, 100, [module for module, _ in modules])
+        return [dii, *(section for module, data in modules for section in blocks(module, data))]
+
+    def test_two_services_whose_maps_change_are_unpacked_from_a_cut_recording(self):
+        multiplexed_recordings.write_multiplex(self.source, 6, multiplexed_recordings.Rate("1M", "500k", "4M"))
+        with open(self.source, "rb") as file:
+            data = file.read()
+        multiplex = [data[at : at + PACKET_SIZE] for at in range(0, len(data), PACKET_SIZE)]
+        plain, packets = (list(multiplexed_recordings.with_data(multiplex, self.stages(sent))) for sent in (False, True))
+        wanted = self.lines(b"".join(plain))
+        self.assertEqual([line[:3] for line in wanted], [
+            ("module", 0x40, 0), ("module", 0x40, 1), ("module", 0x50, 0), ("module", 0x50, 1), ("gone", 0x50, 0), ("gone", 0x50, 1),
+            ("module", 0x51, 0), ("module", 0x51, 1), ("gone", 0x40, 0), ("gone", 0x40, 1), ("gone", 0x51, 0), ("gone", 0x51, 1),
+        ])
+        for size in (188, 192, 204):
+            with self.subTest(size):
+                front, behind = {188: (0, 0), 192: (4, 0), 204: (0, 16)}[size]
+                stream, told = self.unpacked(b"".join(bytes(front) + one + bytes(behind) for one in packets)[100:-77])
+                self.assertEqual((self.lines(stream) == wanted, told), (True, ""))
+                status, printed, _ = run("list", self.source)
+                self.assertEqual((status, printed.count("data component 0007"), printed.count(", complete")), (0, 4, 8))
+                self.assertIn(f"packets of {size} bytes: {len(packets) - 2}\n", printed)
+                if PROGRAM:
+                    for service in ("101", "102"):
+                        lines = [[line for line in self.replay(it, "--service", service) if line.split()[0] != "end"] for it in (stream, b"".join(plain))]
+                        self.assertEqual(lines[0], lines[1])
+                        self.assertEqual(len([line for line in lines[0] if line.startswith("module")]), 6 if service == "101" else 2)
 
 
 if __name__ == "__main__":
