@@ -2,7 +2,7 @@
 use Rattle.std.proofs.Common.{◌≡◌, ℕ, Bool, true, false, cond, nat_eq, List, [], ◌∷◌, ◌++◌, length, take, drop, Option, Some, None, refl, sym, ◌∙◌, ap}
 use Rattle.std.specs.Prelude.{◌&&◌, option_and_then}
 use Rattle.std.specs.Cmp.Lexicographic.{pointwise}
-use Rattle.std.proofs.lemmas.Bool.{eqb-true}
+use Rattle.std.proofs.lemmas.Bool.{eq-eqb, eqb-true}
 use Rattle.multipart_entities.specs.Lines.{begins_with, behind, behind_first}
 
 pub some-same : {A : Type 0} → (a b : A) → Some a ≡ Some b → a ≡ b
@@ -68,3 +68,30 @@ behind_first-next word b bytes e = next-by (begins_with word (b ∷ bytes)) (dro
 pub behind_first-end : (word : List ℕ) → behind_first word [] ≡ behind word []
 unfolding behind_first
 behind_first-end word = refl
+
+-- ---- the front is there
+
+pub behind-front : (front rest : List ℕ) → behind front (front ++ rest) ≡ Some rest
+behind-front [] rest = refl
+behind-front (m ∷ front) rest = behind-cons m m front (front ++ rest) ∙ (ap (λ t. cond t (behind front (front ++ rest)) None) (eq-eqb m m refl) ∙ behind-front front rest)
+
+-- what isn't at the front of the whole isn't at the front of its front
+short-by : (t : Bool) (o p : Option (List ℕ)) → (o ≡ None → p ≡ None) → cond t o None ≡ None → cond t p None ≡ None
+short-by true o p f e = f e
+short-by false o p f e = refl
+
+pub behind-short : (word line more : List ℕ) → behind word (line ++ more) ≡ None → behind word line ≡ None
+behind-short [] line more e = absurd (cc e)
+behind-short (m ∷ word) [] more e = refl
+behind-short (m ∷ word) (b ∷ line) more e =
+    behind-cons m b word line
+    ∙ short-by (nat_eq m b) (behind word (line ++ more)) (behind word line) (behind-short word line more) (sym (behind-cons m b word (line ++ more)) ∙ e)
+
+-- a word that stands nowhere doesn't stand at the front, nor behind the first byte
+nowhere-by : (t : Bool) (x : List ℕ) (o : Option (List ℕ)) → cond t (cond t (Some x) None) o ≡ None → (cond t (Some x) None ≡ None) × (o ≡ None)
+nowhere-by true x o e = absurd (cc e)
+nowhere-by false x o e = (refl, e)
+
+pub behind_first-nowhere : (word : List ℕ) (b : ℕ) (bytes : List ℕ) → behind_first word (b ∷ bytes) ≡ None → (behind word (b ∷ bytes) ≡ None) × (behind_first word bytes ≡ None)
+unfolding behind_first
+behind_first-nowhere word b bytes e = nowhere-by (begins_with word (b ∷ bytes)) (drop (length word) (b ∷ bytes)) (behind_first word bytes) e

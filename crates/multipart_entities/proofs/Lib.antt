@@ -14,3 +14,4 @@ pub mod PrintLemmas
 pub mod RootLemmas
 pub mod SplitLemmas
 pub mod TextLemmas
+pub mod EndedLines

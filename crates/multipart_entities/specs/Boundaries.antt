@@ -4,7 +4,7 @@ use Rattle.std.specs.Prelude.{ℕ, ◌+◌, ◌==◌, Bool, true, false, ◌||�
 use Rattle.std.specs.Option.{option_map_or}
 use Rattle.std.specs.List.{list_any, list_all, before_first, filter_map}
 use Rattle.std.specs.Str.{str_eq_ignore_ascii_case}
-use Rattle.multipart_entities.specs.Lines.{Placed, is_blank, behind, behind_first}
+use Rattle.multipart_entities.specs.Lines.{Placed, is_blank, behind, behind_first, lines_of, placed_from}
 
 -- the media type begins with `multipart/mixed`, without ASCII case
 unfoldable pub is_multipart : List ℕ → Bool
@@ -70,3 +70,7 @@ delimiter_of boundary placed =
 -- all delimiters of some lines, in order
 abbrev pub delimiters : List ℕ → List Placed → List Delimiter
 delimiters boundary lines = filter_map (delimiter_of boundary) lines
+
+-- those of some bytes, of which the first line begins at this place
+abbrev pub placed_delimiters : List ℕ → ℕ → List ℕ → List Delimiter
+placed_delimiters boundary place bytes = delimiters boundary (placed_from place (lines_of bytes))

@@ -1,6 +1,6 @@
 -- Lines of bytes. A line ends with CR LF and with nothing else (RFC 822, 3.1), so that a CR or an
 -- LF alone stands in it.
-use Rattle.std.specs.Prelude.{ℕ, ◌+◌, ◌-◌, ◌==◌, nat_eq, Bool, ◌&&◌, ◌||◌, if◌then◌else◌, List, [], ◌∷◌, length, take, drop, Option, Some, None}
+use Rattle.std.specs.Prelude.{ℕ, ◌+◌, ◌-◌, ◌==◌, nat_eq, Bool, ◌&&◌, ◌||◌, if◌then◌else◌, List, [], ◌∷◌, ◌++◌, length, take, drop, Option, Some, None}
 use Rattle.std.specs.List.{starts_with, onto_first, prefix_len, suffix_len}
 
 -- the lines that CR LF part; behind the last CR LF stands the last line, which may be empty
@@ -10,6 +10,10 @@ lines_of (first ∷ []) = (first ∷ []) ∷ []
 lines_of (first ∷ second ∷ rest) =
     if (first == 13) && (second == 10) then [] ∷ lines_of rest
     else onto_first first (lines_of (second ∷ rest))
+
+-- a line with the CR LF that ends it, and what stands behind it
+abbrev pub line_then : List ℕ → List ℕ → List ℕ
+line_then line rest = line ++ (13 ∷ 10 ∷ rest)
 
 -- a line, and the place at which it begins
 pub record Placed : Type 0 where

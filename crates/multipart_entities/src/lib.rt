@@ -21,9 +21,10 @@ mod path_laws;
 mod paths;
 
 pub use crate::boundaries::is_multipart;
+pub use crate::bytes::behind_first;
 pub use crate::entities::entity_parts;
 pub use crate::faults::EntityFault;
-pub use crate::laws::law_of_lines;
+pub use crate::laws::{law_of_delimiters, law_of_ended_lines, law_of_lines};
 pub use crate::parts::{Part, Parts};
 pub use crate::path_laws::{law_of_component_references, law_of_paths, law_of_printed_paths};
 pub use crate::paths::{Path, component_ref};
