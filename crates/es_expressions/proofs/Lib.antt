@@ -7,6 +7,7 @@ pub mod RightLemmas
 pub mod FillLemmas
 pub mod WholeLemmas
 pub mod EndLemmas
+pub mod BeginLemmas
 pub mod StandLemmas
 pub mod JoinLemmas
 pub mod ClosingLemmas

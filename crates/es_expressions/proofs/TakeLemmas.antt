@@ -19,7 +19,7 @@ use Rattle.es_expressions.specs.declared.roles.Joint.TheVariants.{Dot, Close, Ke
 use Rattle.es_expressions.specs.declared.operands.Single.{Single}
 use Rattle.es_expressions.specs.declared.operands.Operand.{Operand}
 use Rattle.es_expressions.specs.declared.frames.Frame.{Frame}
-use Rattle.es_expressions.specs.declared.frames.Frame.TheVariants.{Group as GroupFrame, Key, Call, NewCall, Chosen}
+use Rattle.es_expressions.specs.declared.frames.Frame.TheVariants.{Group as GroupFrame, Key, Call, NewCall, Chosen, Other}
 use Rattle.es_expressions.specs.declared.places.Place.{Place}
 use Rattle.es_expressions.specs.declared.places.Place.TheVariants.{Before, Behind, Naming}
 use Rattle.es_expressions.specs.declared.places.Step.{Step}
@@ -67,6 +67,14 @@ colon-case after x ys zs t same base _ fs e a k = absurd k
 colon-in : (rows after : List NodeRow) (x y : Frame) (ys zs : List Frame) (o : Operand) (s : Single) (t : Lexeme) → zs ≡ (y ∷ ys) → Grows rows after → ((e : Phrase) → Stands rows o e → IsSingle after s e) → ((f : Opening) (e : Phrase) → FrameStands x after f → IsSingle after s e → MayOpen y after (opened_by t f e)) → (base : ℕ) (fs : List Opening) (e : Phrase) → AreStanding (x ∷ ys) rows fs → Stands rows o e → IsTakenAs (Taken Before) after zs (SpecBehind e fs) (join base Colon t e fs)
 colon-in rows after x y ys zs o s t same g single made base [] e a k = absurd a
 colon-in rows after x y ys zs o s t same g single made base (f ∷ fs) e a k = colon-case after y ys zs t same base f fs e (frames-grown rows after ys fs g a.1) (made f e (frame-grown rows after x f g a.0) (single e k))
+
+-- `a ?` that goes on with a `:` behind its second operand
+pub chosen-opens : (x : Frame) (test s : Single) → x ≡ Chosen test → (rows : List NodeRow) (f : Opening) (e : Phrase) (t : Lexeme) → FrameStands x rows f → IsSingle rows s e → MayOpen (Other test s) rows (opened_by t f e)
+chosen-opens x test s is rows f e t h i = by f (subst (λ z. FrameStands z rows f) is h)
+  where
+    by : (f : Opening) → FrameStands (Chosen test) rows f → MayOpen (Other test s) rows (opened_by t f e)
+    by (InChosen a q) k = (k, i)
+    by _ k = absurd k
 
 pub colon-taken : (rows after : List NodeRow) (xs ys zs : List Frame) (x y : Frame) (o : Operand) (s : Single) → xs ≡ (x ∷ ys) → zs ≡ (y ∷ ys) → Grows rows after → ((e : Phrase) → Stands rows o e → IsSingle after s e) → ((rows : List NodeRow) (f : Opening) (e : Phrase) (t : Lexeme) → FrameStands x rows f → IsSingle rows s e → MayOpen y rows (opened_by t f e)) → (base : ℕ) (t : Lexeme) → Joins base Colon t o (held rows xs) (held after zs) (Taken Before)
 colon-taken rows after xs ys zs x y o s same opened g single made base t fs e q a k = colon-in rows after x y ys zs o s t opened g single (λ f p h i. made after f p t h i) base fs e (subst (λ z. AreStanding z rows fs) same a) k

@@ -53,7 +53,7 @@ impl Extent {
 }
 
 // Where the reader stopped, and where it stands there.
-#[derive(Debug, Drop)]
+#[derive(Drop)]
 pub struct Stop {
     pub end: usize,
     pub place: Place,
@@ -62,7 +62,7 @@ pub struct Stop {
 /// Reads an expression from a place among tokens on, as long as it can be: each token that is read
 /// is one with which some expression goes on, and with the token at which it ends none does. Where
 /// it succeeds, its nodes are added behind the others, which stay as they were. Where it finds no
-/// memory, nothing is said of the nodes.
+/// memory, the nodes are spent: they may be any.
 pub fn read_expression(
     tokens: &[Lexeme],
     start: usize,

@@ -20,7 +20,7 @@ use bml_bytes::NoMemory;
 use es_lexer::ReservedWord;
 
 // What is known of an expression before it has a node.
-#[derive(Clone, Copy, Debug)]
+#[derive(Clone, Copy)]
 struct Made {
     level: u8,
     is_target: bool,
@@ -55,6 +55,23 @@ fn operand_of(
         end,
         content: Content::Node(number),
     })
+}
+
+// The operand of a new node over the nodes of these numbers.
+fn operand_over(
+    made: Made,
+    node: Node,
+    numbers: &[u32],
+    nodes: &mut Nodes,
+) -> Result<Operand, NoMemory>
+    ensures is { IfOk result (λ operand. operand
+        ≡ noded made.level made.is_target made.height node (length nodes.old)) }
+    ensures pushed { IfOk result (λ _. nodes.new ≡ nodes.old
+        ++ record { node = node; children = numbers.now } ∷ []) }
+{
+    let mut children = Vec::new(nodes.alloc());
+    children.extend_from_slice(numbers)?;
+    operand_of(made, node, children, nodes)
 }
 
 fn form_of_word(word: ReservedWord) -> Form
@@ -96,8 +113,7 @@ pub fn leaf(token: &Lexeme, nodes: &mut Nodes) -> Result<Operand, NoMemory>
         is_target: token.symbol.is_name(),
         height: 1,
     };
-    let children = numbers(nodes, &[])?;
-    operand_of(made, node, children, nodes)
+    operand_over(made, node, &[], nodes)
 }
 
 /// `(e)`: no node of its own, but a level and places.
@@ -146,8 +162,7 @@ pub fn index(
         is_target: true,
         height: base.height.max(deeper(key.height)),
     };
-    let children = numbers(nodes, &[base.node, key.node])?;
-    operand_of(made, node, children, nodes)
+    operand_over(made, node, &[base.node, key.node], nodes)
 }
 
 /// `b.x`
@@ -167,8 +182,7 @@ pub fn member(base: Single, name: &Lexeme, nodes: &mut Nodes) -> Result<Operand,
         is_target: true,
         height: base.height,
     };
-    let children = numbers(nodes, &[base.node])?;
-    operand_of(made, node, children, nodes)
+    operand_over(made, node, &[base.node], nodes)
 }
 
 /// `f()`
@@ -188,8 +202,7 @@ pub fn call_empty(callee: Single, close: &Lexeme, nodes: &mut Nodes) -> Result<O
         is_target: false,
         height: callee.height,
     };
-    let children = numbers(nodes, &[callee.node])?;
-    operand_of(made, node, children, nodes)
+    operand_over(made, node, &[callee.node], nodes)
 }
 
 /// `f(e)`
@@ -237,8 +250,7 @@ pub fn creation(start: usize, callee: Operand, nodes: &mut Nodes) -> Result<Oper
         is_target: false,
         height: deeper(callee.height),
     };
-    let children = numbers(nodes, &[callee.node])?;
-    operand_of(made, node, children, nodes)
+    operand_over(made, node, &[callee.node], nodes)
 }
 
 /// `new f()`
@@ -263,8 +275,7 @@ pub fn creation_empty(
         is_target: false,
         height: deeper(callee.height),
     };
-    let children = numbers(nodes, &[callee.node])?;
-    operand_of(made, node, children, nodes)
+    operand_over(made, node, &[callee.node], nodes)
 }
 
 /// `new f(e)`
@@ -313,8 +324,7 @@ pub fn postfix(target: Operand, operator: &Lexeme, nodes: &mut Nodes) -> Result<
         is_target: false,
         height: deeper(target.height),
     };
-    let children = numbers(nodes, &[target.node])?;
-    operand_of(made, node, children, nodes)
+    operand_over(made, node, &[target.node], nodes)
 }
 
 /// `-e` and `++e`
@@ -342,8 +352,7 @@ pub fn prefix(
         is_target: false,
         height: deeper(operand.height),
     };
-    let children = numbers(nodes, &[operand.node])?;
-    operand_of(made, node, children, nodes)
+    operand_over(made, node, &[operand.node], nodes)
 }
 
 /// `a + b`
@@ -371,8 +380,7 @@ pub fn binary(
         is_target: false,
         height: left.height.max(deeper(right.height)),
     };
-    let children = numbers(nodes, &[left.node, right.node])?;
-    operand_of(made, node, children, nodes)
+    operand_over(made, node, &[left.node, right.node], nodes)
 }
 
 /// `a ? b : c`
@@ -399,8 +407,7 @@ pub fn choice(
         is_target: false,
         height: deeper(test.height.max(chosen.height.max(other.height))),
     };
-    let children = numbers(nodes, &[test.node, chosen.node, other.node])?;
-    operand_of(made, node, children, nodes)
+    operand_over(made, node, &[test.node, chosen.node, other.node], nodes)
 }
 
 /// `a = b`
@@ -427,8 +434,7 @@ pub fn assignment(
         is_target: false,
         height: deeper(target.height.max(value.height)),
     };
-    let children = numbers(nodes, &[target.node, value.node])?;
-    operand_of(made, node, children, nodes)
+    operand_over(made, node, &[target.node, value.node], nodes)
 }
 
 /// `a, b`, which may go on: no node yet.
@@ -450,15 +456,6 @@ pub fn list(front: Operand, last: Operand, nodes: &mut Nodes) -> Result<Operand,
         end: last.end,
         content: Content::Parts(parts),
     })
-}
-
-// The numbers in a vector.
-fn numbers(nodes: &Nodes, numbers: &[u32]) -> Result<Vec<u32>, NoMemory>
-    ensures { IfOk result (λ children. children.items ≡ numbers.now) }
-{
-    let mut children = Vec::new(nodes.alloc());
-    children.extend_from_slice(numbers)?;
-    Ok(children)
 }
 
 // What is called, and then its arguments.

@@ -5,7 +5,6 @@ ghost use Rattle.std.specs.Prelude.{IsTrue, ◌↔◌};
 ghost use Rattle.es_expressions.specs.Standings.{frame_hole, frame_edge, innermost_hole};
 ghost use Rattle.es_expressions.specs.Standings.{innermost_edge, is_closing as spec_is_closing};
 ghost use Rattle.es_expressions.specs.Standings.{is_key as spec_is_key};
-ghost use Rattle.es_expressions.specs.Standings.{is_chosen as spec_is_chosen};
 ghost use Rattle.es_expressions.specs.Standings.{is_empty_call as spec_is_empty_call};
 
 use crate::lexemes::Symbol;
@@ -15,7 +14,7 @@ use std::alloc::Global;
 use std::marker::Model;
 
 /// A form whose last operand is still to come, or goes on, with what is kept of what came before.
-#[derive(Debug, Drop)]
+#[derive(Drop)]
 pub enum Frame {
     /// `(`, from this place on.
     Group(usize),
@@ -84,13 +83,6 @@ impl Frame {
         matches!(self, Frame::Key(_))
     }
 
-    /// Whether it is `a ?`.
-    pub fn is_chosen(&self) -> bool
-        ensures { result ≡ spec_is_chosen self.now }
-    {
-        matches!(self, Frame::Chosen(_))
-    }
-
     /// Whether the form ends in front of a token that reaches so far.
     pub fn ends_before(&self, reach: u8) -> bool
         ensures { result ≡ nat_lt reach (frame_edge self.now) }
@@ -108,7 +100,7 @@ impl Frame {
 }
 
 /// The open forms. Contracts see them from the innermost on.
-#[derive(Debug, Drop)]
+#[derive(Drop)]
 pub struct Frames {
     items: Vec<Frame>,
 }

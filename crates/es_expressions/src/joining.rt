@@ -6,15 +6,14 @@ ghost use Rattle.es_expressions.specs.declared.lexemes.Lexeme.{Lexeme};
 ghost use Rattle.es_expressions.specs.declared.frames.Frame.{Frame};
 ghost use Rattle.es_expressions.specs.Phrases.{Phrase};
 ghost use Rattle.es_expressions.specs.Machine.{Opening};
-ghost use Rattle.es_expressions.specs.Standings.{Grows, IsSingle, Stands, FrameStands, MayStand};
-ghost use Rattle.es_expressions.specs.Standings.{MayOpen, Joins, held, is_closing, is_key};
-ghost use Rattle.es_expressions.specs.Standings.{is_chosen, completed_by, indexed_by, opened_by};
+ghost use Rattle.es_expressions.specs.Standings.{Grows, Stands, FrameStands, MayStand, Joins};
+ghost use Rattle.es_expressions.specs.Standings.{held, is_closing, is_key, completed_by, indexed_by};
 
 use crate::forms::{call_with, creation_with, group, index, postfix};
 use crate::frames::{Frame, Frames};
 use crate::lexemes::Lexeme;
 use crate::nodes::Nodes;
-use crate::operands::{Operand, Single};
+use crate::operands::Operand;
 use crate::places::{Place, Step};
 use crate::roles::Joint;
 use bml_bytes::NoMemory;
@@ -269,23 +268,14 @@ fn colon(frames: &mut Frames, operand: Operand, nodes: &mut Nodes) -> Result<Ste
     let Some(frame) = frames.pop() else {
         return Ok(Step::Left(Place::Behind(operand)));
     };
-    if !frame.is_chosen() {
-        frames.push(frame)?;
-        return Ok(Step::Left(Place::Behind(operand)));
-    }
-    let chosen = operand.single(nodes)?;
-    open(frames, chosen_form(frame, chosen))
-}
-
-// `a ?`, with what is chosen and the `:`.
-fn chosen_form(frame: Frame, chosen: Single) -> Frame
-    requires { is_chosen frame ≡ true }
-    ensures { (rows : List NodeRow) (f : Opening) (e : Phrase) (t : Lexeme)
-        → FrameStands frame rows f
-        → IsSingle rows chosen e → MayOpen result rows (opened_by t f e) }
-{
     match frame {
-        Frame::Chosen(test) => Frame::Other(test, chosen),
-        _ => unreachable!(),
+        Frame::Chosen(test) => {
+            let chosen = operand.single(nodes)?;
+            open(frames, Frame::Other(test, chosen))
+        }
+        other => {
+            frames.push(other)?;
+            Ok(Step::Left(Place::Behind(operand)))
+        }
     }
 }

@@ -1,6 +1,6 @@
 //! What the definitions say together.
 
-ghost use Rattle.std.specs.Prelude.{◌≡◌, ◌≢◌, ℕ, List, true, [], ◌∷◌, ◌++◌};
+ghost use Rattle.std.specs.Prelude.{◌≡◌, ◌≢◌, ◌⊎◌, ℕ, List, true, [], ◌∷◌, ◌++◌};
 ghost use Rattle.es_lexer.specs.Tokens.{Tokens};
 ghost use Rattle.es_lexer.specs.declared.token_types.Token.{Token};
 ghost use Rattle.es_expressions.specs.Roles.{front, joint};
@@ -30,6 +30,16 @@ pub fn law_of_ends()
     ensures first { (extent : Extent) (t : Lexeme) (more : List Lexeme)
         → Begins (least extent) (t ∷ more) → front t ≢ Nothing }
     ensures some { (extent : Extent) (e : Phrase) → IsWhole (least extent) [] e → ⊥ }
+{}
+
+/// Of all tokens it can be told whether an expression begins with them, and whether they are one,
+/// and which.
+pub fn law_of_beginnings()
+    ensures begins { (extent : Extent) (tokens : List Lexeme)
+        → Begins (least extent) tokens ⊎ (Begins (least extent) tokens → ⊥) }
+    ensures whole { (extent : Extent) (tokens : List Lexeme)
+        → ((e : Phrase) × IsWhole (least extent) tokens e)
+        ⊎ ((e : Phrase) → IsWhole (least extent) tokens e → ⊥) }
 {}
 
 /// A text has at most one list of tokens with their symbols.

@@ -8,8 +8,9 @@
 //! was read is a whole expression (`specs/Beginnings.antt`).
 //!
 //! `law_of_sources` says that a text has at most one list of tokens with their symbols,
-//! `law_of_expressions` that tokens have at most one expression, and `law_of_ends` which tokens
-//! never go on with a whole one, and with which one begins.
+//! `law_of_expressions` that tokens have at most one expression, `law_of_ends` which tokens never
+//! go on with a whole one, and with which one begins, and `law_of_beginnings` that it can be told
+//! whether one begins with tokens, and whether they are one.
 //!
 //! Reading an expression looks at no token twice, and no function calls itself, so that neither
 //! time nor depth is lost to nesting.
@@ -30,7 +31,7 @@ mod roles;
 mod sources;
 
 pub use crate::expressions::{Extent, Found, Reading, read_expression};
-pub use crate::laws::{law_of_ends, law_of_expressions, law_of_sources};
+pub use crate::laws::{law_of_beginnings, law_of_ends, law_of_expressions, law_of_sources};
 pub use crate::lexemes::{Lexeme, Symbol};
 pub use crate::nodes::{Form, Node, Nodes};
 pub use crate::roles::{Front, Joint};

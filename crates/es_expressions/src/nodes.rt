@@ -1,6 +1,6 @@
 //! The nodes of trees, by number.
 
-ghost use Rattle.std.specs.Prelude.{◌≡◌, [], ◌∷◌, ◌++◌, length, IfOk, OnOk, slice_get, option_map};
+ghost use Rattle.std.specs.Prelude.{◌≡◌, [], ◌∷◌, ◌++◌, length, IfOk, IsErr, OnOk, slice_get, option_map};
 
 use crate::lexemes::Symbol;
 use bml_bytes::NoMemory;
@@ -93,11 +93,13 @@ impl Nodes {
     }
 
     /// One node more, behind the others, with its children's numbers in their order. Gives its
-    /// number.
+    /// number. Where there is no memory for it, the nodes stay as they were; and so where there are
+    /// 2^32 nodes already, since more have no number, which is told as want of memory.
     pub fn push(&mut self, node: Node, children: Vec<u32>) -> Result<u32, NoMemory>
         ensures number { IfOk result (λ number. number ≡ length self.old) }
         ensures pushed { OnOk result (self.new ≡ self.old
             ++ record { node = node; children = children.items } ∷ []) }
+        ensures kept { IsErr result → self.new ≡ self.old }
     {
         let Ok(number) = u32::try_from(self.rows.len()) else {
             return Err(NoMemory);

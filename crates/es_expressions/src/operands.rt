@@ -17,7 +17,7 @@ pub fn deeper(height: u8) -> u8
 }
 
 /// An expression by its node.
-#[derive(Clone, Copy, Debug)]
+#[derive(Clone, Copy)]
 pub struct Single {
     pub node: u32,
     pub level: u8,
@@ -28,7 +28,7 @@ pub struct Single {
 
 /// What stands for an expression: its node, or for a list with commas that may go on, the nodes of
 /// its parts.
-#[derive(Debug, Drop)]
+#[derive(Drop)]
 pub enum Content {
     Node(u32),
     Parts(Vec<u32>),
@@ -36,7 +36,7 @@ pub enum Content {
 
 /// An expression with its level, with whether it is a target, with its places, and with the height
 /// of its parts.
-#[derive(Debug, Drop)]
+#[derive(Drop)]
 pub struct Operand {
     pub level: u8,
     pub is_target: bool,

@@ -3,7 +3,7 @@
 use crate::operands::{Operand, Single};
 
 /// Before an operand, behind one, or behind one and a `.`.
-#[derive(Debug, Drop)]
+#[derive(Drop)]
 pub enum Place {
     Before,
     Behind(Operand),
@@ -11,7 +11,7 @@ pub enum Place {
 }
 
 /// The reader took the token and stands behind it, or left it and stands before it.
-#[derive(Debug, Drop)]
+#[derive(Drop)]
 pub enum Step {
     Taken(Place),
     Left(Place),

@@ -1,9 +1,10 @@
 //! The tokens of a text, as the grammar sees them.
 
-ghost use Rattle.std.specs.Prelude.{◌≡◌, ◌≢◌, ℕ, ◌≤◌, List, length, slice_range, IfOk};
-ghost use Rattle.std.specs.Prelude.{MatchResult, Err};
+ghost use Rattle.std.specs.Prelude.{◌≡◌, ◌≢◌, ℕ, ◌≤◌, List, [], ◌∷◌, ◌++◌, length};
+ghost use Rattle.std.specs.Prelude.{slice_range, IfOk, OnOk, MatchResult, Err};
 ghost use Rattle.es_lexer.specs.Tokens.{Tokens, IsBadAt, IsSpelled};
 ghost use Rattle.es_lexer.specs.declared.token_types.Token.{Token};
+ghost use Rattle.es_expressions.specs.declared.lexemes.Lexeme.{Lexeme};
 ghost use Rattle.es_expressions.specs.Sources.{IsSymbol, IsLexeme, AreLexemes};
 
 use crate::lexemes::{Lexeme, Symbol};
@@ -27,27 +28,34 @@ pub fn lexemes_of(alloc: Global, text: &Text) -> Result<Vec<Lexeme>, LexRefusal>
     let found = tokens(alloc, text)?;
     let mut lexemes = Vec::with_capacity(alloc, found.len())?;
     for token in &found {
-        lexemes.push(lexeme_of(alloc, text, token)?)?;
+        push_lexeme(alloc, text, token, &mut lexemes)?;
     }
     Ok(lexemes)
 }
 
-// The token of a text, with its symbol.
-fn lexeme_of(alloc: Global, text: &Text, token: &Token) -> Result<Lexeme, NoMemory>
+// One token of a text more, with its symbol.
+fn push_lexeme(
+    alloc: Global,
+    text: &Text,
+    token: &Token,
+    lexemes: &mut Vec<Lexeme>,
+) -> Result<(), NoMemory>
     requires from { token.now.start ≤ token.now.end }
     requires within { token.now.end ≤ length text.now }
     requires spelled { IsSpelled token.now.kind
         (slice_range text.now token.now.start token.now.end) }
-    ensures { IfOk result (λ lexeme. IsLexeme text.now token.now lexeme) }
+    ensures { OnOk result ((lexeme : Lexeme) × IsLexeme text.now token.now lexeme
+        × (lexemes.new.items ≡ lexemes.old.items ++ lexeme ∷ [])) }
 {
     let spelling = &text.codes()[token.start..token.end];
     let symbol = symbol_of(alloc, &token.kind, spelling)?;
-    Ok(Lexeme {
+    lexemes.push(Lexeme {
         symbol,
         start: token.start,
         end: token.end,
         after_break: token.after_break,
-    })
+    })?;
+    Ok(())
 }
 
 // The symbol of a token, by the codes that spell it.

@@ -102,15 +102,15 @@ valued-at tokens place middle rows number height names after name share t kids w
 
 -- one more behind the others
 
-others-more : (ds : List FurtherDeclaration) (f : FurtherDeclaration) (rest : List Lexeme) → spelled_others (ds ++ (f ∷ [])) rest ≡ spelled_others ds (f.comma ∷ spelled_declaration f.declaration rest)
+pub others-more : (ds : List FurtherDeclaration) (f : FurtherDeclaration) (rest : List Lexeme) → spelled_others (ds ++ (f ∷ [])) rest ≡ spelled_others ds (f.comma ∷ spelled_declaration f.declaration rest)
 others-more [] f rest = refl
 others-more (d ∷ ds) f rest = ap (λ x. d.comma ∷ spelled_declaration d.declaration x) (others-more ds f rest)
 
-further-are : (ds : List FurtherDeclaration) (f : FurtherDeclaration) → AreFurther ds → IsMark Comma f.comma → IsDeclaration f.declaration → AreFurther (ds ++ (f ∷ []))
+pub further-are : (ds : List FurtherDeclaration) (f : FurtherDeclaration) → AreFurther ds → IsMark Comma f.comma → IsDeclaration f.declaration → AreFurther (ds ++ (f ∷ []))
 further-are [] f h c i = (c, i, tt)
 further-are (d ∷ ds) f h c i = (h.0, h.1, further-are ds f h.2 c i)
 
-last-more : (d : Declaration) (ds : List FurtherDeclaration) (f : FurtherDeclaration) → last_of d (ds ++ (f ∷ [])) ≡ f.declaration
+pub last-more : (d : Declaration) (ds : List FurtherDeclaration) (f : FurtherDeclaration) → last_of d (ds ++ (f ∷ [])) ≡ f.declaration
 last-more d [] f = refl
 last-more d (e ∷ ds) f = last-more e.declaration ds f
 

@@ -12,7 +12,7 @@ use Rattle.es_reader.specs.Grammar.{IsMark, IsWord, IsName, parameter_names}
 use Rattle.es_reader.specs.ExpressionFacts.{ExpressionFacts}
 use Rattle.es_reader.specs.Programs.{is_among}
 use Rattle.es_reader.specs.Parts.{IsThere}
-use Rattle.es_reader.specs.Fronts.{AreParametersAt, NoNewName, ParametersBad, ParametersEnd}
+use Rattle.es_reader.specs.Fronts.{AreParametersAt, NoNewName, ParametersBad, ParametersEnd, LacksBody}
 use Rattle.es_reader.specs.Stops.{BehindWord, FrontStops}
 use Rattle.es_reader.specs.declared.function_fronts.ParametersRead.{ParametersRead}
 use Rattle.es_reader.proofs.Spelling.{parameters-onward}
@@ -125,3 +125,9 @@ front-no-brace-at tokens place name o c read w m g i ps h j bad (e, n) = subst (
     (at-stop tokens place name o w m g (read.behind + 1) (let l = slice_get_within tokens read.behind c h in omega arith) (spelled_parameters ps.0 (c ∷ []))
     (sym (parameters-onward ps.0 (c ∷ []) (drop (read.behind + 1) tokens)) ∙ (ap (λ z. spelled_parameters ps.0 z) (sym (drop-there tokens read.behind c h)) ∙ ps.1.is_spelled))
     (λ facts. front-no-brace w.0 m.0 o ps.0 c (drop (read.behind + 1) tokens) w.2 (name-there m.0 name m.2) i ps.1.are ps.1.differ j (lacks-there (IsMark OpenBrace) tokens (read.behind + 1) n)))
+
+-- the parameters end with no `)`, or no `{` stands behind it
+pub front-no-body-at : (tokens : List Lexeme) (place : ℕ) (name : List ℕ) (o : Lexeme) (read : ParametersRead) → IsThere (IsWord FunctionWord) tokens place → IsNamed name tokens (place + 1) → slice_get tokens (place + 2) ≡ Some o → IsMark OpenParenthesis o → (x : Parameters) × AreParametersAt tokens (place + 3) x read × ParametersEnd tokens read.behind x
+    → (bad : ℕ) → LacksBody tokens read.behind bad → FrontBad tokens place bad
+front-no-body-at tokens place name o read w m g i ps bad (inl k) = front-no-close-at tokens place name o read w m g i ps bad k
+front-no-body-at tokens place name o read w m g i ps bad (inr (c, e, n)) = front-no-brace-at tokens place name o c.0 read w m g i ps c.1 c.2 bad (e, n)

@@ -33,6 +33,17 @@ pub mod BadLemmas
 pub mod HeadBadLemmas
 pub mod FrontBadLemmas
 pub mod LoopBadLemmas
+pub mod LaidOutTrees
+pub mod Decided
+pub mod DecidedTokens
+pub mod DecidedEnds
+pub mod DecidedExpressions
+pub mod DecidedDeclarations
+pub mod DecidedSimples
+pub mod DecidedHeads
+pub mod DecidedFronts
+pub mod DecidedPrograms
 pub mod LevelLaws
 pub mod TextLemmas
 pub mod ReaderLemmas
+pub mod WalkLemmas

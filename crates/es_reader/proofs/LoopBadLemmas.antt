@@ -95,11 +95,15 @@ value-bad facts os outer tokens place bad (t ∷ x) s l e v a o =
     let k : kind_of t ≡ AtExpression = front-kind t (facts.first WithCommas t x v.goes_on) in
     simple-bad facts os outer tokens place bad t x s l e (subst (λ z. IsSimpleKind z) (sym k) (simple-kinds (Expression (Leaf t) None))) (expression-simple-stops facts (place_in os outer) t x (drop bad tokens) k v)
 
-pub alone-bad : (tokens : List Lexeme) (place : ℕ) (reader : Reader) (r : ReadsTo tokens place reader) → IsThere IsAlone tokens place → (bad : ℕ) → SimpleBad (place_in r.openings r.outer) tokens place bad → ExpressionFacts → IsBadAt tokens bad
-alone-bad tokens place reader r a bad (inl b) facts = simple-bad facts r.openings r.outer tokens place bad b.word b.more (r.stands facts) b.within b.parts (simple-word-kind b.word b.is) (b.stops facts)
-alone-bad tokens place reader r a bad (inr (v, o)) facts = value-bad facts r.openings r.outer tokens place bad v.read (r.stands facts) v.within v.parts (v.stops facts) a o
+-- no statement that holds no other goes on there
+pub simply-bad : (facts : ExpressionFacts) (os : List Opening) (outer : Outer) (tokens : List Lexeme) (place : ℕ) → Stands os outer tokens place → IsThere IsAlone tokens place → (bad : ℕ) → SimpleBad (place_in os outer) tokens place bad → IsBadAt tokens bad
+simply-bad facts os outer tokens place s a bad (inl b) = simple-bad facts os outer tokens place bad b.word b.more s b.within b.parts (simple-word-kind b.word b.is) (b.stops facts)
+simply-bad facts os outer tokens place s a bad (inr (v, o)) = value-bad facts os outer tokens place bad v.read s v.within v.parts (v.stops facts) a o
 
-test-kind : (form : Form) (t : Lexeme) → IsTestWord form t → IsHeadKind (kind_of t)
+pub alone-bad : (tokens : List Lexeme) (place : ℕ) (reader : Reader) (r : ReadsTo tokens place reader) → IsThere IsAlone tokens place → (bad : ℕ) → SimpleBad (place_in r.openings r.outer) tokens place bad → ExpressionFacts → IsBadAt tokens bad
+alone-bad tokens place reader r a bad b facts = simply-bad facts r.openings r.outer tokens place (r.stands facts) a bad b
+
+pub test-kind : (form : Form) (t : Lexeme) → IsTestWord form t → IsHeadKind (kind_of t)
 test-kind which t (inl w) = subst (λ k. IsHeadKind k) (sym (if-kind t w.0)) (head-kinds (If t t (Leaf t) t))
 test-kind which t (inr w) = subst (λ k. IsHeadKind k) (sym (while-kind t w.0)) (head-kinds (While t t (Leaf t) t))
 

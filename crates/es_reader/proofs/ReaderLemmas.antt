@@ -1,7 +1,8 @@
--- What readers of programs say of a text, and that there is something to be said of each.
-use Rattle.std.proofs.Common.{◌≡◌, ◌⊎◌, inl, inr, ℕ, zero, suc, ◌+◌, ◌<◌, ◌≤◌, List, [], ◌∷◌, length, take, Option, Some, None, refl, sym, ◌∙◌, ap, subst, arith}
+-- What readers of programs say of a text, that there is something to be said of each, and that there is a reader.
+use Rattle.std.proofs.Common.{◌≡◌, ◌⊎◌, inl, inr, ℕ, ◌<◌, ◌≤◌, List, [], ◌∷◌, Option, Some, None, refl, sym, ◌∙◌, ap, subst, arith}
 use Rattle.std.specs.Prelude.{slice_range}
 use Rattle.std.proofs.lemmas.Bool.{cases_order}
+use Rattle.std.proofs.lemmas.Option.{same_Some}
 use Rattle.es_lexer.specs.Elements.{InputElement, kind_of, spelling}
 use Rattle.es_lexer.specs.Elements.InputElement.{WhiteSpace, Reserved, Punctuation}
 use Rattle.es_lexer.specs.Spellings.{word_spelling, mark_spelling}
@@ -18,8 +19,8 @@ use Rattle.es_expressions.specs.declared.lexemes.Symbol.TheVariants.{Name, Word,
 use Rattle.es_reader.specs.Statements.{Item}
 use Rattle.es_reader.specs.Grammar.{IsProgram}
 use Rattle.es_reader.specs.Levels.{program_levels}
-use Rattle.es_reader.specs.Programs.{Begins, IsBadAt as NoProgramAt, ToldProgram, Tells}
-use Rattle.es_reader.specs.Sources.{AreLexemesOf, IsProgramOf, IsTooDeep, place_in_text, IsBad}
+use Rattle.es_reader.specs.Programs.{IsBadAt as NoProgramAt, ToldProgram, Tells}
+use Rattle.es_reader.specs.Sources.{AreLexemesOf, IsProgramOf, IsTooDeep, place_in_text}
 use Rattle.es_reader.specs.Readers.{Reader, IsReader, IsWritten, IsNoProgram}
 use Rattle.es_reader.proofs.TextLemmas.{TokenFacts, same-items, never-bad}
 
@@ -95,44 +96,41 @@ lexemes-of text place (token ∷ tokens) h =
       (record { start = refl; stop = refl; after_break = refl; symbol = symbol.1 }, rest.1),
     )
 
--- ---- tokens are a program, or bad at some place
+-- ---- each text is a program of at most 64 levels, or none
 
--- from the last token down: where programs begin with these tokens and none with one more, the place is bad
-begins-never : (tokens : List Lexeme) (left place : ℕ) → ((items : List Item) → IsProgram tokens items → ⊥) → ((place : ℕ) → NoProgramAt tokens place → ⊥) → place + left ≡ length tokens → Begins (take place tokens) → ⊥
-begins-never tokens zero place no_program no_bad e b =
-    no_bad place (record {
-      within = omega arith;
-      goes_on = b;
-      no_more = λ l more. absurd (omega arith);
-      no_whole = λ all items h. no_program items h;
-    })
-begins-never tokens (suc left) place no_program no_bad e b =
-    no_bad place (record {
-      within = omega arith;
-      goes_on = b;
-      no_more = λ l more. begins-never tokens left (place + 1) no_program no_bad (omega arith) more;
-      no_whole = λ all items h. absurd (omega arith);
-    })
+of-levels : (text : List ℕ) (lexemes : List Lexeme) (items : List Item) → AreLexemesOf text lexemes → IsProgram lexemes items → ((items : List Item) × IsWritten text items) ⊎ IsNoProgram text
+of-levels text lexemes items are is = elim (cases_order (program_levels items) 64) [
+  | inl e ↦ inl (items, record { lexemes = lexemes; are = are; is = is; within = omega arith })
+  | inr (inl l) ↦ inl (items, record { lexemes = lexemes; are = are; is = is; within = omega arith })
+  | inr (inr g) ↦ inr (inl (record { lexemes = lexemes; are = are; items = items; is = is; deep = g }))
+]
 
-begins-empty : Begins []
-begins-empty = record { more = []; items = []; whole = record { are = tt; is_spelled = refl } }
-
-some-tokens : (tokens : List Lexeme) → ((items : List Item) → IsProgram tokens items → ⊥) → ((place : ℕ) → NoProgramAt tokens place → ⊥) → ⊥
-some-tokens tokens no_program no_bad = begins-never tokens (length tokens) 0 no_program no_bad (omega arith) begins-empty
-
-levels-of : (text : List ℕ) (lexemes : List Lexeme) (items : List Item) → AreLexemesOf text lexemes → IsProgram lexemes items → (IsWritten text items → ⊥) → (IsTooDeep text → ⊥) → ⊥
-levels-of text lexemes items are is no_written no_deep =
-    elim (cases_order (program_levels items) 64) [
-      | inl e ↦ no_written (record { lexemes = lexemes; are = are; is = is; within = omega arith })
-      | inr (inl l) ↦ no_written (record { lexemes = lexemes; are = are; is = is; within = omega arith })
-      | inr (inr g) ↦ no_deep (record { lexemes = lexemes; are = are; items = items; is = is; deep = g })
-    ]
-
--- no text is none of the three
-pub some-text : (text : List ℕ) → ((tokens : List Token) → Tokens text tokens → StandInOrder text 0 tokens) → ((tokens : List Token) × Tokens text tokens) ⊎ ((place : ℕ) × NoTokenAt text place) → ((items : List Item) → IsWritten text items → ⊥) → (IsTooDeep text → ⊥) → ((place : ℕ) → IsBad text place → ⊥) → ⊥
-some-text text stand (inr b) no_written no_deep no_bad = no_bad b.0 (inl b.1)
-some-text text stand (inl t) no_written no_deep no_bad =
+pub each-text : (text : List ℕ) → ((tokens : List Token) → Tokens text tokens → StandInOrder text 0 tokens) → ((tokens : List Token) × Tokens text tokens) ⊎ ((place : ℕ) × NoTokenAt text place) → ((tokens : List Lexeme) → ((items : List Item) × IsProgram tokens items) ⊎ ((place : ℕ) × NoProgramAt tokens place)) → ((items : List Item) × IsWritten text items) ⊎ IsNoProgram text
+each-text text stand (inr b) reading = inr (inr (b.0, inl b.1))
+each-text text stand (inl t) reading =
     let lexemes = lexemes-of text 0 t.0 (stand t.0 t.1) in
     let are : AreLexemesOf text lexemes.0 = (t.0, t.1, lexemes.1) in
-    some-tokens lexemes.0 (λ items is. levels-of text lexemes.0 items are is (no_written items) no_deep)
-    (λ place b. no_bad (place_in_text text lexemes.0 place) (inr (lexemes.0, are, place, b, refl)))
+    elim (reading lexemes.0) [
+      | inl p ↦ of-levels text lexemes.0 p.0 are p.1
+      | inr b ↦ inr (inr (place_in_text text lexemes.0 b.0, inr (lexemes.0, are, b.0, b.1, refl)))
+    ]
+
+-- ---- there is a reader
+
+abbrev said : (text : List ℕ) → ((items : List Item) × IsWritten text items) ⊎ IsNoProgram text → Option (List Item)
+said text (inl w) = Some w.0
+said text (inr n) = None
+
+said-written : (text : List ℕ) (t : ((items : List Item) × IsWritten text items) ⊎ IsNoProgram text) (items : List Item) → said text t ≡ Some items → IsWritten text items
+said-written text (inl w) items e = subst (λ i. IsWritten text i) (same_Some w.0 items e) w.1
+said-written text (inr n) items e = absurd (cc)
+
+said-no-program : (text : List ℕ) (t : ((items : List Item) × IsWritten text items) ⊎ IsNoProgram text) → said text t ≡ None → IsNoProgram text
+said-no-program text (inl w) e = absurd (cc)
+said-no-program text (inr n) e = n
+
+pub the-reader : ((text : List ℕ) → ((items : List Item) × IsWritten text items) ⊎ IsNoProgram text) → (read : Reader) × IsReader read
+the-reader each = (
+  (λ text. said text (each text)),
+  record { program = λ text items e. said-written text (each text) items e; none = λ text e. said-no-program text (each text) e },
+)

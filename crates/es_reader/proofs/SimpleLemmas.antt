@@ -40,7 +40,7 @@ is-return-end None [] h = tt
 is-return-end None (t ∷ more) h = h
 
 -- where a `;` is the end, nothing is asked of what stands behind it
-ends-part : (GoOn : Lexeme → Type 0) (tokens : List Lexeme) (place stop : ℕ) (ended : Ended) (e : IsEndAt tokens place stop ended) → ((t : Lexeme) → slice_get tokens place ≡ Some t → GoOn t → ⊥) → IsEnd GoOn e.semicolon (drop ended.behind tokens)
+pub ends-part : (GoOn : Lexeme → Type 0) (tokens : List Lexeme) (place stop : ℕ) (ended : Ended) (e : IsEndAt tokens place stop ended) → ((t : Lexeme) → slice_get tokens place ≡ Some t → GoOn t → ⊥) → IsEnd GoOn e.semicolon (drop ended.behind tokens)
 ends-part GoOn tokens place stop ended e g = with_end e.semicolon (drop ended.behind tokens) e.is e.is_spelled
   where
     with_end : (s : Option Lexeme) (rest : List Lexeme) → IsEnding s rest → spelled_end s rest ≡ drop place tokens → IsEnd GoOn s rest

@@ -3,7 +3,7 @@ use Rattle.std.specs.Prelude.{◌≡◌, ◌⊎◌, ℕ, ◌+◌, ◌≤◌, ◌
 use Rattle.std.specs.List.{IsDistinct}
 use Rattle.bml_bytes.specs.Words.{is_same}
 use Rattle.es_expressions.specs.declared.lexemes.Lexeme.{Lexeme}
-use Rattle.es_lexer.specs.declared.punctuators.Punctuator.TheVariants.{CloseParenthesis, Comma}
+use Rattle.es_lexer.specs.declared.punctuators.Punctuator.TheVariants.{CloseParenthesis, OpenBrace, Comma}
 use Rattle.es_reader.specs.Statements.{FurtherName, Parameters, spelled_parameters}
 use Rattle.es_reader.specs.Statements.Parameters.{NoParameters, SomeParameters}
 use Rattle.es_reader.specs.Parts.{IsThere}
@@ -64,3 +64,22 @@ pub record NoFurtherParameter (tokens : List Lexeme) (place bad : ℕ) : Type 0 
 
 abbrev pub ParametersBad : List Lexeme → ℕ → ℕ → Type 0
 ParametersBad tokens place bad = NoFirstParameter tokens place bad ⊎ NoFurtherParameter tokens place bad
+
+-- a `)` and a `{` stand there, behind which the body is to come
+pub record BodyOpens (tokens : List Lexeme) (place : ℕ) : Type 0 where
+  pub close_mark : IsThere (IsMark CloseParenthesis) tokens place
+  pub open_mark : IsThere (IsMark OpenBrace) tokens (place + 1)
+
+-- no `)` stands there, or no `{` behind it
+abbrev pub LacksBody : List Lexeme → ℕ → ℕ → Type 0
+LacksBody tokens place bad =
+    ((bad ≡ place) × (IsThere (IsMark CloseParenthesis) tokens place → ⊥))
+    ⊎ (IsThere (IsMark CloseParenthesis) tokens place × (bad ≡ place + 1)
+    × (IsThere (IsMark OpenBrace) tokens (place + 1) → ⊥))
+
+-- this is kept of a front, of its name, its parameters and the place behind its `{`
+pub record IsFrontOf (name : List ℕ) (parameters : ParametersRead) (behind : ℕ) (read : FrontRead) : Type 0 where
+  pub name_is : read.name ≡ name
+  pub names : read.names ≡ parameters.names
+  pub count : read.parameters ≡ length parameters.names
+  pub behind_is : read.behind ≡ behind

@@ -14,3 +14,4 @@ pub mod Standing
 pub mod Stops
 pub mod Sources
 pub mod Readers
+pub mod Walks

@@ -1,6 +1,6 @@
 //! The names that a `var` declares.
 
-ghost use Rattle.std.specs.Prelude.{◌≡◌, ◌≤◌, length, IfOk, IfErr};
+ghost use Rattle.std.specs.Prelude.{◌≤◌, length, IfOk, IfErr};
 ghost use Rattle.es_reader.specs.Statements.{Declaration, Declarations};
 ghost use Rattle.es_lexer.specs.declared.punctuators.Punctuator.TheVariants.{Comma};
 ghost use Rattle.es_reader.specs.Grammar.{IsMark};
@@ -18,7 +18,7 @@ use es_lexer::Punctuator;
 
 /// A declared name: its node, how deep its nodes are nested, whether it has a value, the place
 /// behind its last code, and the place of the token behind it.
-#[derive(Clone, Copy, Debug)]
+#[derive(Clone, Copy)]
 pub struct Declared {
     pub node: u32,
     pub height: u8,
@@ -29,7 +29,7 @@ pub struct Declared {
 
 /// The declared names of a `var`: their nodes, how deep these are nested, whether it is one name
 /// without a value, the place behind the last code, and the place of the token behind them.
-#[derive(Debug, Drop)]
+#[derive(Drop)]
 pub struct DeclaredNames {
     pub nodes: Vec<u32>,
     pub height: u8,

@@ -4,7 +4,7 @@ use bml_bytes::NoMemory as MemoryGone;
 use std::alloc::{AllocError, AllocFailed};
 
 /// Why a part wasn't read: nothing goes on with the token at a place, or memory is gone.
-#[derive(Clone, Copy, Debug, PartialEq, Eq)]
+#[derive(Clone, Copy)]
 pub enum PartFault {
     Bad(usize),
     NoMemory,

@@ -3,12 +3,13 @@
 ghost use Rattle.std.specs.Prelude.{◌≡◌, ◌+◌, ◌≤◌, ◌<◌, length, IfOk, IfErr};
 ghost use Rattle.es_lexer.specs.declared.words.ReservedWord.TheVariants.{Function as FunctionWord};
 ghost use Rattle.es_reader.specs.Statements.{Parameters};
-ghost use Rattle.es_reader.specs.Grammar.{IsWord, IsName};
+ghost use Rattle.es_reader.specs.Grammar.{IsWord};
 ghost use Rattle.es_reader.specs.Openings.{Front};
 ghost use Rattle.es_reader.specs.Parts.{IfBad, IsThere};
 ghost use Rattle.es_reader.specs.Stops.{BehindWord, FrontStops};
 ghost use Rattle.es_reader.specs.Fronts.{IsFrontAt, AreParametersAt, IsOneName};
 ghost use Rattle.es_reader.specs.Fronts.{NoNewName, ParametersBad, ParametersEnd};
+ghost use Rattle.es_reader.specs.Fronts.{BodyOpens, LacksBody, IsFrontOf};
 
 use crate::faults::PartFault;
 use crate::marks::{expect_mark, expect_name, is_mark_at};
@@ -45,8 +46,26 @@ pub fn read_front(alloc: Global, tokens: &[Lexeme], place: usize) -> Result<Fron
     let name = expect_name(tokens, place + 1)?;
     expect_mark(tokens, place + 2, Punctuator::OpenParenthesis)?;
     let read = read_parameters(alloc, tokens, place + 3)?;
-    expect_mark(tokens, read.behind, Punctuator::CloseParenthesis)?;
-    expect_mark(tokens, read.behind + 1, Punctuator::OpenBrace)?;
+    let behind = expect_body(tokens, read.behind)?;
+    front_of(name, read, behind)
+}
+
+// The `)` and `{` at a place. Gives the place of the token behind them.
+fn expect_body(tokens: &[Lexeme], place: usize) -> Result<usize, PartFault>
+    requires { place ≤ length tokens.now }
+    ensures opens { IfOk result (λ behind. (behind ≡ place + 2) × BodyOpens tokens.now place) }
+    ensures bad { IfErr result (λ fault. IfBad fault (LacksBody tokens.now place)) }
+{
+    expect_mark(tokens, place, Punctuator::CloseParenthesis)?;
+    expect_mark(tokens, place + 1, Punctuator::OpenBrace)?;
+    Ok(place + 2)
+}
+
+// The front of a function with this name and these parameters.
+fn front_of(name: &Text, read: ParametersRead, behind: usize) -> Result<FrontRead, PartFault>
+    ensures front { IfOk result (IsFrontOf name.now read behind) }
+    ensures never { IfErr result (λ fault. IfBad fault (λ _. ⊥)) }
+{
     let Ok(parameters) = u32::try_from(read.names.len()) else {
         return Err(PartFault::NoMemory);
     };
@@ -54,7 +73,7 @@ pub fn read_front(alloc: Global, tokens: &[Lexeme], place: usize) -> Result<Fron
         name: name.share()?,
         names: read.names,
         parameters,
-        behind: read.behind + 2,
+        behind,
     })
 }
 

@@ -25,7 +25,7 @@ use es_lexer::{Punctuator, ReservedWord};
 
 /// What stands before a statement that is to come: its form, the place of its first code, its
 /// children so far, how deep these are nested, and the place of the token behind it.
-#[derive(Debug, Drop)]
+#[derive(Drop)]
 pub struct HeadRead {
     pub form: Form,
     pub start: usize,
@@ -36,7 +36,7 @@ pub struct HeadRead {
 
 // A part of the head of a `for`: its node, how deep its nodes are nested, and the place of the
 // token behind it.
-#[derive(Clone, Copy, Debug)]
+#[derive(Clone, Copy)]
 pub struct HeadPart {
     pub node: u32,
     pub height: u8,

@@ -6,9 +6,14 @@
 //! gives the [`Program`] that a text is, or tells that it has more than 64 levels, or the place
 //! from which no program goes on (`specs/Sources.antt`); [`read_tokens`] does so for tokens
 //! (`specs/Programs.antt`). It looks at no token twice, but for the one behind a statement, and no
-//! function calls itself. `law_of_programs` and `law_of_texts` say that tokens and texts are at
-//! most one program or bad at one place and not both, `law_of_levels` that levels are those of the
-//! trees.
+//! function calls itself.
+//!
+//! `law_of_programs` and `law_of_texts` say that tokens and texts are at most one program or bad at
+//! one place and not both, `law_of_reading` that tokens are always one of these, and
+//! `law_of_levels` that levels are those of the trees. `law_of_readers` and `law_of_the_reader` say
+//! that there is one function which tells of each text the program that it is, or none
+//! (`specs/Readers.antt`). `law_of_walks` says that each node which a statement leads to stands
+//! among the program's nodes, behind its children (`specs/Walks.antt`).
 #![tactic(auto)]
 
 mod declarations;
@@ -26,11 +31,13 @@ mod reader;
 mod simples;
 mod sources;
 mod text_laws;
+mod walk_laws;
 mod wholes;
 
-pub use crate::laws::law_of_programs;
+pub use crate::laws::{law_of_programs, law_of_reading};
 pub use crate::level_laws::law_of_levels;
 pub use crate::programs::{FunctionDecl, Program};
 pub use crate::reader::{Reading, read_tokens};
 pub use crate::sources::{SyntaxFault, read_program};
-pub use crate::text_laws::{law_of_readers, law_of_texts};
+pub use crate::text_laws::{law_of_readers, law_of_texts, law_of_the_reader};
+pub use crate::walk_laws::law_of_walks;

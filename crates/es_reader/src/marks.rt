@@ -1,6 +1,6 @@
 //! Tokens that have to stand at a place.
 
-ghost use Rattle.std.specs.Prelude.{◌≡◌, ◌+◌, ◌<◌, ◌↔◌, ℕ, Some, None, IsTrue, MatchOption, IfOk, IfErr, slice_get};
+ghost use Rattle.std.specs.Prelude.{◌≡◌, ◌<◌, ◌↔◌, Some, None, IsTrue, MatchOption, IfOk, IfErr, slice_get};
 ghost use Rattle.es_expressions.specs.declared.lexemes.Lexeme.{Lexeme};
 ghost use Rattle.es_expressions.specs.declared.lexemes.Symbol.TheVariants.{Name as NameSymbol};
 ghost use Rattle.es_reader.specs.Grammar.{IsMark, IsWord, IsName};

@@ -10,7 +10,7 @@ use std::marker::Model;
 
 /// An open form: its node's form and first code, its children so far, how deep these are nested,
 /// and whether what it holds stands in a loop.
-#[derive(Debug, Drop)]
+#[derive(Drop)]
 pub struct OpenForm {
     pub kind: OpenKind,
     pub form: Form,
@@ -22,7 +22,7 @@ pub struct OpenForm {
 
 /// A block; a head whose statement is to come; an `if` with its `else`, whose second statement is
 /// to come and which has the height that the `if` has without it.
-#[derive(Clone, Copy, Debug, PartialEq, Eq)]
+#[derive(Clone, Copy, PartialEq, Eq)]
 pub enum OpenKind {
     Block,
     Head,
@@ -30,7 +30,7 @@ pub enum OpenKind {
 }
 
 /// The open forms. Contracts see them from the innermost on.
-#[derive(Debug, Drop)]
+#[derive(Drop)]
 pub struct OpenForms {
     items: Vec<OpenForm>,
 }

@@ -1,7 +1,7 @@
 //! What is read of a text that is a program.
 
 ghost use Rattle.std.specs.Prelude.{◌≡◌, map, option_map, slice_get};
-ghost use Rattle.std.specs.Option.{option_copied, option_and_then};
+ghost use Rattle.std.specs.Option.{option_and_then};
 ghost use Rattle.es_reader.specs.Told.{told_function};
 
 use bml_bytes::Text;

@@ -51,7 +51,7 @@ pub struct OpenFunction {
 
 // What became of a form with a whole statement: it stays open, and the token behind is at this
 // place; or it ended, and is a whole statement.
-#[derive(Clone, Copy, Debug)]
+#[derive(Clone, Copy)]
 pub enum Joined {
     Open(usize),
     Ended(Stated),

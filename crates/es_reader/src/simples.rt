@@ -20,7 +20,7 @@ use es_lexer::{Punctuator, ReservedWord};
 
 /// A statement: its node, how deep its nodes are nested, the place behind its last code, and the
 /// place of the token behind it.
-#[derive(Clone, Copy, Debug)]
+#[derive(Clone, Copy)]
 pub struct Stated {
     pub node: u32,
     pub height: u8,

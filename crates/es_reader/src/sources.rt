@@ -1,6 +1,6 @@
 //! Programs of texts.
 
-ghost use Rattle.std.specs.Prelude.{◌≡◌, ◌≤◌, ℕ, Err, IfOk, length};
+ghost use Rattle.std.specs.Prelude.{◌≡◌, ℕ, Err, IfOk, length};
 ghost use Rattle.es_reader.specs.Sources.{IsProgramOf, IsTooDeep, IsBad, place_in_text as spec_place_in_text};
 
 use crate::programs::Program;
@@ -9,17 +9,21 @@ use bml_bytes::{NoMemory as MemoryGone, Text};
 use es_expressions::{Lexeme, lexemes_of};
 use es_lexer::LexRefusal;
 use std::alloc::Global;
+use thiserror::Error;
 
 /// Why a text wasn't read as a program.
-#[derive(Clone, Copy, Debug, PartialEq, Eq)]
+#[derive(Clone, Copy, Debug, PartialEq, Eq, Error)]
 pub enum SyntaxFault {
     /// It is none. No token stands at this place; or, where the text has tokens, the first begins
     /// here with which no program goes on, or the text ends here too early. Counted in codes, from
     /// 0.
+    #[error("Bad")]
     Bad { place: usize },
     /// It is a program of more than 64 levels.
+    #[error("TooDeep")]
     TooDeep,
     /// Want of memory, and nothing else.
+    #[error("NoMemory")]
     NoMemory,
 }
 

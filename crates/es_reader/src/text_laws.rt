@@ -1,14 +1,14 @@
 //! What the definitions say of texts.
 
-ghost use Rattle.std.specs.Prelude.{◌≡◌, ℕ, List, Some, None};
+ghost use Rattle.std.specs.Prelude.{◌≡◌, ◌⊎◌, ℕ, List, Some, None};
 ghost use Rattle.es_expressions.specs.declared.lexemes.Lexeme.{Lexeme};
 ghost use Rattle.es_reader.specs.Statements.{Item};
 ghost use Rattle.es_reader.specs.Grammar.{IsProgram};
 ghost use Rattle.es_reader.specs.Programs.{ToldProgram, Tells};
-ghost use Rattle.es_reader.specs.Readers.{Reader, IsReader, IsWritten};
+ghost use Rattle.es_reader.specs.Readers.{Reader, IsReader, IsWritten, IsNoProgram};
 ghost use Rattle.es_reader.specs.Sources.{AreLexemesOf, IsProgramOf, IsTooDeep, IsBad};
 
-use crate::laws::law_of_programs;
+use crate::laws::{law_of_programs, law_of_reading};
 use es_expressions::law_of_sources;
 use es_lexer::{law_of_spans, law_of_tokens};
 
@@ -33,8 +33,8 @@ pub fn law_of_texts()
 }
 
 /// A reader tells of each text the program that was read of it, and none of a text that was
-/// refused; so there is one at most. And there is something to be told of each text: none is
-/// neither a program of at most 64 levels, nor one of more, nor bad at some place.
+/// refused; so there is one at most. And there is something to be told of each text: it is a
+/// program of at most 64 levels, or one of more, or bad at some place.
 pub fn law_of_readers()
     ensures program { (read : Reader) (text : List ℕ) (told : ToldProgram) → IsReader read
         → IsProgramOf text told
@@ -45,12 +45,19 @@ pub fn law_of_readers()
         → IsBad text place → read text ≡ None }
     ensures one { (read other : Reader) (text : List ℕ)
         → IsReader read → IsReader other → read text ≡ other text }
-    ensures some { (text : List ℕ)
-        → ((items : List Item) → IsWritten text items → ⊥) → (IsTooDeep text → ⊥)
-        → ((place : ℕ) → IsBad text place → ⊥) → ⊥ }
+    ensures each { (text : List ℕ)
+        → ((items : List Item) × IsWritten text items) ⊎ IsNoProgram text }
 {
     law_of_tokens();
     law_of_spans();
     law_of_sources();
     law_of_programs();
+    law_of_reading();
+}
+
+/// There is a reader, and by `law_of_readers` no other.
+pub fn law_of_the_reader()
+    ensures { (read : Reader) × IsReader read }
+{
+    law_of_readers();
 }

@@ -1,6 +1,6 @@
 //! Whole expressions in a program, and the ends of statements.
 
-ghost use Rattle.std.specs.Prelude.{◌≡◌, ◌≤◌, length, IfOk, IfErr, IfSome, IfNone};
+ghost use Rattle.std.specs.Prelude.{◌≤◌, length, IfOk, IfErr, IfSome, IfNone};
 ghost use Rattle.es_expressions.specs.Phrases.{Phrase};
 ghost use Rattle.es_expressions.specs.Beginnings.{least};
 ghost use Rattle.es_reader.specs.Parts.{IfBad, MayGrow, IsWholeAt, StopsIn, IsEndAt, IsReturnEndAt, NoEnd, NoReturnEnd};
@@ -12,7 +12,7 @@ use es_lexer::Punctuator;
 
 /// A whole expression: its node, how deep its nodes are nested, whether it is a target, the places
 /// of its codes in the text, and the place of the token behind it.
-#[derive(Clone, Copy, Debug)]
+#[derive(Clone, Copy)]
 pub struct Whole {
     pub node: u32,
     pub height: u8,
@@ -23,7 +23,7 @@ pub struct Whole {
 }
 
 /// The end of a statement: the place behind its last code, and the place of the token behind it.
-#[derive(Clone, Copy, Debug)]
+#[derive(Clone, Copy)]
 pub struct Ended {
     pub end: usize,
     pub behind: usize,

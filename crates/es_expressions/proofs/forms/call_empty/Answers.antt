@@ -4,5 +4,5 @@ use Rattle.es_expressions.proofs.forms.call_empty.Goals as goal
 
 pub returns-clause-call : goal.returns-clause-call
 returns-clause-call c =
-    if-both c.operand_of.result c.operand_of.ensures.is c.operand_of.ensures.pushed
-    (λ o is pushed f p h. call-empty-stands c.args.nodes.now c.operand_of.new.nodes o c.in_ok-children.children.items 16 c.args.callee.height c.args.callee f p c.args.close.now is pushed c.in_ok-children.ensures refl refl h)
+    if-both c.operand_over.result c.operand_over.ensures.is c.operand_over.ensures.pushed
+    (λ o is pushed f p h. call-empty-stands c.args.nodes.now c.operand_over.new.nodes o _ 16 c.args.callee.height c.args.callee f p c.args.close.now is pushed refl refl refl h)

@@ -1,6 +1,6 @@
 use Rattle.std.proofs.Common.{inl, inr}
 use Rattle.es_reader.proofs.TextLemmas.{TokenFacts}
-use Rattle.es_reader.proofs.ReaderLemmas.{said-program, said-none, said-alike, some-text}
+use Rattle.es_reader.proofs.ReaderLemmas.{said-program, said-none, said-alike, each-text}
 use Rattle.es_reader.proofs.text_laws.law_of_readers.Goals as goal
 
 pub returns : goal.returns
@@ -18,5 +18,5 @@ returns c =
       deep = λ read text r d. said-none facts read text r (inl d);
       bad = λ read text place r b. said-none facts read text r (inr (place, b));
       one = λ read other text r q. said-alike facts read other text r q;
-      some = λ text no_written no_deep no_bad. some-text text (c.law_of_spans.ensures text) (c.law_of_tokens.ensures.either text) no_written no_deep no_bad;
+      each = λ text. each-text text (c.law_of_spans.ensures text) (c.law_of_tokens.ensures.either text) c.law_of_reading.ensures;
     }
