@@ -13,7 +13,7 @@ use Rattle.bml_reader.specs.Grammar.{Reads}
 use Rattle.bml_reader.specs.Faults.{ReadsWell, HasFault}
 use Rattle.bml_reader.specs.Lexing.{Found, found, markup_at}
 use Rattle.bml_reader.specs.Machine.{State, NodesSoFar, few_nodes, start_state, step, IsSound, IsSoundIn}
-use Rattle.bml_reader.specs.ReaderViews.{Seen, seen_of, seen_step, IsTaken, HasDifferentNames, Refuses}
+use Rattle.bml_reader.specs.ReaderViews.{Seen, seen_of, seen_step, IsTaken, HasDifferentNames, Refuses, IsRead}
 use Rattle.bml_reader.specs.declared.faults.DocFault.{DocFault}
 use Rattle.bml_reader.specs.declared.faults.DocFault.TheVariants.{Malformed, WrongRoot, TooDeep, TooManyNodes, NoMemory}
 use Rattle.bml_reader.specs.declared.phases.Phase.{Phase}
@@ -130,6 +130,18 @@ AtEnd-fault bytes r TooManyNodes a h =
     let many = many-by (items_of a.tree) [] (nat_le (length (items_of a.tree)) most_nodes) refl (ap (λ (z : Seen). z.kept) a.seen ∙ h.2) in
     record { tree = a.tree; reads = a.reads; root = right-root a.tree (ap (λ (z : Seen). z.has_other_root) a.seen ∙ h.0); depth = not-too-deep a.tree (ap (λ (z : Seen). z.is_deep) a.seen ∙ h.1); count = omega (arith, many, count-is a.tree) }
 AtEnd-fault bytes r NoMemory a h = tt
+
+-- at the end of the bytes it is known whether they are a document
+pub Keeps-read : (bytes : List ℕ) (r : Seen) (rest : List ℕ) (b : Bool) → Keeps bytes r rest → rest ≡ [] → (b ≡ true → r.phase ≡ Behind) → (r.phase ≡ Behind → b ≡ true) → IsRead bytes b r
+Keeps-read bytes r rest true k e whole behind =
+    let end : AtEnd bytes r = Keeps-end bytes r rest k e (whole refl) in
+    record {
+      some = Keeps-some bytes r rest k (whole refl);
+      well = λ items o d nodes. AtEnd-well bytes r items end o d nodes;
+      fault = λ fault h. AtEnd-fault bytes r fault end h;
+    }
+Keeps-read bytes r rest false k e whole behind =
+    Keeps-unfinished bytes r rest k e (λ h. let bad : false ≡ true = behind h in cc)
 
 pub Keeps-start : (bytes : List ℕ) (r : Seen) → r ≡ seen_of start_state → Keeps bytes r bytes
 Keeps-start bytes r e = record { now = start_state; reaches = Reaches-start bytes; seen = sym e; sound = (refl, refl, refl) }

@@ -2,13 +2,13 @@
 use Rattle.std.specs.Prelude.{◌≡◌, ◌≢◌, ℕ, nat_le, Bool, true, false, ◌||◌, not, if◌then◌else◌, List, [], ◌∷◌, ◌++◌, length, map, reverse, Option, Some, None, IfSome, option_map, option_and_then, codes as ascii}
 use Rattle.bml_bytes.specs.Codes.{codes}
 use Rattle.bml_bytes.specs.Words.{is_same}
-use Rattle.dom_tree.specs.Items.{Attribute}
+use Rattle.dom_tree.specs.Items.{Attribute, Item}
 use Rattle.bml_reader.specs.References.{read_references}
 use Rattle.bml_reader.specs.Markup.{Markup, NamesDiffer}
 use Rattle.bml_reader.specs.Markup.Markup.{StartTag, EndTag, Run, Cdata, Remark, Doctype}
 use Rattle.bml_reader.specs.Grammar.{is_left_out}
 use Rattle.bml_reader.specs.MarkupKinds.{is_misc}
-use Rattle.bml_reader.specs.Faults.{most_levels}
+use Rattle.bml_reader.specs.Faults.{HasFault, ReadsWell, most_levels}
 use Rattle.bml_reader.specs.Machine.{State, NodesSoFar, few_nodes_in}
 use Rattle.bml_reader.specs.Readings.{has_other_root}
 use Rattle.bml_reader.specs.Nodes.{nodes_with_element, nodes_with_text, nodes_outside}
@@ -175,3 +175,17 @@ Refuses WrongRoot other deep kept = other ≡ true
 Refuses TooDeep other deep kept = (other ≡ false) × (deep ≡ true)
 Refuses TooManyNodes other deep kept = (other ≡ false) × (deep ≡ false) × (kept ≡ None)
 Refuses NoMemory other deep kept = ⊥
+
+-- what is kept at the end tells what the bytes are: these are the nodes of the document, where no
+-- fault is kept, and else the fault is the first one
+pub record TellsReading (bytes : List ℕ) (r : Seen) : Type 0 where
+  pub some : IfSome r.kept (λ k. k.items ≢ [])
+  pub well : (items : List Item) → r.has_other_root ≡ false → r.is_deep ≡ false
+      → option_map (λ k. k.items) r.kept ≡ Some items → ReadsWell bytes items
+  pub fault : (fault : DocFault) → Refuses fault r.has_other_root r.is_deep r.kept
+      → HasFault bytes fault
+
+-- the bytes are a document, and what is kept tells which, or they are none
+abbrev pub IsRead : List ℕ → Bool → Seen → Type 0
+IsRead bytes true r = TellsReading bytes r
+IsRead bytes false r = HasFault bytes Malformed

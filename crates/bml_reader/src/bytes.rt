@@ -6,7 +6,7 @@ ghost use Rattle.bml_reader.specs.Lexing.{up_to};
 ghost use Rattle.bml_reader.specs.Views.{in_class, found_bytes};
 
 /// Classes of bytes that stand one behind the other in a document.
-#[derive(Clone, Copy, Debug, PartialEq, Eq)]
+#[derive(Clone, Copy)]
 pub enum ByteClass {
     /// Space, tab, line feed, carriage return.
     White,

@@ -6,11 +6,14 @@ ghost use Rattle.dom_tree.specs.Items.{Item};
 ghost use Rattle.dom_tree.specs.Nested.{Nested};
 ghost use Rattle.bml_reader.specs.Faults.{HasFault, ReadsWell};
 ghost use Rattle.bml_reader.specs.Grammar.{Reads};
+ghost use Rattle.bml_reader.specs.Machine.{start_state};
+ghost use Rattle.bml_reader.specs.ReaderViews.{IsRead, seen_by, seen_of};
 ghost use Rattle.bml_reader.specs.Readings.{IsReading, reading_of};
 
 use crate::faults::DocFault;
 use crate::markup::next_markup;
 use crate::readers::Reader;
+use bml_bytes::NoMemory;
 use dom_tree::Tree;
 use std::alloc::Global;
 
@@ -26,22 +29,31 @@ pub fn read_document(alloc: Global, bytes: &[u8]) -> Result<Tree, DocFault>
         (λ fault. fault ≢ DocFault.NoMemory → reading_of bytes.now ≡ Err fault) }
 {
     let mut reader = Reader::new(alloc);
+    match read_pieces(&mut reader, bytes) {
+        Ok(true) => reader.finish(),
+        Ok(false) => reader.refuse(DocFault::Malformed),
+        Err(_) => reader.refuse(DocFault::NoMemory),
+    }
+}
+
+// Reads all pieces, and answers whether they are a document in the grammar.
+fn read_pieces(reader: &mut Reader, bytes: &[u8]) -> Result<bool, NoMemory>
+    requires { seen_by reader.old ≡ seen_of start_state }
+    ensures { IfOk result (λ is_document. IsRead bytes.now is_document (seen_by reader.new)) }
+{
     let mut rest = bytes;
     'markup: while !rest.is_empty() {
-        match next_markup(alloc, rest)? {
-            None => return Err(DocFault::Malformed),
+        match next_markup(reader.alloc, rest)? {
+            None => return Ok(false),
             Some((markup, behind)) => {
                 if !reader.take(markup)? {
-                    return Err(DocFault::Malformed);
+                    return Ok(false);
                 }
                 rest = behind;
             }
         }
     }
-    if !reader.is_whole() {
-        return Err(DocFault::Malformed);
-    }
-    reader.finish()
+    Ok(reader.is_whole())
 }
 
 /// Bytes stand for at most one tree.

@@ -38,7 +38,7 @@ pub struct Reader {
 }
 
 impl Reader {
-    ghost use Rattle.std.specs.Prelude.{◌≢◌, ◌↔◌, [], Some, None, true, false, IfOk, IfErr, OnOk, IfSome, IsTrue, option_map, reverse};
+    ghost use Rattle.std.specs.Prelude.{◌≢◌, ◌↔◌, [], Some, None, Err, true, false, IfOk, IfErr, OnOk, IfSome, IsTrue, option_map, reverse};
     ghost use Rattle.bml_reader.specs.Machine.{start_state};
     ghost use Rattle.bml_reader.specs.AttributeViews.{attributes_in_map};
     ghost use Rattle.bml_reader.specs.Markup.{NamesDiffer};
@@ -62,7 +62,6 @@ impl Reader {
     }
 
     /// Takes one piece more, and answers whether it can stand there.
-    #[tactic(auto, unfolding(crate::specs::ReaderViews::seen_step))]
     pub fn take(&mut self, markup: Markup) -> Result<bool, NoMemory>
         requires ready { IsReady (seen_by self.old) }
         requires names { HasDifferentNames (seen_markup markup) }
@@ -70,12 +69,7 @@ impl Reader {
             (λ taken. IsTaken (seen_step (seen_markup markup.entry) (seen_by self.old)) taken
             (seen_by self.new)) }
     {
-        match self.phase {
-            Phase::BeforeDoctype => self.take_before_doctype(markup),
-            Phase::BeforeRoot => self.take_before_root(markup),
-            Phase::Inside => self.take_inside(markup),
-            Phase::Behind => Ok(is_misc(&markup)),
-        }
+        self.take_in_phase(&markup)
     }
 
     /// Whether the root has ended.
@@ -95,10 +89,10 @@ impl Reader {
             (λ fault. Refuses fault self.has_other_root self.is_deep self.builder) }
     {
         if self.has_other_root {
-            return Err(DocFault::WrongRoot);
+            return self.refuse(DocFault::WrongRoot);
         }
         if self.is_deep {
-            return Err(DocFault::TooDeep);
+            return self.refuse(DocFault::TooDeep);
         }
         match self.builder.into_tree() {
             Some(tree) => Ok(tree),
@@ -106,12 +100,36 @@ impl Reader {
         }
     }
 
-    fn take_before_doctype(&mut self, markup: Markup) -> Result<bool, NoMemory>
+    /// This fault, and no tree.
+    pub fn refuse(self, fault: DocFault) -> Result<Tree, DocFault>
+        ensures { result ≡ Err fault }
+    {
+        Err(fault)
+    }
+
+    // Takes a piece where the reader is.
+    #[tactic(auto, unfolding(crate::specs::ReaderViews::seen_step))]
+    fn take_in_phase(&mut self, markup: &Markup) -> Result<bool, NoMemory>
+        requires ready { IsReady (seen_by self.old) }
+        requires names { HasDifferentNames (seen_markup markup.now) }
+        ensures { IfOk result
+            (λ taken. IsTaken (seen_step (seen_markup markup.now) (seen_by self.old)) taken
+            (seen_by self.new)) }
+    {
+        match self.phase {
+            Phase::BeforeDoctype => self.take_before_doctype(markup),
+            Phase::BeforeRoot => self.take_before_root(markup),
+            Phase::Inside => self.take_inside(markup),
+            Phase::Behind => Ok(is_misc(markup)),
+        }
+    }
+
+    fn take_before_doctype(&mut self, markup: &Markup) -> Result<bool, NoMemory>
         requires ready { IsReadyIn BeforeRoot (seen_by self.old) }
-        requires names { HasDifferentNames (seen_markup markup) }
+        requires names { HasDifferentNames (seen_markup markup.now) }
         ensures { IfOk result
             (λ taken. IsTaken
-            (seen_before_doctype (seen_markup markup.entry) (seen_by self.old)) taken
+            (seen_before_doctype (seen_markup markup.now) (seen_by self.old)) taken
             (seen_by self.new)) }
     {
         match markup {
@@ -120,35 +138,35 @@ impl Reader {
                 Ok(true)
             }
             Markup::StartTag(start) => self.start_root(start),
-            markup => Ok(is_misc(&markup)),
+            _ => Ok(is_misc(markup)),
         }
     }
 
-    fn take_before_root(&mut self, markup: Markup) -> Result<bool, NoMemory>
+    fn take_before_root(&mut self, markup: &Markup) -> Result<bool, NoMemory>
         requires ready { IsReadyIn BeforeRoot (seen_by self.old) }
-        requires names { HasDifferentNames (seen_markup markup) }
+        requires names { HasDifferentNames (seen_markup markup.now) }
         ensures { IfOk result
-            (λ taken. IsTaken (seen_before_root (seen_markup markup.entry) (seen_by self.old)) taken
+            (λ taken. IsTaken (seen_before_root (seen_markup markup.now) (seen_by self.old)) taken
             (seen_by self.new)) }
     {
         match markup {
             Markup::StartTag(start) => self.start_root(start),
-            markup => Ok(is_misc(&markup)),
+            _ => Ok(is_misc(markup)),
         }
     }
 
-    fn take_inside(&mut self, markup: Markup) -> Result<bool, NoMemory>
+    fn take_inside(&mut self, markup: &Markup) -> Result<bool, NoMemory>
         requires ready { IsReadyIn Inside (seen_by self.old) }
-        requires names { HasDifferentNames (seen_markup markup) }
+        requires names { HasDifferentNames (seen_markup markup.now) }
         ensures { IfOk result
-            (λ taken. IsTaken (seen_inside (seen_markup markup.entry) (seen_by self.old)) taken
+            (λ taken. IsTaken (seen_inside (seen_markup markup.now) (seen_by self.old)) taken
             (seen_by self.new)) }
     {
         match markup {
             Markup::StartTag(start) => self.start_inside(start),
             Markup::EndTag(name) => {
                 let tag = Text::of_bytes(self.alloc, name)?;
-                self.end(tag)
+                self.end(&tag)
             }
             Markup::Run(bytes) => {
                 push_read(bytes, &mut self.text)?;
@@ -164,14 +182,14 @@ impl Reader {
     }
 
     // Takes the start tag of the root.
-    fn start_root(&mut self, start: StartTag) -> Result<bool, NoMemory>
+    fn start_root(&mut self, start: &StartTag) -> Result<bool, NoMemory>
         requires ready { IsReadyIn BeforeRoot (seen_by self.old) }
-        requires names { NamesDiffer [] (attributes_in_map start.inside.attributes) }
+        requires names { NamesDiffer [] (attributes_in_map start.now.inside.attributes) }
         ensures { IfOk result
             (λ taken. IsTaken
-            (Some (seen_started start.tag
-            (attributes_in_map start.inside.attributes) start.inside.is_empty
-            (with_root start.tag (seen_by self.old)))) taken (seen_by self.new)) }
+            (Some (seen_started start.now.tag
+            (attributes_in_map start.now.inside.attributes) start.now.inside.is_empty
+            (with_root start.now.tag (seen_by self.old)))) taken (seen_by self.new)) }
     {
         self.has_other_root = is_other_root(&start.tag);
         self.start(start)?;
@@ -179,13 +197,13 @@ impl Reader {
     }
 
     // Takes a start tag inside the root.
-    fn start_inside(&mut self, start: StartTag) -> Result<bool, NoMemory>
+    fn start_inside(&mut self, start: &StartTag) -> Result<bool, NoMemory>
         requires ready { IsReadyIn Inside (seen_by self.old) }
-        requires names { NamesDiffer [] (attributes_in_map start.inside.attributes) }
+        requires names { NamesDiffer [] (attributes_in_map start.now.inside.attributes) }
         ensures { IfOk result
             (λ taken. IsTaken
-            (Some (seen_started start.tag
-            (attributes_in_map start.inside.attributes) start.inside.is_empty
+            (Some (seen_started start.now.tag
+            (attributes_in_map start.now.inside.attributes) start.now.inside.is_empty
             (seen_flushed (seen_by self.old)))) taken (seen_by self.new)) }
     {
         self.flush()?;
@@ -194,38 +212,38 @@ impl Reader {
     }
 
     // Adds the element of a start tag, which stays open unless it is empty.
-    fn start(&mut self, start: StartTag) -> Result<(), NoMemory>
+    fn start(&mut self, start: &StartTag) -> Result<(), NoMemory>
         requires root { IfSome self.old.builder IsRootNext }
-        requires names { NamesDiffer [] (attributes_in_map start.inside.attributes) }
+        requires names { NamesDiffer [] (attributes_in_map start.now.inside.attributes) }
         ensures { OnOk result
             (seen_by self.new
-            ≡ seen_started start.tag
-            (attributes_in_map start.inside.attributes) start.inside.is_empty (seen_by self.old)) }
+            ≡ seen_started start.now.tag
+            (attributes_in_map start.now.inside.attributes) start.now.inside.is_empty
+            (seen_by self.old)) }
     {
-        let StartTag { tag, inside } = start;
         self.is_deep = self.is_deep || self.tags.len() >= MOST_LEVELS;
         self.builder.add_element(
             self.alloc,
-            tag.share()?,
-            &inside.attributes,
-            inside.is_empty,
+            start.tag.share()?,
+            &start.inside.attributes,
+            start.inside.is_empty,
         )?;
-        if !inside.is_empty {
-            self.tags.push(tag)?;
+        if !start.inside.is_empty {
+            self.tags.push(start.tag.share()?)?;
         }
         self.settle();
         Ok(())
     }
 
     // Ends the innermost element, where this is its tag.
-    fn end(&mut self, tag: Text) -> Result<bool, NoMemory>
+    fn end(&mut self, tag: &Text) -> Result<bool, NoMemory>
         requires ready { IsReadyIn Inside (seen_by self.old) }
         ensures { IfOk result
-            (λ taken. IsTaken (seen_ended tag (seen_by self.old).tags (seen_by self.old)) taken
+            (λ taken. IsTaken (seen_ended tag.now (seen_by self.old).tags (seen_by self.old)) taken
             (seen_by self.new)) }
     {
         match self.tags.last() {
-            Some(innermost) if tag == *innermost => {}
+            Some(innermost) if *tag == *innermost => {}
             _ => return Ok(false),
         }
         self.flush()?;

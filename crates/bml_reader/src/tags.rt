@@ -1,12 +1,14 @@
 //! Tags: names, attributes, ends.
 
 ghost use Rattle.std.specs.Prelude.{◌≡◌, ◌∷◌, ◌++◌, option_map, is_some, not, true, IfOk, None, Some, length, suc, []};
+ghost use Rattle.bml_bytes.specs.Codes.{codes};
 ghost use Rattle.dom_tree.specs.Items.{value_in};
 ghost use Rattle.bml_reader.specs.AttributeViews.{attributes_in_map};
 ghost use Rattle.bml_reader.specs.Lexing.{name_at, equals_at, value_at, closed_value, attribute_at, value_of_name, tag_end_at, inner_at};
 ghost use Rattle.bml_reader.specs.Views.{found_bytes, found_written, found_flag};
-ghost use Rattle.bml_reader.specs.TagViews.{found_inner};
-ghost use Rattle.std.specs.Option.{option_copied};
+ghost use Rattle.bml_reader.specs.References.{read_references};
+ghost use Rattle.bml_reader.specs.TagViews.{found_end, found_inner};
+ghost use Rattle.std.specs.Option.{option_and_then, option_copied};
 
 use crate::bytes::{ByteClass, behind_mark, behind_run, is_name_start, split_run};
 use crate::references::referring_text;
@@ -39,30 +41,66 @@ pub fn inside_tag(alloc: Global, bytes: &[u8]) -> Result<Option<(Inside, &[u8])>
         (λ found. option_map found_inner found ≡ inner_at (suc (length bytes.now)) [] bytes.now) }
 {
     let mut attributes: IndexMap<Text, Text> = IndexMap::new(alloc);
+    match read_attributes(alloc, bytes, &mut attributes)? {
+        Some((is_empty, behind)) => {
+            let inside = Inside {
+                attributes,
+                is_empty,
+            };
+            Ok(Some((inside, behind)))
+        }
+        None => Ok(None),
+    }
+}
+
+// Adds the attributes up to the end of the tag. Answers whether the element ends with the tag, and
+// what stands behind it.
+fn read_attributes<'a>(
+    alloc: Global,
+    bytes: &'a [u8],
+    attributes: &mut IndexMap<Text, Text>,
+) -> Result<Option<(bool, &'a [u8])>, NoMemory>
+    ensures { IfOk result
+        (λ end. option_map (found_end (attributes_in_map attributes.new)) end
+        ≡ inner_at (suc (length bytes.now)) (attributes_in_map attributes.old) bytes.now) }
+{
     let mut rest = bytes;
     'attributes: loop {
         match tag_end(rest) {
-            Some((is_empty, behind)) => return Ok(Some((
-                Inside {
-                    attributes,
-                    is_empty,
-                },
-                behind,
-            ))),
+            Some((is_empty, behind)) => return Ok(Some((is_empty, behind))),
             None => {}
         }
         match attribute(rest) {
             None => return Ok(None),
             Some((name, value, behind)) => {
-                let name = Text::of_bytes(alloc, name)?;
-                let value = referring_text(alloc, value)?;
-                if !add_attribute(&mut attributes, name, value)? {
+                if !read_attribute(alloc, name, value, attributes)? {
                     return Ok(None);
                 }
                 rest = behind;
             }
         }
     }
+}
+
+// Adds an attribute that is written so, unless one of its name is there. Answers whether it was
+// added.
+fn read_attribute(
+    alloc: Global,
+    name: &[u8],
+    value: &[u8],
+    attributes: &mut IndexMap<Text, Text>,
+) -> Result<bool, NoMemory>
+    ensures new { IfOk result
+        (λ added. is_some (value_in (attributes_in_map attributes.old) (codes name.now))
+        ≡ not added) }
+    ensures last { IfOk result (λ added. added ≡ true
+        → attributes_in_map attributes.new
+        ≡ attributes_in_map attributes.old
+        ++ record { name = codes name.now; value = codes (read_references value.now) } ∷ []) }
+{
+    let name = Text::of_bytes(alloc, name)?;
+    let value = referring_text(alloc, value)?;
+    add_attribute(attributes, name, value)
 }
 
 // Adds an attribute, unless one of that name is there. Answers whether it was added.
@@ -102,7 +140,7 @@ fn tag_end(bytes: &[u8]) -> Option<(bool, &[u8])>
 
 // The name and the value of the attribute at the front, which begins with white, and what stands
 // behind it.
-#[tactic(auto, unfolding(crate::specs::Lexing::attribute_at, crate::specs::Lexing::value_of_name))]
+#[tactic(auto, unfolding(crate::specs::Lexing::attribute_at))]
 fn attribute(bytes: &[u8]) -> Option<(&[u8], &[u8], &[u8])>
     ensures { option_map found_written result ≡ attribute_at bytes.now }
 {
@@ -110,7 +148,16 @@ fn attribute(bytes: &[u8]) -> Option<(&[u8], &[u8], &[u8])>
     if !ByteClass::White.has(*byte) {
         return None;
     }
-    let (name, rest) = name(behind_run(ByteClass::White, bytes))?;
+    named_value(behind_run(ByteClass::White, bytes))
+}
+
+// The name and the value at the front, and what stands behind them.
+#[tactic(auto, unfolding(crate::specs::Lexing::value_of_name))]
+fn named_value(bytes: &[u8]) -> Option<(&[u8], &[u8], &[u8])>
+    ensures { option_map found_written result
+        ≡ option_and_then value_of_name (name_at bytes.now) }
+{
+    let (name, rest) = name(bytes)?;
     let (value, rest) = value(equals(rest)?)?;
     Some((name, value, rest))
 }

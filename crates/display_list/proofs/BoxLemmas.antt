@@ -5,7 +5,7 @@ use Rattle.std.proofs.lemmas.List.{map-append}
 use Rattle.display_list.specs.Shown.{Shown, style_at}
 use Rattle.display_list.specs.Places.{boxes_of, drawn_nodes, has_tag, in_order, is_box_tag, is_drawn, is_under_body, is_visible}
 use Rattle.display_list.specs.Show.{element_lines}
-use Rattle.display_list.specs.Views.{drawn_box, node_id}
+use Rattle.display_list.specs.devices.Views.{drawn_box, node_id}
 use Rattle.display_list.specs.declared.node_styles.NodeStyle.{NodeStyle}
 use Rattle.display_list.specs.declared.scenes.DrawnBox.{DrawnBox}
 use Rattle.display_list.proofs.OrderLemmas.{in_order-map}

@@ -1,4 +1,4 @@
 pub mod Places
 pub mod Show
 pub mod Shown
-pub mod Views
+pub mod devices

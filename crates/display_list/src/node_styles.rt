@@ -14,7 +14,7 @@ use style_cascade::{Focus, Styles};
 use style_reader::{Property, StyleValue};
 
 /// What the style of an element says in the element's present state: pixels, and numbers of colours.
-#[derive(Clone, Copy, Debug, PartialEq, Eq)]
+#[derive(Clone, Copy)]
 pub struct NodeStyle {
     pub left: i16,
     pub top: i16,

@@ -6,7 +6,7 @@ ghost use Rattle.dom_tree.specs.Items.{parent_of};
 ghost use Rattle.dom_tree.specs.NodeNumbers.{number_of};
 ghost use Rattle.dom_tree.specs.Walks.{IsTree};
 ghost use Rattle.display_list.specs.Places.{body_of};
-ghost use Rattle.display_list.specs.Views.{added_by, holder_inside, node_place_of, node_place_outside, place_in, shown_in, ArePlaces, IsNearPlace};
+ghost use Rattle.display_list.specs.devices.Views.{added_by, holder_inside, node_place_of, node_place_outside, place_in, shown_in, ArePlaces, IsNearPlace};
 
 use crate::node_styles::NodeStyle;
 use crate::tags::{is_body, is_box, is_inline};
@@ -15,7 +15,7 @@ use dom_tree::{NodeId, Tree, law_of_paths};
 use std::alloc::Global;
 
 /// The box of an element, in pixels from the top left of the screen.
-#[derive(Clone, Copy, Debug, PartialEq, Eq)]
+#[derive(Clone, Copy)]
 pub struct Place {
     pub x: i32,
     pub y: i32,
@@ -26,7 +26,7 @@ pub struct Place {
 /// Where a node stands: where the places of what stands in it are counted from, which is the sum of
 /// the offsets of the boxes from the node up to the root; whether it is the body or stands under it;
 /// and which element holds the texts that hang where it does.
-#[derive(Clone, Copy, Debug, PartialEq, Eq)]
+#[derive(Clone, Copy)]
 pub struct NodePlace {
     pub x: i32,
     pub y: i32,

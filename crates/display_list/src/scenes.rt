@@ -4,7 +4,7 @@ ghost use Rattle.std.specs.Prelude.{◌≡◌, ◌<◌, length, map, All, IfOk, 
 ghost use Rattle.std.specs.List.Sorted.{IsPermutation};
 ghost use Rattle.display_list.specs.Shown.{style_at};
 ghost use Rattle.display_list.specs.Places.{boxes_of, drawn_nodes, in_order, is_drawn, is_held_by, is_under_body, place_of};
-ghost use Rattle.display_list.specs.Views.{drawn_box, shown_in, shown_of, AreNames, IsScene};
+ghost use Rattle.display_list.specs.devices.Views.{drawn_box, shown_in, shown_of, AreNames, IsScene};
 
 use crate::node_styles::NodeStyle;
 use crate::places::{NodePlace, Place, node_places_of, place_around};
@@ -31,7 +31,7 @@ pub struct Names {
 }
 
 /// An element that is drawn, at a level: the lowest is drawn first.
-#[derive(Clone, Copy, Debug, PartialEq, Eq)]
+#[derive(Clone, Copy)]
 pub struct DrawnBox {
     pub node: NodeId,
     pub level: i16,

@@ -10,7 +10,7 @@ ghost use Rattle.style_cascade.specs.States.{present_state};
 ghost use Rattle.display_list.specs.Shown.{shown_by};
 ghost use Rattle.display_list.specs.Places.{boxes_of};
 ghost use Rattle.display_list.specs.Show.{attribute_field, display_lines, element_lines, focus_lines, focus_lines_of, hanging_lines, held_lines, input_lines, inside_lines, object_line, text_lines};
-ghost use Rattle.display_list.specs.Views.{shown_of, IsScene};
+ghost use Rattle.display_list.specs.devices.Views.{shown_of, IsScene};
 
 use crate::lines::{
     push_box_line, push_break_line, push_field, push_focus_line, push_picture_front, push_text_line,

@@ -5,8 +5,8 @@ use Rattle.std.proofs.lemmas.Option.{slice_get_within}
 use Rattle.std.specs.Prelude.{if◌then◌else◌, IfSome, OnOk, slice_get}
 use Rattle.std.specs.HashMap.{HashMap}
 use Rattle.std.specs.Cmp.Lexicographic.{bytes_decides}
-use Rattle.style_cascade.specs.Indexing.{AreBackward, AreInside, KeepsChains, Reaches, head_of, same_name}
-use Rattle.style_cascade.specs.Indexing.Reaches.{Here, Later}
+use Rattle.style_cascade.specs.devices.Indexing.{AreBackward, AreInside, KeepsChains, Reaches, head_of, same_name}
+use Rattle.style_cascade.specs.devices.Indexing.Reaches.{Here, Later}
 use Rattle.style_cascade.specs.declared.index.Link.{Link}
 
 pub OnOk-then : {T E : Type 0} (r : Result T E) (P Q : Type 0) → OnOk r P → (P → Q) → OnOk r Q

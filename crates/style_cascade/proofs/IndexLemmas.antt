@@ -7,8 +7,8 @@ use Rattle.std.specs.Prelude.{◌==◌, nat_le, nat_lt, ◌&&◌, ◌||◌, if�
 use Rattle.style_reader.specs.declared.properties.StyleValue.{StyleValue}
 use Rattle.style_reader.specs.declared.rules.Rule.{Rule}
 use Rattle.style_cascade.specs.Candidates.{declared_value, last_value}
-use Rattle.style_cascade.specs.Indexing.{Covers, IsNotAbove, IsSound, Question, is_weaker, offer_of, rule_offer, with_offer}
-use Rattle.style_cascade.specs.Searching.{best_of_rules, best_with_both, greatest_of, value_in}
+use Rattle.style_cascade.specs.devices.Indexing.{Covers, IsNotAbove, IsSound, Question, is_weaker, offer_of, rule_offer, with_offer}
+use Rattle.style_cascade.specs.devices.Searching.{best_of_rules, best_with_both, greatest_of, value_in}
 use Rattle.style_cascade.specs.declared.rows.Found.{Found}
 use Rattle.style_cascade.specs.declared.search.Candidate.{Candidate}
 use Rattle.style_cascade.proofs.RuleLemmas.{rule-at_once}

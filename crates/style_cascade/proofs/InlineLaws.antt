@@ -10,7 +10,7 @@ use Rattle.style_reader.specs.declared.properties.StyleValue.{StyleValue}
 use Rattle.style_reader.specs.declared.rules.Rule.{Rule}
 use Rattle.style_cascade.specs.Candidates.{declared_value, inline_rules, inline_value, is_same_property, last_value}
 use Rattle.style_cascade.specs.Matching.{matches}
-use Rattle.style_cascade.specs.Searching.{best_of_declarations, best_with, best_with_declaration, candidate, stronger_candidate, value_in}
+use Rattle.style_cascade.specs.devices.Searching.{best_of_declarations, best_with, best_with_declaration, candidate, stronger_candidate, value_in}
 use Rattle.style_cascade.specs.declared.search.Candidate.{Candidate}
 use Rattle.style_cascade.specs.declared.states.State.{State}
 use Rattle.style_cascade.specs.declared.subjects.Subject.{Subject}

@@ -17,9 +17,9 @@ use Rattle.style_reader.specs.declared.selectors.Selector.{Selector}
 use Rattle.style_reader.specs.Rules.{AreFitting}
 use Rattle.style_reader.specs.Values.{fits}
 use Rattle.style_cascade.specs.Candidates.{declared_value, last_value}
-use Rattle.style_cascade.specs.Indexing.{AreBackward, AreNoted, Covers, CoversChain, Improves, IsNotAbove, IsSound, Question, Reaches, found_value, head_of, name_of, name_with, offer_of, rule_offer, with_offer}
+use Rattle.style_cascade.specs.devices.Indexing.{AreBackward, AreNoted, Covers, CoversChain, Improves, IsNotAbove, IsSound, Question, Reaches, found_value, head_of, name_of, name_with, offer_of, rule_offer, with_offer}
 use Rattle.style_cascade.specs.Matching.{has_mark, has_tag, is_for_state, matches}
-use Rattle.style_cascade.specs.Searching.{best_of_rules, best_with_both, greater_of, greatest_of, greatest_with}
+use Rattle.style_cascade.specs.devices.Searching.{best_of_rules, best_with_both, greater_of, greatest_of, greatest_with}
 use Rattle.style_cascade.specs.declared.rows.Found.{Found}
 use Rattle.style_cascade.specs.declared.index.Link.{Link}
 use Rattle.style_cascade.specs.declared.search.Candidate.{Candidate}

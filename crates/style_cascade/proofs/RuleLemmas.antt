@@ -11,7 +11,7 @@ use Rattle.style_reader.specs.declared.properties.StyleValue.{StyleValue}
 use Rattle.style_reader.specs.declared.selectors.Selector.{Selector}
 use Rattle.style_cascade.specs.Candidates.{is_same_property, last_value}
 use Rattle.style_cascade.specs.Matching.{matches}
-use Rattle.style_cascade.specs.Searching.{best_of_declarations, best_of_selectors, best_with, best_with_both, best_with_declaration, candidate, greater_of, greatest_of, greatest_with, stronger_candidate}
+use Rattle.style_cascade.specs.devices.Searching.{best_of_declarations, best_of_selectors, best_with, best_with_both, best_with_declaration, candidate, greater_of, greatest_of, greatest_with, stronger_candidate}
 use Rattle.style_cascade.specs.declared.search.Candidate.{Candidate}
 use Rattle.style_cascade.specs.declared.states.State.{State}
 use Rattle.style_cascade.specs.declared.subjects.Subject.{Subject}

@@ -13,7 +13,7 @@ use Rattle.style_reader.specs.declared.rules.Rule.{Rule}
 use Rattle.style_reader.specs.declared.selectors.Selector.{Selector}
 use Rattle.style_cascade.specs.Candidates.{candidates, declared_value, is_at_least, is_candidate, is_same_property, strongest, strongest_from, stronger}
 use Rattle.style_cascade.specs.Matching.{matches}
-use Rattle.style_cascade.specs.Searching.{best_of_declarations, best_of_rules, best_of_selectors, best_with, best_with_declaration, candidate, stronger_candidate, value_in}
+use Rattle.style_cascade.specs.devices.Searching.{best_of_declarations, best_of_rules, best_of_selectors, best_with, best_with_declaration, candidate, stronger_candidate, value_in}
 use Rattle.style_cascade.specs.declared.search.Candidate.{Candidate}
 use Rattle.style_cascade.specs.declared.states.State.{State}
 use Rattle.style_cascade.specs.declared.subjects.Subject.{Subject}

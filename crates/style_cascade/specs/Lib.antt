@@ -4,6 +4,4 @@ pub mod Candidates
 pub mod Writes
 pub mod Cascade
 pub mod Keeping
-pub mod Searching
-pub mod Indexing
-pub mod Rows
+pub mod devices

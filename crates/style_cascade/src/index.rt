@@ -3,7 +3,7 @@
 ghost use Rattle.std.specs.Prelude.{◌≡◌, ℕ, List, [], Option, Some, None, Contains, option_copied, if◌then◌else◌, IfOk, IsTrue, OnOk};
 ghost use Rattle.indexmap.specs.IndexMap.{get};
 ghost use Rattle.bml_bytes.specs.Words.{is_same};
-ghost use Rattle.style_cascade.specs.Indexing.{AreBackward, AreInside, AreNoted, KeepsChains, Reaches, head_of, name_of as spec_name_of, same_name};
+ghost use Rattle.style_cascade.specs.devices.Indexing.{AreBackward, AreInside, AreNoted, KeepsChains, Reaches, head_of, name_of as spec_name_of, same_name};
 ghost use Rattle.style_reader.specs.declared.selectors.Selector.{Selector};
 
 use bml_bytes::{NoMemory, Text};
@@ -12,7 +12,7 @@ use std::alloc::Global;
 use style_reader::{Mark, Rule, Selector};
 
 /// The number of a rule with a selector that asks for a name, and where an earlier one stands.
-#[derive(Clone, Copy, Debug)]
+#[derive(Clone, Copy)]
 pub struct Link {
     pub rule: usize,
     pub next: Option<usize>,

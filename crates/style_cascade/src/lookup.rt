@@ -3,8 +3,8 @@
 ghost use Rattle.std.specs.Prelude.{◌≡◌, ◌<◌, ℕ, List, Option, Some, option_copied, IsTrue};
 ghost use Rattle.std.specs.List.{list_any};
 ghost use Rattle.bml_bytes.specs.Words.{is_same};
-ghost use Rattle.style_cascade.specs.Indexing.{AreBackward, AreNoted, head_of};
-ghost use Rattle.style_cascade.specs.Rows.{CoversEach, CoversEachIn, ImprovesEach};
+ghost use Rattle.style_cascade.specs.devices.Indexing.{AreBackward, AreNoted, head_of};
+ghost use Rattle.style_cascade.specs.devices.Rows.{CoversEach, CoversEachIn, ImprovesEach};
 
 use crate::index::Index;
 use crate::rows::Row;

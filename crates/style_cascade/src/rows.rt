@@ -2,9 +2,9 @@
 
 ghost use Rattle.std.specs.Prelude.{◌≡◌, ◌≢◌, ◌<◌, None, Some, IfOk, not};
 ghost use Rattle.style_cascade.specs.Candidates.{declared_value, last_value};
-ghost use Rattle.style_cascade.specs.Indexing.{better_of as spec_better_of, is_weaker, offer_of, question, rule_offer, with_offer};
-ghost use Rattle.style_cascade.specs.Rows.{found_in, value_at};
-ghost use Rattle.style_cascade.specs.Searching.{best_with_both};
+ghost use Rattle.style_cascade.specs.devices.Indexing.{better_of as spec_better_of, is_weaker, offer_of, question, rule_offer, with_offer};
+ghost use Rattle.style_cascade.specs.devices.Rows.{found_in, value_at};
+ghost use Rattle.style_cascade.specs.devices.Searching.{best_with_both};
 ghost use Rattle.style_cascade.specs.declared.states.State.{State};
 ghost use Rattle.style_reader.specs.declared.properties.Property.{Property};
 
@@ -18,7 +18,7 @@ use std::marker::Model;
 use style_reader::{Declaration, Property, Rule, StyleValue};
 
 /// The best so far, and the number of its rule.
-#[derive(Clone, Copy, Debug)]
+#[derive(Clone, Copy)]
 pub struct Found {
     pub rule: usize,
     pub candidate: Candidate,

@@ -1,9 +1,10 @@
 //! What rules and inline texts say of elements.
 
-ghost use Rattle.std.specs.Prelude.{◌≡◌, ◌≢◌, ◌+◌, ◌*◌, ◌≤◌, ℕ, None, length, option_and_then, IfSome, IsTrue, OnOk};
+ghost use Rattle.std.specs.Prelude.{◌≡◌, ◌≢◌, ◌+◌, ◌*◌, ◌<◌, ◌≤◌, ℕ, None, length, IfOk, IfSome, IsTrue, OnOk};
 ghost use Rattle.style_reader.specs.Values.{fits};
+ghost use Rattle.style_cascade.specs.Cascade.{said_value};
 ghost use Rattle.style_cascade.specs.Keeping.{said_of};
-ghost use Rattle.style_cascade.specs.Rows.{said_in};
+ghost use Rattle.style_cascade.specs.devices.Rows.{said_in};
 ghost use Rattle.style_cascade.specs.Writes.{cell_of};
 ghost use Rattle.style_cascade.specs.declared.states.State.{State};
 ghost use Rattle.style_reader.specs.declared.properties.Property.{Property};
@@ -11,10 +12,10 @@ ghost use Rattle.style_reader.specs.declared.properties.Property.{Property};
 use crate::rows::Row;
 use crate::sheets::Sheet;
 use crate::states::State;
-use crate::subjects::Styled;
+use crate::subjects::{Names, Styled, styled_at};
 use crate::tables::Table;
 use bml_bytes::NoMemory;
-use dom_tree::NodeId;
+use dom_tree::{NodeId, Tree};
 use std::alloc::Global;
 use style_reader::{Property, StyleValue};
 
@@ -25,33 +26,82 @@ pub struct Said {
     pub declared: Row,
 }
 
-/// Puts what is said of a node into a table that has nothing of it: of an element what the rules
-/// and its inline text say, and nothing of a text. Each rule that asks for a name of the element
-/// is looked at once.
-pub fn put_said(
+/// What is said of each node of a tree: of an element what the rules and its inline text say, and
+/// nothing of a text. For each element each rule that asks for a name of it is looked at once.
+pub fn said_table(alloc: Global, tree: &Tree, sheet: &Sheet) -> Result<Table, NoMemory>
+    ensures length { IfOk result (λ table. length table ≡ 51 * length tree.now) }
+    ensures said { IfOk result (λ table. (node : ℕ) (state : State) (property : Property) →
+        node < length tree.now →
+        cell_of table node state property ≡ said_value tree.now sheet.now node state property) }
+{
+    let mut table = Table::new(alloc, tree.node_count())?;
+    put_each(alloc, tree, sheet, &mut table)?;
+    Ok(table)
+}
+
+// Puts what is said of each node into a table that has nothing of any.
+fn put_each(alloc: Global, tree: &Tree, sheet: &Sheet, table: &mut Table) -> Result<(), NoMemory>
+    requires room { length table.old ≡ 51 * length tree.now }
+    requires empty { (node : ℕ) (state : State) (property : Property) →
+        cell_of table.old node state property ≡ None }
+    ensures length { OnOk result (length table.new ≡ length table.old) }
+    ensures said { OnOk result ((node : ℕ) (state : State) (property : Property) →
+        node < length tree.now → cell_of table.new node state property
+        ≡ said_value tree.now sheet.now node state property) }
+{
+    let names = Names::new(alloc)?;
+    put_nodes(alloc, tree, sheet, &names, table)
+}
+
+fn put_nodes(
     alloc: Global,
+    tree: &Tree,
     sheet: &Sheet,
-    styled: Option<Styled>,
+    names: &Names,
+    table: &mut Table,
+) -> Result<(), NoMemory>
+    requires room { length table.old ≡ 51 * length tree.now }
+    requires empty { (node : ℕ) (state : State) (property : Property) →
+        cell_of table.old node state property ≡ None }
+    ensures length { OnOk result (length table.new ≡ length table.old) }
+    ensures said { OnOk result ((node : ℕ) (state : State) (property : Property) →
+        node < length tree.now → cell_of table.new node state property
+        ≡ said_value tree.now sheet.now node state property) }
+{
+    'nodes: for number in 0..tree.node_count() {
+        put_node(alloc, tree, sheet, names, NodeId(number), table)?;
+    }
+    Ok(())
+}
+
+// Puts what is said of a node into a table that has nothing of it.
+fn put_node(
+    alloc: Global,
+    tree: &Tree,
+    sheet: &Sheet,
+    names: &Names,
     node: NodeId,
     table: &mut Table,
 ) -> Result<(), NoMemory>
+    requires node { node.0 < length tree.now }
     requires room { 51 * node.0 + 51 ≤ length table.old }
     requires empty { (state : State) (property : Property) →
         cell_of table.old node.0 state property ≡ None }
     ensures length { OnOk result (length table.new ≡ length table.old) }
     ensures here { OnOk result ((state : State) (property : Property) →
         cell_of table.new node.0 state property
-        ≡ option_and_then (said_of sheet.now state property) styled) }
+        ≡ said_value tree.now sheet.now node.0 state property) }
     ensures others { OnOk result ((other : ℕ) (state : State) (property : Property) →
         other ≢ node.0 →
         cell_of table.new other state property ≡ cell_of table.old other state property) }
 {
-    match styled {
+    match styled_at(alloc, tree, names, node)? {
         Some(styled) => put_styled(alloc, sheet, &styled, node, table),
         None => Ok(()),
     }
 }
 
+// Puts what is said of an element.
 fn put_styled(
     alloc: Global,
     sheet: &Sheet,

@@ -1,14 +1,14 @@
 //! The selectors of a rule that match an element.
 
 ghost use Rattle.std.specs.Prelude.{◌≡◌, None};
-ghost use Rattle.style_cascade.specs.Searching.{greatest_of, greatest_with as spec_greatest_with};
+ghost use Rattle.style_cascade.specs.devices.Searching.{greatest_of, greatest_with as spec_greatest_with};
 
 use crate::states::State;
 use crate::subjects::Subject;
 use style_reader::{Selector, StyleValue};
 
 /// A value that is given, and how specific the selector is that it is given to.
-#[derive(Clone, Copy, Debug)]
+#[derive(Clone, Copy)]
 pub struct Candidate {
     pub specificity: u8,
     pub value: StyleValue,
@@ -27,7 +27,7 @@ pub fn greatest_match(selectors: &[Selector], subject: &Subject, state: State) -
     greatest
 }
 
-#[tactic(auto, unfolding(crate::specs::Searching::greatest_with))]
+#[tactic(auto, unfolding(crate::specs::devices::Searching::greatest_with))]
 fn greatest_with(
     selector: &Selector,
     subject: &Subject,

@@ -3,7 +3,7 @@
 ghost use Rattle.std.specs.Prelude.{◌≡◌, IfOk, IfSome, IsTrue};
 ghost use Rattle.style_reader.specs.Values.{fits};
 ghost use Rattle.style_cascade.specs.Candidates.{declared_value};
-ghost use Rattle.style_cascade.specs.Rows.{value_at};
+ghost use Rattle.style_cascade.specs.devices.Rows.{value_at};
 ghost use Rattle.style_cascade.specs.declared.states.State.{State};
 ghost use Rattle.style_reader.specs.declared.properties.Property.{Property};
 
@@ -29,7 +29,7 @@ impl Model for Sheet {
 
     ghost Value = { List Rule };
 
-    ghost use Rattle.style_cascade.specs.Indexing.{AreNoted};
+    ghost use Rattle.style_cascade.specs.devices.Indexing.{AreNoted};
 
     ghost view = { λ sheet. sheet.rules };
 

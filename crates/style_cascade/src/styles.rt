@@ -7,10 +7,9 @@ ghost use Rattle.style_cascade.specs.States.{present_state};
 ghost use Rattle.style_cascade.specs.declared.states.State.{State};
 ghost use Rattle.style_reader.specs.declared.properties.Property.{Property};
 
-use crate::said::put_said;
+use crate::said::said_table;
 use crate::sheets::Sheet;
 use crate::states::{Focus, State};
-use crate::subjects::{Names, styled_at};
 use crate::tables::Table;
 use bml_bytes::NoMemory;
 use dom_tree::{NodeId, Tree};
@@ -33,8 +32,15 @@ pub struct Styles {
     worked: u64,
 }
 
+// What is said of the nodes of a document, and what scripts have written.
+#[derive(Drop)]
+struct Tables {
+    said: Table,
+    writes: Table,
+}
+
 // What is found, and how many values were worked out by then.
-#[derive(Clone, Copy, Debug)]
+#[derive(Clone, Copy)]
 struct Answer {
     value: Option<StyleValue>,
     worked: u64,
@@ -50,6 +56,29 @@ impl Model for Styles {
       worked = styles.worked;
       kept = styles.said;
     } };
+}
+
+impl Tables {
+    ghost use Rattle.std.specs.Prelude.{◌*◌, ◌<◌, length, replicate};
+    ghost use Rattle.style_cascade.specs.Cascade.{said_value};
+    ghost use Rattle.style_cascade.specs.Writes.{cell_of};
+
+    // Those of a document of which scripts have written nothing.
+    fn new(alloc: Global, tree: &Tree, sheet: &Sheet) -> Result<Tables, NoMemory>
+        ensures unwritten { IfOk result
+            (λ tables. tables.writes ≡ replicate (51 * length tree.now) None) }
+        ensures empty { IfOk result
+            (λ tables. (node : ℕ) (state : State) (property : Property) →
+            cell_of tables.writes node state property ≡ None) }
+        ensures room { IfOk result (λ tables. length tables.writes ≡ 51 * length tree.now) }
+        ensures said { IfOk result (λ tables. (node : ℕ) (state : State) (property : Property) →
+            node < length tree.now → cell_of tables.said node state property
+            ≡ said_value tree.now sheet.now node state property) }
+    {
+        let writes = Table::new(alloc, tree.node_count())?;
+        let said = said_table(alloc, tree, sheet)?;
+        Ok(Tables { said, writes })
+    }
 }
 
 impl Styles {
@@ -70,19 +99,11 @@ impl Styles {
             (λ styles. (states : ℕ → State) → IsRight tree.now states styles) }
     {
         let sheet = Sheet::new(alloc, rules)?;
-        let names = Names::new(alloc)?;
-        let count = tree.node_count();
-        let mut said = Table::new(alloc, count)?;
-        'nodes: for number in 0..count {
-            let node = NodeId(number);
-            let styled = styled_at(alloc, tree, &names, node)?;
-            put_said(alloc, &sheet, styled, node, &mut said)?;
-        }
-        let writes = Table::new(alloc, count)?;
+        let tables = Tables::new(alloc, tree, &sheet)?;
         Ok(Styles {
             rules: sheet.into_rules(),
-            said,
-            writes,
+            said: tables.said,
+            writes: tables.writes,
             worked: 0,
         })
     }

@@ -16,7 +16,7 @@ use std::alloc::Global;
 use style_reader::{Mark, PseudoClass, Rules, Selector, next_word, read_inline};
 
 /// What styles ask of an element.
-#[derive(Debug, Drop)]
+#[derive(Drop)]
 pub struct Subject {
     pub tag: Text,
     pub id: Option<Text>,
@@ -25,14 +25,22 @@ pub struct Subject {
 }
 
 /// An element, and the rules of its attribute `style`.
-#[derive(Debug, Drop)]
+#[derive(Drop)]
 pub struct Styled {
     pub subject: Subject,
     pub inline: Rules,
 }
 
+// What the attributes of an element say to styles.
+#[derive(Drop)]
+struct Attributes {
+    id: Option<Text>,
+    classes: Sequence<Text>,
+    style: Option<Text>,
+}
+
 /// The names of the attributes that styles ask for.
-#[derive(Debug, Drop)]
+#[derive(Drop)]
 pub struct Names {
     pub id: Text,
     pub class: Text,
@@ -85,6 +93,32 @@ impl Subject {
     }
 }
 
+impl Attributes {
+    fn at(alloc: Global, tree: &Tree, names: &Names, node: NodeId) -> Result<Attributes, NoMemory>
+        requires { node.0 < length tree.now }
+        ensures id { IfOk result (λ found. found.id ≡ value_of tree.now node.0 (codes "id")) }
+        ensures classes { IfOk result
+            (λ found. found.classes ≡ words_in (value_of tree.now node.0 (codes "class"))) }
+        ensures style { IfOk result
+            (λ found. found.style ≡ value_of tree.now node.0 (codes "style")) }
+    {
+        let id = attribute_at(tree, node, &names.id)?;
+        let style = attribute_at(tree, node, &names.style)?;
+        let classes = classes_at(alloc, tree, node, &names.class)?;
+        Ok(Attributes { id, classes, style })
+    }
+}
+
+impl Styled {
+    // An element, with the rules of its inline text.
+    fn of(alloc: Global, subject: Subject) -> Result<Styled, NoMemory>
+        ensures { IfOk result (λ styled. styled ≡ styled_by subject) }
+    {
+        let inline = inline_rules(alloc, &subject)?;
+        Ok(Styled { subject, inline })
+    }
+}
+
 /// What styles ask of a node of a tree, with the rules of its inline text. None of a text.
 pub fn styled_at(
     alloc: Global,
@@ -98,8 +132,8 @@ pub fn styled_at(
 {
     match subject_at(alloc, tree, names, node)? {
         Some(subject) => {
-            let inline = inline_rules(alloc, &subject)?;
-            Ok(Some(Styled { subject, inline }))
+            let styled = Styled::of(alloc, subject)?;
+            Ok(Some(styled))
         }
         None => Ok(None),
     }
@@ -119,14 +153,12 @@ fn subject_at(
         return Ok(None);
     };
     let tag = tag.share()?;
-    let id = attribute_at(tree, node, &names.id)?;
-    let classes = classes_at(alloc, tree, node, &names.class)?;
-    let style = attribute_at(tree, node, &names.style)?;
+    let attributes = Attributes::at(alloc, tree, names, node)?;
     Ok(Some(Subject {
         tag,
-        id,
-        classes,
-        style,
+        id: attributes.id,
+        classes: attributes.classes,
+        style: attributes.style,
     }))
 }
 

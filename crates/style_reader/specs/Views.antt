@@ -4,7 +4,7 @@ use Rattle.std.specs.Borrow.{Bor}
 use Rattle.std.specs.List.{after_first, before_first, list_all, list_any, slice_split}
 use Rattle.bml_bytes.specs.Numerals.{decimal_number, is_decimal_digit}
 use Rattle.style_reader.specs.Characters.{is_word}
-use Rattle.style_reader.specs.Properties.{Row, Values}
+use Rattle.style_reader.specs.Properties.{Values}
 use Rattle.style_reader.specs.Properties.Values.{Pixels, Numbers, NumbersOrNone, VisibleOrHidden, KeyGroups}
 use Rattle.style_reader.specs.Values.{numeral, pixel_count, unit_of, without_unit}
 use Rattle.style_reader.specs.Readings.{Asked, Found, Parted, parted, rules_by}
@@ -17,11 +17,10 @@ use Rattle.style_reader.specs.declared.selectors.PseudoClass.{PseudoClass}
 use Rattle.style_reader.specs.declared.numbers.Unit.{Unit as UnitInCode}
 use Rattle.style_reader.specs.declared.numbers.Unit.TheVariants as units
 use Rattle.style_reader.specs.declared.numbers.Unit.TheVariants.{Plain}
-use Rattle.style_reader.specs.declared.properties.Row.{Row as RowInCode}
 use Rattle.style_reader.specs.declared.properties.Values.{Values as ValuesInCode}
 use Rattle.style_reader.specs.declared.properties.Values.TheVariants as values
 
--- ---- the table
+-- ---- values of properties
 
 abbrev pub seen_values : ValuesInCode → Values
 seen_values (values.Pixels least most) = Pixels least most
@@ -29,16 +28,6 @@ seen_values (values.Numbers least most) = Numbers least most
 seen_values (values.NumbersOrNone least most) = NumbersOrNone least most
 seen_values values.VisibleOrHidden = VisibleOrHidden
 seen_values values.KeyGroups = KeyGroups
-
-abbrev pub seen_row : RowInCode → Row
-seen_row row =
-    record {
-      name = row.name.now;
-      script_name = row.script_name.now;
-      values = seen_values row.values;
-      initial = row.initial;
-      is_inherited = row.is_inherited;
-    }
 
 -- ---- numbers
 

@@ -9,7 +9,7 @@ use crate::properties::StyleValue;
 use bml_bytes::{is_word, is_word_in_any_case, law_of_decimals};
 
 /// What is counted, and so what stands behind the digits.
-#[derive(Clone, Copy, Debug)]
+#[derive(Clone, Copy)]
 pub enum Unit {
     Pixels,
     Plain,

@@ -1,8 +1,8 @@
 //! The properties of styles, and the values that they take.
 
 ghost use Rattle.std.specs.Prelude.{◌≡◌};
-ghost use Rattle.style_reader.specs.Properties.{all_properties, initial_of, is_inherited as spec_is_inherited, inherited, name_of, row, row_of, script_name_of, values_of};
-ghost use Rattle.style_reader.specs.Views.{seen_row, seen_values};
+ghost use Rattle.style_reader.specs.Properties.{all_properties, initial_of, is_inherited as spec_is_inherited, name_of, script_name_of, values_of};
+ghost use Rattle.style_reader.specs.Views.{seen_values};
 
 /// A property of a style (after BML, ARIB STD-B24 volume 2; the choice is this project's own).
 #[derive(Clone, Copy, Debug, PartialEq, Eq)]
@@ -40,7 +40,7 @@ pub enum StyleValue {
 }
 
 // The values of a property: numbers from a least to a most one, in pixels or plain, or words.
-#[derive(Clone, Copy, Debug)]
+#[derive(Clone, Copy)]
 pub(crate) enum Values {
     Pixels(i32, i32),
     Numbers(i32, i32),
@@ -68,52 +68,7 @@ const EIGHT: StyleValue = StyleValue::Whole(8);
 
 const TWENTY_FOUR: StyleValue = StyleValue::Whole(24);
 
-const NONE: StyleValue = StyleValue::NoValue;
-
-// A row of the table of properties.
-#[derive(Clone, Copy, Debug)]
-struct Row {
-    name: &'static str,
-    script_name: &'static str,
-    values: Values,
-    initial: StyleValue,
-    is_inherited: bool,
-}
-
-impl Row {
-    // A property that an element doesn't take from the one around it.
-    fn own(name: &'static str, script: &'static str, values: Values, initial: StyleValue) -> Row
-        ensures { seen_row result
-            ≡ row name.entry.now script.entry.now (seen_values values) initial }
-    {
-        Row {
-            name,
-            script_name: script,
-            values,
-            initial,
-            is_inherited: false,
-        }
-    }
-
-    // A property that an element takes from the one around it, where nothing gives it one.
-    fn inherited(
-        name: &'static str,
-        script: &'static str,
-        values: Values,
-        initial: StyleValue,
-    ) -> Row
-        ensures { seen_row result
-            ≡ inherited (row name.entry.now script.entry.now (seen_values values) initial) }
-    {
-        Row {
-            name,
-            script_name: script,
-            values,
-            initial,
-            is_inherited: true,
-        }
-    }
-}
+const BASIC_AND_DATA_BUTTON: StyleValue = StyleValue::Keys(3);
 
 impl Property {
     /// All properties, in the order in which they are listed.
@@ -145,79 +100,104 @@ impl Property {
     pub fn name(self) -> &'static str
         ensures { result.now ≡ name_of self }
     {
-        self.row().name
+        match self {
+            Property::Left => "left",
+            Property::Top => "top",
+            Property::Width => "width",
+            Property::Height => "height",
+            Property::Visibility => "visibility",
+            Property::ZIndex => "z-index",
+            Property::NavIndex => "nav-index",
+            Property::NavUp => "nav-up",
+            Property::NavDown => "nav-down",
+            Property::NavLeft => "nav-left",
+            Property::NavRight => "nav-right",
+            Property::UsedKeyList => "used-key-list",
+            Property::ColorIndex => "color-index",
+            Property::BackgroundColorIndex => "background-color-index",
+            Property::BorderWidth => "border-width",
+            Property::BorderColorIndex => "border-color-index",
+            Property::FontSize => "font-size",
+        }
     }
 
     /// Its name in a script.
     pub fn script_name(self) -> &'static str
         ensures { result.now ≡ script_name_of self }
     {
-        self.row().script_name
+        match self {
+            Property::Left => "left",
+            Property::Top => "top",
+            Property::Width => "width",
+            Property::Height => "height",
+            Property::Visibility => "visibility",
+            Property::ZIndex => "zIndex",
+            Property::NavIndex => "navIndex",
+            Property::NavUp => "navUp",
+            Property::NavDown => "navDown",
+            Property::NavLeft => "navLeft",
+            Property::NavRight => "navRight",
+            Property::UsedKeyList => "usedKeyList",
+            Property::ColorIndex => "colorIndex",
+            Property::BackgroundColorIndex => "backgroundColorIndex",
+            Property::BorderWidth => "borderWidth",
+            Property::BorderColorIndex => "borderColorIndex",
+            Property::FontSize => "fontSize",
+        }
     }
 
     /// Its value where nothing gives it one.
     pub fn initial(self) -> StyleValue
         ensures { result ≡ initial_of self }
     {
-        self.row().initial
+        match self {
+            Property::Left
+            | Property::Top
+            | Property::Width
+            | Property::Height
+            | Property::ZIndex
+            | Property::BorderWidth => ZERO,
+            Property::Visibility => StyleValue::Visible,
+            Property::NavIndex
+            | Property::NavUp
+            | Property::NavDown
+            | Property::NavLeft
+            | Property::NavRight => StyleValue::NoValue,
+            Property::UsedKeyList => BASIC_AND_DATA_BUTTON,
+            Property::ColorIndex | Property::BorderColorIndex => SEVEN,
+            Property::BackgroundColorIndex => EIGHT,
+            Property::FontSize => TWENTY_FOUR,
+        }
     }
 
     /// Whether an element to which nothing gives it has that of the element around it.
     pub fn is_inherited(self) -> bool
         ensures { result ≡ spec_is_inherited self }
     {
-        self.row().is_inherited
+        matches!(
+            self,
+            Property::Visibility | Property::ColorIndex | Property::FontSize
+        )
     }
 
     // The values that it takes.
     pub(crate) fn values(self) -> Values
         ensures { seen_values result ≡ values_of self }
     {
-        self.row().values
-    }
-
-    // What is known of it.
-    fn row(self) -> Row
-        ensures { seen_row result ≡ row_of self }
-    {
         match self {
-            Property::Left => Row::own("left", "left", OFFSETS, ZERO),
-            Property::Top => Row::own("top", "top", OFFSETS, ZERO),
-            Property::Width => Row::own("width", "width", LENGTHS, ZERO),
-            Property::Height => Row::own("height", "height", LENGTHS, ZERO),
-            Property::Visibility => Row::inherited(
-                "visibility",
-                "visibility",
-                Values::VisibleOrHidden,
-                StyleValue::Visible,
-            ),
-            Property::ZIndex => Row::own("z-index", "zIndex", LEVELS, ZERO),
-            Property::NavIndex => Row::own("nav-index", "navIndex", TARGETS, NONE),
-            Property::NavUp => Row::own("nav-up", "navUp", TARGETS, NONE),
-            Property::NavDown => Row::own("nav-down", "navDown", TARGETS, NONE),
-            Property::NavLeft => Row::own("nav-left", "navLeft", TARGETS, NONE),
-            Property::NavRight => Row::own("nav-right", "navRight", TARGETS, NONE),
-            Property::UsedKeyList => Row::own(
-                "used-key-list",
-                "usedKeyList",
-                Values::KeyGroups,
-                StyleValue::Keys(3),
-            ),
-            Property::ColorIndex => Row::inherited("color-index", "colorIndex", COLOURS, SEVEN),
-            Property::BackgroundColorIndex => Row::own(
-                "background-color-index",
-                "backgroundColorIndex",
+            Property::Left | Property::Top => OFFSETS,
+            Property::Width | Property::Height | Property::BorderWidth | Property::FontSize =>
+                LENGTHS,
+            Property::ZIndex => LEVELS,
+            Property::NavIndex
+            | Property::NavUp
+            | Property::NavDown
+            | Property::NavLeft
+            | Property::NavRight => TARGETS,
+            Property::Visibility => Values::VisibleOrHidden,
+            Property::UsedKeyList => Values::KeyGroups,
+            Property::ColorIndex | Property::BackgroundColorIndex | Property::BorderColorIndex =>
                 COLOURS,
-                EIGHT,
-            ),
-            Property::BorderWidth => Row::own("border-width", "borderWidth", LENGTHS, ZERO),
-            Property::BorderColorIndex => Row::own(
-                "border-color-index",
-                "borderColorIndex",
-                COLOURS,
-                SEVEN,
-            ),
-            Property::FontSize => Row::inherited("font-size", "fontSize", LENGTHS, TWENTY_FOUR),
         }
     }
 }

@@ -35,7 +35,7 @@ pub struct Selector {
 }
 
 // What a selector asks of an element itself.
-#[derive(Debug, Drop)]
+#[derive(Drop)]
 struct Asked {
     tag: Option<Text>,
     mark: Option<Mark>,

@@ -8,7 +8,7 @@ use crate::characters::without_white_front;
 use crate::pieces::split_at_code;
 
 /// What stands at the front of a sheet.
-#[derive(Clone, Copy, Debug)]
+#[derive(Clone, Copy)]
 pub enum Part<'a> {
     /// What a rule selects, and what it declares.
     Rule(&'a [u16], &'a [u16]),

@@ -5,7 +5,7 @@ ghost use Rattle.bml_bytes.specs.Words.{is_same};
 ghost use Rattle.dom_tree.specs.Items.{IsElement, IsText, value_of, changed_at, with_text, with_attribute, with_last_attribute};
 ghost use Rattle.std.specs.Prelude.{List, IsFalse, ◌+◌, min};
 ghost use Rattle.std.specs.Option.{option_map_or};
-ghost use Rattle.indexmap.specs.IndexMap.{get, spare};
+ghost use Rattle.indexmap.specs.IndexMap.{IsUnchanged, get, spare};
 ghost use Rattle.dom_tree.specs.Walks.{KeepsPlaces, most_nodes, node_of_id};
 ghost use Rattle.dom_tree.specs.NodeNumbers.{number_of};
 ghost use Rattle.dom_tree.specs.Links.{items_in, links_in};
@@ -15,6 +15,13 @@ use crate::node_ids::NodeId;
 use crate::nodes::{Node, NodeKind};
 use bml_bytes::{NoMemory, Text};
 use indexmap::IndexMap;
+
+// An id that an element was given, and the one that it had.
+#[derive(Drop)]
+struct PutId {
+    id: Text,
+    had: Option<Text>,
+}
 
 impl Tree {
     /// Gives a text node another text.
@@ -51,11 +58,10 @@ impl Tree {
         ensures err { OnErr result (self.new ≡ self.old) }
         ensures places { KeepsPlaces self.old self.new }
     {
-        let name = name.share()?;
-        if is_id(&name) {
+        if is_id(name) {
             return self.set_id(node, name, value);
         }
-        put_attribute(&mut self.nodes, node, name, value)?;
+        put_shared(&mut self.nodes, node, name, value)?;
         Ok(())
     }
 
@@ -69,29 +75,24 @@ impl Tree {
         ensures err { OnErr result (self.new ≡ self.old) }
         ensures places { KeepsPlaces self.old self.new }
     {
-        let id = value.share()?;
-        self.ids.reserve(1)?;
-        put_attribute(&mut self.nodes, node, name, value)?;
-        index_one_more(&mut self.ids, id, node);
+        let put = put_id(&mut self.nodes, &mut self.ids, node, &name, value, 1)?;
+        index_one_more(&mut self.ids, put.id, node);
         Ok(())
     }
 
     // Gives an element an id. What may fail comes first; then the index is mended at the old and
     // the new id.
-    fn set_id(&mut self, node: NodeId, name: Text, value: Text) -> Result<(), NoMemory>
+    fn set_id(&mut self, node: NodeId, name: &Text, value: Text) -> Result<(), NoMemory>
         requires element { IsElement self.old node.0 }
-        requires name { IsTrue (is_same name (codes "id")) }
+        requires name { IsTrue (is_same name.now (codes "id")) }
         ensures ok { OnOk result
-            (self.new ≡ changed_at (with_attribute name value) node.0 self.old) }
+            (self.new ≡ changed_at (with_attribute name.now value) node.0 self.old) }
         ensures err { OnErr result (self.new ≡ self.old) }
         ensures places { KeepsPlaces self.old self.new }
     {
-        let key = name.share()?;
-        let id = value.share()?;
-        self.ids.reserve(2)?;
-        let had = put_attribute(&mut self.nodes, node, name, value)?;
-        index_had(&mut self.ids, &self.nodes, &key, had);
-        index_anew(&mut self.ids, &self.nodes, &key, id);
+        let put = put_id(&mut self.nodes, &mut self.ids, node, name, value, 2)?;
+        index_had(&mut self.ids, &self.nodes, name, put.had);
+        index_anew(&mut self.ids, &self.nodes, name, put.id);
         Ok(())
     }
 }
@@ -112,6 +113,52 @@ fn put_attribute(
     ensures links { links_in nodes.new.items ≡ links_in nodes.old.items }
 {
     nodes[node.0 as usize].put_attribute(name, value)
+}
+
+// The same of a name that is shared, which may fail as well; nothing is changed then.
+fn put_shared(
+    nodes: &mut Vec<Node>,
+    node: NodeId,
+    name: &Text,
+    value: Text,
+) -> Result<Option<Text>, NoMemory>
+    requires { IsElement (items_in nodes.old.items) node.0 }
+    ensures ok { OnOk result
+        (items_in nodes.new.items
+        ≡ changed_at (with_attribute name.now value) node.0 (items_in nodes.old.items)) }
+    ensures had { IfOk result (λ had. had ≡ value_of (items_in nodes.old.items) node.0 name.now) }
+    ensures err { OnErr result (items_in nodes.new.items ≡ items_in nodes.old.items) }
+    ensures links { links_in nodes.new.items ≡ links_in nodes.old.items }
+{
+    let name = name.share()?;
+    put_attribute(nodes, node, name, value)
+}
+
+// Gives an element's attribute a value that is an id, once the index has room for so many ids more.
+fn put_id(
+    nodes: &mut Vec<Node>,
+    ids: &mut IndexMap<Text, NodeId>,
+    node: NodeId,
+    name: &Text,
+    value: Text,
+    more: usize,
+) -> Result<PutId, NoMemory>
+    requires { IsElement (items_in nodes.old.items) node.0 }
+    ensures ok { OnOk result
+        (items_in nodes.new.items
+        ≡ changed_at (with_attribute name.now value) node.0 (items_in nodes.old.items)) }
+    ensures id { IfOk result (λ put. put.id ≡ value) }
+    ensures had { IfOk result
+        (λ put. put.had ≡ value_of (items_in nodes.old.items) node.0 name.now) }
+    ensures err { OnErr result (items_in nodes.new.items ≡ items_in nodes.old.items) }
+    ensures links { links_in nodes.new.items ≡ links_in nodes.old.items }
+    ensures room { OnOk result (more ≤ spare ids.new) }
+    ensures entries { IsUnchanged ids.old ids.new }
+{
+    ids.reserve(more)?;
+    let id = value.share()?;
+    let had = put_shared(nodes, node, name, value)?;
+    Ok(PutId { id, had })
 }
 
 // Notes that one node more has an id.

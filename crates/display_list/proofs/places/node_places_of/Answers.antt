@@ -1,4 +1,4 @@
-use Rattle.display_list.specs.Views.{shown_in}
+use Rattle.display_list.specs.devices.Views.{shown_in}
 use Rattle.display_list.proofs.PlaceLemmas.{ArePlaces-more, ArePlaces-none}
 use Rattle.display_list.proofs.places.node_places_of.Goals as goal
 

@@ -1,4 +1,4 @@
-use Rattle.display_list.specs.Views.{shown_in, ArePlaces}
+use Rattle.display_list.specs.devices.Views.{shown_in, ArePlaces}
 use Rattle.display_list.proofs.places.node_places_of.Given as goal
 
 abbrev pub invariant-nodes : goal.invariant-nodes

@@ -1,7 +1,7 @@
 use Rattle.std.proofs.Common.{◌++◌, List, ℕ, ap, ◌∙◌, take_all}
 use Rattle.std.specs.List.{flat_map}
 use Rattle.display_list.specs.Places.{boxes_of}
-use Rattle.display_list.specs.Views.{shown_of}
+use Rattle.display_list.specs.devices.Views.{shown_of}
 use Rattle.display_list.specs.declared.scenes.DrawnBox.{DrawnBox}
 use Rattle.display_list.proofs.BoxLemmas.{box_lines, box_lines-map}
 use Rattle.display_list.proofs.show.push_boxes.Goals as goal

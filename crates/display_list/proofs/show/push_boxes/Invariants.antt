@@ -1,6 +1,6 @@
 use Rattle.std.proofs.Common.{◌≡◌, ◌++◌, take}
 use Rattle.std.specs.List.{flat_map}
-use Rattle.display_list.specs.Views.{shown_of}
+use Rattle.display_list.specs.devices.Views.{shown_of}
 use Rattle.display_list.proofs.BoxLemmas.{box_lines}
 use Rattle.display_list.proofs.show.push_boxes.Given as goal
 

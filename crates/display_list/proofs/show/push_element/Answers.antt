@@ -1,4 +1,4 @@
-use Rattle.display_list.specs.Views.{shown_of}
+use Rattle.display_list.specs.devices.Views.{shown_of}
 use Rattle.display_list.proofs.ShowLemmas.{element_lines-is}
 use Rattle.display_list.proofs.show.push_element.Goals as goal
 

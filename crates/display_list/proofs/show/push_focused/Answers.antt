@@ -1,5 +1,5 @@
 use Rattle.std.proofs.Common.{◌≡◌, ◌++◌, List, ℕ, OnOk, subst, sym, ap, ◌∙◌, append-nil}
-use Rattle.display_list.specs.Views.{shown_of}
+use Rattle.display_list.specs.devices.Views.{shown_of}
 use Rattle.display_list.proofs.ShowLemmas.{focus_lines_of-hidden, focus_lines_of-visible}
 use Rattle.display_list.proofs.show.push_focused.Goals as goal
 

@@ -1,6 +1,6 @@
 use Rattle.std.proofs.Common.{◌≡◌, ◌++◌, List, ℕ, OnOk, subst, sym, ap, ◌∙◌, append-nil}
 use Rattle.display_list.specs.Show.{hanging_lines}
-use Rattle.display_list.specs.Views.{shown_of}
+use Rattle.display_list.specs.devices.Views.{shown_of}
 use Rattle.display_list.specs.declared.places.Place.{Place}
 use Rattle.display_list.proofs.TextLemmas.{held_lines-none, held_lines-other, held_lines-some}
 use Rattle.display_list.proofs.show.push_held.Goals as goal

@@ -1,5 +1,5 @@
 use Rattle.std.proofs.Common.{◌≡◌, ◌++◌, List, ℕ, OnOk, subst, sym, ◌∙◌}
-use Rattle.display_list.specs.Views.{shown_of}
+use Rattle.display_list.specs.devices.Views.{shown_of}
 use Rattle.display_list.proofs.ShowLemmas.{inside_lines-input, inside_lines-object, inside_lines-texts}
 use Rattle.display_list.proofs.show.push_inside.Goals as goal
 

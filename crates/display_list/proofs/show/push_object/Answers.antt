@@ -1,6 +1,6 @@
 use Rattle.display_list.specs.Show.{attribute_field}
 use Rattle.std.specs.Prelude.{codes}
-use Rattle.display_list.specs.Views.{shown_of}
+use Rattle.display_list.specs.devices.Views.{shown_of}
 use Rattle.display_list.proofs.LineLemmas.{five-parts, picture_line-is}
 use Rattle.display_list.proofs.ShowLemmas.{object_line-is}
 use Rattle.display_list.proofs.show.push_object.Goals as goal

@@ -1,6 +1,6 @@
 use Rattle.std.proofs.Common.{◌≡◌, ◌++◌, ℕ, ap, ◌∙◌, arith}
 use Rattle.display_list.specs.Show.{held_lines}
-use Rattle.display_list.specs.Views.{shown_of}
+use Rattle.display_list.specs.devices.Views.{shown_of}
 use Rattle.display_list.proofs.TextLemmas.{HasPaths-law, lines_below, lines_below-start, lines_below-more, lines_below-end}
 use Rattle.display_list.proofs.show.push_texts.Goals as goal
 

@@ -1,6 +1,6 @@
 use Rattle.std.proofs.Common.{◌≡◌, ◌++◌}
 use Rattle.display_list.specs.Show.{held_lines}
-use Rattle.display_list.specs.Views.{shown_of}
+use Rattle.display_list.specs.devices.Views.{shown_of}
 use Rattle.display_list.proofs.TextLemmas.{lines_below}
 use Rattle.display_list.proofs.show.push_texts.Given as goal
 

@@ -1,5 +1,5 @@
 use Rattle.std.proofs.Common.{◌≡◌, None, length}
-use Rattle.style_cascade.specs.Searching.{greatest_of}
+use Rattle.style_cascade.specs.devices.Searching.{greatest_of}
 use Rattle.style_cascade.proofs.search.greatest_match.Given as goal
 
 abbrev pub invariant-selectors : goal.invariant-selectors

@@ -3,7 +3,7 @@ use Rattle.std.specs.Prelude.{◌||◌}
 use Rattle.std.specs.Option.{option_map_or}
 use Rattle.std.specs.Int.{w16, w32}
 use Rattle.std.proofs.lemmas.Int.{ints}
-use Rattle.display_list.specs.Views.{shown_in}
+use Rattle.display_list.specs.devices.Views.{shown_in}
 use Rattle.display_list.proofs.PlaceLemmas.{added_by-read, near-sum, node_place_of-is, under-here, under-outer, HavePaths-law, StandsAround-is}
 use Rattle.display_list.proofs.places.NodePlace.of.Goals as goal
 use Rattle.display_list.proofs.places.NodePlace.of.Goals.{then-is_node, else-is_node}

@@ -1,5 +1,5 @@
 use Rattle.std.proofs.Common.{◌<◌, length}
-use Rattle.display_list.specs.Views.{shown_of}
+use Rattle.display_list.specs.devices.Views.{shown_of}
 use Rattle.display_list.specs.declared.scenes.DrawnBox.{DrawnBox}
 use Rattle.std.proofs.lemmas.List.Sorted.{All-permutation}
 use Rattle.display_list.proofs.BoxLemmas.{boxes_of-is}

@@ -2,7 +2,7 @@ use Rattle.std.proofs.Common.{◌≡◌, ◌∷◌, [], ◌++◌, ◌<◌, lengt
 use Rattle.std.specs.Int.{w16}
 use Rattle.std.proofs.lemmas.Int.{to_z-of_z}
 use Rattle.std.proofs.lemmas.List.Elements.{All-push, All-same}
-use Rattle.display_list.specs.Views.{drawn_box, shown_of}
+use Rattle.display_list.specs.devices.Views.{drawn_box, shown_of}
 use Rattle.display_list.specs.declared.scenes.DrawnBox.{DrawnBox}
 use Rattle.display_list.proofs.BoxLemmas.{boxes_below-none, boxes_below-drawn, boxes_below-other, boxes_below-all, pushed-is}
 use Rattle.display_list.proofs.scenes.Scene.drawn_boxes.Goals as goal

@@ -1,6 +1,6 @@
 use Rattle.std.proofs.Common.{◌≡◌, ◌<◌, length}
 use Rattle.std.specs.Prelude.{All}
-use Rattle.display_list.specs.Views.{shown_of}
+use Rattle.display_list.specs.devices.Views.{shown_of}
 use Rattle.display_list.proofs.BoxLemmas.{boxes_below}
 use Rattle.display_list.proofs.scenes.Scene.drawn_boxes.Given as goal
 

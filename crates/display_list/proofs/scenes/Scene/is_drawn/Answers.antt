@@ -1,5 +1,5 @@
 use Rattle.std.proofs.Common.{sym, ap, ◌∙◌}
-use Rattle.display_list.specs.Views.{shown_of}
+use Rattle.display_list.specs.devices.Views.{shown_of}
 use Rattle.display_list.specs.declared.node_styles.NodeStyle.{NodeStyle}
 use Rattle.display_list.proofs.BoxLemmas.{is_drawn-visible, is_drawn-outside, is_drawn-other}
 use Rattle.display_list.proofs.scenes.Scene.is_drawn.Goals as goal

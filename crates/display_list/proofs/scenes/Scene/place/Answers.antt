@@ -2,7 +2,7 @@ use Rattle.std.proofs.Common.{◌≡◌, ◌<◌, ℕ, Option, ◌+ℤ◌, to_z,
 use Rattle.std.specs.Int.{w16, w32}
 use Rattle.std.proofs.lemmas.Int.{ints, to_z-of_z}
 use Rattle.dom_tree.specs.Items.{parent_of}
-use Rattle.display_list.specs.Views.{shown_of, place_in}
+use Rattle.display_list.specs.devices.Views.{shown_of, place_in}
 use Rattle.display_list.specs.declared.places.NodePlace.{NodePlace}
 use Rattle.display_list.proofs.PlaceLemmas.{StandsAround-is, around-again, fits-sum, place-widths, place_of-is}
 use Rattle.display_list.proofs.scenes.Scene.place.Goals as goal

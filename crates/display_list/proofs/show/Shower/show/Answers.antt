@@ -2,7 +2,7 @@ use Rattle.std.proofs.Common.{length, ap, ◌∙◌}
 use Rattle.std.proofs.lemmas.List.FromFn.{length-map-range_with_len}
 use Rattle.dom_tree.specs.NodeNumbers.{number_of}
 use Rattle.display_list.specs.Shown.{Shown, node_style, present_value, shown_by}
-use Rattle.display_list.specs.Views.{shown_in, shown_of}
+use Rattle.display_list.specs.devices.Views.{shown_in, shown_of}
 use Rattle.display_list.proofs.ShowLemmas.{display_lines-is, focus-within}
 use Rattle.display_list.proofs.show.Shower.show.Goals as goal
 

@@ -18,23 +18,23 @@ invariant_of-self-2 c =
     let name = c.args.name in
     let value = c.args.value in
     let more = c.index_one_more.new.ids in
-    let room = c.reserve.new.self in
-    IsKept-id-more nodes c.put_attribute.new.nodes.items c.self.inside.ids room more n name value
+    let room = c.put_id.new.ids in
+    IsKept-id-more nodes c.put_id.new.nodes.items c.self.inside.ids room more n name value
     (subst (λ (i : List Item). IsElement i n) (sym c.self.view_is) c.requires.element)
     (subst (λ (i : List Item). value_of i n name ≡ None) (sym c.self.view_is) c.requires.absent)
-    c.in_ok-put_attribute.ensures.ok c.put_attribute.ensures.links c.requires.name c.reserve.ensures.entries
-    (subst (λ (q : List ℕ). number_of (get is_same more q) ≡ Some (option_map_or (min n) (number_of (get is_same room q)) n)) c.in_ok-id.ensures c.index_one_more.ensures.here)
-    (subst (λ (q : List ℕ). (other : List ℕ) → is_same q other ≡ false → get is_same more other ≡ get is_same room other) c.in_ok-id.ensures c.index_one_more.ensures.others)
+    c.in_ok-put.ensures.ok c.put_id.ensures.links c.requires.name c.put_id.ensures.entries
+    (subst (λ (q : List ℕ). number_of (get is_same more q) ≡ Some (option_map_or (min n) (number_of (get is_same room q)) n)) c.in_ok-put.ensures.id c.index_one_more.ensures.here)
+    (subst (λ (q : List ℕ). (other : List ℕ) → is_same q other ≡ false → get is_same more other ≡ get is_same room other) c.in_ok-put.ensures.id c.index_one_more.ensures.others)
     c.self.invariant
 
 pub returns-clause-ok : goal.returns-clause-ok
 returns-clause-ok c =
-    c.in_ok-put_attribute.ensures.ok
+    c.in_ok-put.ensures.ok
     ∙ (ap (changed_at (with_attribute c.args.name c.args.value) c.args.node.0) c.self.view_is
     ∙ last-attribute c.args.self.now c.args.node.0 c.args.name c.args.value c.requires.element c.requires.absent)
 
 pub returns-clause-places : goal.returns-clause-places
 returns-clause-places c =
-    let same : items_in c.put_attribute.new.nodes.items ≡ changed_at (with_attribute c.args.name c.args.value) c.args.node.0 c.args.self.now =
-    c.in_ok-put_attribute.ensures.ok ∙ ap (changed_at (with_attribute c.args.name c.args.value) c.args.node.0) c.self.view_is in
+    let same : items_in c.put_id.new.nodes.items ≡ changed_at (with_attribute c.args.name c.args.value) c.args.node.0 c.args.self.now =
+    c.in_ok-put.ensures.ok ∙ ap (changed_at (with_attribute c.args.name c.args.value) c.args.node.0) c.self.view_is in
     subst (λ (i : List Item). KeepsPlaces c.args.self.now i) (sym same) (KeepsPlaces-same c.args.self.now _ (with_attribute-same c.args.name c.args.value c.args.node.0 c.args.self.now))

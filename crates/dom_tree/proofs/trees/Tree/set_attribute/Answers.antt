@@ -7,10 +7,10 @@ use Rattle.dom_tree.proofs.KeptLemmas.{IsKept-attribute}
 use Rattle.dom_tree.proofs.trees.Tree.set_attribute.Goals as goal
 
 pub invariant_of-self-2 : goal.invariant_of-self-2
-invariant_of-self-2 c = IsKept-attribute c.self.inside.nodes.items c.put_attribute.new.nodes.items c.self.inside.ids c.args.node.0 c.in_ok-name.name c.args.value c.in_ok-put_attribute.ensures.ok c.put_attribute.ensures.links (sym c.is_id.ensures ∙ c.if-is_id.false) c.self.invariant
+invariant_of-self-2 c = IsKept-attribute c.self.inside.nodes.items c.put_shared.new.nodes.items c.self.inside.ids c.args.node.0 c.args.name.now c.args.value c.in_ok-put_shared.ensures.ok c.put_shared.ensures.links (sym c.is_id.ensures ∙ c.if-is_id.false) c.self.invariant
 
 pub returns-clause-places : goal.returns-clause-places
 returns-clause-places c =
-    let same : items_in c.put_attribute.new.nodes.items ≡ changed_at (with_attribute c.in_ok-name.name c.args.value) c.args.node.0 c.args.self.now =
-    c.in_ok-put_attribute.ensures.ok ∙ ap (changed_at (with_attribute c.in_ok-name.name c.args.value) c.args.node.0) c.self.view_is in
-    subst (λ (i : List Item). KeepsPlaces c.args.self.now i) (sym same) (KeepsPlaces-same c.args.self.now _ (with_attribute-same c.in_ok-name.name c.args.value c.args.node.0 c.args.self.now))
+    let same : items_in c.put_shared.new.nodes.items ≡ changed_at (with_attribute c.args.name.now c.args.value) c.args.node.0 c.args.self.now =
+    c.in_ok-put_shared.ensures.ok ∙ ap (changed_at (with_attribute c.args.name.now c.args.value) c.args.node.0) c.self.view_is in
+    subst (λ (i : List Item). KeepsPlaces c.args.self.now i) (sym same) (KeepsPlaces-same c.args.self.now _ (with_attribute-same c.args.name.now c.args.value c.args.node.0 c.args.self.now))

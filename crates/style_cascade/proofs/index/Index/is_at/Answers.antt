@@ -2,8 +2,8 @@ use Rattle.std.proofs.Common.{◌≡◌, ℕ, Option, Some, List, length, refl, 
 use Rattle.std.proofs.lemmas.Bool.{eqb-true}
 use Rattle.std.proofs.lemmas.Option.{slice_get_read}
 use Rattle.std.specs.Prelude.{slice_get}
-use Rattle.style_cascade.specs.Indexing.{Reaches}
-use Rattle.style_cascade.specs.Indexing.Reaches.{Here}
+use Rattle.style_cascade.specs.devices.Indexing.{Reaches}
+use Rattle.style_cascade.specs.devices.Indexing.Reaches.{Here}
 use Rattle.style_cascade.specs.declared.index.Link.{Link}
 use Rattle.style_cascade.proofs.index.Index.is_at.Goals as goal
 

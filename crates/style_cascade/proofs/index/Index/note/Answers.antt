@@ -1,6 +1,6 @@
 use Rattle.std.proofs.Common.{◌≡◌, ℕ, Option, Some, List, length, ap, ◌∙◌, arith}
 use Rattle.std.specs.Prelude.{option_copied, if◌then◌else◌}
-use Rattle.style_cascade.specs.Indexing.{head_of, same_name}
+use Rattle.style_cascade.specs.devices.Indexing.{head_of, same_name}
 use Rattle.style_cascade.specs.declared.index.Link.{Link}
 use Rattle.style_cascade.proofs.ChainLemmas.{IsLinked, OnOk-then, linked-back, linked-inside, linked-kept, linked-noted}
 use Rattle.style_cascade.proofs.index.Index.note.Goals as goal

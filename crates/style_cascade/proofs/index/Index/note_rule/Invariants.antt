@@ -1,7 +1,7 @@
 use Rattle.std.proofs.Common.{◌≡◌, ℕ, ◌<◌, Some}
 use Rattle.std.specs.Prelude.{slice_get}
 use Rattle.style_reader.specs.declared.selectors.Selector.{Selector}
-use Rattle.style_cascade.specs.Indexing.{AreBackward, AreInside, KeepsChains, Reaches, head_of, name_of}
+use Rattle.style_cascade.specs.devices.Indexing.{AreBackward, AreInside, KeepsChains, Reaches, head_of, name_of}
 use Rattle.style_cascade.proofs.index.Index.note_rule.Given as goal
 
 abbrev pub invariant-selectors : goal.invariant-selectors

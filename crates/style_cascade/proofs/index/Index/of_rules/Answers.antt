@@ -2,7 +2,7 @@ use Rattle.std.proofs.Common.{◌≡◌, ℕ, ◌<◌, inl, inr, Some, length, r
 use Rattle.std.proofs.lemmas.Option.{slice_get_read, slice_get_within}
 use Rattle.std.specs.Prelude.{Contains, slice_get}
 use Rattle.style_reader.specs.declared.rules.Rule.{Rule}
-use Rattle.style_cascade.specs.Indexing.{Reaches, head_of, name_of}
+use Rattle.style_cascade.specs.devices.Indexing.{Reaches, head_of, name_of}
 use Rattle.style_cascade.proofs.ChainLemmas.{below-or_at}
 use Rattle.style_cascade.proofs.index.Index.of_rules.Goals as goal
 

@@ -2,7 +2,7 @@ use Rattle.std.proofs.Common.{◌≡◌, ℕ, ◌<◌, Some}
 use Rattle.std.specs.Prelude.{Contains, slice_get}
 use Rattle.style_reader.specs.declared.rules.Rule.{Rule}
 use Rattle.style_reader.specs.declared.selectors.Selector.{Selector}
-use Rattle.style_cascade.specs.Indexing.{AreBackward, AreInside, Reaches, head_of, name_of}
+use Rattle.style_cascade.specs.devices.Indexing.{AreBackward, AreInside, Reaches, head_of, name_of}
 use Rattle.style_cascade.proofs.index.Index.of_rules.Given as goal
 
 abbrev pub invariant-rules : goal.invariant-rules

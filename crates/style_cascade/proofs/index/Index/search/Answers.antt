@@ -1,5 +1,5 @@
-use Rattle.style_cascade.specs.Indexing.{Question, question}
-use Rattle.style_cascade.specs.Rows.{found_in}
+use Rattle.style_cascade.specs.devices.Indexing.{Question, question}
+use Rattle.style_cascade.specs.devices.Rows.{found_in}
 use Rattle.style_cascade.proofs.LookupLemmas.{covers-all, improves-then}
 use Rattle.style_cascade.proofs.index.Index.search.Goals as goal
 

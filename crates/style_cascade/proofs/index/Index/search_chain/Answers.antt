@@ -1,8 +1,8 @@
 use Rattle.std.proofs.Common.{◌≡◌, Option, Some, List, length, refl, sym, subst, ap, ◌∙◌}
 use Rattle.std.proofs.lemmas.Option.{slice_get_read}
 use Rattle.std.specs.Prelude.{slice_get}
-use Rattle.style_cascade.specs.Indexing.{Question, offer_of, question}
-use Rattle.style_cascade.specs.Rows.{found_in}
+use Rattle.style_cascade.specs.devices.Indexing.{Question, offer_of, question}
+use Rattle.style_cascade.specs.devices.Rows.{found_in}
 use Rattle.style_cascade.specs.declared.index.Link.{Link}
 use Rattle.style_cascade.specs.declared.rows.Found.{Found}
 use Rattle.style_cascade.proofs.LookupLemmas.{IsWalked, chain-smaller as link-smaller, walk-more}

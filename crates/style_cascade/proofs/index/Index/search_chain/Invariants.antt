@@ -1,7 +1,7 @@
 use Rattle.std.proofs.Common.{◌+◌}
 use Rattle.std.specs.Option.{option_map_or}
-use Rattle.style_cascade.specs.Indexing.{question}
-use Rattle.style_cascade.specs.Rows.{found_in}
+use Rattle.style_cascade.specs.devices.Indexing.{question}
+use Rattle.style_cascade.specs.devices.Rows.{found_in}
 use Rattle.style_cascade.specs.declared.states.State.{State}
 use Rattle.style_reader.specs.declared.properties.Property.{Property}
 use Rattle.style_cascade.proofs.LookupLemmas.{IsWalked}

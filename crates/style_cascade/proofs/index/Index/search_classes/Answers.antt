@@ -1,5 +1,5 @@
-use Rattle.style_cascade.specs.Indexing.{question}
-use Rattle.style_cascade.specs.Rows.{found_in}
+use Rattle.style_cascade.specs.devices.Indexing.{question}
+use Rattle.style_cascade.specs.devices.Rows.{found_in}
 use Rattle.style_cascade.proofs.LookupLemmas.{list-more}
 use Rattle.style_cascade.proofs.index.Index.search_classes.Goals as goal
 

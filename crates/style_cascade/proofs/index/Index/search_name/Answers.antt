@@ -1,5 +1,5 @@
 use Rattle.std.proofs.Common.{ℕ, Option, subst}
-use Rattle.style_cascade.specs.Rows.{CoversEachIn}
+use Rattle.style_cascade.specs.devices.Rows.{CoversEachIn}
 use Rattle.style_cascade.proofs.index.Index.search_name.Goals as goal
 
 pub returns-clause-covers : goal.returns-clause-covers

@@ -1,7 +1,7 @@
 use Rattle.std.proofs.Common.{inl, inr, length, arith}
 use Rattle.std.proofs.lemmas.Bool.{cases_lt}
-use Rattle.style_cascade.specs.Indexing.{question}
-use Rattle.style_cascade.specs.Rows.{found_in}
+use Rattle.style_cascade.specs.devices.Indexing.{question}
+use Rattle.style_cascade.specs.devices.Rows.{found_in}
 use Rattle.style_cascade.proofs.IndexLemmas.{offer-past}
 use Rattle.style_cascade.proofs.LookupLemmas.{best-value}
 use Rattle.style_cascade.proofs.RowLemmas.{covers-next, sound-empty, sound-next}

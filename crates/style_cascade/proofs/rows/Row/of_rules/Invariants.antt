@@ -1,6 +1,6 @@
 use Rattle.std.proofs.Common.{ℕ, ◌<◌}
-use Rattle.style_cascade.specs.Indexing.{Covers, IsSound, question}
-use Rattle.style_cascade.specs.Rows.{found_in}
+use Rattle.style_cascade.specs.devices.Indexing.{Covers, IsSound, question}
+use Rattle.style_cascade.specs.devices.Rows.{found_in}
 use Rattle.style_cascade.specs.declared.states.State.{State}
 use Rattle.style_reader.specs.declared.properties.Property.{Property}
 use Rattle.style_cascade.proofs.rows.Row.of_rules.Given as goal

@@ -1,7 +1,7 @@
 use Rattle.std.proofs.Common.{ℕ, List, Option, Some, ap, ◌∙◌, length-set}
 use Rattle.std.specs.Prelude.{slice_set}
-use Rattle.style_cascade.specs.Indexing.{better_of}
-use Rattle.style_cascade.specs.Rows.{found_in}
+use Rattle.style_cascade.specs.devices.Indexing.{better_of}
+use Rattle.style_cascade.specs.devices.Rows.{found_in}
 use Rattle.style_cascade.specs.declared.rows.Found.{Found}
 use Rattle.style_cascade.proofs.RowLemmas.{found_in-others, found_in-put}
 use Rattle.style_cascade.proofs.rows.Row.offer.Goals as goal

@@ -1,9 +1,9 @@
 use Rattle.std.proofs.Common.{ℕ, List, Option, None, ap, sym, ◌∙◌}
 use Rattle.style_reader.specs.declared.declarations.Declaration.{Declaration}
 use Rattle.style_cascade.specs.Candidates.{last_value}
-use Rattle.style_cascade.specs.Indexing.{with_offer}
-use Rattle.style_cascade.specs.Rows.{found_in}
-use Rattle.style_cascade.specs.Searching.{best_with_both, greatest_of}
+use Rattle.style_cascade.specs.devices.Indexing.{with_offer}
+use Rattle.style_cascade.specs.devices.Rows.{found_in}
+use Rattle.style_cascade.specs.devices.Searching.{best_with_both, greatest_of}
 use Rattle.style_cascade.proofs.RowLemmas.{offer-nothing}
 use Rattle.style_cascade.proofs.rows.Row.offer_in.Goals as goal
 

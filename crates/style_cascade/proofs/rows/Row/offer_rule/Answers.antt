@@ -1,8 +1,8 @@
 use Rattle.std.proofs.Common.{◌≡◌, Option, Some, length, refl, ap, sym, ◌∙◌}
 use Rattle.std.proofs.lemmas.Option.{slice_get_past, slice_get_read}
 use Rattle.std.specs.Prelude.{slice_get}
-use Rattle.style_cascade.specs.Indexing.{question, with_offer}
-use Rattle.style_cascade.specs.Rows.{found_in}
+use Rattle.style_cascade.specs.devices.Indexing.{question, with_offer}
+use Rattle.style_cascade.specs.devices.Rows.{found_in}
 use Rattle.style_cascade.specs.declared.search.Candidate.{Candidate}
 use Rattle.style_cascade.proofs.LookupLemmas.{offer-found, offer-none}
 use Rattle.style_cascade.proofs.RowLemmas.{offered-each}

@@ -5,8 +5,8 @@ use Rattle.style_reader.specs.declared.properties.Property.{Property}
 use Rattle.style_reader.specs.declared.properties.StyleValue.{StyleValue}
 use Rattle.style_reader.specs.declared.rules.Rule.{Rule}
 use Rattle.style_cascade.specs.Candidates.{declared_value}
-use Rattle.style_cascade.specs.Indexing.{Question, question}
-use Rattle.style_cascade.specs.Rows.{found_in, value_at}
+use Rattle.style_cascade.specs.devices.Indexing.{Question, question}
+use Rattle.style_cascade.specs.devices.Rows.{found_in, value_at}
 use Rattle.style_cascade.specs.declared.states.State.{State}
 use Rattle.style_cascade.proofs.LookupLemmas.{best-value, declared-fits}
 use Rattle.style_cascade.proofs.RowLemmas.{sound-empty}

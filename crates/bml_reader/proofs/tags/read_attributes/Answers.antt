@@ -6,7 +6,7 @@ use Rattle.bml_reader.specs.Lexing.{Found, Written, attribute_at, attribute_of, 
 use Rattle.bml_reader.specs.Views.{found_written, found_flag}
 use Rattle.bml_reader.specs.AttributeViews.{attributes_in_map}
 use Rattle.bml_reader.proofs.TagLemmas.{inner_at-end, inner_at-none, inner_at-twice, inner_at-step, attribute-shorter}
-use Rattle.bml_reader.proofs.tags.inside_tag.Goals as goal
+use Rattle.bml_reader.proofs.tags.read_attributes.Goals as goal
 
 pub returns-in-Some : goal.returns-in-Some
 returns-in-Some c =
@@ -30,9 +30,9 @@ returns-then-not-branch c =
     let a : Found Written = found_written (c.in-Some-attribute.name, c.in-Some-attribute.value, c.in-Some-attribute.behind) in
     let n : tag_end_at r ≡ None = sym c.tag_end.ensures ∙ ap (option_map found_flag) c.in-None.is in
     let q : attribute_at r ≡ Some a = sym c.attribute.ensures ∙ ap (option_map found_written) c.in-Some-attribute.is in
-    let added : Bool = c.in_ok-add_attribute-in-Some-attribute.field-0 in
+    let added : Bool = c.in_ok-read_attribute-in-Some-attribute.field-0 in
     let isnt : not added ≡ true = ap not c.if-not-branch.true in
-    let d : is_some (value_in before (codes a.it.name)) ≡ true = subst (λ (z : List ℕ). is_some (value_in before z) ≡ true) c.in_ok-name-in-Some-attribute.ensures (c.in_ok-add_attribute-in-Some-attribute.ensures.new ∙ isnt) in
+    let d : is_some (value_in before (codes a.it.name)) ≡ true = c.in_ok-read_attribute-in-Some-attribute.ensures.new ∙ isnt in
     sym (inner_at-twice (length r) before r a n q d) ∙ c.attributes.invariant
 
 pub attributes-smaller : goal.attributes-smaller
@@ -49,13 +49,10 @@ attributes-preserved c =
     let a : Found Written = found_written (c.in-Some-attribute.name, c.in-Some-attribute.value, c.in-Some-attribute.behind) in
     let n : tag_end_at r ≡ None = sym c.tag_end.ensures ∙ ap (option_map found_flag) c.in-None.is in
     let q : attribute_at r ≡ Some a = sym c.attribute.ensures ∙ ap (option_map found_written) c.in-Some-attribute.is in
-    let added : Bool = c.in_ok-add_attribute-in-Some-attribute.field-0 in
+    let added : Bool = c.in_ok-read_attribute-in-Some-attribute.field-0 in
     let was : added ≡ true = c.if-not-branch.false in
     let is : not added ≡ false = ap not was in
-    let d : is_some (value_in before (codes a.it.name)) ≡ false = subst (λ (z : List ℕ). is_some (value_in before z) ≡ false) c.in_ok-name-in-Some-attribute.ensures (c.in_ok-add_attribute-in-Some-attribute.ensures.new ∙ is) in
-    let attribute : List ℕ → List ℕ → Attribute = λ x y. record { name = x; value = y } in
-    let last : attributes_in_map c.add_attribute.new.attributes ≡ before ++ attribute_of a.it ∷ [] =
-    c.in_ok-add_attribute-in-Some-attribute.ensures.last was
-    ∙ (ap (λ x. before ++ attribute x c.in_ok-value-in-Some-attribute.value ∷ []) c.in_ok-name-in-Some-attribute.ensures
-    ∙ ap (λ y. before ++ attribute (codes a.it.name) y ∷ []) c.in_ok-value-in-Some-attribute.ensures) in
+    let d : is_some (value_in before (codes a.it.name)) ≡ false = c.in_ok-read_attribute-in-Some-attribute.ensures.new ∙ is in
+    let last : attributes_in_map c.read_attribute.new.attributes ≡ before ++ attribute_of a.it ∷ [] =
+    c.in_ok-read_attribute-in-Some-attribute.ensures.last was in
     ap (λ z. inner_at (suc (length a.rest)) z a.rest) last ∙ (sym (inner_at-step before r a n q d) ∙ c.attributes.invariant)

@@ -1,7 +1,7 @@
 use Rattle.std.proofs.Common.{length}
 use Rattle.bml_reader.specs.ReaderViews.{seen_by}
 use Rattle.bml_reader.proofs.EndLemmas.{Keeps}
-use Rattle.bml_reader.proofs.documents.read_document.Given as goal
+use Rattle.bml_reader.proofs.documents.read_pieces.Given as goal
 
 abbrev pub invariant-markup : goal.invariant-markup
 invariant-markup l = Keeps l.bytes (seen_by l.reader) l.rest

@@ -4,7 +4,7 @@ use Rattle.std.specs.Option.{option_flatten, option_or}
 use Rattle.style_reader.specs.declared.properties.Property.{Property}
 use Rattle.style_reader.specs.declared.properties.StyleValue.{StyleValue}
 use Rattle.style_reader.specs.declared.rules.Rule.{Rule}
-use Rattle.style_cascade.specs.Indexing.{Covers, CoversChain, Improves, found_value, question}
+use Rattle.style_cascade.specs.devices.Indexing.{Covers, CoversChain, Improves, found_value, question}
 use Rattle.style_cascade.specs.Writes.{cell_place}
 use Rattle.style_cascade.specs.declared.index.Link.{Link}
 use Rattle.style_cascade.specs.declared.rows.Found.{Found}

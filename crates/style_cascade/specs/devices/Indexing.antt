@@ -10,7 +10,7 @@ use Rattle.style_reader.specs.declared.selectors.Mark.{Mark}
 use Rattle.style_reader.specs.declared.selectors.Mark.TheVariants.{Class, Id}
 use Rattle.style_reader.specs.declared.selectors.Selector.{Selector}
 use Rattle.style_cascade.specs.Candidates.{last_value}
-use Rattle.style_cascade.specs.Searching.{best_with_both, greatest_of}
+use Rattle.style_cascade.specs.devices.Searching.{best_with_both, greatest_of}
 use Rattle.style_cascade.specs.declared.rows.Found.{Found}
 use Rattle.style_cascade.specs.declared.index.Link.{Link}
 use Rattle.style_cascade.specs.declared.search.Candidate.{Candidate}
