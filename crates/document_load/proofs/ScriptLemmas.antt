@@ -1,22 +1,23 @@
 -- What is read of script sources, one source more, and the sources of a node, part by part.
-use Rattle.std.proofs.Common.{◌≡◌, ℕ, zero, suc, ◌+◌, ◌<◌, ◌≤◌, Bool, true, false, List, [], ◌∷◌, ◌++◌, length, take, map, Option, Some, None, option_to_list, refl, sym, ◌∙◌, ap, subst, append_assoc, append-nil, add-one, add-zero, length-append, arith}
-use Rattle.std.specs.Prelude.{cond, slice_get, option_and_then, option_map, if◌then◌else◌}
+use Rattle.std.proofs.Common.{◌≡◌, ℕ, zero, suc, ◌+◌, ◌<◌, ◌≤◌, Bool, true, false, List, [], ◌∷◌, ◌++◌, length, take, map, Option, Some, None, option_to_list, All, refl, sym, ◌∙◌, ap, ap₂, subst, append_assoc, append-nil, add-one, add-zero, length-append, arith}
+use Rattle.std.specs.Prelude.{nat_eq, not, ◌||◌, cond, slice_get, option_and_then, if◌then◌else◌}
 use Rattle.std.specs.List.{AllZip, cons_option, filter, filter_map, flat_map, range_with_len}
 use Rattle.std.specs.Option.{is_some, is_none, option_map_or}
+use Rattle.std.proofs.lemmas.Bool.{eq-eqb, ne_eqb}
 use Rattle.std.proofs.lemmas.Grind.{flat_map-append}
 use Rattle.std.proofs.lemmas.List.{map-append, take_all}
-use Rattle.std.proofs.lemmas.List.Elements.{filter-append, filter_map-append}
+use Rattle.std.proofs.lemmas.List.Elements.{All-append, All-cons, All-head, All-nil, All-tail, All-weaker, filter-append, filter_map-append}
 use Rattle.std.proofs.lemmas.Slice.Zip.{all_zipped_more, AllZip-long}
 use Rattle.dom_tree.specs.Items.{Attribute, Content, Item, attributes_in, attributes_of, tag_in}
 use Rattle.dom_tree.specs.Items.Content.{Element, Text}
 use Rattle.dom_tree.specs.Walks.{places}
 use Rattle.es_reader.specs.Programs.{ToldProgram, Tells}
-use Rattle.es_reader.specs.Readers.{Reader, IsReader}
+use Rattle.es_reader.specs.Readers.{Reader}
 use Rattle.es_reader.specs.Statements.{Item as ProgramItem}
 use Rattle.document_load.specs.StyleTexts.{given_for, own_text}
-use Rattle.document_load.specs.Scripts.{AreScripts, HandlerState, Source, bad_numbers, handler_source, handler_with, handlers_by, handlers_from, programs_by, script_sources, script_source, sources_at, sources_by}
+use Rattle.document_load.specs.Scripts.{AreScripts, HandlerState, HavePlaces, Source, bad_numbers, is_named, script_places_by, script_places_from, unnamed_places, handler_source, handler_with, handlers_by, handlers_from, programs_by, script_sources, script_source, sources_at, sources_by}
 use Rattle.document_load.specs.ScriptViews.{told_handler}
-use Rattle.document_load.specs.ScriptSteps.{Adds, HasRead, IsSaidOf, handler_at, handlers_at, script_at}
+use Rattle.document_load.specs.ScriptSteps.{Adds, HasRead, IsSaidOf, element_place, handler_at, handlers_at, script_at}
 use Rattle.document_load.specs.declared.scripts.ScriptReader.{ScriptReader}
 use Rattle.document_load.proofs.NeedLemmas.{places_from-append}
 use Rattle.document_load.proofs.StyleLemmas.{range_next}
@@ -99,33 +100,148 @@ AreScripts-same read sources programs others handlers more bad worse e f g a = r
   bad_are = g ∙ a.bad_are;
 }
 
+-- ---- places
+
+element_by : (place : ℕ) (o : Option (List ℕ)) → element_place place o ≡ (if is_none o then place ∷ [] else [])
+element_by place None = refl
+element_by place (Some name) = refl
+
+script_places_from-append : (first : ℕ) (xs ys : List Source) → script_places_from first (xs ++ ys) ≡ script_places_from first xs ++ script_places_from (first + length xs) ys
+script_places_from-append first [] ys = ap (λ (n : ℕ). script_places_from n ys) (sym (add-zero first))
+script_places_from-append first (x ∷ xs) ys =
+    let own : List ℕ = if is_none x.handler then first ∷ [] else [] in
+    let shift : suc first + length xs ≡ first + suc (length xs) = omega arith in
+    ap (λ (l : List ℕ). own ++ l) (script_places_from-append (suc first) xs ys ∙ ap (λ (n : ℕ). script_places_from (suc first) xs ++ script_places_from n ys) shift)
+    ∙ sym (append_assoc own (script_places_from (suc first) xs) (script_places_from (first + suc (length xs)) ys))
+
+script_places-more : (read : Reader) (sources : List Source) (source : Source) (o : Option (List ProgramItem)) → read source.text ≡ o → script_places_by read (sources ++ source ∷ []) ≡ script_places_by read sources ++ script_places_from (length (programs_by read sources)) (cond (is_some o) (source ∷ []) [])
+script_places-more read sources source o e =
+    let good = filter (is_good read) sources in
+    let more = cond (is_some o) (source ∷ []) [] in
+    let place : 0 + length good ≡ length (programs_by read sources) = omega (arith, good_count read sources) in
+    ap (script_places_from 0) (filter-append (is_good read) sources (source ∷ []) ∙ ap (λ (p : Option (List ProgramItem)). good ++ cond (is_some p) (source ∷ []) []) e)
+    ∙ script_places_from-append 0 good more
+    ∙ ap (λ (n : ℕ). script_places_from 0 good ++ script_places_from n more) place
+
+script_places-good : (read : Reader) (sources : List Source) (source : Source) (programs : List ToldProgram) (items : List ProgramItem) (elements : List ℕ) → AllZip Tells (programs_by read sources) programs → read source.text ≡ Some items → elements ≡ script_places_by read sources
+    → elements ++ element_place (length programs) source.handler ≡ script_places_by read (sources ++ source ∷ [])
+script_places-good read sources source programs items elements told e are =
+    let count : length programs ≡ length (programs_by read sources) = AllZip-long Tells (programs_by read sources) programs told in
+    let own : List ℕ = if is_none source.handler then length (programs_by read sources) ∷ [] else [] in
+    ap (λ (l : List ℕ). l ++ element_place (length programs) source.handler) are
+    ∙ ap (λ (n : ℕ). script_places_by read sources ++ element_place n source.handler) count
+    ∙ ap (λ (l : List ℕ). script_places_by read sources ++ l) (element_by (length (programs_by read sources)) source.handler ∙ sym (append-nil own))
+    ∙ sym (script_places-more read sources source (Some items) e)
+
+script_places-bad : (read : Reader) (sources : List Source) (source : Source) (elements : List ℕ) → read source.text ≡ None → elements ≡ script_places_by read sources → elements ≡ script_places_by read (sources ++ source ∷ [])
+script_places-bad read sources source elements e are = are ∙ sym (append-nil (script_places_by read sources)) ∙ sym (script_places-more read sources source None e)
+
+-- a handler of the next program names none of those before it
+named-behind : (handlers : List HandlerState) (own : Option (List ℕ)) (node place count : ℕ) → place < count → is_named (handlers ++ option_to_list (handler_with count (record { node = node; handler = own; text = [] }))) place ≡ is_named handlers place
+named-behind [] None node place count low = refl
+named-behind [] (Some name) node place count low =
+    let apart : nat_eq count place ≡ false = ne_eqb count place (omega arith) in
+    ap (λ (b : Bool). b || false) apart
+named-behind (handler ∷ handlers) own node place count low = ap (λ (b : Bool). nat_eq handler.program place || b) (named-behind handlers own node place count low)
+
+abbrev pub IsBelow : ℕ → HandlerState → Type 0
+IsBelow count handler = handler.program < count
+
+-- no handler names a place that is past those of all
+not_named : (handlers : List HandlerState) (count : ℕ) → All (λ (handler : HandlerState). handler.program < count) handlers → is_named handlers count ≡ false
+not_named [] count low = refl
+not_named (handler ∷ handlers) count low =
+    let below : handler.program < count = All-head (IsBelow count) handler handlers low in
+    let apart : nat_eq handler.program count ≡ false = ne_eqb handler.program count (omega (arith, below)) in
+    ap (λ (b : Bool). b || is_named handlers count) apart ∙ not_named handlers count (All-tail (IsBelow count) handler handlers low)
+
+-- a handler of the next program names it
+named-own : (handlers : List HandlerState) (name : List ℕ) (node count : ℕ) → is_named (handlers ++ option_to_list (handler_with count (record { node = node; handler = Some name; text = [] }))) count ≡ true
+named-own [] name node count = let same : nat_eq count count ≡ true = eq-eqb count count refl in ap (λ (b : Bool). b || false) same
+named-own (handler ∷ handlers) name node count = ap (λ (b : Bool). nat_eq handler.program count || b) (named-own handlers name node count) ∙ or-true (nat_eq handler.program count)
+  where
+    or-true : (b : Bool) → (b || true) ≡ true
+    or-true true = refl
+    or-true false = refl
+
+filter-below : (p q : ℕ → Bool) (start count : ℕ) → ((k : ℕ) → k < start + count → p k ≡ q k) → filter p (range_with_len start count) ≡ filter q (range_with_len start count)
+filter-below p q start zero same = refl
+filter-below p q start (suc count) same =
+    ap₂ (λ (b : Bool) (l : List ℕ). cond b (start ∷ l) l) (same start (omega arith)) (filter-below p q (start + 1) count (λ k low. same k (omega arith)))
+
+unnamed-more : (count : ℕ) (handlers : List HandlerState) (own : Option (List ℕ)) (node : ℕ) → All (λ (handler : HandlerState). handler.program < count) handlers
+    → unnamed_places count handlers ++ element_place count own ≡ unnamed_places (count + 1) (handlers ++ option_to_list (handler_with count (record { node = node; handler = own; text = [] })))
+unnamed-more count handlers own node low =
+    let more = handlers ++ option_to_list (handler_with count (record { node = node; handler = own; text = [] })) in
+    ap (λ (l : List ℕ). l ++ element_place count own) (filter-below (λ place. not (is_named handlers place)) (λ place. not (is_named more place)) 0 count (λ place below. ap not (sym (named-behind handlers own node place count (omega (arith, below))))))
+    ∙ ap (λ (l : List ℕ). filter (λ place. not (is_named more place)) (range_with_len 0 count) ++ l) (last own)
+    ∙ sym (filter-append (λ place. not (is_named more place)) (range_with_len 0 count) (count ∷ []))
+    ∙ ap (filter (λ place. not (is_named more place))) (sym (range_next count))
+  where
+    last : (own : Option (List ℕ)) → element_place count own ≡ filter (λ place. not (is_named (handlers ++ option_to_list (handler_with count (record { node = node; handler = own; text = [] }))) place)) (count ∷ [])
+    last None = sym (ap (λ (b : Bool). cond (not b) (count ∷ []) []) (ap (λ (l : List HandlerState). is_named l count) (append-nil handlers) ∙ not_named handlers count low))
+    last (Some name) = sym (ap (λ (b : Bool). cond (not b) (count ∷ []) []) (named-own handlers name node count))
+
+within-more : (count : ℕ) (handlers : List HandlerState) (own : Option (List ℕ)) (node : ℕ) → All (λ (handler : HandlerState). handler.program < count) handlers → All (λ (handler : HandlerState). handler.program < count + 1) (handlers ++ option_to_list (handler_with count (record { node = node; handler = own; text = [] })))
+within-more count handlers own node low = All-append (IsBelow (count + 1)) handlers _ (All-weaker (IsBelow count) (IsBelow (count + 1)) (λ handler below. omega (arith, below)) handlers low) (last own)
+  where
+    last : (own : Option (List ℕ)) → All (IsBelow (count + 1)) (option_to_list (handler_with count (record { node = node; handler = own; text = [] })))
+    last None = All-nil (IsBelow (count + 1))
+    last (Some name) = All-cons (IsBelow (count + 1)) _ [] (omega arith) (All-nil (IsBelow (count + 1)))
+
+-- one program more
+HavePlaces-more : (elements : List ℕ) (programs : List ToldProgram) (program : ToldProgram) (handlers : List HandlerState) (source : Source) → HavePlaces elements (length programs) handlers
+    → HavePlaces (elements ++ element_place (length programs) source.handler) (length (programs ++ program ∷ [])) (handlers ++ option_to_list (handler_with (length programs) source))
+HavePlaces-more elements programs program handlers source h =
+    let grown : length (programs ++ program ∷ []) ≡ length programs + 1 = omega (arith, length-append {A = ToldProgram} programs (program ∷ [])) in
+    subst (λ (n : ℕ). HavePlaces (elements ++ element_place (length programs) source.handler) n (handlers ++ option_to_list (handler_with (length programs) source))) (sym grown)
+    (record {
+      within = within-more (length programs) handlers source.handler source.node h.within;
+      others = ap (λ (l : List ℕ). l ++ element_place (length programs) source.handler) h.others ∙ unnamed-more (length programs) handlers source.handler source.node h.within;
+    })
+
+HavePlaces-same : (elements others : List ℕ) (count number : ℕ) (handlers more : List HandlerState) → others ≡ elements → number ≡ count → more ≡ handlers → HavePlaces elements count handlers → HavePlaces others number more
+HavePlaces-same elements others count number handlers more e f g h =
+    subst (λ (l : List ℕ). HavePlaces l number more) (sym e) (subst (λ (n : ℕ). HavePlaces elements n more) (sym f) (subst (λ (l : List HandlerState). HavePlaces elements count l) (sym g) h))
+
 -- ---- one source more, in what is read
 
-pub HasRead-good : (old new : ScriptReader) (sources : List Source) (source : Source) (program : ToldProgram) → HasRead sources old → IsSaidOf (Some program) source.text → new.count ≡ old.count + 1 → new.scripts.programs.items ≡ old.scripts.programs.items ++ program ∷ [] → map told_handler new.scripts.handlers.items ≡ map told_handler old.scripts.handlers.items ++ option_to_list (handler_with (length old.scripts.programs.items) source) → new.scripts.bad.items ≡ old.scripts.bad.items → HasRead (sources ++ source ∷ []) new
-HasRead-good old new sources source program h said count programs handlers bad = record {
+pub HasRead-good : (old new : ScriptReader) (sources : List Source) (source : Source) (program : ToldProgram) → HasRead sources old → IsSaidOf (Some program) source.text → new.count ≡ old.count + 1 → new.scripts.programs.items ≡ old.scripts.programs.items ++ program ∷ [] → new.scripts.elements.items ≡ old.scripts.elements.items ++ element_place (length old.scripts.programs.items) source.handler → map told_handler new.scripts.handlers.items ≡ map told_handler old.scripts.handlers.items ++ option_to_list (handler_with (length old.scripts.programs.items) source) → new.scripts.bad.items ≡ old.scripts.bad.items → HasRead (sources ++ source ∷ []) new
+HasRead-good old new sources source program h said count programs elements handlers bad = record {
   count = omega (arith, count, h.count, length-append {A = Source} sources (source ∷ []));
   scripts = λ read is.
       let found = said read is in
       AreScripts-same read (sources ++ source ∷ []) _ _ _ _ _ _ programs handlers bad
       (AreScripts-good read sources source _ _ _ found.0 program (h.scripts read is) found.1 found.2);
+  elements = λ read is.
+      let found = said read is in
+      elements ∙ script_places-good read sources source old.scripts.programs.items found.0 old.scripts.elements.items (h.scripts read is).programs_are found.1 (h.elements read is);
+  places =
+      HavePlaces-same _ _ _ _ _ _ elements (ap (λ (l : List ToldProgram). length l) programs) handlers
+      (HavePlaces-more old.scripts.elements.items old.scripts.programs.items program (map told_handler old.scripts.handlers.items) source h.places);
 }
 
-pub HasRead-bad : (old new : ScriptReader) (sources : List Source) (source : Source) → HasRead sources old → IsSaidOf None source.text → new.count ≡ old.count + 1 → new.scripts.programs.items ≡ old.scripts.programs.items → new.scripts.handlers.items ≡ old.scripts.handlers.items → new.scripts.bad.items ≡ old.scripts.bad.items ++ (old.count + 1) ∷ [] → HasRead (sources ++ source ∷ []) new
-HasRead-bad old new sources source h said count programs handlers bad = record {
+pub HasRead-bad : (old new : ScriptReader) (sources : List Source) (source : Source) → HasRead sources old → IsSaidOf None source.text → new.count ≡ old.count + 1 → new.scripts.programs.items ≡ old.scripts.programs.items → new.scripts.elements.items ≡ old.scripts.elements.items → new.scripts.handlers.items ≡ old.scripts.handlers.items → new.scripts.bad.items ≡ old.scripts.bad.items ++ (old.count + 1) ∷ [] → HasRead (sources ++ source ∷ []) new
+HasRead-bad old new sources source h said count programs elements handlers bad = record {
   count = omega (arith, count, h.count, length-append {A = Source} sources (source ∷ []));
   scripts = λ read is.
       let number : old.count + 1 ≡ suc (length sources) = omega (arith, h.count) in
       AreScripts-same read (sources ++ source ∷ []) _ _ _ _ _ _ programs (ap (map told_handler) handlers)
       (bad ∙ ap (λ (n : ℕ). old.scripts.bad.items ++ n ∷ []) number)
       (AreScripts-bad read sources source _ _ _ (h.scripts read is) (said read is));
+  elements = λ read is. elements ∙ script_places-bad read sources source old.scripts.elements.items (said read is) (h.elements read is);
+  places = HavePlaces-same _ _ _ _ _ _ elements (ap (λ (l : List ToldProgram). length l) programs) (ap (map told_handler) handlers) h.places;
 }
 
-pub HasRead-none : (reader : ScriptReader) → reader.count ≡ 0 → reader.scripts.programs.items ≡ [] → reader.scripts.handlers.items ≡ [] → reader.scripts.bad.items ≡ [] → HasRead [] reader
-HasRead-none reader count programs handlers bad = record {
+pub HasRead-none : (reader : ScriptReader) → reader.count ≡ 0 → reader.scripts.programs.items ≡ [] → reader.scripts.elements.items ≡ [] → reader.scripts.handlers.items ≡ [] → reader.scripts.bad.items ≡ [] → HasRead [] reader
+HasRead-none reader count programs elements handlers bad = record {
   count = count;
   scripts = λ read is.
       AreScripts-same read [] [] _ [] _ [] _ programs (ap (map told_handler) handlers) bad
       (record { programs_are = tt; handlers_are = refl; bad_are = refl });
+  elements = λ read is. elements;
+  places =
+      HavePlaces-same [] _ 0 _ [] _ elements (ap (λ (l : List ToldProgram). length l) programs) (ap (map told_handler) handlers) (record { within = All-nil (IsBelow 0); others = refl });
 }
 
 -- ---- sources behind sources
@@ -203,8 +319,6 @@ sources_below-more items named given number gift old new h same adds =
     let next = ap (λ (g : List ℕ). sources_below items named given number ++ sources_at items number g) same ∙ sym (sources_below-next items named given number) in
     subst (λ (l : List Source). HasRead l new) next (adds (sources_below items named given number) h)
 
-pub sources_below-all : (items : List Item) (named : List ℕ) (given : List (Option (List ℕ))) (count : ℕ) (reader : ScriptReader) → HasRead (sources_below items named given count) reader → count ≡ length items → (read : Reader) → IsReader read → AreScripts read (script_sources items named given) reader.scripts.programs.items (map told_handler reader.scripts.handlers.items) reader.scripts.bad.items
+pub sources_below-all : (items : List Item) (named : List ℕ) (given : List (Option (List ℕ))) (count : ℕ) (reader : ScriptReader) → HasRead (sources_below items named given count) reader → count ≡ length items → HasRead (script_sources items named given) reader
 unfolding script_sources
-sources_below-all items named given count reader h all read is =
-    subst (λ (l : List Source). AreScripts read l reader.scripts.programs.items (map told_handler reader.scripts.handlers.items) reader.scripts.bad.items)
-    (ap (sources_below items named given) all) (h.scripts read is)
+sources_below-all items named given count reader h all = subst (λ (l : List Source). HasRead l reader) (ap (sources_below items named given) all) h

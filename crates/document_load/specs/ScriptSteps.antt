@@ -1,5 +1,5 @@
 -- A device of the proofs: what is read of the sources so far, and the sources of a part of a node.
-use Rattle.std.specs.Prelude.{◌≡◌, ℕ, List, [], ◌++◌, length, map, Option, Some, None, option_and_then, option_to_list, slice_get}
+use Rattle.std.specs.Prelude.{◌≡◌, ℕ, List, [], ◌∷◌, ◌++◌, length, map, Option, Some, None, option_and_then, option_to_list, slice_get}
 use Rattle.std.specs.List.{filter_map}
 use Rattle.std.specs.Option.{option_map_or}
 use Rattle.dom_tree.specs.Items.{Item, attributes_of, tag_of}
@@ -7,7 +7,7 @@ use Rattle.es_reader.specs.Programs.{ToldProgram, Tells}
 use Rattle.es_reader.specs.Readers.{Reader, IsReader}
 use Rattle.es_reader.specs.Statements.{Item as ProgramItem}
 use Rattle.document_load.specs.StyleTexts.{own_text}
-use Rattle.document_load.specs.Scripts.{AreScripts, Source, handler_source, script_source}
+use Rattle.document_load.specs.Scripts.{AreScripts, HavePlaces, Source, handler_source, script_places_by, script_source}
 use Rattle.document_load.specs.ScriptViews.{told_handler}
 use Rattle.document_load.specs.declared.scripts.ScriptReader.{ScriptReader}
 
@@ -24,6 +24,10 @@ pub record HasRead (sources : List Source) (reader : ScriptReader) : Type 0 wher
   pub scripts : (read : Reader) → IsReader read
       → AreScripts read sources reader.scripts.programs.items
       (map told_handler reader.scripts.handlers.items) reader.scripts.bad.items
+  pub elements : (read : Reader) → IsReader read
+      → reader.scripts.elements.items ≡ script_places_by read sources
+  pub places : HavePlaces reader.scripts.elements.items (length reader.scripts.programs.items)
+      (map told_handler reader.scripts.handlers.items)
 
 -- these are read behind all that were read before
 abbrev pub Adds : List Source → ScriptReader → ScriptReader → Type 0
@@ -45,3 +49,8 @@ handler_at items node place =
 -- the handlers of a node
 abbrev pub handlers_at : List Item → ℕ → List Source
 handlers_at items node = filter_map (handler_source node) (attributes_of items node)
+
+-- the place of a program, where it isn't that of a handler
+abbrev pub element_place : ℕ → Option (List ℕ) → List ℕ
+element_place place None = place ∷ []
+element_place place (Some name) = []

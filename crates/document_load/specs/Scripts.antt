@@ -1,7 +1,7 @@
 -- The scripts of a document: their sources, which of these are programs, and which handlers there
 -- are (BML, ARIB STD-B24, volume 2; HTML 4, 18.2.1 and 18.2.3; which elements and attributes count
 -- is this project's own profile).
-use Rattle.std.specs.Prelude.{◌≡◌, ℕ, suc, Bool, if◌then◌else◌, List, [], ◌∷◌, ◌++◌, length, map, filter, Option, Some, None, option_map, option_to_list, slice_get, codes}
+use Rattle.std.specs.Prelude.{◌≡◌, ◌<◌, ◌==◌, not, ℕ, suc, Bool, if◌then◌else◌, List, [], ◌∷◌, ◌++◌, All, length, map, filter, Option, Some, None, option_map, option_to_list, slice_get, codes}
 use Rattle.std.specs.List.{AllZip, filter_map, flat_map, list_any, range_with_len}
 use Rattle.std.specs.Option.{is_some, is_none, option_map_or}
 use Rattle.bml_bytes.specs.Words.{is_same}
@@ -99,6 +99,16 @@ handlers_from program (source ∷ good) =
 abbrev pub handlers_by : Reader → List Source → List HandlerState
 handlers_by read sources = handlers_from 0 (filter (λ source. is_some (read source.text)) sources)
 
+-- the places of the programs of script elements, among good sources, whose programs have the places
+-- from this one on
+abbrev pub script_places_from : ℕ → List Source → List ℕ
+script_places_from program [] = []
+script_places_from program (source ∷ good) =
+    (if is_none source.handler then program ∷ [] else []) ++ script_places_from (suc program) good
+
+abbrev pub script_places_by : Reader → List Source → List ℕ
+script_places_by read sources = script_places_from 0 (filter (λ source. is_some (read source.text)) sources)
+
 -- what is told of the scripts of a document with these sources
 pub record AreScripts (read : Reader) (sources : List Source) (programs : List ToldProgram)
     (handlers : List HandlerState) (bad : List ℕ) : Type 0 where
@@ -111,3 +121,20 @@ pub record AreScripts (read : Reader) (sources : List Source) (programs : List T
 abbrev pub bad_scripts : Reader → Path → List Item → List (Option (List ℕ)) → List ℕ
 bad_scripts read path items gifts =
     bad_numbers read (sources_of (with_gifts gifts (draft_of path items)))
+
+-- ---- places
+
+-- a handler names the program at this place
+abbrev pub is_named : List HandlerState → ℕ → Bool
+is_named handlers place = list_any (λ handler. handler.program == place) handlers
+
+-- the places, of so many programs, that no handler names, ascending
+abbrev pub unnamed_places : ℕ → List HandlerState → List ℕ
+unnamed_places count handlers =
+    filter (λ place. not (is_named handlers place)) (range_with_len 0 count)
+
+-- Of so many programs each handler names one, and those that none names are those of the script
+-- elements.
+pub record HavePlaces (scripts : List ℕ) (count : ℕ) (handlers : List HandlerState) : Type 0 where
+  pub within : All (λ handler. handler.program < count) handlers
+  pub others : scripts ≡ unnamed_places count handlers

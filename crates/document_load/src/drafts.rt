@@ -6,7 +6,7 @@ ghost use Rattle.bml_reader.specs.Readings.{reading_of};
 ghost use Rattle.dom_tree.specs.Items.{Item};
 ghost use Rattle.document_load.specs.Drafts.{with_gift, draft_of};
 ghost use Rattle.document_load.specs.StyleTexts.{document_rules};
-ghost use Rattle.document_load.specs.Scripts.{AreScripts, sources_of};
+ghost use Rattle.document_load.specs.Scripts.{AreScripts, HavePlaces, script_places_by, sources_of};
 ghost use Rattle.document_load.specs.ScriptViews.{told_handler};
 ghost use Rattle.es_reader.specs.Readers.{Reader, IsReader};
 
@@ -28,9 +28,11 @@ pub struct Document {
     pub tree: Tree,
     pub rules: Rules,
 
-    /// The programs of the script sources that are good, in document order. Those that no handler
-    /// names are the script elements'.
+    /// The programs of the script sources that are good, in document order.
     pub programs: Vec<Program>,
+
+    /// The places of those of script elements among the programs, ascending.
+    pub scripts: Vec<u32>,
 
     /// The handlers whose sources are good, in document order.
     pub handlers: Vec<Handler>,
@@ -136,6 +138,10 @@ impl Draft {
         ensures scripts { IfOk result (λ document. (read : Reader) → IsReader read
             → AreScripts read (sources_of self) document.programs.items
             (map told_handler document.handlers.items) document.bad.items) }
+        ensures elements { IfOk result (λ document. (read : Reader) → IsReader read
+            → document.scripts.items ≡ script_places_by read (sources_of self)) }
+        ensures places { IfOk result (λ document. HavePlaces document.scripts.items
+            (length document.programs.items) (map told_handler document.handlers.items)) }
     {
         let alloc = *self.given.allocator();
         let rules = rules_of_styles(
@@ -146,6 +152,7 @@ impl Draft {
         )?;
         let Scripts {
             programs,
+            elements: scripts,
             handlers,
             bad,
         } = scripts_of(
@@ -158,6 +165,7 @@ impl Draft {
             tree: self.tree,
             rules,
             programs,
+            scripts,
             handlers,
             bad,
         })

@@ -5,9 +5,9 @@ ghost use Rattle.std.specs.Option.{unwrap_or};
 ghost use Rattle.dom_tree.specs.Items.{attributes_of};
 ghost use Rattle.es_reader.specs.Readers.{Reader, IsReader};
 ghost use Rattle.document_load.specs.StyleTexts.{own_text as spec_own_text};
-ghost use Rattle.document_load.specs.Scripts.{AreScripts, is_handler_name as spec_is_handler_name, script_sources, script_text as spec_script_text, sources_at};
+ghost use Rattle.document_load.specs.Scripts.{AreScripts, HavePlaces, script_places_by, is_handler_name as spec_is_handler_name, script_sources, script_text as spec_script_text, sources_at};
 ghost use Rattle.document_load.specs.ScriptViews.{told_handler};
-ghost use Rattle.document_load.specs.ScriptSteps.{Adds, HasRead, IsSaidOf, handler_at, handlers_at, script_at};
+ghost use Rattle.document_load.specs.ScriptSteps.{Adds, HasRead, IsSaidOf, element_place, handler_at, handlers_at, script_at};
 ghost use Rattle.document_load.specs.GiftViews.{AscendsFrom};
 
 use crate::node_texts::{gift_at, own_text, shared_text};
@@ -29,6 +29,7 @@ pub struct Handler {
 #[derive(Drop)]
 pub struct Scripts {
     pub programs: Vec<Program>,
+    pub elements: Vec<u32>,
     pub handlers: Vec<Handler>,
     pub bad: Vec<u32>,
 }
@@ -55,9 +56,14 @@ pub fn scripts_of(
 ) -> Result<Scripts, NoMemory>
     requires ascending { AscendsFrom 0 named.now }
     requires one_each { length given.now ≡ length named.now }
-    ensures { IfOk result (λ scripts. (read : Reader) → IsReader read
+    ensures scripts { IfOk result (λ scripts. (read : Reader) → IsReader read
         → AreScripts read (script_sources tree.now named.now given.now) scripts.programs.items
         (map told_handler scripts.handlers.items) scripts.bad.items) }
+    ensures elements { IfOk result (λ scripts. (read : Reader) → IsReader read
+        → scripts.elements.items
+        ≡ script_places_by read (script_sources tree.now named.now given.now)) }
+    ensures places { IfOk result (λ scripts. HavePlaces scripts.elements.items
+        (length scripts.programs.items) (map told_handler scripts.handlers.items)) }
 {
     let mut reader = ScriptReader::new(alloc);
     let mut place = 0;
@@ -78,6 +84,7 @@ impl ScriptReader {
             alloc,
             scripts: Scripts {
                 programs: Vec::new(alloc),
+                elements: Vec::new(alloc),
                 handlers: Vec::new(alloc),
                 bad: Vec::new(alloc),
             },
@@ -166,7 +173,7 @@ impl ScriptReader {
 }
 
 impl Scripts {
-    // One program more and, where it is that of a handler, this one.
+    // One program more: that of a handler, where this has a name, or of a script element.
     fn push_program(
         &mut self,
         node: NodeId,
@@ -175,24 +182,44 @@ impl Scripts {
     ) -> Result<(), NoMemory>
         ensures programs { OnOk result
             (self.new.programs.items ≡ self.old.programs.items ++ program ∷ []) }
+        ensures elements { OnOk result (self.new.elements.items ≡ self.old.elements.items
+            ++ element_place (length self.old.programs.items) (option_copied handler.entry)) }
         ensures handlers { OnOk result (map told_handler self.new.handlers.items
             ≡ map told_handler self.old.handlers.items ++ option_to_list (option_map (λ name.
             record { node = node.0; name = name; program = length self.old.programs.items })
             (option_copied handler.entry))) }
         ensures bad { OnOk result (self.new.bad.items ≡ self.old.bad.items) }
     {
-        if let Some(name) = handler {
-            let name = name.share()?;
-            let Ok(program) = u32::try_from(self.programs.len()) else {
-                return Err(NoMemory);
-            };
-            self.handlers.push(Handler {
-                node,
-                name,
-                program,
-            })?;
-        }
+        self.push_place(node, handler)?;
         self.programs.push(program)?;
+        Ok(())
+    }
+
+    // The place of the next program, as that of a handler or of a script element.
+    fn push_place(&mut self, node: NodeId, handler: Option<&Text>) -> Result<(), NoMemory>
+        ensures programs { self.new.programs ≡ self.old.programs }
+        ensures elements { OnOk result (self.new.elements.items ≡ self.old.elements.items
+            ++ element_place (length self.old.programs.items) (option_copied handler.entry)) }
+        ensures handlers { OnOk result (map told_handler self.new.handlers.items
+            ≡ map told_handler self.old.handlers.items ++ option_to_list (option_map (λ name.
+            record { node = node.0; name = name; program = length self.old.programs.items })
+            (option_copied handler.entry))) }
+        ensures bad { self.new.bad ≡ self.old.bad }
+    {
+        let Ok(program) = u32::try_from(self.programs.len()) else {
+            return Err(NoMemory);
+        };
+        match handler {
+            Some(name) => {
+                let name = name.share()?;
+                self.handlers.push(Handler {
+                    node,
+                    name,
+                    program,
+                })?;
+            }
+            None => self.elements.push(program)?,
+        }
         Ok(())
     }
 }

@@ -1,5 +1,5 @@
 -- The module that a section completed, by the changes that it told.
-use Rattle.std.proofs.Common.{◌≡◌, ◌≢◌, ◌∙◌, ℕ, zero, suc, ◌+◌, ◌<◌, ◌≤◌, Bool, true, false, cond, eqb, List, [], ◌∷◌, ◌++◌, Option, Some, None, refl, sym, ap, subst, inl, inr, arith}
+use Rattle.std.proofs.Common.{◌≡◌, ◌≢◌, ◌∙◌, ℕ, zero, suc, ◌+◌, ◌<◌, ◌≤◌, Bool, true, false, cond, eqb, List, [], ◌∷◌, ◌++◌, Option, Some, None, refl, sym, ap, inl, inr, arith}
 use Rattle.std.specs.Prelude.{◌⊎◌, find, is_none, option_map}
 use Rattle.std.specs.List.{filter_map, range_with_len, cons_option}
 use Rattle.std.proofs.lemmas.Bool.Decides.{eqb_tells}
@@ -8,7 +8,7 @@ use Rattle.carousel_blocks.specs.declared.changes.Change.{Change}
 use Rattle.carousel_blocks.specs.Message.{Message, message_of, messages_of}
 use Rattle.carousel_blocks.specs.Held.{bytes_held}
 use Rattle.carousel_blocks.specs.Changes.{change_at, changes, number_bound}
-use Rattle.carousel_blocks.specs.Staging.{made_whole, whole_with}
+use Rattle.carousel_blocks.specs.Staging.{made_whole}
 use Rattle.module_store.specs.Carousels.{MessageLaws}
 use Rattle.module_store.specs.Resources.{info_in_force}
 use Rattle.module_store.proofs.SectionLaws.{made_by, owns}

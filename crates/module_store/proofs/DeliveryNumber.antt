@@ -17,7 +17,7 @@ pub number_is : (state : StoreState) (tag number : ℕ) (slot : ComponentState) 
     → ((messages : List Message) → of_carousel.StandsFor slot.carousel messages → Some bytes ≡ bytes_held messages number)
     → (stored : Stored) → StandsFor state stored → Some (delivery_in slot.deliveries number) ≡ number_of stored tag number
 number_is state tag number slot bytes looked low holds stored stands =
-    let f = has_followed state.components state.count state.changed stored stands tag slot looked in
+    let f = has_followed state.components state.count stored stands tag slot looked in
     let here = holds f.0.messages f.3.carousel in
     let in_store : held_in stored tag number ≡ Some bytes = ap (λ (o : Option Followed). option_and_then (λ messages. bytes_held messages number) (option_map (λ c. c.messages) o)) f.1 ∙ sym here in
     let found = f.3.numbers number (two_bytes number low) (ap (λ (o : Option (List ℕ)). is_some o) (sym here)) in

@@ -143,7 +143,7 @@ follows_other slot component deliveries tag numbers differ f = record {
 
 -- ---- the store
 
-module _ (slots : List ComponentState) (count : ℕ) (changed : Bool) (stored : Stored) (stands : StandsFor (record { components = slots; count = count; changed = changed }) stored) where
+module _ (slots : List ComponentState) (count : ℕ) (stored : Stored) (stands : StandsFor (record { components = slots; count = count }) stored) where
   -- the component is followed
   pub has_followed : (tag : ℕ) (slot : ComponentState) → component_with slots tag ≡ Some slot → (component : Followed) × (component_in stored.components tag ≡ Some component) × (component.tag ≡ tag) × Follows slot component stored.deliveries
   has_followed tag slot e = by_component (component_in stored.components tag) refl (sym (stands.tags tag) ∙ ap (λ (o : Option ComponentState). is_some o) e)
@@ -153,11 +153,11 @@ module _ (slots : List ComponentState) (count : ℕ) (changed : Bool) (stored : 
       by_component None same h = absurd cc
       by_component (Some component) same h = (component, same, eqb-true component.tag tag (found_passes (λ c. eqb c.tag tag) stored.components component same), stands.components tag slot component e same)
 
-module _ (slots : List ComponentState) (count new_count place tag : ℕ) (changed now_changed : Bool) (slot new : ComponentState) (section : List ℕ) (found : List Change) (stored : Stored)
+module _ (slots : List ComponentState) (count new_count place tag : ℕ) (slot new : ComponentState) (section : List ℕ) (found : List Change) (stored : Stored)
     (at : position (has_tag tag) slots ≡ Some place) (is : slot ≡ get_or slots place slot) (taken : TakesSection slot new count new_count section found)
-    (stands : StandsFor (record { components = slots; count = count; changed = changed }) stored) where
+    (stands : StandsFor (record { components = slots; count = count }) stored) where
   pub its_component : (component : Followed) × (component_in stored.components tag ≡ Some component) × (component.tag ≡ tag) × Follows slot component stored.deliveries
-  its_component = has_followed slots count changed stored stands tag slot (found_at (has_tag tag) slots place slot at is)
+  its_component = has_followed slots count stored stands tag slot (found_at (has_tag tag) slots place slot at is)
 
   pub changes_taken : found ≡ changes_by tag section stored
   changes_taken =
@@ -185,7 +185,7 @@ module _ (slots : List ComponentState) (count new_count place tag : ℕ) (change
           let other : eqb tag c.tag ≡ false = ap (λ u. eqb tag u) tagged ∙ l.0 in
           subst (λ f. Follows now f deliveries_now) stays (follows_other now c stored.deliveries tag (deliveries_of found) other (stands.components t now c (sym l.1 ∙ e) same))
 
-  stands_now : StandsFor (record { components = set slots place new; count = new_count; changed = now_changed }) (record { components = map (followed_with tag section) stored.components; deliveries = deliveries_now })
+  stands_now : StandsFor (record { components = set slots place new; count = new_count }) (record { components = map (followed_with tag section) stored.components; deliveries = deliveries_now })
   stands_now = record {
     count = taken.count_is ∙ ap (λ k. noted_count k (deliveries_of found)) stands.count ∙ noted_count_is (length stored.deliveries) (deliveries_of found)
         ∙ ap number_at (sym (length-append stored.deliveries (of_component tag (deliveries_of found)) ∙ ap (λ n. length stored.deliveries + n) (length-map (deliveries_of found) (λ number. (tag, number)))));
@@ -197,15 +197,15 @@ module _ (slots : List ComponentState) (count new_count place tag : ℕ) (change
       is_some_map None = refl
       is_some_map (Some c) = refl
 
-  pub stands_taken : StandsFor (record { components = set slots place new; count = new_count; changed = now_changed }) (with_section tag section stored)
+  pub stands_taken : StandsFor (record { components = set slots place new; count = new_count }) (with_section tag section stored)
   stands_taken =
-      subst (λ l. StandsFor (record { components = set slots place new; count = new_count; changed = now_changed }) (record { components = map (followed_with tag section) stored.components; deliveries = stored.deliveries ++ of_component tag (deliveries_of l) }))
+      subst (λ l. StandsFor (record { components = set slots place new; count = new_count }) (record { components = map (followed_with tag section) stored.components; deliveries = stored.deliveries ++ of_component tag (deliveries_of l) }))
       changes_taken stands_now
 
 -- where no memory was found for the section, everything stays
-module _ (slots : List ComponentState) (count new_count place tag : ℕ) (changed now_changed : Bool) (slot new : ComponentState) (stored : Stored)
+module _ (slots : List ComponentState) (count new_count place tag : ℕ) (slot new : ComponentState) (stored : Stored)
     (at : position (has_tag tag) slots ≡ Some place) (is : slot ≡ get_or slots place slot) (kept : KeepsSame slot new count new_count)
-    (stands : StandsFor (record { components = slots; count = count; changed = changed }) stored) where
+    (stands : StandsFor (record { components = slots; count = count }) stored) where
   follows_kept : (component : Followed) → Follows slot component stored.deliveries → Follows new component stored.deliveries
   follows_kept component f = record {
     pid = kept.pid ∙ f.pid;
@@ -222,7 +222,7 @@ module _ (slots : List ComponentState) (count new_count place tag : ℕ) (change
           subst (λ (s : ComponentState). Follows s component stored.deliveries) slot_is (follows_kept component (stands.components t slot component l.1 h))
       by_cases (inr l) = stands.components t now component (sym l.1 ∙ e) h
 
-  pub stands_kept : StandsFor (record { components = set slots place new; count = new_count; changed = now_changed }) stored
+  pub stands_kept : StandsFor (record { components = set slots place new; count = new_count }) stored
   stands_kept = record {
     count = kept.count_is ∙ stands.count;
     tags = λ t. same_components slots place tag slot new at is kept.tag t ∙ stands.tags t;

@@ -66,6 +66,6 @@ module _ (state : StoreState) (tag : ℕ) (components : List Component) (stored 
       → ((component : Followed) → component.tag ≡ slot.tag → component.pid ≡ slot.pid → of_carousel.StandsFor slot.carousel component.messages → now ≡ gone ++ gone_with components (Some component))
       → now ≡ gone ++ gone_with components (component_in stored.components tag)
   its_modules slot gone now looked go =
-      let f = has_followed state.components state.count state.changed stored stands tag slot (sym looked) in
+      let f = has_followed state.components state.count stored stands tag slot (sym looked) in
       let tagged : slot.tag ≡ tag = eqb-true slot.tag tag (found_passes (has_tag tag) state.components slot (sym looked)) in
       go f.0 (f.2 ∙ sym tagged) (sym f.3.pid) f.3.carousel ∙ ap (λ o. gone ++ gone_with components o) (sym f.1)

@@ -9,7 +9,5 @@ pub mod FeedLaws
 pub mod DeliveryNumber
 pub mod GoneLaws
 pub mod MapLaws
-pub mod AlikeLaws
-pub mod SameMapLaws
 pub mod StayingLaws
 pub mod SinceLaws

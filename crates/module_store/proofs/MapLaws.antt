@@ -237,11 +237,11 @@ module _ (components : List Component) (each : (tag : ℕ) → length (filter (i
             by_kept (inl k) same = ap (λ t. is_some (component_with all_kept t)) (sym same) ∙ ap (λ (o : Option ComponentState). is_some o) k.1
             by_kept (inr k) same = ap (λ t. is_some (component_with all_kept t)) (sym same) ∙ ap (λ (o : Option ComponentState). is_some o) k.1
 
-    module _ (count : ℕ) (changed now_changed : Bool) (stored : Stored) (stands : StandsFor (record { components = slots; count = count; changed = changed }) stored) where
+    module _ (count : ℕ) (stored : Stored) (stands : StandsFor (record { components = slots; count = count }) stored) where
       -- a component that stays on its PID keeps its messages
       stays : (c : Component) (slot : ComponentState) → component_with slots c.tag ≡ Some slot → slot.pid ≡ c.pid → Follows slot (followed_from stored.components c) stored.deliveries
       stays c slot looked placed =
-          let f = has_followed slots count changed stored stands c.tag slot looked in
+          let f = has_followed slots count stored stands c.tag slot looked in
           let on : eqb f.0.pid c.pid ≡ true = eq-eqb f.0.pid c.pid (sym f.3.pid ∙ placed) in
           let kept : f.0.messages ≡ messages_kept stored.components c = sym (ap (λ o. messages_on c.pid o) f.1 ∙ ap (λ b. cond b f.0.messages []) on) in
           record {
@@ -295,7 +295,7 @@ module _ (components : List Component) (each : (tag : ℕ) → length (filter (i
               by_kept (inl k) at = let slot_is : k.0 ≡ slot = cc in subst (λ (x : ComponentState). Follows x (followed_from stored.components c) stored.deliveries) slot_is (stays c k.0 k.2 k.3)
               by_kept (inr k) at = let slot_is : k.0 ≡ slot = cc in subst (λ (x : ComponentState). Follows x (followed_from stored.components c) stored.deliveries) slot_is (begins c k.0 k.2 k.3 (no_messages c k.4))
 
-      pub stands_mapped : StandsFor (record { components = all_kept; count = count; changed = now_changed }) (with_map components stored)
+      pub stands_mapped : StandsFor (record { components = all_kept; count = count }) (with_map components stored)
       stands_mapped = record {
         count = stands.count;
         tags = λ tag. has_components tag ∙ sym (ap (λ (o : Option Followed). is_some o) (find-map (λ f. eqb f.tag tag) (followed_from stored.components) components) ∙ is_some_map (find (is_tagged tag) components));

@@ -7,24 +7,20 @@ use Rattle.std.specs.Result.{result_ok}
 use Rattle.std.proofs.lemmas.Bool.{eq-eqb, ne_eqb}
 use Rattle.std.proofs.lemmas.Bool.Decides.{eqb_tells}
 use Rattle.std.proofs.lemmas.List.{append-nil}
-use Rattle.std.proofs.lemmas.Slice.Eq.{bytes_eq-Decides}
-use Rattle.carousel_blocks.specs.declared.standing.SkipCause.{SkipCause}
-use Rattle.carousel_blocks.specs.declared.standing.SkipCause.TheVariants.{Compressed, Large}
 use Rattle.carousel_blocks.specs.declared.standing.Standing.{Standing}
 use Rattle.carousel_blocks.specs.declared.changes.Change.{Change}
 use Rattle.carousel_blocks.specs.Message.{Message, message_of, messages_of}
 use Rattle.carousel_blocks.specs.InForce.{in_force, standing_of}
-use Rattle.carousel_blocks.specs.Held.{bytes_held, same_skip, same_standing}
+use Rattle.carousel_blocks.specs.Held.{bytes_held, same_standing}
 use Rattle.carousel_blocks.specs.Changes.{change_of, change_at, changes, number_bound, gone, changed, appeared, completed, line_of}
 use Rattle.carousel_blocks.specs.Staging.{made_whole, whole_with}
 use Rattle.multipart_entities.specs.declared.parts.Part.{Part}
 use Rattle.multipart_entities.specs.Lines.{lines_of}
 use Rattle.multipart_entities.specs.Entities.{entity}
 use Rattle.multipart_entities.specs.Parts.{named_parts}
-use Rattle.module_store.specs.Resources.{holds_entity, info_in_force, transaction_of}
-use Rattle.module_store.specs.Entities.{ArePartsOf, HasLowNumber, KeepsParts, StagesParts, parts_at, is_reset, without_reset}
+use Rattle.module_store.specs.Resources.{holds_entity, info_in_force}
+use Rattle.module_store.specs.Entities.{ArePartsOf, KeepsParts, StagesParts, parts_at, is_reset, without_reset}
 use Rattle.module_store.specs.Carousels.{MessageLaws}
-use Rattle.module_store.specs.Slots.{AreAlike}
 
 -- ---- one module among the changes
 
@@ -194,63 +190,3 @@ module _ (laws : MessageLaws) (old staged : List (ℕ × List Part)) (messages :
         by_message : (o : Option Message) → message_of section ≡ o → found ≡ changes messages (messages ++ cons_option o []) → KeepsParts old messages → KeepsParts new (messages ++ cons_option o [])
         by_message None e = without_message e
         by_message (Some message) e = with_message message e
-
--- ---- where nothing is told
-
-skip_same : (skip : Option SkipCause) → same_skip skip skip ≡ true
-skip_same None = refl
-skip_same (Some Compressed) = refl
-skip_same (Some Large) = refl
-
-standing_same : (s : Standing) → same_standing s s ≡ true
-standing_same s =
-    rw (
-      eq-eqb s.download s.download refl,
-      eq-eqb s.block_size s.block_size refl,
-      eq-eqb s.entry.id s.entry.id refl,
-      eq-eqb s.entry.size s.entry.size refl,
-      eq-eqb s.entry.version s.entry.version refl,
-      (bytes_eq-Decides s.entry.info s.entry.info).1 refl,
-    ) (skip_same s.skip)
-
--- of an entry that stays nothing but its last block is told
-completes : (number : ℕ) (o : Option Standing) (was now : Option (List ℕ)) (change : Change) → change_of number o o was now ≡ Some change → change.status ≡ None
-completes number None was now change e = absurd cc
-completes number (Some s) was now change e = by_test (same_standing s s) (standing_same s) (not (is_some was) && is_some now) e
-  where
-    by_test : (same : Bool) → same ≡ true → (newly : Bool) → cond same (cond newly (Some (completed number s.entry)) None) (Some (changed number (line_of s now))) ≡ Some change → change.status ≡ None
-    by_test false h newly e = absurd cc
-    by_test true h true e = let is : completed number s.entry ≡ change = cc in ap (λ (c : Change). c.status) (sym is)
-    by_test true h false e = absurd cc
-
-module _ (laws : MessageLaws) (messages : List Message) (section : List ℕ) (numbered : HasLowNumber section) (found : List Change) (none : found ≡ []) where
-  alike_without : (now : List Message) → now ≡ messages → AreAlike messages now
-  alike_without now same = record { in_force_is = ap (λ m. in_force m) same; held_are = λ number. ap (λ m. bytes_held m number) same }
-
-  module _ (message : Message) (e : message_of section ≡ Some message) (are : found ≡ changes messages (messages ++ message ∷ []))
-      (transaction : transaction_of (messages ++ message ∷ []) ≡ transaction_of messages) where
-    same_dii : in_force (messages ++ message ∷ []) ≡ in_force messages
-    same_dii = laws.transactions messages message transaction
-
-    same_held : (number : ℕ) (o : Option Change) → change_at messages (messages ++ message ∷ []) number ≡ o → bytes_held (messages ++ message ∷ []) number ≡ bytes_held messages number
-    same_held number None change = (laws.same messages message number change).bytes
-    same_held number (Some c) change =
-        let same = ap (λ dii. standing_of dii number) same_dii in
-        let status = completes number (standing_of (in_force messages) number) (bytes_held messages number) (bytes_held (messages ++ message ∷ []) number) c
-        (ap (λ o. change_of number (standing_of (in_force messages) number) o (bytes_held messages number) (bytes_held (messages ++ message ∷ []) number)) (sym same) ∙ change) in
-        let whole = laws.whole messages message number c change status in
-        let low = numbered messages number whole.0 (made_by messages section (Some message) e ∙ whole.2) in
-        let contrary = sym (none_told messages (messages ++ message ∷ []) number low (sym are ∙ none)) ∙ change in
-        absurd cc
-
-    alike_with : AreAlike messages (messages ++ message ∷ [])
-    alike_with = record { in_force_is = same_dii; held_are = λ number. same_held number (change_at messages (messages ++ message ∷ []) number) refl }
-
-  pub alike : found ≡ changes messages (messages ++ messages_of (section ∷ [])) → transaction_of (messages ++ messages_of (section ∷ [])) ≡ transaction_of messages
-      → AreAlike messages (messages ++ messages_of (section ∷ []))
-  alike = by_message (message_of section) refl
-    where
-      by_message : (o : Option Message) → message_of section ≡ o → found ≡ changes messages (messages ++ cons_option o []) → transaction_of (messages ++ cons_option o []) ≡ transaction_of messages
-          → AreAlike messages (messages ++ cons_option o [])
-      by_message None e are transaction = alike_without (messages ++ []) (append-nil messages)
-      by_message (Some message) e are transaction = alike_with message e are transaction

@@ -2,12 +2,11 @@
 use Rattle.std.specs.Prelude.{◌≡◌, ℕ, true, List, [], ◌∷◌, ◌++◌, Some, None, is_some}
 use Rattle.carousel_blocks.specs.declared.changes.Change.{Change}
 use Rattle.carousel_blocks.specs.Message.{Message}
-use Rattle.carousel_blocks.specs.InForce.{in_force}
 use Rattle.carousel_blocks.specs.Held.{bytes_held}
 use Rattle.carousel_blocks.specs.Carousel.{CarouselState, StandsFor}
 use Rattle.carousel_blocks.specs.Changes.{change_at, changes}
 use Rattle.carousel_blocks.specs.Staging.{IsSameModule, whole_with}
-use Rattle.module_store.specs.Resources.{info_in_force, transaction_of}
+use Rattle.module_store.specs.Resources.{info_in_force}
 
 -- the carousel stands for messages that came
 abbrev pub StandsForSome : CarouselState → Type 0
@@ -26,4 +25,3 @@ pub record MessageLaws : Type 0 where
   pub before : (messages : List Message) (message : Message) (number : ℕ) (change : Change) → change_at messages (messages ++ message ∷ []) number ≡ Some change → change.status ≡ None → bytes_held messages number ≡ None
   pub change : (messages : List Message) (message : Message) (number : ℕ) (bytes : List ℕ) → whole_with messages (Some message) ≡ Some (number, bytes)
       → (change : Change) × (change_at messages (messages ++ message ∷ []) number ≡ Some change) × (change.status ≡ None)
-  pub transactions : (messages : List Message) (message : Message) → transaction_of (messages ++ message ∷ []) ≡ transaction_of messages → in_force (messages ++ message ∷ []) ≡ in_force messages

@@ -7,3 +7,4 @@ pub mod Slots
 pub mod Carousels
 pub mod Staying
 pub mod Since
+pub mod Lines

@@ -1,5 +1,5 @@
 -- The resources of modules (ARIB STD-B24, volumes 2 and 3, in this project's own profile).
-use Rattle.std.specs.Prelude.{◌≡◌, ◌≤◌, ℕ, Bool, true, if◌then◌else◌, List, [], ◌∷◌, length, Option, Some, None, option_map, option_and_then, Result, Ok, Err, codes as ascii}
+use Rattle.std.specs.Prelude.{◌≤◌, ℕ, Bool, true, if◌then◌else◌, List, [], ◌∷◌, length, Option, Some, None, option_map, option_and_then, Result, Ok, Err, codes as ascii}
 use Rattle.std.specs.Option.{option_map_or}
 use Rattle.std.specs.List.{slice_range}
 use Rattle.dsmcc_messages.specs.declared.dii.Dii.{Dii}
@@ -114,18 +114,3 @@ start_info stored = option_and_then (λ messages. info_in_force messages 0) (mes
 
 abbrev pub start_path : Stored → Path
 start_path stored = record { component = start_component; «module» = 0; name = start_name (start_info stored) }
-
--- ---- what stays
-
--- the transactionId of the DII in force
-abbrev pub transaction_of : List Message → Option ℕ
-transaction_of messages = option_map (λ dii. dii.transaction) (in_force messages)
-
--- the same of a component
-abbrev pub transaction_in : Stored → ℕ → Option ℕ
-transaction_in stored tag = option_and_then transaction_of (messages_of_component stored tag)
-
--- each look-up, and the start path, are the same in both
-pub record LooksAlike (one other : Stored) : Type 0 where
-  pub looks : (path : Path) → look one path ≡ look other path
-  pub start : start_path one ≡ start_path other

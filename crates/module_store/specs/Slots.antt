@@ -6,11 +6,8 @@ use Rattle.carousel_blocks.specs.Carousel as of_carousel
 use Rattle.carousel_blocks.specs.declared.changes.Change.{Change}
 use Rattle.carousel_blocks.specs.Message.{Message, messages_of}
 use Rattle.carousel_blocks.specs.Changes.{changes}
-use Rattle.carousel_blocks.specs.InForce.{in_force}
-use Rattle.carousel_blocks.specs.Held.{bytes_held}
 use Rattle.multipart_entities.specs.declared.parts.Part.{Part}
 use Rattle.module_store.specs.Store.{deliveries_of, is_kept}
-use Rattle.module_store.specs.Resources.{transaction_of}
 use Rattle.module_store.specs.Entities.{KeepsParts}
 use Rattle.module_store.specs.Noted.{noted, noted_count}
 use Rattle.module_store.specs.Standing.{ComponentState, delivery_in, has_tag}
@@ -52,11 +49,6 @@ AreDistinct slots = (tag : ℕ) → length (filter (has_tag tag) slots) ≤ 1
 
 -- ---- a section
 
--- the same DII is in force, and each module is held as before
-pub record AreAlike (before now : List Message) : Type 0 where
-  pub in_force_is : in_force now ≡ in_force before
-  pub held_are : (number : ℕ) → bytes_held now number ≡ bytes_held before number
-
 -- The carousel takes the section, and the modules that it delivers get the next numbers.
 pub record TakesSection (old new : ComponentState) (count new_count : ℕ) (section : List ℕ) (found : List Change) : Type 0 where
   pub tag : new.tag ≡ old.tag
@@ -67,9 +59,6 @@ pub record TakesSection (old new : ComponentState) (count new_count : ℕ) (sect
       → found ≡ changes messages (messages ++ messages_of (section ∷ []))
   pub numbers : (number : ℕ) → delivery_in new.deliveries number ≡ noted count (deliveries_of found) (delivery_in old.deliveries) number
   pub count_is : new_count ≡ noted_count count (deliveries_of found)
-  pub alike : (messages : List Message) → of_carousel.StandsFor old.carousel messages → found ≡ []
-      → transaction_of (messages ++ messages_of (section ∷ [])) ≡ transaction_of messages
-      → AreAlike messages (messages ++ messages_of (section ∷ []))
 
 -- nothing came
 pub record KeepsSame (old new : ComponentState) (count new_count : ℕ) : Type 0 where

@@ -14,11 +14,10 @@ pub record ComponentState : Type 0 where
   pub carousel : of_carousel.CarouselState
   pub deliveries : List (ℕ × ℕ)
 
--- the components, the number of the last delivery of all, and whether the last call may have changed what is found
+-- the components, and the number of the last delivery of all
 pub record StoreState : Type 0 where
   pub components : List ComponentState
   pub count : ℕ
-  pub changed : Bool
 
 abbrev pub has_tag : ℕ → ComponentState → Bool
 has_tag tag component = component.tag == tag

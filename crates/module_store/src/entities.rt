@@ -51,12 +51,8 @@ impl Entities {
         ensures err { OnErr result (self.new ≡ self.old) }
     {
         match parts {
-            None => {
-                let _before = self.parts.remove(&module);
-            }
-            Some(parts) => {
-                let _before = self.parts.insert(module, parts)?;
-            }
+            None => drop(self.parts.remove(&module)),
+            Some(parts) => drop(self.parts.insert(module, parts)?),
         }
         Ok(())
     }
@@ -68,7 +64,7 @@ impl Entities {
     {
         'changes: for change in changes {
             if change.status.is_some() {
-                let _before = self.parts.remove(&change.module);
+                drop(self.parts.remove(&change.module));
             }
         }
     }

@@ -14,7 +14,6 @@ ghost use Rattle.module_store.specs.Store.{Stored, at_start, changes_by, with_se
 
 use carousel_blocks::{
     law_of_completed_modules, law_of_new_entries, law_of_no_change, law_of_same_modules,
-    law_of_transactions,
 };
 
 /// What one more message makes of a carousel's modules.
@@ -25,7 +24,6 @@ pub fn law_of_messages()
     law_of_same_modules();
     law_of_new_entries();
     law_of_completed_modules();
-    law_of_transactions();
 }
 
 /// What is found under a path stays there, with the same bytes, until a change of its module is told.

@@ -6,7 +6,7 @@ ghost use Rattle.carousel_blocks.specs.InForce.{size_limit};
 ghost use Rattle.carousel_blocks.specs.Held.{bytes_held};
 ghost use Rattle.carousel_blocks.specs.Message.{Message};
 ghost use Rattle.carousel_blocks.specs.Carousel as of_carousel;
-ghost use Rattle.module_store.specs.Resources.{HasAtMost, info_in_force, look_in, resource_of, transaction_of};
+ghost use Rattle.module_store.specs.Resources.{HasAtMost, info_in_force, look_in, resource_of};
 ghost use Rattle.module_store.specs.Standing.{delivery_in, has_tag};
 ghost use Rattle.module_store.specs.Slots.{IsFresh, TakesSection, KeepsSame};
 
@@ -75,14 +75,6 @@ impl Slot {
         ensures { result ≡ self.now.pid }
     {
         self.pid
-    }
-
-    /// The transactionId of the DII in force.
-    pub fn transaction(&self) -> Option<u32>
-        ensures { (messages : List Message) → of_carousel.StandsFor self.now.carousel messages
-            → result ≡ transaction_of messages }
-    {
-        self.carousel.transaction()
     }
 
     /// The info of a module's entry in force.

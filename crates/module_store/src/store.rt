@@ -5,8 +5,8 @@ ghost use Rattle.psi_tables.specs.Components.{AreApart, pid_in};
 ghost use Rattle.carousel_blocks.specs.InForce.{size_limit};
 ghost use Rattle.carousel_blocks.specs.Changes.{departures};
 ghost use Rattle.carousel_blocks.specs.Carousel as of_carousel;
-ghost use Rattle.module_store.specs.Store.{Followed, Stored, component_in, gone_with, at_start, changes_by, with_section, with_map, gone_by, number_of, messages_of_component, pid_of, is_kept as kept_by};
-ghost use Rattle.module_store.specs.Resources.{HasAtMost, LooksAlike, look, resource_of, start_info, start_path, transaction_in};
+ghost use Rattle.module_store.specs.Store.{Followed, Stored, component_in, gone_with, at_start, changes_by, with_section, with_map, gone_by, number_of, messages_of_component, is_kept as kept_by};
+ghost use Rattle.module_store.specs.Resources.{HasAtMost, look, resource_of, start_info, start_path};
 ghost use Rattle.module_store.specs.Resources as resources;
 ghost use Rattle.module_store.specs.Standing.{ForStored, StandsFor, has_component, has_tag, component_with};
 ghost use Rattle.module_store.specs.Slots.{AreAdded, kept_of, is_followed as followed_by};
@@ -38,8 +38,6 @@ pub struct Store {
     slots: Vec<Slot>,
     /// The number of the last delivery, 0 before the first.
     count: u64,
-    /// Whether the last call may have changed what is found.
-    changed: bool,
 }
 
 impl Model for Store {
@@ -51,23 +49,20 @@ impl Model for Store {
     ghost view = { λ s. record {
       components = s.slots.items;
       count = s.count;
-      changed = s.changed;
     } };
 
     ghost invariant = { λ s. AreDistinct s.slots.items };
 }
 
 impl Store {
-    /// A store without components, in which nothing has changed. This takes no memory.
+    /// A store without components. This takes no memory.
     pub fn new(alloc: Global) -> Store
         ensures stands { StandsFor result at_start }
-        ensures changed { result.changed ≡ false }
     {
         Store {
             alloc,
             slots: Vec::new(alloc),
             count: 0,
-            changed: false,
         }
     }
 
@@ -91,23 +86,12 @@ impl Store {
             ≡ changes_by component section.now stored)) }
         ensures before { OnErr result (ForStored self.old (λ stored. StandsFor self.new stored)) }
         ensures components { (tag : ℕ) → has_component self.new tag ≡ has_component self.old tag }
-        ensures untold { OnErr result (self.new.changed ≡ self.old.changed) }
-        ensures alike { OnOk result (self.new.changed ≡ false
-            → ForStored self.old
-            (λ stored. LooksAlike stored (with_section component section.now stored))) }
-        ensures quiet { OnOk result (ForStored self.old
-            (λ stored. changes_by component section.now stored ≡ []
-            → transaction_in (with_section component section.now stored) component
-            ≡ transaction_in stored component → self.new.changed ≡ false)) }
     {
         let Some(place) = place_of(&self.slots, component) else {
-            self.changed = false;
             return Ok(Vec::new(self.alloc));
         };
         let slot = &mut self.slots[place];
-        let before = slot.transaction();
         let changes = slot.take(self.alloc, &mut self.count, section)?;
-        self.changed = may_differ(changes.as_slice(), before, slot.transaction());
         Ok(changes)
     }
 
@@ -122,18 +106,12 @@ impl Store {
         ensures same { OnErr result (self.new ≡ self.old) }
         ensures components { OnOk result ((tag : ℕ)
             → has_component self.new tag ≡ is_some (pid_in services.now.map tag)) }
-        ensures alike { OnOk result (self.new.changed ≡ false
-            → ForStored self.old (λ stored. LooksAlike stored (with_map services.now.map stored))) }
-        ensures quiet { OnOk result (ForStored self.old (λ stored. ((tag : ℕ)
-            → pid_in services.now.map tag ≡ pid_of stored tag) → self.new.changed ≡ false)) }
     {
         let components = services.components();
         let gone = self.gone_by(components)?;
         let mut added = added_to(self.alloc, &self.slots, components)?;
-        let is_wider = !added.is_empty();
         self.slots.append(&mut added)?;
-        let is_narrower = keep(&mut self.slots, components);
-        self.changed = is_wider || is_narrower;
+        keep(&mut self.slots, components);
         Ok(gone)
     }
 
@@ -172,14 +150,6 @@ impl Store {
             module: START_MODULE,
             name,
         })
-    }
-
-    /// Whether the last `feed` or `set_components` that found memory may have changed what `resource` or `start_path`
-    /// answer: a change was told, another DII came into force, or a component came into the map or left it.
-    pub fn has_changed(&self) -> bool
-        ensures { result ≡ self.now.changed }
-    {
-        self.changed
     }
 
     // The info of the start document's module, where it has an entry.
@@ -229,14 +199,6 @@ fn start_name(info: Option<&[u8]>) -> &'static [u8]
     }
 }
 
-// Whether a section with these changes, which came between these DIIs in force, may have changed what is found.
-fn may_differ(changes: &[Change], before: Option<u32>, now: Option<u32>) -> bool
-    ensures alike { result ≡ false → (changes.now ≡ []) × (now ≡ before) }
-    ensures quiet { changes.now ≡ [] → now ≡ before → result ≡ false }
-{
-    !changes.is_empty() || now != before
-}
-
 // Where the component with that tag is.
 fn place_of(slots: &[Slot], tag: u8) -> Option<usize>
     ensures { result ≡ position (has_tag tag) slots.now }
@@ -257,15 +219,11 @@ fn is_kept(components: &[Component], slot: &Slot) -> bool
     components.iter().any(|component| component.tag == slot.tag() && component.pid == slot.pid())
 }
 
-// Gives back what is kept of components that the map doesn't have on the same PID, and answers whether there were any.
-fn keep(slots: &mut Vec<Slot>, components: &[Component]) -> bool
-    ensures kept { slots.new.items ≡ kept_of components.now slots.old.items }
-    ensures same { result ≡ false → slots.new.items ≡ slots.old.items }
-    ensures fewer { slots.new.items ≡ slots.old.items → result ≡ false }
+// Gives back what is kept of components that the map doesn't have on the same PID.
+fn keep(slots: &mut Vec<Slot>, components: &[Component])
+    ensures { slots.new.items ≡ kept_of components.now slots.old.items }
 {
-    let before = slots.len();
     slots.retain(|slot| is_kept(components, slot));
-    slots.len() < before
 }
 
 // Whether the component is followed on the same PID.

@@ -14,4 +14,5 @@ nodes-preserved c =
 pub returns : goal.returns
 returns c =
     let all : c.nodes.number ≡ length c.args.tree.now = omega arith in
-    sources_below-all c.args.tree.now c.args.named.now c.args.given.now c.nodes.number c.nodes.reader c.nodes.invariant.read all
+    let read = sources_below-all c.args.tree.now c.args.named.now c.args.given.now c.nodes.number c.nodes.reader c.nodes.invariant.read all in
+    record { scripts = read.scripts; elements = read.elements; places = read.places }

@@ -9,5 +9,4 @@ returns c = record {
   info = c.law_of_completed_modules.ensures.info;
   before = c.law_of_completed_modules.ensures.before;
   change = c.law_of_completed_modules.ensures.change;
-  transactions = c.law_of_transactions.ensures;
 }

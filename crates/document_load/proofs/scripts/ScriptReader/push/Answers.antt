@@ -1,8 +1,8 @@
-use Rattle.std.proofs.Common.{◌≡◌, ◌+◌, ◌∷◌, ◌++◌, [], map, Some, None, sym, ◌∙◌, ap, subst}
+use Rattle.std.proofs.Common.{◌≡◌, ◌+◌, ◌∷◌, ◌++◌, [], map, Some, None, ◌∙◌, ap, subst}
 use Rattle.std.specs.Option.{option_copied}
 use Rattle.document_load.specs.Scripts.{Source}
 use Rattle.document_load.specs.ScriptViews.{told_handler}
-use Rattle.document_load.specs.ScriptSteps.{HasRead, IsSaidOf}
+use Rattle.document_load.specs.ScriptSteps.{IsSaidOf}
 use Rattle.document_load.specs.declared.scripts.ScriptReader.{ScriptReader}
 use Rattle.document_load.proofs.ScriptLemmas.{HasRead-good, HasRead-bad}
 use Rattle.document_load.proofs.scripts.ScriptReader.push.Goals as goal
@@ -20,6 +20,7 @@ returns c sources h =
           let pushed = w.in_ok-push_program-in-Some-2.ensures {u = tt} in
           HasRead-good old new sources source w.in-Some-2.program h said counted
           (ap (λ (r : ScriptReader). r.scripts.programs.items) w.self-is ∙ pushed.programs)
+          (ap (λ (r : ScriptReader). r.scripts.elements.items) w.self-is ∙ pushed.elements)
           (ap (λ (r : ScriptReader). map told_handler r.scripts.handlers.items) w.self-is ∙ pushed.handlers)
           (ap (λ (r : ScriptReader). r.scripts.bad.items) w.self-is ∙ pushed.bad)
       | in-None+in_ok-push-in-None w ↦
@@ -27,6 +28,7 @@ returns c sources h =
           let pushed = w.in_ok-push-in-None.ensures {u = tt} in
           HasRead-bad old new sources source h said counted
           (ap (λ (r : ScriptReader). r.scripts.programs.items) w.self-is)
+          (ap (λ (r : ScriptReader). r.scripts.elements.items) w.self-is)
           (ap (λ (r : ScriptReader). r.scripts.handlers.items) w.self-is)
           (ap (λ (r : ScriptReader). r.scripts.bad.items) w.self-is ∙ pushed.items ∙ ap (λ n. old.scripts.bad.items ++ n ∷ []) counted)
     ]

@@ -1,4 +1,4 @@
-use Rattle.std.proofs.Common.{◌≡◌, ◌<◌, ◌^◌, ◌∙◌, ℕ, List, ap, sym, subst, inl, inr, arith, length, length-set}
+use Rattle.std.proofs.Common.{◌<◌, ◌∙◌, ℕ, List, ap, sym, subst, arith, length, length-set}
 use Rattle.std.specs.List.{enumerate_from}
 use Rattle.carousel_blocks.specs.Changes.{number_bound}
 use Rattle.module_store.specs.Standing.{delivery_in}

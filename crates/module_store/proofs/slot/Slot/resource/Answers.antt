@@ -1,4 +1,4 @@
-use Rattle.std.proofs.Common.{◌≡◌, ◌∙◌, ◌<◌, ◌^◌, true, List, option_copied, length, ap, sym, subst, arith}
+use Rattle.std.proofs.Common.{◌≡◌, ◌∙◌, ◌<◌, ◌^◌, true, option_copied, length, ap, sym, subst, arith}
 use Rattle.std.specs.Prelude.{is_some}
 use Rattle.module_store.specs.Resources.{HasAtMost, holds_entity, named_in}
 use Rattle.module_store.specs.Entities.{ArePartsOf}

@@ -1,11 +1,11 @@
-use Rattle.std.proofs.Common.{◌≡◌, ◌∙◌, List, [], ◌∷◌, ◌++◌, refl, subst, sym, ap}
-use Rattle.carousel_blocks.specs.Message.{Message, messages_of}
+use Rattle.std.proofs.Common.{◌∙◌, [], ◌∷◌, ◌++◌, refl, subst, sym, ap}
+use Rattle.carousel_blocks.specs.Message.{messages_of}
 use Rattle.module_store.specs.Store.{deliveries_of}
 use Rattle.module_store.specs.Noted.{noted, noted_count}
 use Rattle.module_store.specs.Entities.{KeepsParts, parts_at, without_reset}
 use Rattle.module_store.specs.Standing.{delivery_in}
 use Rattle.module_store.proofs.NumberLaws.{noted_alike}
-use Rattle.module_store.proofs.SectionLaws.{parts_taken, alike}
+use Rattle.module_store.proofs.SectionLaws.{parts_taken}
 use Rattle.module_store.proofs.slot.Slot.take.Goals as goal
 
 pub invariant_of-self-in_err-changes : goal.invariant_of-self-in_err-changes
@@ -41,6 +41,4 @@ returns-clause-taken c =
       numbers = λ number. c.note.ensures.numbers number ∙ ap (λ l. noted c.args.count.now (deliveries_of l) (delivery_in c.make_room.new.self) number) c.as_slice.ensures.value
           ∙ noted_alike c.args.count.now (deliveries_of found) (delivery_in c.make_room.new.self) (delivery_in c.self.inside.numbers) c.make_room.ensures.same number;
       count_is = c.note.ensures.count ∙ ap (λ l. noted_count c.args.count.now (deliveries_of l)) c.as_slice.ensures.value;
-      alike = λ messages stands none transaction.
-          alike c.law_of_messages.ensures messages section c.in_ok-changes.ensures.number found none (c.in_ok-changes.ensures.changes messages stands) transaction;
     })

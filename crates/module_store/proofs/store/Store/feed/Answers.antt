@@ -1,12 +1,10 @@
-use Rattle.std.proofs.Common.{◌≡◌, ◌∙◌, ℕ, eqb, Bool, false, true, position, Option, Some, None, Result, List, Ok, Err, get_or, set, refl, ap, sym, subst}
+use Rattle.std.proofs.Common.{◌≡◌, ◌∙◌, ℕ, eqb, false, position, Option, Some, None, Result, List, Ok, Err, get_or, set, refl, ap, sym}
 use Rattle.std.specs.Prelude.{is_some, option_map, OnErr}
 use Rattle.module_store.specs.Store.{Followed, Stored, component_in, changes_behind}
-use Rattle.module_store.specs.Resources.{LooksAlike}
-use Rattle.module_store.specs.Standing.{ComponentState, StoreState, StandsFor, has_tag, has_component, component_with}
+use Rattle.module_store.specs.Standing.{ComponentState, StoreState, StandsFor, has_tag, component_with}
 use Rattle.module_store.specs.Slots.{AreDistinct}
 use Rattle.module_store.proofs.FindLaws.{is_some-position, length-filter-set}
-use Rattle.module_store.proofs.FeedLaws.{absent_section, same_components, stands_taken, stands_kept, changes_taken}
-use Rattle.module_store.proofs.AlikeLaws.{alike_taken, quiet_taken}
+use Rattle.module_store.proofs.FeedLaws.{absent_section, keeps_tag, same_components, stands_taken, stands_kept, changes_taken}
 use Rattle.module_store.proofs.store.Store.feed.Goals as goal
 
 -- the component isn't in the map
@@ -22,22 +20,12 @@ absent c stored stands = none (component_in stored.components c.args.component) 
         ap (λ (s : StoreState). is_some (component_with s.components c.args.component)) (sym c.self.view_is) ∙ sym (is_some-position (has_tag c.args.component) c.self.inside.slots.items)
         ∙ ap (λ (o : Option ℕ). is_some o) (ap (λ l. position (has_tag c.args.component) l) (sym c.deref.ensures.value) ∙ sym c.place_of.ensures ∙ c.in_default.is)
 
-same_but_changed : (state : StoreState) (changed : Bool) (stored : Stored) → StandsFor state stored → StandsFor (record { components = state.components; count = state.count; changed = changed }) stored
-same_but_changed state changed stored stands = record { count = stands.count; tags = stands.tags; components = stands.components }
-
 pub returns-in_default-clause-stands : goal.returns-in_default-clause-stands
-returns-in_default-clause-stands c = λ stored stands.
-    rw (absent_section c.args.component c.args.section.now stored (absent c stored stands))
-    (same_but_changed (record { components = c.self.inside.slots.items; count = c.self.inside.count; changed = c.self.inside.changed }) false stored (subst (λ (s : StoreState). StandsFor s stored) (sym c.self.view_is) stands))
+returns-in_default-clause-stands c = λ stored stands. rw (absent_section c.args.component c.args.section.now stored (absent c stored stands)) stands
 
 pub returns-in_default-clause-changes : goal.returns-in_default-clause-changes
 returns-in_default-clause-changes c = λ stored stands.
     c.new.ensures.items ∙ sym (ap (λ (o : Option Followed). changes_behind (option_map (λ f. f.messages) o) c.args.section.now) (absent c stored stands))
-
-pub returns-in_default-clause-alike : goal.returns-in_default-clause-alike
-returns-in_default-clause-alike c = λ unchanged stored stands.
-    subst (λ s. LooksAlike stored s) (sym (absent_section c.args.component c.args.section.now stored (absent c stored stands)))
-    (record { looks = λ path. refl; start = refl })
 
 -- a slot in place of one with the same tag
 still_distinct : (slots : List ComponentState) (place : ℕ) (slot new : ComponentState) → AreDistinct slots → new.tag ≡ slot.tag → slot ≡ get_or slots place slot → AreDistinct (set slots place new)
@@ -49,19 +37,20 @@ on_err : {A E : Type 0} (result : Result A E) (P : Type 0) → P → OnErr resul
 on_err (Ok a) P h = tt
 on_err (Err e) P h = h
 
-pub invariant_of-self-in_err-changes : goal.invariant_of-self-in_err-changes
-invariant_of-self-in_err-changes c =
+pub invariant_of-self : goal.invariant_of-self
+invariant_of-self c =
     still_distinct c.self.inside.slots.items c.in-Some.place c.index_mut-slot.result.now c.take.new.self c.self.invariant c.in_err-changes.ensures.same.tag c.index_mut-slot.ensures.value
 
 pub invariant_of-self-2 : goal.invariant_of-self-2
 invariant_of-self-2 c =
-    still_distinct c.self.inside.slots.items c.in-Some.place c.index_mut-slot.result.now c.take.new.self c.self.invariant c.in_ok-changes.ensures.taken.tag c.index_mut-slot.ensures.value
+    still_distinct c.self.inside.slots.items c.in-Some.place c.index_mut-slot.result.now c.take.new.self c.self.invariant
+    (keeps_tag c.take.result c.index_mut-slot.result.now c.take.new.self c.self.inside.count c.take.new.count c.args.section.now c.take.ensures.taken c.take.ensures.same) c.index_mut-slot.ensures.value
 
 pub returns-in_err-changes-clause-before : goal.returns-in_err-changes-clause-before
 returns-in_err-changes-clause-before c =
     let place_is = sym (c.place_of.ensures ∙ ap (λ l. position (has_tag c.args.component) l) c.deref.ensures.value) ∙ c.in-Some.is in
     on_err c.from_residual.result _
-    (rw (← c.self.view_is) (λ stored stands. stands_kept c.self.inside.slots.items c.self.inside.count c.take.new.count c.in-Some.place c.args.component c.self.inside.changed c.self.inside.changed
+    (rw (← c.self.view_is) (λ stored stands. stands_kept c.self.inside.slots.items c.self.inside.count c.take.new.count c.in-Some.place c.args.component
     c.index_mut-slot.result.now c.take.new.self stored place_is c.index_mut-slot.ensures.value c.in_err-changes.ensures.same stands))
 
 pub returns-in_err-changes-clause-components : goal.returns-in_err-changes-clause-components
@@ -72,33 +61,16 @@ returns-in_err-changes-clause-components c = λ tag.
 pub returns-clause-stands : goal.returns-clause-stands
 returns-clause-stands c =
     let place_is = sym (c.place_of.ensures ∙ ap (λ l. position (has_tag c.args.component) l) c.deref.ensures.value) ∙ c.in-Some.is in
-    rw (← c.self.view_is) (λ stored stands. stands_taken c.self.inside.slots.items c.self.inside.count c.take.new.count c.in-Some.place c.args.component c.self.inside.changed c.may_differ-self-inside.result
+    rw (← c.self.view_is) (λ stored stands. stands_taken c.self.inside.slots.items c.self.inside.count c.take.new.count c.in-Some.place c.args.component
     c.index_mut-slot.result.now c.take.new.self c.args.section.now c.in_ok-changes.changes.items stored place_is c.index_mut-slot.ensures.value c.in_ok-changes.ensures.taken stands)
 
 pub returns-clause-changes : goal.returns-clause-changes
 returns-clause-changes c =
     let place_is = sym (c.place_of.ensures ∙ ap (λ l. position (has_tag c.args.component) l) c.deref.ensures.value) ∙ c.in-Some.is in
-    rw (← c.self.view_is) (λ stored stands. changes_taken c.self.inside.slots.items c.self.inside.count c.take.new.count c.in-Some.place c.args.component c.self.inside.changed c.may_differ-self-inside.result
+    rw (← c.self.view_is) (λ stored stands. changes_taken c.self.inside.slots.items c.self.inside.count c.take.new.count c.in-Some.place c.args.component
     c.index_mut-slot.result.now c.take.new.self c.args.section.now c.in_ok-changes.changes.items stored place_is c.index_mut-slot.ensures.value c.in_ok-changes.ensures.taken stands)
 
 pub returns-clause-components : goal.returns-clause-components
 returns-clause-components c = λ tag.
     let place_is = sym (c.place_of.ensures ∙ ap (λ l. position (has_tag c.args.component) l) c.deref.ensures.value) ∙ c.in-Some.is in
     rw (← c.self.view_is) (same_components c.self.inside.slots.items c.in-Some.place c.args.component c.index_mut-slot.result.now c.take.new.self place_is c.index_mut-slot.ensures.value c.in_ok-changes.ensures.taken.tag tag)
-
-pub returns-clause-alike : goal.returns-clause-alike
-returns-clause-alike c = λ unchanged.
-    let place_is = sym (c.place_of.ensures ∙ ap (λ l. position (has_tag c.args.component) l) c.deref.ensures.value) ∙ c.in-Some.is in
-    let same = c.may_differ-self-inside.ensures.alike unchanged in
-    rw (← c.self.view_is) (λ stored stands. alike_taken c.self.inside.slots.items c.self.inside.count c.take.new.count c.in-Some.place c.args.component c.self.inside.changed c.may_differ-self-inside.result
-    c.index_mut-slot.result.now c.take.new.self c.args.section.now c.in_ok-changes.changes.items stored place_is c.index_mut-slot.ensures.value c.in_ok-changes.ensures.taken stands
-    (sym c.as_slice.ensures.value ∙ same.0) (λ messages now was will. sym (c.transaction.ensures now will) ∙ same.1 ∙ c.transaction-before.ensures messages was))
-
-pub returns-clause-quiet : goal.returns-clause-quiet
-returns-clause-quiet c =
-    let place_is = sym (c.place_of.ensures ∙ ap (λ l. position (has_tag c.args.component) l) c.deref.ensures.value) ∙ c.in-Some.is in
-    rw (← c.self.view_is) (λ stored stands none same.
-    let both = quiet_taken c.self.inside.slots.items c.self.inside.count c.take.new.count c.in-Some.place c.args.component c.self.inside.changed c.may_differ-self-inside.result
-    c.index_mut-slot.result.now c.take.new.self c.args.section.now c.in_ok-changes.changes.items stored place_is c.index_mut-slot.ensures.value c.in_ok-changes.ensures.taken stands
-    c.transaction-before.result c.transaction.result c.transaction-before.ensures c.transaction.ensures none same in
-    c.may_differ-self-inside.ensures.quiet (c.as_slice.ensures.value ∙ both.0) both.1)
