@@ -9,9 +9,9 @@ pub data Happening : Type 0 where
   Fires : (item group id version : ℕ) → Happening
   Forgets : (item : ℕ) → Happening
 
--- it is a firing of that item for a message of that group and id
-abbrev pub IsFiring : ℕ → ℕ → ℕ → ℕ → Happening → Type 0
-IsFiring item group id version happening = happening ≡ Fires item group id version
+-- the firing of an item for a message
+abbrev pub firing_of : ℕ → Message → Happening
+firing_of item message = Fires item message.group message.id message.version
 
 -- the version that counts behind one more happening, where that version counted before
 abbrev pub version_behind : ℕ → ℕ → ℕ → Option ℕ → Happening → Option ℕ

@@ -2,7 +2,7 @@
 
 ghost use Rattle.std.specs.Prelude.{◌≡◌, ◌==◌, ◌&&◌, ◌∷◌, ◌++◌, [], if◌then◌else◌, ℕ, List, Some, OnOk, OnErr};
 ghost use Rattle.std.specs.Map.{lookup};
-ghost use Rattle.event_messages.specs.Firings.{Happening, fires};
+ghost use Rattle.event_messages.specs.Firings.{Happening, fires, firing_of};
 ghost use Rattle.event_messages.specs.Kept.{IsNoted, StandsFor, is_key};
 
 use crate::messages::Message;
@@ -103,8 +103,7 @@ impl Fired {
     /// Notes that an item fires for a message. Where memory runs out, nothing is noted.
     pub fn note(&mut self, item: u32, message: &Message) -> Result<(), NoMemory>
         ensures ok { OnOk result ((happenings : List Happening) → StandsFor self.old happenings
-            → StandsFor self.new (happenings ++ Happening.Fires item message.now.group message.now.id
-            message.now.version ∷ [])) }
+            → StandsFor self.new (happenings ++ firing_of item message.now ∷ [])) }
         ensures err { OnErr result ((happenings : List Happening) → StandsFor self.old happenings
             → StandsFor self.new happenings) }
     {
