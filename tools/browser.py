@@ -24,7 +24,9 @@ class Failed(Exception):
 
 
 def program():
-    """Returns the Chromium of this machine, or None where it has none."""
+    """Returns the Chromium of this machine, or None where it has none or the environment has NO_BROWSER."""
+    if os.environ.get("NO_BROWSER"):
+        return None
     return next(filter(None, map(shutil.which, ["chromium", "chromium-browser", "google-chrome"])), None)
 
 

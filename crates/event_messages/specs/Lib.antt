@@ -1,0 +1,5 @@
+pub mod Messages
+pub mod Reading
+pub mod Firings
+pub mod Kept
+pub mod devices

@@ -1,0 +1,44 @@
+//! What the definitions of this crate say together. A law's contract is what it is for, and it does nothing
+//! when it runs.
+
+ghost use Rattle.std.specs.Prelude.{◌≡◌, ◌≢◌, ◌↔◌, ◌++◌, ◌∷◌, ℕ, [], List, slice_get, slice_index, None, Some, Ok, Err};
+ghost use Rattle.event_messages.specs.declared.messages.Message.{Message};
+ghost use Rattle.event_messages.specs.Messages.{descriptor_table, HasMessages};
+ghost use Rattle.event_messages.specs.Reading.{messages_in};
+ghost use Rattle.event_messages.specs.Firings.{Happening, IsLastFiring, last_version};
+
+use bml_bytes::{TableFault, law_of_fields};
+use table_fields::law_of_descriptors;
+
+/// A section has at most one list of messages, and reading gives it.
+pub fn law_of_messages()
+    ensures one { (section : List ℕ) (messages others : List Message) →
+        HasMessages section messages → HasMessages section others → messages ≡ others }
+    ensures ok { (section : List ℕ) (messages : List Message) →
+        HasMessages section messages ↔ (messages_in section ≡ Ok messages) }
+    ensures kind { (section : List ℕ) →
+        (slice_index section 0 ≡ descriptor_table) ↔ (messages_in section ≢ Err TableFault.Kind) }
+    ensures short { (section : List ℕ) → messages_in section ≡ Err TableFault.Short →
+        (slice_index section 0 ≡ descriptor_table)
+        × ((messages : List Message) → ¬ HasMessages section messages) }
+{
+    law_of_fields();
+    law_of_descriptors();
+}
+
+/// The version that counts for an item, a group and an id is that of the last such firing since the item's firings were
+/// forgotten last, and none counts exactly where there is no such firing. So a message that is repeated in the version
+/// of that firing doesn't fire again, and one of another version does.
+pub fn law_of_firings()
+    ensures last { (item group id : ℕ) (happenings : List Happening) (place version : ℕ)
+        → IsLastFiring item group id happenings place version
+        → last_version item group id happenings ≡ Some version }
+    ensures none { (item group id : ℕ) (happenings : List Happening)
+        → ((place version : ℕ) → ¬ IsLastFiring item group id happenings place version)
+        → last_version item group id happenings ≡ None }
+    ensures fired { (item group id version : ℕ) (happenings : List Happening)
+        → last_version item group id (happenings ++ Happening.Fires item group id version ∷ [])
+        ≡ Some version }
+    ensures forgotten { (item group id : ℕ) (happenings : List Happening)
+        → last_version item group id (happenings ++ Happening.Forgets item ∷ []) ≡ None }
+{}
