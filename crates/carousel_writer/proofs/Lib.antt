@@ -1,0 +1,11 @@
+pub mod EntityForms
+pub mod NameBytes
+pub mod HeaderValues
+pub mod EntityAppends
+pub mod BodyPlaces
+pub mod EntityDelimiters
+pub mod PartHeads
+pub mod EntityHead
+pub mod EntityParts
+pub mod EntityLaws
+pub mod GoodPartLaws
