@@ -19,20 +19,40 @@ use Rattle.es_eval.specs.declared.works.Now.{Now}
 use Rattle.es_eval.specs.declared.works.Now.TheVariants as now
 use Rattle.es_eval.specs.Actions.{answered}
 use Rattle.es_eval.specs.Endings.{MayEnd}
+use Rattle.es_eval.specs.Leading.{LeadsTo}
 use Rattle.es_eval.specs.Machines.{AreLive, IsMachine, MachineState, burden, next_behind, rest, run_from, values_of_next, weight, weight_of_next, world_of}
 use Rattle.es_eval.specs.Worlds.{Run, World}
 use Rattle.es_eval.proofs.MachineLemmas.{frames-stay, named-stays}
 
--- each end of the one run, with its host in this state, is one of the other, with its host in that
--- state
-pub record LeadsTo {H : Type 0} (reads : H → HostRef → List ℕ → Value → H → Type 0)
+pub leads-same : {H : Type 0} (reads : H → HostRef → List ℕ → Value → H → Type 0)
     (writes : H → HostRef → List ℕ → Value → List ObjectState → H → Type 0)
     (calls : H → HostRef → List ℕ → List Value → List ObjectState → HostAnswer → H
-    → List ObjectState → Type 0)
-    (run : Run) (h : H) (first : Run) (start : H) : Type 0 where
-  pub ends : (outcome : Outcome) (w : World) (after : H)
-      → MayEnd reads writes calls run h outcome w after
-      → MayEnd reads writes calls first start outcome w after
+    → List ObjectState → Type 0) (run told : Run) (h : H) → run ≡ told
+    → LeadsTo reads writes calls run h told h
+leads-same reads writes calls run told h same = record {
+  ends = λ outcome w after. subst (λ (r : Run). MayEnd reads writes calls r h outcome w after) same;
+}
+
+pub leads-in : {H : Type 0} (reads : H → HostRef → List ℕ → Value → H → Type 0)
+    (writes : H → HostRef → List ℕ → Value → List ObjectState → H → Type 0)
+    (calls : H → HostRef → List ℕ → List Value → List ObjectState → HostAnswer → H
+    → List ObjectState → Type 0) (new old : List ToldProgram) (m : MachineState) (next : Now)
+    (h : H) (first : Run) (start : H) → new ≡ old
+    → LeadsTo reads writes calls (run_from old m next) h first start
+    → LeadsTo reads writes calls (run_from new m next) h first start
+leads-in reads writes calls new old m next h first start same leads =
+    subst (λ (p : List ToldProgram). LeadsTo reads writes calls (run_from p m next) h first start)
+    (sym same) leads
+
+pub leads-behind : {H : Type 0} (reads : H → HostRef → List ℕ → Value → H → Type 0)
+    (writes : H → HostRef → List ℕ → Value → List ObjectState → H → Type 0)
+    (calls : H → HostRef → List ℕ → List Value → List ObjectState → HostAnswer → H
+    → List ObjectState → Type 0) (run mid first : Run) (h then start : H)
+    → LeadsTo reads writes calls run h mid then → LeadsTo reads writes calls mid then first start
+    → LeadsTo reads writes calls run h first start
+leads-behind reads writes calls run mid first h then start one other = record {
+  ends = λ outcome w after ended. other.ends outcome w after (one.ends outcome w after ended);
+}
 
 module _ {H : Type 0} (reads : H → HostRef → List ℕ → Value → H → Type 0)
     (writes : H → HostRef → List ℕ → Value → List ObjectState → H → Type 0)

@@ -19,3 +19,4 @@ pub mod Declaring
 pub mod Works
 pub mod Machines
 pub mod Decoding
+pub mod Leading

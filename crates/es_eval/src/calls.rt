@@ -1,16 +1,18 @@
 //! Calls: their callees and arguments, and what is called.
 
-ghost use Rattle.std.specs.Prelude.{◌≡◌, ◌≤◌, ◌+◌, [], List, Some, IfOk, length};
+ghost use Rattle.std.specs.Prelude.{◌≡◌, ◌<◌, ◌≤◌, ◌+◌, [], List, Some, IfOk, length};
 ghost use Rattle.std.specs.Option.{option_map_or};
 ghost use Rattle.es_expressions.specs.Trees.Trees.{NoTrees, OneMore};
 ghost use Rattle.es_reader.specs.Programs.{ToldProgram};
-ghost use Rattle.es_values.specs.declared.values.Value.TheVariants.{Host as HostValue};
+ghost use Rattle.es_builtins.specs.Methods.{method_row};
+ghost use Rattle.es_values.specs.declared.values.Value.TheVariants.{Host as HostValue, Object as AnObject};
 ghost use Rattle.es_values.specs.Heaps.{IsLive};
 ghost use Rattle.es_eval.specs.declared.works.Work.TheVariants.{Call as CallItem};
-ghost use Rattle.es_eval.specs.declared.works.CallWork.TheVariants.{IndexKey};
+ghost use Rattle.es_eval.specs.declared.works.CallWork.TheVariants.{IndexKey, MemberBase};
 ghost use Rattle.es_eval.specs.Syntax.{Function};
+ghost use Rattle.es_eval.specs.Actions.{by_row};
 ghost use Rattle.es_eval.specs.Calls.{call_member as spec_call_member, call_number as spec_call_number, call_value as spec_call_value, construct as spec_construct, enter as spec_enter, inside, outside, new_value as spec_new_value};
-ghost use Rattle.es_eval.specs.Codes.{declared_at, declared_by, function_trees, tree_of};
+ghost use Rattle.es_eval.specs.Codes.{declared_at, function_trees, tree_of, declared_by};
 ghost use Rattle.es_eval.specs.Machines.{AreLive, GoesOn, IsLess, IsNextLive, IsWorkLive, MachineState, built_run, burden, run_from, value_rest, values_of_built, values_of_callee, values_of_next, weight, weight_of_next, world_of};
 ghost use Rattle.es_eval.specs.Unbounded.{called};
 ghost use Rattle.es_eval.specs.Works.{as_value, call_work_row, calls_callee, calls_with};
@@ -48,12 +50,7 @@ impl Machine {
                 self.evaluate_then(Work::Call(CallWork::IndexKey(given, call)), key)
             }
             CallWork::IndexKey(base, call) => self.call_index(programs, base, &given, call),
-            CallWork::MemberBase(name, call) => {
-                if has_no_members(&given) {
-                    return Ok(stopped(StopCause::NotObject));
-                }
-                self.open_call(programs, Callee::Member(given, name), call)
-            }
+            CallWork::MemberBase(name, call) => self.open_member(programs, given, name, call),
             CallWork::Callee(call) => self.open_call(programs, Callee::Value(given), call),
             CallWork::Constructor(call) => {
                 self.open_call(programs, Callee::Constructor(given), call)
@@ -67,6 +64,27 @@ impl Machine {
                 _ => new,
             })),
         }
+    }
+
+    // A member that is called has its base.
+    fn open_member(
+        &mut self,
+        programs: &mut Programs<'_>,
+        given: Value,
+        name: Text,
+        call: Code,
+    ) -> Result<Now, NoMemory>
+        requires { IsLive self.old.heap given }
+        ensures run { IfOk result (λ next. GoesOn programs.old self.old
+            (as_value (call_work_row programs.old (MemberBase name call) given)) self.new next) }
+        ensures live { IfOk result (IsNextLive self.new) }
+        ensures less { IfOk result (IsLess self.old self.new) }
+        ensures programs { programs.new ≡ programs.old }
+    {
+        if has_no_members(&given) {
+            return Ok(stopped(StopCause::NotObject));
+        }
+        self.open_call(programs, Callee::Member(given, name), call)
     }
 
     // Calls the member of a base by a key that becomes a text.
@@ -347,20 +365,49 @@ impl Machine {
         match base {
             Value::Undefined | Value::Null => Ok(stopped(StopCause::NotObject)),
             Value::Host(reference) => Ok(self.call_host(reference, key, args)),
-            Value::Object(object) => match self.property(object, &key)? {
-                Value::Function(number) => {
-                    self.call_number(programs, number, Value::Object(object), args)
-                }
-                _ => {
-                    let built = self.call_built_in_method(&Value::Object(object), &key, &args)?;
-                    Ok(answered(built))
-                }
-            },
-            _ => {
-                let built = self.call_built_in_method(&base, &key, &args)?;
-                Ok(answered(built))
-            }
+            Value::Object(object) => self.call_property(programs, object, &key, args),
+            _ => self.call_built_in(&base, &key, &args),
         }
+    }
+
+    // Calls an own property that is a function, and else a built-in method.
+    fn call_property(
+        &mut self,
+        programs: &mut Programs<'_>,
+        object: u64,
+        key: &Text,
+        args: Vec<Value>,
+    ) -> Result<Now, NoMemory>
+        requires object { object < length self.old.heap }
+        requires args { AreLive self.old.heap args.items }
+        ensures run { IfOk result (λ next. GoesOn programs.old self.old
+            (as_value (spec_call_member (declared_by programs.old)
+            (called (declared_by programs.old)) (AnObject object) key.now args.items)) self.new
+            next) }
+        ensures live { IfOk result (IsNextLive self.new) }
+        ensures less { IfOk result (IsLess self.old self.new) }
+        ensures programs { programs.new ≡ programs.old }
+    {
+        match self.property(object, key)? {
+            Value::Function(number) => {
+                self.call_number(programs, number, Value::Object(object), args)
+            }
+            _ => self.call_built_in(&Value::Object(object), key, &args),
+        }
+    }
+
+    // Calls a built-in method.
+    fn call_built_in(&mut self, base: &Value, key: &Text, args: &[Value]) -> Result<Now, NoMemory>
+        requires base { IsLive self.old.heap base.now }
+        requires args { AreLive self.old.heap args.now }
+        ensures run { IfOk result (λ next. (programs : List ToldProgram)
+            → GoesOn programs self.old (as_value (by_row (λ heap.
+            method_row heap base.now key.now args.now))) self.new next) }
+        ensures live { IfOk result (IsNextLive self.new) }
+        ensures less { IfOk result (IsLess self.old self.new) }
+    {
+        let built = self.call_built_in_method(base, key, args)?;
+        Ok(answered(built))
     }
 
     // Asks the host, where what the arguments are charged is left.

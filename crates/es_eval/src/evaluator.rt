@@ -5,9 +5,11 @@ ghost use Rattle.es_frames.specs.Frames.{next_item};
 ghost use Rattle.es_reader.specs.Programs.{ToldProgram};
 ghost use Rattle.es_values.specs.Heaps.{IsLive, IsSound};
 ghost use Rattle.es_eval.specs.declared.works.Given.TheVariants.{Value as GivenValue};
-ghost use Rattle.es_eval.specs.declared.works.Now.TheVariants.{Gives};
+ghost use Rattle.es_eval.specs.declared.outcomes.Outcome.{Outcome as OutcomeOf};
+ghost use Rattle.es_eval.specs.declared.works.Now.TheVariants.{Gives, Over as IsOver};
 ghost use Rattle.es_eval.specs.Endings.{MayEnd};
 ghost use Rattle.es_eval.specs.Machines.{AreLive, GoesOn, IsLessAfter, IsNextLive, IsWorkLive, burden, next_behind as spec_next_behind, run_from, value_of_call as spec_value_of_call, values_of_given, weight, world_of};
+ghost use Rattle.es_eval.specs.Leading.{LeadsTo};
 ghost use Rattle.es_eval.specs.Works.{does};
 
 use crate::functions::Programs;
@@ -15,7 +17,7 @@ use crate::globals::Globals;
 use crate::machine::Machine;
 use crate::nexts::{stopped, value};
 use crate::outcomes::{Outcome, StopCause};
-use crate::works::{Given, Now, Work};
+use crate::works::{Given, Now, Work, discard};
 use bml_bytes::{NoMemory, Text};
 use es_reader::Program;
 use es_values::{Heap, Host, HostAnswer, HostRef, Value};
@@ -40,7 +42,10 @@ impl Machine {
         };
         match given {
             Given::Value(value) => self.on_value(programs, item, value),
-            other => Ok(Now::Gives(other)),
+            other => {
+                discard(item);
+                Ok(Now::Gives(other))
+            }
         }
     }
 
@@ -101,18 +106,41 @@ impl Machine {
         'script: loop {
             now = match now {
                 Now::Over(outcome) => return Ok(outcome),
-                Now::Reads(base, name) => value(host.get(base, &name)?),
-                Now::Writes(base, name, written) => {
-                    host.set(base, &name, &written, &self.heap)?;
-                    value(written)
-                }
-                Now::Calls(base, name, args) => {
-                    next_behind(host.call(base, &name, &args, &mut self.heap)?, &self.heap)
-                }
-                Now::Evaluate(code) => self.evaluate(programs.list(), code)?,
-                Now::Execute(code) => self.execute(programs.list(), code)?,
-                Now::Gives(given) => self.hand(programs, given)?,
+                other => self.advance(programs, host, other)?,
             };
+        }
+    }
+
+    // Does what is next, where the script isn't over.
+    fn advance<H: Host>(
+        &mut self,
+        programs: &mut Programs<'_>,
+        host: &mut H,
+        now: Now,
+    ) -> Result<Now, NoMemory>
+        requires live { IsNextLive self.old now }
+        requires goes_on { (outcome : OutcomeOf) → now ≡ IsOver outcome → ⊥ }
+        ensures leads { IfOk result (λ next. LeadsTo H.reads H.writes H.calls
+            (run_from programs.old self.new next) host.new
+            (run_from programs.old self.old now) host.old) }
+        ensures live { IfOk result (IsNextLive self.new) }
+        ensures less { IfOk result (λ next. weight self.new next < weight self.old now) }
+        ensures programs { programs.new ≡ programs.old }
+    {
+        match now {
+            Now::Over(outcome) => Ok(Now::Over(outcome)),
+            Now::Evaluate(code) => self.evaluate(programs.list(), code),
+            Now::Execute(code) => self.execute(programs.list(), code),
+            Now::Gives(given) => self.hand(programs, given),
+            Now::Reads(base, name) => Ok(value(host.get(base, &name)?)),
+            Now::Writes(base, name, written) => {
+                host.set(base, &name, &written, &self.heap)?;
+                Ok(value(written))
+            }
+            Now::Calls(base, name, args) => {
+                let answer = host.call(base, &name, &args, &mut self.heap)?;
+                Ok(next_behind(answer, &self.heap))
+            }
         }
     }
 }

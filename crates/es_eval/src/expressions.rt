@@ -18,7 +18,7 @@ use crate::machine::Machine;
 use crate::nexts::{stopped, value};
 use crate::outcomes::StopCause;
 use crate::shapes::{Shape, expression};
-use crate::works::{CallWork, MemberWork, Now, OperandWork, Use, Work};
+use crate::works::{CallWork, MemberWork, Now, OperandWork, Use, Work, discard};
 use bml_bytes::NoMemory;
 use es_reader::Program;
 use es_values::{Num, Value};
@@ -177,6 +177,7 @@ impl Machine {
         ensures less { IfOk result (IsLess self.old self.new) }
     {
         if !self.take_step() {
+            discard(item);
             return Ok(stopped(StopCause::Budget));
         }
         self.evaluate_then(item, base)

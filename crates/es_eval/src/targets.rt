@@ -1,16 +1,20 @@
 //! Targets: what is written to.
 
-ghost use Rattle.std.specs.Prelude.{◌≡◌, ◌+◌, ◌<◌, ◌≤◌, List, length, IfOk, if◌then◌else◌};
+ghost use Rattle.std.specs.Prelude.{[], ◌≡◌, ◌+◌, ◌<◌, ◌≤◌, List, length, IfOk, if◌then◌else◌};
 ghost use Rattle.es_reader.specs.Programs.{ToldProgram};
-ghost use Rattle.es_values.specs.declared.values.Value.TheVariants.{Host as OfHost, Object as AnObject};
+ghost use Rattle.es_values.specs.declared.values.Value.TheVariants.{Host as OfHost, Number, Object as AnObject};
 ghost use Rattle.es_values.specs.Heaps.{IsLive};
+ghost use Rattle.es_eval.specs.declared.works.TargetWork.TheVariants.{IndexKey, UpdateRight};
+ghost use Rattle.es_eval.specs.declared.works.Use.TheVariants.{Step as StepUse, Update as UpdateUse, Visit as VisitUse};
 ghost use Rattle.es_eval.specs.declared.works.Work.TheVariants.{Target as TargetItem};
-ghost use Rattle.es_eval.specs.Actions.{behind};
+ghost use Rattle.es_eval.specs.Actions.{and_then, behind, gives};
 ghost use Rattle.es_eval.specs.Codes.{expression_at};
 ghost use Rattle.es_eval.specs.Machines.{AreLive, GoesOn, IsLess, IsLessAfter, IsLittle, IsNextLive, IsWorkLive, burden, values_of_place, values_of_use, weight};
 ghost use Rattle.es_eval.specs.Members.{read_name as spec_read_name, read_place as spec_read_place, write_member as spec_write_member, write_place as spec_write_place};
 ghost use Rattle.es_eval.specs.Operations.{stepped as spec_stepped};
-ghost use Rattle.es_eval.specs.Rows.{entered_place};
+ghost use Rattle.es_eval.specs.Members.Place.{NamePlace};
+ghost use Rattle.es_eval.specs.Rows.{entered_place, place_row};
+ghost use Rattle.es_eval.specs.Shapes.{shaped};
 ghost use Rattle.es_eval.specs.Sources.{target_of};
 ghost use Rattle.es_eval.specs.Works.{as_value, enters, place_of, steps_from, target_row, use_row};
 
@@ -20,7 +24,7 @@ use crate::nexts::{stopped, value};
 use crate::operators::Operator;
 use crate::outcomes::StopCause;
 use crate::shapes::{Shape, expression};
-use crate::works::{Now, OperandWork, Place, StatementWork, TargetWork, Use, Work};
+use crate::works::{Now, OperandWork, Place, StatementWork, TargetWork, Use, Visit, Work, discard};
 use bml_bytes::{NoMemory, Text};
 use es_reader::Program;
 use es_values::{HostRef, Num, Value};
@@ -42,9 +46,35 @@ impl Machine {
         ensures less { IfOk result (IsLess self.old self.new) }
     {
         if !self.take_step() {
+            discard(purpose);
             return Ok(stopped(StopCause::Budget));
         }
-        match expression(programs, target)? {
+        match expression(programs, target) {
+            Ok(shape) => self.enter_shaped(programs, target, shape, purpose),
+            Err(NoMemory) => {
+                discard(purpose);
+                Err(NoMemory)
+            }
+        }
+    }
+
+    // A target of this shape, behind its step.
+    #[tactic(auto, unfolding(crate::specs::Shapes::shaped))]
+    fn enter_shaped(
+        &mut self,
+        programs: &[Program],
+        code: Code,
+        shape: Shape,
+        purpose: Use,
+    ) -> Result<Now, NoMemory>
+        requires { AreLive self.old.heap (values_of_use purpose) }
+        ensures run { IfOk result (λ next. GoesOn programs.now self.old
+            (behind (place_row (enters programs.now) (target_of (shaped programs.now code shape)))
+            (use_row programs.now purpose)) self.new next) }
+        ensures live { IfOk result (IsNextLive self.new) }
+        ensures less { IfOk result (IsLittle self.old self.new) }
+    {
+        match shape {
             Shape::Name(name) => self.on_place(purpose, Place::Name(name)),
             Shape::Index(base, key) => {
                 self.evaluate_then(Work::Target(TargetWork::IndexBase(key, purpose)), base)
@@ -52,9 +82,26 @@ impl Machine {
             Shape::Member(base, name) => {
                 self.evaluate_then(Work::Target(TargetWork::MemberBase(name, purpose)), base)
             }
-            _ => {
-                let name = Text::of_codes(self.heap.allocator(), &[])?;
-                self.on_place(purpose, Place::Name(name))
+            other => {
+                discard(other);
+                self.on_no_target(purpose)
+            }
+        }
+    }
+
+    // What is no target is a name without codes.
+    fn on_no_target(&mut self, purpose: Use) -> Result<Now, NoMemory>
+        requires { AreLive self.old.heap (values_of_use purpose) }
+        ensures run { IfOk result (λ next. (programs : List ToldProgram)
+            → GoesOn programs self.old (use_row programs purpose (NamePlace [])) self.new next) }
+        ensures live { IfOk result (IsNextLive self.new) }
+        ensures less { IfOk result (IsLittle self.old self.new) }
+    {
+        match Text::of_codes(self.heap.allocator(), &[]) {
+            Ok(name) => self.on_place(purpose, Place::Name(name)),
+            Err(NoMemory) => {
+                discard(purpose);
+                Err(NoMemory)
             }
         }
     }
@@ -72,19 +119,82 @@ impl Machine {
             Use::Assign(right) => {
                 self.evaluate_then(Work::Target(TargetWork::Write(place)), right)
             }
-            Use::Update(operator, right) => {
-                let there = place.share()?;
-                self.put(Work::Target(TargetWork::UpdateRead(operator, there, right)))?;
-                self.read_place(place)
+            Use::Update(operator, right) => self.update_place(operator, right, place),
+            Use::Step(in_front, down) => self.read_to_step(in_front, down, place),
+            Use::Visit(name, visit) => self.visit_place(name, visit, place),
+        }
+    }
+
+    // The value before an operator with assignment is read, behind which its right side follows.
+    fn update_place(
+        &mut self,
+        operator: Operator,
+        right: Code,
+        place: Place,
+    ) -> Result<Now, NoMemory>
+        requires { AreLive self.old.heap (values_of_place place) }
+        ensures run { IfOk result (λ next. (programs : List ToldProgram)
+            → GoesOn programs self.old (use_row programs (UpdateUse operator right)
+            (place_of place)) self.new next) }
+        ensures live { IfOk result (IsNextLive self.new) }
+        ensures less { IfOk result (IsLittle self.old self.new) }
+    {
+        let there = match place.share() {
+            Ok(there) => there,
+            Err(NoMemory) => {
+                discard(place);
+                return Err(NoMemory);
             }
-            Use::Step(in_front, down) => {
-                let there = place.share()?;
-                self.put(Work::Target(TargetWork::StepRead(in_front, down, there)))?;
-                self.read_place(place)
+        };
+        match self.put(Work::Target(TargetWork::UpdateRead(operator, there, right))) {
+            Ok(()) => self.read_place(place),
+            Err(NoMemory) => {
+                discard(place);
+                Err(NoMemory)
             }
-            Use::Visit(name, visit) => {
-                self.put(Work::Target(TargetWork::Visited(visit)))?;
-                self.write_place(place, Value::Str(name))
+        }
+    }
+
+    // The value before `++` or `--` is read.
+    fn read_to_step(&mut self, in_front: bool, down: bool, place: Place) -> Result<Now, NoMemory>
+        requires { AreLive self.old.heap (values_of_place place) }
+        ensures run { IfOk result (λ next. (programs : List ToldProgram)
+            → GoesOn programs self.old (use_row programs (StepUse in_front down)
+            (place_of place)) self.new next) }
+        ensures live { IfOk result (IsNextLive self.new) }
+        ensures less { IfOk result (IsLittle self.old self.new) }
+    {
+        let there = match place.share() {
+            Ok(there) => there,
+            Err(NoMemory) => {
+                discard(place);
+                return Err(NoMemory);
+            }
+        };
+        match self.put(Work::Target(TargetWork::StepRead(in_front, down, there))) {
+            Ok(()) => self.read_place(place),
+            Err(NoMemory) => {
+                discard(place);
+                Err(NoMemory)
+            }
+        }
+    }
+
+    // The name that is visited is written, and then the body runs.
+    fn visit_place(&mut self, name: Text, visit: Visit, place: Place) -> Result<Now, NoMemory>
+        requires visit { visit.object < length self.old.heap }
+        requires place { AreLive self.old.heap (values_of_place place) }
+        ensures run { IfOk result (λ next. (programs : List ToldProgram)
+            → GoesOn programs self.old (use_row programs (VisitUse name visit)
+            (place_of place)) self.new next) }
+        ensures live { IfOk result (IsNextLive self.new) }
+        ensures less { IfOk result (IsLittle self.old self.new) }
+    {
+        match self.put(Work::Target(TargetWork::Visited(visit))) {
+            Ok(()) => self.write_place(place, Value::Str(name)),
+            Err(NoMemory) => {
+                discard(place);
+                Err(NoMemory)
             }
         }
     }
@@ -102,10 +212,7 @@ impl Machine {
             TargetWork::IndexBase(key, purpose) => {
                 self.evaluate_then(Work::Target(TargetWork::IndexKey(given, purpose)), key)
             }
-            TargetWork::IndexKey(base, purpose) => match self.to_text(&given)? {
-                Some(key) => self.on_place(purpose, Place::Member(base, key)),
-                None => Ok(stopped(StopCause::Budget)),
-            },
+            TargetWork::IndexKey(base, purpose) => self.on_key(base, purpose, &given),
             TargetWork::MemberBase(name, purpose) => {
                 self.on_place(purpose, Place::Member(given, name))
             }
@@ -115,10 +222,7 @@ impl Machine {
                 right,
             ),
             TargetWork::UpdateRight(operator, place, before) => {
-                match self.operate(operator, &before, &given)? {
-                    Some(behind) => self.write_place(place, behind),
-                    None => Ok(stopped(StopCause::Budget)),
-                }
+                self.write_updated(operator, place, &before, &given)
             }
             TargetWork::StepRead(in_front, down, place) => {
                 self.step_place(in_front, down, place, &given)
@@ -126,6 +230,67 @@ impl Machine {
             TargetWork::Visited(visit) => {
                 let body = visit.body;
                 self.execute_then(Work::Statement(StatementWork::Visiting(visit)), body)
+            }
+        }
+    }
+
+    // The key of a target is there, and becomes a text.
+    fn on_key(&mut self, base: Value, purpose: Use, key: &Value) -> Result<Now, NoMemory>
+        requires base { IsLive self.old.heap base }
+        requires purpose { AreLive self.old.heap (values_of_use purpose) }
+        requires key { IsLive self.old.heap key.now }
+        ensures run { IfOk result (λ next. (programs : List ToldProgram)
+            → GoesOn programs self.old (target_row programs (IndexKey base purpose) key.now)
+            self.new next) }
+        ensures live { IfOk result (IsNextLive self.new) }
+        ensures less { IfOk result (IsLittle self.old self.new) }
+    {
+        let found = match self.to_text(key) {
+            Ok(found) => found,
+            Err(NoMemory) => {
+                discard(purpose);
+                return Err(NoMemory);
+            }
+        };
+        match found {
+            Some(key) => self.on_place(purpose, Place::Member(base, key)),
+            None => {
+                discard(purpose);
+                Ok(stopped(StopCause::Budget))
+            }
+        }
+    }
+
+    // What an operator with assignment gives is written.
+    fn write_updated(
+        &mut self,
+        operator: Operator,
+        place: Place,
+        before: &Value,
+        given: &Value,
+    ) -> Result<Now, NoMemory>
+        requires place { AreLive self.old.heap (values_of_place place) }
+        requires before { IsLive self.old.heap before.now }
+        requires given { IsLive self.old.heap given.now }
+        ensures run { IfOk result (λ next. (programs : List ToldProgram)
+            → GoesOn programs self.old
+            (target_row programs (UpdateRight operator place before.now) given.now) self.new
+            next) }
+        ensures live { IfOk result (IsNextLive self.new) }
+        ensures less { IfOk result (IsLess self.old self.new) }
+    {
+        let found = match self.operate(operator, before, given) {
+            Ok(found) => found,
+            Err(NoMemory) => {
+                discard(place);
+                return Err(NoMemory);
+            }
+        };
+        match found {
+            Some(behind) => self.write_place(place, behind),
+            None => {
+                discard(place);
+                Ok(stopped(StopCause::Budget))
             }
         }
     }
@@ -146,13 +311,48 @@ impl Machine {
         ensures live { IfOk result (IsNextLive self.new) }
         ensures less { IfOk result (λ next. weight self.new next ≤ burden self.old + 14) }
     {
-        let Some(number) = self.to_number(before)? else {
-            return Ok(stopped(StopCause::Budget));
+        let found = match self.to_number(before) {
+            Ok(found) => found,
+            Err(NoMemory) => {
+                discard(place);
+                return Err(NoMemory);
+            }
         };
+        match found {
+            Some(number) => self.write_step(in_front, down, place, number),
+            None => {
+                discard(place);
+                Ok(stopped(StopCause::Budget))
+            }
+        }
+    }
+
+    // Writes one more or one less than a number, and gives the number behind or before that.
+    fn write_step(
+        &mut self,
+        in_front: bool,
+        down: bool,
+        place: Place,
+        number: Num,
+    ) -> Result<Now, NoMemory>
+        requires { AreLive self.old.heap (values_of_place place) }
+        ensures run { IfOk result (λ next. (programs : List ToldProgram)
+            → GoesOn programs self.old (as_value (and_then
+            (spec_write_place (place_of place) (Number (spec_stepped down number)))
+            (gives (Number (if in_front then spec_stepped down number else number))))) self.new
+            next) }
+        ensures live { IfOk result (IsNextLive self.new) }
+        ensures less { IfOk result (λ next. weight self.new next ≤ burden self.old + 14) }
+    {
         let behind = stepped(down, number);
         let given = if_in_front(in_front, behind, number);
-        self.put(Work::Operand(OperandWork::Instead(Value::Number(given))))?;
-        self.write_place(place, Value::Number(behind))
+        match self.put(Work::Operand(OperandWork::Instead(Value::Number(given)))) {
+            Ok(()) => self.write_place(place, Value::Number(behind)),
+            Err(NoMemory) => {
+                discard(place);
+                Err(NoMemory)
+            }
+        }
     }
 
     /// The value of what a target names.

@@ -179,3 +179,6 @@ pub enum StatementWork {
     Visiting(Visit),
     Return,
 }
+
+/// Lets something go.
+pub fn discard<T: Drop>(_item: T) {}
