@@ -47,7 +47,7 @@ other-way a b h = by (is_same b a) refl
         sym both ∙ h
     by false e = refl
 
-found : (es : List (List ℕ × Value)) (name : List ℕ) (v : Value) → lookup (is_same name) (insert_entry is_same es name v) ≡ Some v
+pub found : (es : List (List ℕ × Value)) (name : List ℕ) (v : Value) → lookup (is_same name) (insert_entry is_same es name v) ≡ Some v
 found [] name v = ap (λ b. if b then Some v else None) (same-itself name)
 found (e ∷ es) name v = by (is_same name e.0) refl (found es name v)
   where
@@ -55,7 +55,7 @@ found (e ∷ es) name v = by (is_same name e.0) refl (found es name v)
     by true h more = ap (λ b. if b then Some v else lookup (is_same name) es) h
     by false h more = ap (λ b. if b then Some e.1 else lookup (is_same name) (insert_entry is_same es name v)) h ∙ more
 
-kept : (es : List (List ℕ × Value)) (name other : List ℕ) (v : Value) → is_same name other ≡ false → lookup (is_same other) (insert_entry is_same es name v) ≡ lookup (is_same other) es
+pub kept : (es : List (List ℕ × Value)) (name other : List ℕ) (v : Value) → is_same name other ≡ false → lookup (is_same other) (insert_entry is_same es name v) ≡ lookup (is_same other) es
 kept [] name other v h = ap (λ b. if b then Some v else None) (other-way name other h)
 kept (e ∷ es) name other v h = by (is_same name e.0) refl (kept es name other v h)
   where

@@ -6,5 +6,6 @@ pub mod JoinLemmas
 pub mod LawLemmas
 pub mod ListSteps
 pub mod NumberLemmas
+pub mod OrderLemmas
 pub mod SlotLemmas
 pub mod SoundLemmas

@@ -1,15 +1,17 @@
 //! What the definitions of this crate say together. Each function is a law: its contract is what it
 //! is for, and it does nothing when it runs.
 
-ghost use Rattle.std.specs.Prelude.{◌≡◌, ◌<◌, ◌≤◌, ◌^◌, ◌++◌, ◌||◌, ◌+ℤ◌, ℕ, ℤ, pos, List, [], ◌∷◌, All, Bool, Some, true, false, FitsSigned, is_some, length};
+ghost use Rattle.std.specs.Prelude.{◌≡◌, ◌<◌, ◌≤◌, ◌^◌, ◌+◌, ◌++◌, ◌||◌, ◌+ℤ◌, ℕ, ℤ, pos, List, [], ◌∷◌, All, Bool, Some, None, true, false, if◌then◌else◌, FitsSigned, is_some, length, max, nat_lt, slice_get};
 ghost use Rattle.std.specs.Int.{w32};
 ghost use Rattle.std.specs.List.{list_any};
 ghost use Rattle.std.specs.Map.{lookup};
+ghost use Rattle.std.specs.Set.{remove_key};
 ghost use Rattle.bml_bytes.specs.Numerals.{decimal_digits};
 ghost use Rattle.bml_bytes.specs.Words.{is_same};
 ghost use Rattle.es_values.specs.declared.numbers.Num.{Num};
+ghost use Rattle.es_values.specs.declared.numbers.Num.TheVariants.{Whole};
 ghost use Rattle.es_values.specs.declared.values.Value.{Value};
-ghost use Rattle.es_values.specs.Arrays.{array_of, elements_of, turned_object, with_first_elements};
+ghost use Rattle.es_values.specs.Arrays.{array_of, element_at, elements_of, turned_object, with_first_elements};
 ghost use Rattle.es_values.specs.Numbers.{wrapped};
 ghost use Rattle.es_values.specs.Objects.{ObjectState};
 ghost use Rattle.es_values.specs.Values.{is_function};
@@ -52,6 +54,41 @@ pub fn law_of_properties()
         → list_any (is_same name) (names_of object)
         ≡ is_some (lookup (is_same name) object.properties) }
 {}
+
+/// A put leaves the names in their order and adds a new one behind the last, and a removal takes a
+/// name away and leaves the others in their order. An element at an array's length or behind it makes
+/// the array as long as it needs. A length takes the elements at it and behind it away, and leaves
+/// those in front of it. (8.6.2.2, 8.6.2.5 and 15.4.5.1; the order is this project's own.)
+pub fn law_of_insertion()
+    ensures put { (object : ObjectState) (name : List ℕ) (value : Value)
+        → names_of (with_property object name value)
+        ≡ (if list_any (is_same name) (names_of object) then names_of object
+        else names_of object ++ name ∷ []) }
+    ensures removed { (object : ObjectState) (name : List ℕ) → is_array_length object name ≡ false
+        → names_of (without_property object name) ≡ remove_key (is_same name) (names_of object) }
+    ensures longer { (object : ObjectState) (name : List ℕ) (value : Value) (count index : ℕ)
+        → object.array_length ≡ Some count → index_of name ≡ Some index
+        → (with_property object name value).array_length ≡ Some (max count (index + 1)) }
+    ensures shorter { (object : ObjectState) (count index : ℕ) → index < 2147483647
+        → element_at (with_length object (Whole (pos count))).properties index
+        ≡ (if nat_lt index count then element_at object.properties index else None) }
+{
+    law_of_decimals();
+}
+
+/// An array that is made of values has each at its place, no other elements, and as many as its length.
+/// Where values become an object's elements, each is at its place, and each place behind the last is
+/// missing.
+pub fn law_of_elements()
+    ensures made { (values : List Value) (place : ℕ)
+        → element_at (array_of values).properties place ≡ slice_get values place }
+    ensures size { (values : List Value) → length values ≤ 2147483647
+        → (array_of values).array_length ≡ Some (length values) }
+    ensures set { (object : ObjectState) (values : List Value) (place : ℕ) → place < 2147483647
+        → element_at (with_first_elements object values).properties place ≡ slice_get values place }
+{
+    law_of_decimals();
+}
 
 /// A new object leaves a sound heap sound. A put to it of a value that is live in it leaves a sound
 /// heap with as many objects, and what is read there is live. What is live in a heap is live in
