@@ -1,0 +1,3 @@
+pub mod SectionLemmas
+pub mod CompletingLemmas
+pub mod StoreLemmas

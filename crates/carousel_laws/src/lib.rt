@@ -1,0 +1,14 @@
+//! What holds of data carousels, in whatever order their sections come: laws above the carousel
+//! and the store.
+//!
+//! A carousel repeats its sections, and a receiver begins in the midst of them. Let the same DII
+//! stay in force, and let two lists of sections bring the same blocks, in whatever order and
+//! however often; `specs/Freedom.antt` says when they do. Then the same modules are held after
+//! both, with the same bytes ([`law_of_carousel_freedom`]), and a store finds the same
+//! ([`law_of_same_stores`]). A module is held as soon as a block completes it
+//! ([`law_of_completing_blocks`]).
+#![tactic(auto)]
+
+mod laws;
+
+pub use crate::laws::{law_of_carousel_freedom, law_of_completing_blocks, law_of_same_stores};
