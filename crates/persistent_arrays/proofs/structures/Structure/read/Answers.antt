@@ -1,0 +1,27 @@
+use Rattle.std.proofs.Common.{sym, arith}
+use Rattle.persistent_arrays.proofs.SpellingLemmas.{last-pushed, next-pushed, other-pushed, shorter-next, spells-none, structure-pushed}
+use Rattle.persistent_arrays.proofs.structures.Structure.read.Goals as goal
+
+pub invariant_of-result : goal.invariant_of-result
+invariant_of-result c =
+    structure-pushed c.args.text.now c.kinds.kinds.items c.push.new.self.items c.kinds.left.now c.in-Some.kind c.in-Some.behind.now c.kinds.invariant c.in-Some.ensures c.in_ok-push.ensures.items c.in_default-next_code.ensures
+
+pub returns-in_default-next_code : goal.returns-in_default-next_code
+returns-in_default-next_code c =
+    last-pushed c.args.text.now c.kinds.kinds.items c.push.new.self.items c.kinds.left.now c.in-Some.kind c.in-Some.behind.now c.kinds.invariant c.in-Some.ensures c.in_ok-push.ensures.items c.in_default-next_code.ensures
+
+pub returns-then-comma-from : goal.returns-then-comma-from
+returns-then-comma-from c =
+    other-pushed c.args.text.now c.kinds.kinds.items c.push.new.self.items c.kinds.left.now c.in-Some.kind c.in-Some.behind.now c.kinds.invariant c.in-Some.ensures c.in_ok-push.ensures.items
+    c.in-Some-next_code.comma c.in-Some-next_code.next.now c.in-Some-next_code.ensures (λ e. omega (arith, c.from.ensures))
+
+pub kinds-smaller : goal.kinds-smaller
+kinds-smaller c = shorter-next c.kinds.left.now c.in-Some.kind c.in-Some.behind.now c.in-Some-next_code.comma c.in-Some-next_code.next.now c.in-Some.ensures c.in-Some-next_code.ensures
+
+pub kinds-preserved : goal.kinds-preserved
+kinds-preserved c =
+    next-pushed c.args.text.now c.kinds.kinds.items c.push.new.self.items c.kinds.left.now c.in-Some.kind c.in-Some.behind.now c.kinds.invariant c.in-Some.ensures c.in_ok-push.ensures.items
+    c.in-Some-next_code.comma c.in-Some-next_code.next.now c.in-Some-next_code.ensures (omega (arith, c.from.ensures))
+
+pub returns : goal.returns
+returns c = spells-none c.args.text.now c.kinds.kinds.items c.kinds.left.now c.kinds.invariant (sym c.in_default.ensures)

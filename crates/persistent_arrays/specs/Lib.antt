@@ -1,0 +1,3 @@
+pub mod Structures
+pub mod Names
+pub mod devices

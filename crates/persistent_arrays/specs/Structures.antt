@@ -1,0 +1,39 @@
+-- The structure of a persistent array: which fields it has, and how a text spells them (after ARIB STD-B24, volume 2,
+-- readPersistentArray and writePersistentArray; which kinds and sizes there are is this project's own profile).
+use Rattle.std.specs.Prelude.{◌≡◌, ◌≢◌, ◌≤◌, ◌⊎◌, ℕ, List, [], ◌∷◌, ◌++◌, map, All, codes as ascii}
+use Rattle.bml_bytes.specs.Numerals.{decimal_digits}
+use Rattle.persistent_arrays.specs.declared.kinds.FieldKind.{FieldKind}
+use Rattle.persistent_arrays.specs.declared.kinds.FieldKind.TheVariants.{Bit, Unsigned, Signed, Fixed, Varying}
+
+-- the sizes that a field may have: whole numbers have one, two or four bytes, texts of a fixed size 1 to 64
+abbrev pub IsKind : FieldKind → Type 0
+IsKind Bit = Unit {0}
+IsKind (Unsigned size) = (size ≡ 1) ⊎ ((size ≡ 2) ⊎ (size ≡ 4))
+IsKind (Signed size) = (size ≡ 1) ⊎ ((size ≡ 2) ⊎ (size ≡ 4))
+IsKind (Fixed size) = (1 ≤ size) × (size ≤ 64)
+IsKind Varying = Unit {0}
+
+-- how a field is spelled: `B:1b`, `U:nB`, `I:nB`, `S:nB` with its size in decimal digits, `S:1V`
+abbrev pub spelling : FieldKind → List ℕ
+spelling Bit = ascii "B:1b"
+spelling (Unsigned size) = ascii "U:" ++ decimal_digits size ++ ascii "B"
+spelling (Signed size) = ascii "I:" ++ decimal_digits size ++ ascii "B"
+spelling (Fixed size) = ascii "S:" ++ decimal_digits size ++ ascii "B"
+spelling Varying = ascii "S:1V"
+
+-- texts with a comma between each two
+abbrev pub with_commas : List (List ℕ) → List ℕ
+with_commas [] = []
+with_commas (text ∷ []) = text
+with_commas (text ∷ next ∷ texts) = text ++ ascii "," ++ with_commas (next ∷ texts)
+
+-- the fields have their sizes, and there is one at least
+pub record IsStructure (kinds : List FieldKind) : Type 0 where
+  pub some : kinds ≢ []
+  pub sizes : All IsKind kinds
+
+-- the text spells these fields, of which there is one at least; nothing else is between them, no blank either
+pub record Spells (text : List ℕ) (kinds : List FieldKind) : Type 0 where
+  pub some : kinds ≢ []
+  pub sizes : All IsKind kinds
+  pub written : text ≡ with_commas (map spelling kinds)

@@ -1,0 +1,59 @@
+//! Which fields a persistent array has.
+
+ghost use Rattle.std.specs.Prelude.{◌≡◌, List, slice_get, IfOk, MatchOption};
+ghost use Rattle.persistent_arrays.specs.declared.kinds.FieldKind.{FieldKind};
+ghost use Rattle.persistent_arrays.specs.Structures.{Spells};
+
+use crate::kinds::{FieldKind, read_kind};
+use crate::spelling::next_code;
+use bml_bytes::{NoMemory, Text};
+use std::alloc::Global;
+use std::marker::Model;
+
+/// The fields of a persistent array, one at least. Contracts see the list of their kinds.
+#[derive(Debug, Drop)]
+pub struct Structure {
+    kinds: Vec<FieldKind>,
+}
+
+impl Model for Structure {
+    ghost use Rattle.std.specs.Prelude.{List};
+    ghost use Rattle.persistent_arrays.specs.declared.kinds.FieldKind.{FieldKind};
+    ghost use Rattle.persistent_arrays.specs.Structures.{IsStructure};
+
+    ghost Value = { List FieldKind };
+
+    ghost view = { λ structure. structure.kinds.items };
+
+    ghost invariant = { λ structure. IsStructure structure.kinds.items };
+}
+
+impl Structure {
+    /// The structure that a text spells, and None exactly where it spells none.
+    pub fn read(alloc: Global, text: &Text) -> Result<Option<Structure>, NoMemory>
+        ensures { IfOk result (λ found. MatchOption found
+            ((kinds : List FieldKind) → ¬ Spells text.now kinds)
+            (λ structure. Spells text.now structure)) }
+    {
+        let mut kinds = Vec::new(alloc);
+        let mut left = text.codes();
+        'kinds: while let Some((kind, behind)) = read_kind(left) {
+            kinds.push(kind)?;
+            let Some((comma, next)) = next_code(behind) else {
+                return Ok(Some(Structure { kinds }));
+            };
+            if comma != u16::from(b',') {
+                return Ok(None);
+            }
+            left = next;
+        }
+        Ok(None)
+    }
+
+    /// The kind of the field at a place, counted from 0, and None past the last one. This takes no memory.
+    pub fn kind(&self, place: usize) -> Option<FieldKind>
+        ensures { result ≡ slice_get self.now place }
+    {
+        self.kinds.as_slice().get(place).copied()
+    }
+}
