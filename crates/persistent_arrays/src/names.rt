@@ -15,7 +15,8 @@ const ARRAY_COUNT: u8 = 16;
 
 /// The number of the array that a text names, and None exactly where it names none. This takes no memory.
 pub fn slot_of(name: &Text) -> Option<u8>
-    ensures { MatchOption result ((slot : ℕ) → ¬ Names name.now slot) (λ slot. Names name.now slot) }
+    ensures { MatchOption result ((slot : ℕ) → ¬ Names name.now slot)
+        (λ slot. Names name.now slot) }
 {
     let codes = name.codes();
     if codes.len() < FRONT.len() {
