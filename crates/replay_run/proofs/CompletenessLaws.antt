@@ -14,7 +14,8 @@ use Rattle.replay_run.specs.Ending.{IsBeyond}
 use Rattle.replay_run.specs.Files.{GaveMore, file}
 use Rattle.replay_run.specs.Outside.{Account, Outside, account}
 use Rattle.replay_run.specs.RecordProgress.{LeavesItems}
-use Rattle.replay_run.specs.Replaying.{HasReason, outcome_of}
+use Rattle.replay_run.specs.Reasons.{HasReason}
+use Rattle.replay_run.specs.Replaying.{outcome_of}
 use Rattle.replay_run.specs.Stopping.{LeavesPackets, StopsTurns}
 
 -- a file that is no longer than the limit didn't give more

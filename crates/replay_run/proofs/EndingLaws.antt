@@ -30,10 +30,11 @@ use Rattle.replay_run.specs.Outside.{Outside, Account, account}
 use Rattle.replay_run.specs.Play.{inputs_of, packet_count}
 use Rattle.replay_run.specs.Progress.{Replay, Moment, IsBetween}
 use Rattle.replay_run.specs.Record.{items_before_bad, first_bad}
-use Rattle.replay_run.specs.Replaying.{StopsLine, StopsOpening, OnlyReadsBoth, outcome_of}
+use Rattle.replay_run.specs.Order.{IsReadOn, OnlyReadsBoth}
+use Rattle.replay_run.specs.Replaying.{StopsLine, StopsOpening, outcome_of}
 use Rattle.replay_run.specs.Output.{WritesPieces, WritesBytes, bytes_of}
 use Rattle.replay_run.specs.Files.{file, GaveAtMost, stream_limit, record_limit}
-use Rattle.replay_run.specs.Stopping.{LeavesPackets, IsReadOn, OnlyReads}
+use Rattle.replay_run.specs.Stopping.{LeavesPackets, OnlyReads}
 use Rattle.replay_run.specs.Writing.{WritesOn, WritesShort}
 use Rattle.replay_run.proofs.RecordProgressLaws.{items_of_whole}
 use Rattle.replay_run.proofs.PlayLaws.{front_of_inputs}

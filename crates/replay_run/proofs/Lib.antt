@@ -9,6 +9,7 @@ pub mod InputLaws
 pub mod ItemLaws
 pub mod LineLaws
 pub mod RecordProgressLaws
+pub mod OrderLaws
 pub mod PlayLaws
 pub mod ProgressLaws
 pub mod RecordLaws

@@ -22,7 +22,8 @@ use Rattle.replay_run.specs.Outside.{Outside}
 use Rattle.replay_run.specs.Progress.{Replay, Moment, IsMidway}
 use Rattle.replay_run.specs.Output.{WritesPieces, WritesBytes, bytes_of}
 use Rattle.replay_run.specs.Files.{file, GaveAtMost, stream_limit}
-use Rattle.replay_run.specs.Stopping.{IsReadOn, OnlyReads}
+use Rattle.replay_run.specs.Order.{IsReadOn}
+use Rattle.replay_run.specs.Stopping.{OnlyReads}
 use Rattle.replay_run.specs.Writing.{CutShort}
 use Rattle.replay_run.proofs.PlayLaws.{inputs_of-push, with_packets, with_more}
 use Rattle.replay_run.proofs.WritingLaws.{appends_from, bytes-append}

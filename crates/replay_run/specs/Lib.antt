@@ -8,11 +8,13 @@ pub mod Lines
 pub mod Meaning
 pub mod Midway
 pub mod Opening
+pub mod Order
 pub mod Output
 pub mod Outside
 pub mod Play
 pub mod Progress
 pub mod Reading
+pub mod Reasons
 pub mod Record
 pub mod RecordProgress
 pub mod RecordReader

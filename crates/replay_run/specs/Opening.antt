@@ -1,5 +1,5 @@
--- What a run asks of the world, in which order, and what it finds there. This project's own.
-use Rattle.std.specs.Prelude.{◌≡◌, ℕ, List, Option, Some, None, IsSome, IsTrue, ◌⊎◌}
+-- What a run asks of the world, and what it finds there. This project's own.
+use Rattle.std.specs.Prelude.{◌≡◌, ℕ, List, Option, Some, None, ◌⊎◌}
 use Rattle.bml_ports.specs.Sinks.{SinkState}
 use Rattle.bml_ports.specs.Worlds.{WorldState, PortState}
 use Rattle.replay_run.specs.declared.status.Status.{Status}
@@ -21,12 +21,6 @@ abbrev pub AsksOnly : Option CommandWords → WorldState → Type 0
 AsksOnly None world = IsUnasked world
 AsksOnly (Some request) world =
     AsksAtMost world.stream request.stream × AsksAtMost world.notes request.notes
-
--- The record wasn't asked for before the stream was, and not where the run ended because the stream
--- couldn't be opened: after a failed opening of it nothing may be read.
-pub record AsksInOrder (status : Status) (world : WorldState) : Type 0 where
-  pub behind : (world.notes.asked ≡ None) ⊎ IsSome world.stream.asked
-  pub opened : status ≡ OpenFault → (world.notes.asked ≡ None) ⊎ IsTrue world.stream.readable
 
 -- the bytes that the world has under a name, where it tells them
 abbrev pub bytes_under : WorldState → List ℕ → Option (List ℕ)

@@ -10,12 +10,11 @@ use Rattle.replay_run.specs.declared.status.Status.TheVariants.{Done, Usage, Bad
 use Rattle.replay_run.specs.declared.status.Status.TheVariants.{ReadFault, WriteFault, KeepFault}
 use Rattle.replay_run.specs.declared.status.Status.TheVariants.{BadArea, TooLong, NoMemory}
 use Rattle.replay_run.specs.Causes.{ReadFaulted, WriteFaulted}
-use Rattle.replay_run.specs.Ending.{EndsAs, IsBeyond}
+use Rattle.replay_run.specs.Ending.{EndsAs}
 use Rattle.replay_run.specs.Meaning.{empty_area, replay_meaning}
 use Rattle.replay_run.specs.Opening.{bytes_under}
-use Rattle.replay_run.specs.Outside.{Account, Outside, account}
-use Rattle.replay_run.specs.Record.{first_bad}
-use Rattle.replay_run.specs.Stopping.{IsReadOn}
+use Rattle.replay_run.specs.Outside.{Outside, account}
+use Rattle.replay_run.specs.Reasons.{HasReason}
 use Rattle.replay_run.specs.Writing.{WritesOn, WritesShort}
 
 -- between the two a name was asked for at this port, and nothing else happened
@@ -55,13 +54,6 @@ pub record LacksName (world : WorldState) (name : List ℕ) : Type 0 where
 abbrev pub outcome_of : {A : Type 0} → Result A Status → Status
 outcome_of (Ok answer) = Done
 outcome_of (Err status) = status
-
--- between the two, the world's calls were reads
-pub record OnlyReadsBoth (old new : WorldState) : Type 0 where
-  pub files : new.files ≡ old.files
-  pub openings : new.openings ≡ old.openings
-  pub stream : IsReadOn old.stream new.stream
-  pub notes : IsReadOn old.notes new.notes
 
 -- A replay stops for these causes.
 abbrev pub StopsReplay : Status → Outside → Outside → Type 0
@@ -105,13 +97,6 @@ RunEnds selection stream_name notes_name before behind status =
     → bytes_under before.world notes_name ≡ Some notes
     → EndsAs (replay_meaning read selection empty_area stream notes)
     (account stream notes before behind) status
-
--- What a status says of the files, and this hangs on no reader of programs: that line is the first
--- bad one of the record, or a file is too long.
-abbrev pub HasReason : Account → Status → Type 0
-HasReason run (BadRecord line) = first_bad run.notes.bytes ≡ Some line
-HasReason run TooLong = IsBeyond run
-HasReason run _ = Unit {0}
 
 -- Where the files are told, this holds of a replay.
 abbrev pub ReplayHasReason : Outside → Outside → Status → Type 0

@@ -1,26 +1,19 @@
 -- A device of the proofs: why a replay stops before its end, and what it has written then.
-use Rattle.std.specs.Prelude.{◌≡◌, ℕ, ◌<◌, ◌≤◌, ◌⊎◌, List, Option}
-use Rattle.std.specs.Io.KnownBytes.{Consumes}
+use Rattle.std.specs.Prelude.{◌≡◌, ℕ, ◌<◌, ◌⊎◌, List, Option}
 use Rattle.bml_ports.specs.declared.outside.Port.{Port}
 use Rattle.bml_ports.specs.Counters.{Counter, FaultedSince}
-use Rattle.bml_ports.specs.Worlds.{WorldState, PortState, port_of, other_port}
+use Rattle.bml_ports.specs.Worlds.{WorldState, port_of, other_port}
 use Rattle.receiver_core.specs.Outputs.{Piece}
 use Rattle.replay_run.specs.declared.status.Status.{Status}
 use Rattle.replay_run.specs.declared.status.Status.TheVariants.{Done, Usage, BadRecord, OpenFault}
 use Rattle.replay_run.specs.declared.status.Status.TheVariants.{ReadFault, WriteFault, KeepFault}
 use Rattle.replay_run.specs.declared.status.Status.TheVariants.{BadArea, TooLong, NoMemory}
 use Rattle.replay_run.specs.Files.{File, stream_limit, GaveMore, GaveAtMost}
+use Rattle.replay_run.specs.Order.{IsReadOn}
 use Rattle.replay_run.specs.Outside.{Outside}
 use Rattle.replay_run.specs.Output.{WritesPieces, WritesBytes}
 
--- between the two, the calls on the port were reads, which took bytes from the front of those left
-pub record IsReadOn (old new : PortState) : Type 0 where
-  pub asked : new.asked ≡ old.asked
-  pub later : old.reads.faults ≤ new.reads.faults
-  pub given : List ℕ
-  pub consumed : Consumes old.left new.left given
-
--- and the calls of the world were reads of this port
+-- between the two, the calls of the world were reads of this port
 pub record OnlyReads (port : Port) (old new : WorldState) : Type 0 where
   pub files : new.files ≡ old.files
   pub openings : new.openings ≡ old.openings

@@ -1,7 +1,7 @@
 //! Writes the pieces of the output.
 
 ghost use Rattle.bml_ports.specs.Counters.{FaultedSince};
-ghost use Rattle.std.specs.Prelude.{◌≡◌, ◌≤◌, length, OnOk, OnErr, IfErr};
+ghost use Rattle.std.specs.Prelude.{◌≡◌, ◌≤◌, OnOk, OnErr, IfErr};
 ghost use Rattle.replay_run.specs.Writing.{WritesOn, WritesShort};
 
 use crate::status::Status;

@@ -1,6 +1,6 @@
 //! Handles the items of a record over the packets of a stream.
 
-ghost use Rattle.std.specs.Prelude.{◌≡◌, ℕ, ◌+◌, ◌*◌, ◌^◌, ◌<◌, ◌≤◌, List, length, false, IsTrue};
+ghost use Rattle.std.specs.Prelude.{◌≡◌, ◌+◌, ◌*◌, ◌^◌, ◌<◌, ◌≤◌, length, false, IsTrue};
 ghost use Rattle.std.specs.Prelude.{OnOk, IfOk, IfErr, Option, option_map};
 ghost use Rattle.bml_ports.specs.Sinks.{SinkState};
 ghost use Rattle.bml_ports.specs.Worlds.{WorldState};

@@ -1,6 +1,6 @@
 //! The lines of the record, read from pieces.
 
-ghost use Rattle.std.specs.Prelude.{◌≡◌, ◌≢◌, ℕ, ◌+◌, ◌-◌, ◌<◌, ◌≤◌, ◌↔◌, ◌⊎◌, true, false, []};
+ghost use Rattle.std.specs.Prelude.{◌≡◌, ◌≢◌, ◌+◌, ◌-◌, ◌<◌, ◌≤◌, ◌↔◌, ◌⊎◌, true, false, []};
 ghost use Rattle.std.specs.Prelude.{◌∷◌, ◌++◌, All, length, take, drop, min, not, position};
 ghost use Rattle.std.specs.Prelude.{slice_index, ◌==◌, MatchOption, IfSome, is_some};
 ghost use Rattle.std.specs.Str.Lines.{strip_carriage_return};

@@ -1,20 +1,21 @@
 //! A replay of a record over a stream.
 
-ghost use Rattle.std.specs.Prelude.{◌≡◌, ◌≢◌, ℕ, ◌^◌, ◌<◌, ◌≤◌, List, OnOk, IfErr, IsErr, IsTrue};
-ghost use Rattle.std.specs.Prelude.{Some, None, []};
+ghost use Rattle.std.specs.Prelude.{◌≡◌, ◌≢◌, ℕ, ◌<◌, ◌≤◌, List, OnOk, IfErr, IsErr, IsTrue};
+ghost use Rattle.std.specs.Prelude.{Some, None, [], true, false};
 ghost use Rattle.bml_ports.specs.Worlds.{WorldState, port_of};
 ghost use Rattle.replay_run.specs.Causes.{IsCaused};
 ghost use Rattle.replay_run.specs.Lines.{end_line};
 ghost use Rattle.replay_run.specs.Meaning.{empty_area};
-ghost use Rattle.replay_run.specs.Opening.{AsksAtMost, AsksInOrder, IsUnasked, LacksFile};
-ghost use Rattle.replay_run.specs.Opening.{LeavesRest, StopsAtOpening, bytes_under};
+ghost use Rattle.replay_run.specs.Opening.{AsksAtMost, IsUnasked, LacksFile, LeavesRest};
+ghost use Rattle.replay_run.specs.Opening.{StopsAtOpening, bytes_under};
+ghost use Rattle.replay_run.specs.Order.{IsOpening, OnlyReadsBoth, OpensInOrder};
 ghost use Rattle.replay_run.specs.Files.{record_limit, stream_limit};
 ghost use Rattle.replay_run.specs.Midway.{IsReadable, moment};
 ghost use Rattle.replay_run.specs.Outside.{Outside, outside};
 ghost use Rattle.replay_run.specs.Progress.{StartsReplay};
 ghost use Rattle.replay_run.specs.RecordProgress as progress;
 ghost use Rattle.receiver_core.specs.Receiving.{IsIdle};
-ghost use Rattle.replay_run.specs.Replaying.{outcome_of, LacksName, OnlyOpens, OnlyReadsBoth};
+ghost use Rattle.replay_run.specs.Replaying.{outcome_of, LacksName, OnlyOpens};
 ghost use Rattle.replay_run.specs.Replaying.{ReplayEnds, ReplayHasReason, RunEnds, RunHasReason};
 ghost use Rattle.replay_run.specs.Replaying.{StopsLine, StopsOpening, StopsReplay};
 ghost use Rattle.replay_run.specs.Stopping.{StopsTurns};
@@ -37,6 +38,10 @@ pub fn open<W: World>(world: &mut W, port: Port, name: &Text) -> Result<(), Stat
     ensures asked { OnOk result ((port_of (W.told world.new) port).asked ≡ Some name.now) }
     ensures cause { IfErr result
         (λ status. StopsOpening status port (W.told world.old) (W.told world.new)) }
+    ensures opened { OnOk result
+        (IsOpening port name.now true (W.told world.old) (W.told world.new)) }
+    ensures failed { IfErr result (λ status. status ≡ Status.OpenFault
+        → IsOpening port name.now false (W.told world.old) (W.told world.new)) }
     ensures readable { OnOk result (IsTrue (port_of (W.told world.new) port).readable) }
     ensures bytes { OnOk result ((bytes : List ℕ)
         → bytes_under (W.told world.old) name.now ≡ Some bytes
@@ -149,7 +154,8 @@ pub fn replay<W: World, S: Sink>(
     ensures files { (W.told world.new).files ≡ (W.told world.old).files }
     ensures asked_stream { AsksAtMost (W.told world.new).stream stream.now }
     ensures asked_notes { AsksAtMost (W.told world.new).notes notes.now }
-    ensures order { AsksInOrder (outcome_of result) (W.told world.new) }
+    ensures order { OpensInOrder stream.now notes.now (outcome_of result)
+        (W.told world.old) (W.told world.new) }
     ensures cause { IfErr result (λ status. IsCaused status
         (outside (W.told world.old) (S.told out.old))
         (outside (W.told world.new) (S.told out.new))) }

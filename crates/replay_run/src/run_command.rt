@@ -1,20 +1,24 @@
 //! The run of the program.
 
 ghost use Rattle.std.specs.Prelude.{◌≡◌, ◌≢◌, ℕ, List, ◌↔◌, ◌⊎◌, Some, None};
+ghost use Rattle.es_reader.specs.Readers.{Reader, IsReader};
 ghost use Rattle.replay_run.specs.Causes.{IsCaused};
 ghost use Rattle.replay_run.specs.CommandSeen.{command_seen};
 ghost use Rattle.replay_run.specs.Completeness.{IsUnhindered};
-ghost use Rattle.replay_run.specs.Headline.{RunMeans};
-ghost use Rattle.replay_run.specs.Opening.{AsksInOrder, AsksOnly, HasFiles, IsUnasked};
+ghost use Rattle.replay_run.specs.Headline.{RunMeans, RunMeansBy};
+ghost use Rattle.replay_run.specs.Opening.{AsksOnly, HasFiles, IsUnasked};
 ghost use Rattle.replay_run.specs.Opening.{LacksItsFile, LeavesFiles, StopsAtOpening};
-ghost use Rattle.replay_run.specs.Outside.{account, outside};
-ghost use Rattle.replay_run.specs.Replaying.{outcome_of, HasReason};
+ghost use Rattle.replay_run.specs.Order.{AsksInOrder};
+ghost use Rattle.replay_run.specs.Outside.{outside};
+ghost use Rattle.replay_run.specs.Reasons.{RunHasItsReason};
+ghost use Rattle.replay_run.specs.Replaying.{outcome_of};
 ghost use Rattle.replay_run.specs.Words.{command};
 
 use crate::replay::replay;
 use crate::status::Status;
 use crate::words::{Command, read_command};
 use bml_ports::{Keeper, Sink, Text, World};
+use es_reader::law_of_the_reader;
 use std::alloc::Global;
 
 /// Runs the command that the words behind the program's name are, and answers how it ended.
@@ -35,13 +39,23 @@ pub fn run<W: World, K: Keeper, S: Sink>(
 ) -> Status
     requires unasked { IsUnasked (W.told world.old) }
 
-    // Where the files are told, the run ends as its meaning says, however reads are cut. Where a
-    // file is missing, it ends at its opening.
+    // There is a reader of programs, and where the files are told, the run ends as its meaning by
+    // this reader says, however reads are cut; and so by every reader. Where a file is missing, it
+    // ends at its opening.
+    ensures reader { (read : Reader) × IsReader read × RunMeansBy read (command words.now)
+        (outside (W.told world.old) (S.told out.old)) (outside (W.told world.new) (S.told out.new))
+        result }
     ensures headline { RunMeans (command words.now)
         (outside (W.told world.old) (S.told out.old)) (outside (W.told world.new) (S.told out.new))
         result }
     ensures missing { LacksItsFile (command words.now) (W.told world.old)
         → StopsAtOpening result (S.told out.old) (S.told out.new) }
+
+    // The line of a bad record is the first bad one of the record, and where a file is too long, it
+    // gave more bytes than a run takes. This hangs on no reader of programs.
+    ensures reason { RunHasItsReason (command words.now)
+        (outside (W.told world.old) (S.told out.old)) (outside (W.told world.new) (S.told out.new))
+        result }
 
     // A command that nothing hinders comes to its end, unless memory is wanting.
     ensures complete { (stream notes : List ℕ) → command words.now ≢ None
@@ -55,13 +69,14 @@ pub fn run<W: World, K: Keeper, S: Sink>(
     ensures unused { result ≡ Status.Usage → (world.new ≡ world.old) × (out.new ≡ out.old) }
 
     // Whether or not content is told: each fault was counted in this run, in the last call under
-    // its count, and no name was asked for but the command's two, each at its own port, the
-    // record's not before the stream's.
+    // its count. No name was asked for but the command's two, each at its own port; the record was
+    // opened only once the stream was, and after an opening that failed nothing was asked.
     ensures cause { IsCaused result
         (outside (W.told world.old) (S.told out.old))
         (outside (W.told world.new) (S.told out.new)) }
     ensures asked { AsksOnly (command words.now) (W.told world.new) }
-    ensures order { AsksInOrder result (W.told world.new) }
+    ensures order { AsksInOrder (command words.now) result
+        (W.told world.old) (W.told world.new) }
 
     // The files are as before, and what was given and what is left of an opened one is the file.
     // Nothing is kept.
@@ -69,6 +84,7 @@ pub fn run<W: World, K: Keeper, S: Sink>(
     ensures left { LeavesFiles (command words.now) (W.told world.old) (W.told world.new) }
     ensures keeper { keeper.new ≡ keeper.old }
 {
+    law_of_the_reader();
     match read_command(words) {
         None => Status::Usage,
         Some(command) => obey(alloc, command, world, out),
@@ -86,10 +102,9 @@ fn obey<W: World, S: Sink>(
     ensures headline { RunMeans (Some (command_seen command.entry))
         (outside (W.told world.old) (S.told out.old)) (outside (W.told world.new) (S.told out.new))
         result }
-    ensures reason { (stream notes : List ℕ)
-        → HasFiles (Some (command_seen command.entry)) (W.told world.old) stream notes
-        → HasReason (account stream notes (outside (W.told world.old) (S.told out.old))
-        (outside (W.told world.new) (S.told out.new))) result }
+    ensures reason { RunHasItsReason (Some (command_seen command.entry))
+        (outside (W.told world.old) (S.told out.old)) (outside (W.told world.new) (S.told out.new))
+        result }
     ensures missing { LacksItsFile (Some (command_seen command.entry)) (W.told world.old)
         → StopsAtOpening result (S.told out.old) (S.told out.new) }
     ensures obeyed { result ≢ Status.Usage }
@@ -97,7 +112,8 @@ fn obey<W: World, S: Sink>(
         (outside (W.told world.old) (S.told out.old))
         (outside (W.told world.new) (S.told out.new)) }
     ensures asked { AsksOnly (Some (command_seen command.entry)) (W.told world.new) }
-    ensures order { AsksInOrder result (W.told world.new) }
+    ensures order { AsksInOrder (Some (command_seen command.entry)) result
+        (W.told world.old) (W.told world.new) }
     ensures files { (W.told world.new).files ≡ (W.told world.old).files }
     ensures left { LeavesFiles (Some (command_seen command.entry)) (W.told world.old)
         (W.told world.new) }

@@ -8,7 +8,7 @@ use Rattle.replay_run.specs.Midway as midway
 use Rattle.replay_run.specs.Outside.{outside}
 use Rattle.replay_run.specs.Progress.{IsBetween}
 use Rattle.replay_run.specs.RecordProgress as progress
-use Rattle.replay_run.specs.Replaying.{OnlyReadsBoth}
+use Rattle.replay_run.specs.Order.{OnlyReadsBoth}
 use Rattle.replay_run.proofs.ClockLaws.{IsEarly}
 use Rattle.replay_run.proofs.replay.play_items.Given as goal
 
