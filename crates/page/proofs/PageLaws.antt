@@ -12,15 +12,18 @@ use Rattle.event_queue.specs.declared.events.Event.{Event}
 use Rattle.module_store.specs.Resources.{start_path}
 use Rattle.module_store.specs.Standing.{ForStored, StoreState}
 use Rattle.module_store.specs.Store.{Stored}
-use Rattle.page.specs.Dispatches.{dispatch, dispatches, event_in, load_at, most_dispatches, next_and, next_event, next_load, turn, without_first}
-use Rattle.page.specs.Documents.{Document}
-use Rattle.page.specs.Doings.{Changes, Does}
-use Rattle.page.specs.Handling.{handled}
-use Rattle.page.specs.Inputs.{display_of, document_lines}
-use Rattle.page.specs.Kept.{IsDocument, KeptDocument}
-use Rattle.page.specs.Loading.{load, load_effect, loadable_reading, opened, wanted_path}
+use Rattle.page.specs.Dispatches.{dispatch, dispatches, event_in, load_at, most_dispatches, next_and, next_event, next_load, turn}
+use Rattle.acting_documents.specs.Handling.{without_first}
+use Rattle.acting_documents.specs.Documents.{Document}
+use Rattle.acting_documents.specs.Doings.{Changes, Does}
+use Rattle.acting_documents.specs.Handling.{handled}
+use Rattle.page.specs.Inputs.{display_of}
+use Rattle.acting_documents.specs.Documents.{document_lines}
+use Rattle.acting_documents.specs.Kept.{IsDocument, KeptDocument}
+use Rattle.page.specs.Loading.{load, loadable_reading, opened, wanted_path}
+use Rattle.acting_documents.specs.Beginnings.{load_effect}
 use Rattle.page.specs.Pendings.{Loads, wanted_of}
-use Rattle.page.specs.Runs.{Effect}
+use Rattle.acting_documents.specs.Runs.{Effect}
 use Rattle.page.specs.Standing.{AreDocuments, HasMade, HasMadeOf, Makes, MakesWith, MayMake, PageState, StandsFor, TakesLoad}
 use Rattle.page.specs.State.{State, Step, Wanted, step_behind, step_of, still}
 use Rattle.page.specs.State.Wanted.{StartDocument, NoDocument}

@@ -3,7 +3,7 @@ use Rattle.std.proofs.Common.{◌≡◌, ◌∙◌, ℕ, suc, ◌+◌, Bool, tru
 use Rattle.std.specs.Prelude.{zero, length, replicate, Option, Some, None, Result, Ok, Err, map, slice_get}
 use Rattle.std.specs.List.{AllZip}
 use Rattle.document_load.specs.Drafts.{DraftState, draft_of, with_gifts}
-use Rattle.document_load.specs.Scripts.{AreScripts, HandlerState, bad_numbers, programs_by, sources_of}
+use Rattle.document_load.specs.Scripts.{AreScripts, HandlerState, programs_by, sources_of}
 use Rattle.document_load.specs.StyleTexts.{document_rules}
 use Rattle.es_reader.specs.Programs.{Tells, ToldProgram}
 use Rattle.es_reader.specs.Readers.{Reader, IsReader}
@@ -18,14 +18,13 @@ use Rattle.module_store.specs.Standing.{StandsFor, StoreState}
 use Rattle.module_store.specs.Store.{Stored}
 use Rattle.page.specs.declared.loading.Load.{Load}
 use Rattle.page.specs.declared.loading.Load.TheVariants as load
-use Rattle.page.specs.declared.loading.Loading.{Loading}
 use Rattle.page.specs.declared.loading.Loading.TheVariants as kept
 use Rattle.page.specs.Gifts.{GivesFound}
-use Rattle.page.specs.Kept.{IsDocument, KeptDocument, kept_as, kept_first}
+use Rattle.acting_documents.specs.Kept.{IsDocument, KeptDocument, kept_as, kept_first}
 use Rattle.page.specs.Lines.{load_lines}
 use Rattle.page.specs.Loading.{are_settled, is_settled, loadable_reading, reading_in, once_settled, opened, text_at}
 use Rattle.page.specs.PendingStates.{IsStart, PendingState}
-use Rattle.page.specs.Pendings.{GoesOn, Loads, LoadsAs, WaitsAt}
+use Rattle.page.specs.Pendings.{Loads, WaitsAt}
 
 -- what a document that was read and is the one that is there comes to
 abbrev given_now : Stored → DraftState → DraftState

@@ -1,12 +1,12 @@
 -- Dispatches and turns: what a page does with the documents and the events that wait. (This project's own,
 -- after ARIB STD-B24, volume 2.)
-use Rattle.std.specs.Prelude.{ℕ, zero, suc, [], drop, Option, Some, None, option_map, option_and_then}
+use Rattle.std.specs.Prelude.{ℕ, zero, suc, [], Option, Some, None, option_map, option_and_then}
 use Rattle.std.specs.Option.{option_or}
 use Rattle.multipart_entities.specs.declared.paths.Path.{Path}
 use Rattle.module_store.specs.Store.{Stored}
 use Rattle.event_queue.specs.Queues.{first_of}
-use Rattle.page.specs.Documents.{Document}
-use Rattle.page.specs.Handling.{handled}
+use Rattle.acting_documents.specs.Documents.{Document}
+use Rattle.acting_documents.specs.Handling.{handled, without_first}
 use Rattle.page.specs.Loading.{load, loadable_reading, wanted_path}
 use Rattle.page.specs.State.{State, Step, step_behind, step_of}
 
@@ -16,10 +16,6 @@ load_at stored s path = option_map (load s path) (loadable_reading stored path)
 
 unfoldable pub next_load : Stored → State → Option Step
 next_load stored s = option_and_then (load_at stored s) (wanted_path s.wanted stored)
-
--- the first of the events that wait in a document, which it leaves
-abbrev pub without_first : Document → Document
-without_first d = record d { queue = drop 1 d.queue }
 
 abbrev pub event_in : State → Document → Option Step
 event_in s d = option_map (λ event. step_of s (handled event (without_first d))) (first_of d.queue)

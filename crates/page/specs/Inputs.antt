@@ -2,13 +2,11 @@
 -- shows. (This project's own, after ARIB STD-B24, volume 2.)
 use Rattle.std.specs.Prelude.{ℕ, Bool, List, [], ◌∷◌, ◌++◌, Option, None}
 use Rattle.std.specs.Option.{option_map_or}
-use Rattle.dom_tree.specs.NodeNumbers.{number_of}
 use Rattle.carousel_blocks.specs.declared.changes.Change.{Change}
-use Rattle.display_list.specs.Show.{clock_line, display_lines}
-use Rattle.display_list.specs.Shown.{shown_by}
-use Rattle.page.specs.Documents.{Document}
-use Rattle.page.specs.Handling.{key_effect}
-use Rattle.page.specs.Lines.{line_of_change}
+use Rattle.display_list.specs.Show.{clock_line}
+use Rattle.acting_documents.specs.Documents.{document_lines}
+use Rattle.acting_documents.specs.Handling.{key_effect}
+use Rattle.module_store.specs.Lines.{line_of_change}
 use Rattle.page.specs.State.{State, Step, step_behind, step_of, still}
 
 -- a change in a module is told, and changes nothing of the page
@@ -41,8 +39,5 @@ with_random word s = record s { random = s.random ++ word ∷ [] }
 
 -- the display list of the document as it is now, behind the line of the clock; without a document it is that
 -- line alone
-abbrev pub document_lines : Document → List ℕ
-document_lines d = display_lines (shown_by d.items d.sources d.focus) (number_of d.focus.focus)
-
 unfoldable pub display_of : State → List ℕ
 display_of s = clock_line s.clock ++ option_map_or document_lines s.document []

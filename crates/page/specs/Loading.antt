@@ -1,7 +1,7 @@
 -- The load of a document: when it can be loaded, what it is then, and what its load does (after BML, ARIB
 -- STD-B24 volume 2, in this project's own profile).
-use Rattle.std.specs.Prelude.{ℕ, ◌==◌, not, Bool, true, false, if◌then◌else◌, List, [], ◌∷◌, ◌++◌, filter, length, map, Option, Some, None, Result, Ok, Err, codes as ascii}
-use Rattle.std.specs.List.{list_all, list_any, range_with_len}
+use Rattle.std.specs.Prelude.{ℕ, Bool, true, false, if◌then◌else◌, List, [], ◌++◌, map, Option, Some, None, Result, Ok, Err}
+use Rattle.std.specs.List.{list_all}
 use Rattle.bml_bytes.specs.Codes.{codes}
 use Rattle.dom_tree.specs.Items.{Item}
 use Rattle.style_cascade.specs.Cascade.{unwritten}
@@ -14,12 +14,12 @@ use Rattle.module_store.specs.Store.{Stored}
 use Rattle.es_reader.specs.Readers.{Reader}
 use Rattle.document_load.specs.Drafts.{DraftState, draft_of, with_gifts}
 use Rattle.document_load.specs.Needs.{needs_of}
-use Rattle.document_load.specs.Scripts.{HandlerState, bad_numbers, handlers_by, programs_by, sources_of}
+use Rattle.document_load.specs.Scripts.{bad_numbers, handlers_by, programs_by, sources_of}
 use Rattle.document_load.specs.StyleTexts.{document_rules}
-use Rattle.page.specs.Acting.{begun, first_focus, no_focus}
-use Rattle.page.specs.Documents.{Document}
+use Rattle.document_stages.specs.Acting.{no_focus}
+use Rattle.acting_documents.specs.Documents.{Document}
+use Rattle.acting_documents.specs.Beginnings.{load_effect}
 use Rattle.page.specs.Lines.{load_lines, refuse_line}
-use Rattle.page.specs.Runs.{Effect, and_then, done, no_event, nothing_done, run_program}
 use Rattle.page.specs.State.{State, Step, Wanted}
 use Rattle.page.specs.State.Wanted.{StartDocument, NoDocument}
 
@@ -84,35 +84,6 @@ opened read draft =
       globals = [];
       heap = [];
     }
-
--- ---- its scripts
-
--- the programs that no handler names are those of the script elements, in document order
-abbrev pub is_named : List HandlerState → ℕ → Bool
-is_named handlers place = list_any (λ handler. handler.program == place) handlers
-
-abbrev pub unnamed_places : ℕ → List HandlerState → List ℕ
-unnamed_places count handlers =
-    filter (λ place. not (is_named handlers place)) (range_with_len 0 count)
-
-abbrev pub script_places : Document → List ℕ
-script_places d = unnamed_places (length d.programs) d.handlers
-
--- they run one behind the other
-abbrev pub run_scripts : List ℕ → Document → Effect
-run_scripts [] d = nothing_done d
-run_scripts (place ∷ places) d =
-    and_then (run_scripts places) (run_program (ascii "script") no_event place d)
-
--- ---- its beginning
-
--- Where no script gave the focus to an element, that with the nav-index 0 gets it; then its `load` waits, and
--- the `focus` of that element.
-abbrev pub begin : Document → Effect
-begin d = done (λ a. begun (first_focus a) a) d
-
-unfoldable pub load_effect : Document → Effect
-load_effect d = and_then begin (run_scripts (script_places d) d)
 
 -- ---- the load
 

@@ -1,6 +1,6 @@
 -- A device of the proofs: what is kept of a document that is wanted, and what comes of its load, whatever the
 -- store stands for.
-use Rattle.std.specs.Prelude.{◌≡◌, ◌==◌, ◌&&◌, Bool, false, if◌then◌else◌, ℕ, List, [], ◌++◌, slice_get, Option, Some, None, Result, Ok, Err}
+use Rattle.std.specs.Prelude.{◌≡◌, ◌==◌, ◌&&◌, Bool, true, false, if◌then◌else◌, ℕ, List, [], ◌++◌, slice_get, Option, Some, None, Result, Ok, Err}
 use Rattle.bml_reader.specs.declared.faults.DocFault.{DocFault}
 use Rattle.carousel_blocks.specs.declared.changes.Change.{Change}
 use Rattle.multipart_entities.specs.declared.paths.Path.{Path}
@@ -11,9 +11,9 @@ use Rattle.module_store.specs.Store.{Stored}
 use Rattle.es_reader.specs.Readers.{Reader, IsReader}
 use Rattle.document_load.specs.Drafts.{DraftState}
 use Rattle.document_load.specs.Scripts.{bad_numbers, sources_of}
-use Rattle.page.specs.Kept.{IsDocument}
+use Rattle.acting_documents.specs.Kept.{IsDocument, KeptDocument}
 use Rattle.page.specs.Lines.{load_lines, refuse_line}
-use Rattle.page.specs.Loading.{loadable_reading, opened}
+use Rattle.page.specs.Loading.{are_settled, loadable_reading, opened}
 use Rattle.page.specs.PendingStates.{IsStart}
 use Rattle.page.specs.State.{Wanted}
 use Rattle.page.specs.State.Wanted.{StartDocument, NoDocument}
@@ -92,3 +92,10 @@ pub record Loads (store : StoreState) (old : Loading) (new : Load) (before after
   pub printed : after ≡ before ++ text
   pub loads : ForStored store (λ stored. IsCurrent stored old → (read : Reader) → IsReader read
       → LoadsAs read stored new text)
+
+-- The same of the document that is loaded of a draft at a path, where nothing that it needs is waited for.
+abbrev pub LoadsSettled : StoreState → Path → DraftState → KeptDocument → List ℕ → List ℕ → Type 0
+LoadsSettled store path draft document before after =
+    (place : ℕ) → ForStored store (λ stored. are_settled stored draft.needs ≡ true)
+    → Loads store (kept.Pending (record { path = path; draft = draft; place = place }))
+    (load.Loaded document) before after

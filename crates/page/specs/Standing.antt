@@ -4,10 +4,10 @@ use Rattle.carousel_blocks.specs.declared.changes.Change.{Change}
 use Rattle.module_store.specs.Standing.{ForStored, StoreState}
 use Rattle.module_store.specs.Store.{Stored}
 use Rattle.es_reader.specs.Readers.{IsReader}
-use Rattle.page.specs.Documents.{Document}
-use Rattle.page.specs.Doings.{Does}
-use Rattle.page.specs.Kept.{IsDocument, KeptDocument}
-use Rattle.page.specs.Loading.{load_effect}
+use Rattle.acting_documents.specs.Documents.{Document}
+use Rattle.acting_documents.specs.Doings.{Does}
+use Rattle.acting_documents.specs.Kept.{IsDocument, KeptDocument}
+use Rattle.acting_documents.specs.Beginnings.{load_effect}
 use Rattle.page.specs.Pendings.{IsCurrent, loading_behind, wanted_of}
 use Rattle.page.specs.State.{State, Step, still}
 use Rattle.page.specs.declared.loading.Load.{Load}

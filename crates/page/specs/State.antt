@@ -1,8 +1,8 @@
 -- What a page is at a moment (after the receiver of ARIB STD-B24 volume 2, in this project's own profile).
 use Rattle.std.specs.Prelude.{ℕ, List, [], ◌++◌, Option, Some, None}
 use Rattle.es_reader.specs.Readers.{Reader}
-use Rattle.page.specs.Documents.{Document}
-use Rattle.page.specs.Runs.{Effect}
+use Rattle.acting_documents.specs.Documents.{Document}
+use Rattle.acting_documents.specs.Runs.{Effect}
 
 -- Which document is wanted next: the start document, whose path is found anew each time, or none.
 pub data Wanted : Type 0 where

@@ -3,17 +3,18 @@
 ghost use Rattle.std.specs.Io.{StartsWith};
 ghost use Rattle.std.specs.Prelude.{◌≡◌, IfOk, length};
 ghost use Rattle.page.specs.declared.loading.Loading.TheVariants as kept;
-ghost use Rattle.page.specs.Pendings.{KnowsItsPlace, Loads, loading_behind, wanted_of};
+ghost use Rattle.page.specs.Pendings.{KnowsItsPlace, Loads, is_told_by as told_by, loading_behind, wanted_of};
 ghost use Rattle.page.specs.State.Wanted.{StartDocument};
 
-use crate::acting_documents::ActingDocument;
 use crate::lines::push_refuse_line;
 use crate::pending::Pending;
+use acting_documents::ActingDocument;
 use bml_bytes::NoMemory;
 use bml_reader::DocFault;
 use document_load::read_draft;
 use module_store::{Change, Look, Store};
 use std::alloc::Global;
+use std::mem;
 
 /// What is kept of the document that is wanted.
 #[derive(Drop)]
@@ -58,11 +59,21 @@ impl Loading {
     pub fn follow(&mut self, component: u8, change: &Change)
         ensures { self.new ≡ loading_behind component change.now self.old }
     {
-        if let Loading::Pending(pending) = &*self {
-            let path = pending.path();
-            if path.component == component && change.module == path.module {
-                *self = Loading::Wanted;
+        if self.is_told_by(component, change) {
+            drop(mem::replace(self, Loading::Wanted));
+        }
+    }
+
+    // Whether a document was read, and this change in a component is of its module.
+    fn is_told_by(&self, component: u8, change: &Change) -> bool
+        ensures { result ≡ told_by component change.now self.now }
+    {
+        match self {
+            Loading::Pending(pending) => {
+                let path = pending.path();
+                path.component == component && change.module == path.module
             }
+            Loading::Wanted | Loading::Nothing => false,
         }
     }
 }

@@ -6,11 +6,11 @@ ghost use Rattle.module_store.specs.Standing.{ForStored};
 ghost use Rattle.page.specs.Loading.{are_settled};
 ghost use Rattle.page.specs.declared.loading.Loading.TheVariants as kept;
 ghost use Rattle.page.specs.Gifts.{GivesFound, with_found};
-ghost use Rattle.page.specs.Pendings.{KnowsItsPlace, Loads, WaitsAt};
+ghost use Rattle.page.specs.Pendings.{KnowsItsPlace, Loads, LoadsSettled, WaitsAt};
 
-use crate::acting_documents::ActingDocument;
 use crate::lines::push_load_lines;
 use crate::loading::{Load, Loading};
+use acting_documents::ActingDocument;
 use bml_bytes::NoMemory;
 use document_load::Draft;
 use module_store::{Look, Store};
@@ -68,19 +68,14 @@ impl Pending {
         ensures grows { StartsWith out.new.items out.old.items }
     {
         let waited = self.waited_for(store);
-        let Pending {
-            path,
-            mut draft,
-            ..
-        } = self;
-        if let Some(place) = waited {
-            return Ok(Load::Waits(Loading::Pending(Pending { path, draft, place })));
+        let Pending { path, draft, .. } = self;
+        match waited {
+            Some(place) => Ok(Load::Waits(Loading::Pending(Pending { path, draft, place }))),
+            None => {
+                let acting = load_settled(alloc, store, &path, draft, out)?;
+                Ok(Load::Loaded(acting))
+            }
         }
-        give_all_found(store, &mut draft)?;
-        let document = draft.finish()?;
-        push_load_lines(&path, document.bad.as_slice(), out)?;
-        let acting = ActingDocument::new(alloc, document)?;
-        Ok(Load::Loaded(acting))
     }
 
     // Where a need stands that is waited for.
@@ -95,6 +90,26 @@ impl Pending {
             None => first_waited(store, before),
         }
     }
+}
+
+// The document that a draft is with what is found of its needs, none of which is waited for. Appends
+// its lines.
+fn load_settled(
+    alloc: Global,
+    store: &Store,
+    path: &Path,
+    mut draft: Draft,
+    out: &mut Vec<u8>,
+) -> Result<ActingDocument, NoMemory>
+    ensures loads { IfOk result (λ document.
+        LoadsSettled store.now path.now draft document out.old.items out.new.items) }
+    ensures grows { StartsWith out.new.items out.old.items }
+{
+    give_all_found(store, &mut draft)?;
+    let document = draft.finish()?;
+    push_load_lines(path, document.bad.as_slice(), out)?;
+    let acting = ActingDocument::new(alloc, document)?;
+    Ok(acting)
 }
 
 // Where the first need stands that is waited for.

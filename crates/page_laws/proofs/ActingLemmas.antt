@@ -28,7 +28,7 @@ use Rattle.event_queue.specs.declared.events.Event.TheVariants as events
 use Rattle.dom_objects.specs.Writes.{Change, change_of, changed_items}
 use Rattle.dom_objects.specs.Writes.Change.{NoChange, ChangesText, ChangesAttribute, ChangesStyle}
 use Rattle.dom_objects.specs.declared.current_events.CurrentEvent.{CurrentEvent}
-use Rattle.page.specs.Acting.{Acting, Answered, acted, activated, begun, called, document_call, element_call, first_argument, first_focus, focus_on, focused, gives, key_posts, left_by, moved_to, no_focus, node_id, not_callable, parts_of, posted, posted_for, read_by, written}
+use Rattle.document_stages.specs.Acting.{Acting, Answered, acted, activated, begun, called, document_call, element_call, first_argument, first_focus, focus_on, focused, gives, key_posts, left_by, moved_to, no_focus, node_id, not_callable, parts_of, posted, posted_for, read_by, written}
 use Rattle.page_laws.specs.Soundness.{has_element, has_node, is_good, is_good_event, is_good_place, names_well}
 use Rattle.page_laws.proofs.ItemLemmas.{changed-tree}
 use Rattle.page_laws.proofs.QueueLemmas.{posted-all, posted-room}

@@ -21,11 +21,12 @@ use Rattle.dom_objects.specs.declared.current_events.CurrentEvent.{CurrentEvent}
 use Rattle.es_reader.specs.Readers.{Reader}
 use Rattle.script_laws.specs.Passing.{HeapPasses, ObjectPasses}
 use Rattle.script_laws.specs.Staying.{AreFit}
-use Rattle.page.specs.Acting.{Acting, acted, begun, first_focus, key_posts}
-use Rattle.page.specs.Documents.{Document, body_of, handler_in, is_body, passes, styled_now}
-use Rattle.page.specs.Handling.{attribute_of, deactivated, focus_of, handled, handled_at, key_effect, run_handler}
-use Rattle.page.specs.Loading.{begin, load_effect, opened, run_scripts, script_places}
-use Rattle.page.specs.Runs.{acting_in, done, ended, most_steps, no_event, nothing_done, run_program, with_acting, with_world}
+use Rattle.document_stages.specs.Acting.{Acting, acted, begun, first_focus, key_posts}
+use Rattle.acting_documents.specs.Documents.{Document, body_of, handler_in, is_body, passes, styled_now}
+use Rattle.acting_documents.specs.Handling.{attribute_of, deactivated, focus_of, handled, handled_at, key_effect, run_handler}
+use Rattle.acting_documents.specs.Beginnings.{begin, load_effect, run_scripts, script_places}
+use Rattle.page.specs.Loading.{opened}
+use Rattle.acting_documents.specs.Runs.{acting_in, done, ended, most_steps, no_event, nothing_done, run_program, with_acting, with_world}
 use Rattle.page_laws.specs.Soundness.{IsGoodHandler, IsSoundDocument, is_good, is_good_event, is_good_in, is_good_place, limit_of}
 use Rattle.page_laws.proofs.ActingLemmas.{IsSoundActing, TreeLaws, acted-sound, begun-sound, element-same, event-same, good-same, keys-sound, place-same}
 use Rattle.page_laws.proofs.HandlerLemmas.{read-handlers}

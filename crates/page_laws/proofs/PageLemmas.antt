@@ -16,9 +16,10 @@ use Rattle.event_queue.specs.Queues.{first_of}
 use Rattle.event_queue.specs.declared.events.Event.{Event}
 use Rattle.document_load.specs.Drafts.{DraftState}
 use Rattle.document_load.specs.Needs.{needs_of}
-use Rattle.page.specs.Dispatches.{dispatch, dispatches, event_in, load_at, most_dispatches, next_and, next_event, next_load, turn, without_first}
-use Rattle.page.specs.Documents.{Document}
-use Rattle.page.specs.Handling.{handled, key_effect}
+use Rattle.page.specs.Dispatches.{dispatch, dispatches, event_in, load_at, most_dispatches, next_and, next_event, next_load, turn}
+use Rattle.acting_documents.specs.Handling.{without_first}
+use Rattle.acting_documents.specs.Documents.{Document}
+use Rattle.acting_documents.specs.Handling.{handled, key_effect}
 use Rattle.page.specs.Inputs.{changes_step, key_step}
 use Rattle.page.specs.Loading.{are_settled, given_draft, load, loadable_reading, once_settled, reading_in, wanted_path}
 use Rattle.page.specs.State.{State, Step, step_of, still}

@@ -20,8 +20,8 @@ use Rattle.es_eval.specs.Worlds.{Run}
 use Rattle.es_eval.specs.Worlds.Run.{Over, Reads, Writes, Calls}
 use Rattle.script_laws.specs.Passing.{PassesOwn, is_named}
 use Rattle.script_laws.specs.Staying.{AnswerPasses, AreFit, StaysWithin}
-use Rattle.page.specs.Acting.{Acting, called, read_by, written}
-use Rattle.page.specs.Runs.{End, ended}
+use Rattle.document_stages.specs.Acting.{Acting, called, read_by, written}
+use Rattle.acting_documents.specs.Runs.{End, ended}
 use Rattle.page_laws.specs.Soundness.{is_good, names_well}
 use Rattle.page_laws.proofs.ActingLemmas.{IsGivenAnswer, IsSoundActing, TreeLaws, called-sound, read-given, written-sound}
 use Rattle.page_laws.proofs.ReadLemmas.{IsGiven, given-good, given-plain}

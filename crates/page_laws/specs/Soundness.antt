@@ -1,6 +1,6 @@
 -- What a page keeps names what is there: nodes of its document, objects of its heap, functions of
 -- its programs. (This project's own.)
-use Rattle.std.specs.Prelude.{◌≡◌, ℕ, nat_lt, ◌<◌, ◌≤◌, Bool, true, is_some, List, length, All, IfSome, Option, map}
+use Rattle.std.specs.Prelude.{◌≡◌, ℕ, nat_lt, ◌<◌, ◌≤◌, Bool, false, true, is_some, List, length, All, IfSome, Option, map}
 use Rattle.std.specs.Option.{option_map_or}
 use Rattle.dom_tree.specs.Items.{Item, tag_of}
 use Rattle.dom_tree.specs.NodeNumbers.{number_of}
@@ -18,7 +18,7 @@ use Rattle.event_queue.specs.declared.events.Event.{Event}
 use Rattle.event_queue.specs.declared.events.Event.TheVariants as events
 use Rattle.document_load.specs.Scripts.{HandlerState}
 use Rattle.script_laws.specs.Passing.{HeapPasses}
-use Rattle.page.specs.Documents.{Document}
+use Rattle.acting_documents.specs.Documents.{Document}
 use Rattle.page.specs.State.{State}
 
 -- a node of the document, and an element of it
@@ -41,11 +41,13 @@ is_good items limit (Host reference) = names_well items reference
 is_good items limit (Function number) = nat_lt number limit
 is_good items limit other = true
 
--- what happens to the focus, and a click, happens to an element
+-- what happens to the focus, and a click, happens to an element; nothing posts `unload`, as no document is left
+-- for another
 abbrev pub is_good_event : List Item → Event → Bool
 is_good_event items (events.Focus node) = has_element items node
 is_good_event items (events.Blur node) = has_element items node
 is_good_event items (events.Click node) = has_element items node
+is_good_event items events.Unload = false
 is_good_event items other = true
 
 -- there is none, or it is an element

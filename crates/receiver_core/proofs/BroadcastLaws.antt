@@ -15,7 +15,7 @@ use Rattle.module_store.specs.Store.{Stored, at_start, changes_by, with_section,
 use Rattle.module_store.specs.Standing.{StoreState}
 use Rattle.module_store.specs.Standing as store
 use Rattle.page.specs.Inputs.{changes_step, with_clock, with_random}
-use Rattle.page.specs.Lines.{line_of_change}
+use Rattle.module_store.specs.Lines.{line_of_change}
 use Rattle.page.specs.Standing.{PageState, behind_all}
 use Rattle.page.specs.Standing as pages
 use Rattle.page.specs.State as paging

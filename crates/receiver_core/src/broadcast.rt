@@ -6,7 +6,7 @@ ghost use Rattle.std.specs.List.{flat_map};
 ghost use Rattle.psi_tables.specs.Service.{reads_table};
 ghost use Rattle.es_reader.specs.Readers.{Reader, IsReader};
 ghost use Rattle.page.specs.Inputs.{display_of, key_step, with_clock, with_random};
-ghost use Rattle.page.specs.Lines.{line_of_change};
+ghost use Rattle.module_store.specs.Lines.{line_of_change};
 ghost use Rattle.page.specs.Standing.{behind_all};
 ghost use Rattle.receiver_core.specs.Broadcasts.{Makes, StandsFor};
 ghost use Rattle.receiver_core.specs.State.{State, opening};

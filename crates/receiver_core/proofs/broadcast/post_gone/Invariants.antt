@@ -1,6 +1,6 @@
 use Rattle.std.proofs.Common.{◌≡◌, ◌++◌, take, drop}
 use Rattle.std.specs.List.{flat_map}
-use Rattle.page.specs.Lines.{line_of_change}
+use Rattle.module_store.specs.Lines.{line_of_change}
 use Rattle.page.specs.Standing.{behind_all}
 use Rattle.receiver_core.proofs.broadcast.post_gone.Given as goal
 

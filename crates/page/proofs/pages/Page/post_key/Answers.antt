@@ -1,5 +1,5 @@
 use Rattle.std.proofs.Common.{subst}
-use Rattle.page.specs.Handling.{key_effect}
+use Rattle.acting_documents.specs.Handling.{key_effect}
 use Rattle.page.specs.Inputs.{key_step}
 use Rattle.page.specs.Standing.{Makes, PageState}
 use Rattle.page.proofs.PageLaws.{none_done, posted_by}

@@ -1,0 +1,4 @@
+pub mod BodyLemmas
+pub mod DoingLemmas
+pub mod EndedLemmas
+mod HandlerLaws

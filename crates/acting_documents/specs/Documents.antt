@@ -1,0 +1,66 @@
+-- The document of a page while it acts: its nodes and their styles, the focus, the events that wait, and the
+-- world of its scripts (after BML and its scripts, ARIB STD-B24 volume 2, in this project's own profile).
+use Rattle.std.specs.Prelude.{ℕ, ◌==◌, ◌&&◌, Bool, false, List, Option, codes, find, option_map}
+use Rattle.std.specs.Option.{option_map_or}
+use Rattle.bml_bytes.specs.Words.{is_same}
+use Rattle.dom_tree.specs.Items.{Item, tag_in}
+use Rattle.dom_tree.specs.NodeNumbers.{number_of}
+use Rattle.dom_tree.specs.Walks.{first, places}
+use Rattle.style_reader.specs.declared.properties.Property.TheVariants.{UsedKeyList}
+use Rattle.style_cascade.specs.Cascade.{Sources}
+use Rattle.style_cascade.specs.declared.states.Focus.{Focus}
+use Rattle.focus_keys.specs.KeyTables.{passes_list}
+use Rattle.focus_keys.specs.Targets.{Styled, normal_value}
+use Rattle.focus_keys.specs.Views.{styled_by}
+use Rattle.display_list.specs.Show.{display_lines}
+use Rattle.display_list.specs.Shown.{shown_by}
+use Rattle.es_values.specs.declared.values.Value.{Value}
+use Rattle.es_values.specs.Objects.{ObjectState}
+use Rattle.es_reader.specs.Statements.{Item as ProgramItem}
+use Rattle.event_queue.specs.declared.events.Event.{Event}
+use Rattle.document_load.specs.Scripts.{HandlerState}
+
+pub record Document : Type 0 where
+  -- the nodes, what their styles come from, and which of them have the focus and are active
+  pub items : List Item
+  pub sources : Sources
+  pub focus : Focus
+  -- the events that wait for their dispatch, the one that waits longest in front
+  pub queue : List Event
+  -- the programs of the scripts in document order, and which of them are handlers
+  pub programs : List (List ProgramItem)
+  pub handlers : List HandlerState
+  -- the global variables and the objects of the scripts
+  pub globals : List (List ℕ × Value)
+  pub heap : List ObjectState
+
+-- the elements with their styles, as the focus stands
+abbrev pub styled_now : Document → Styled
+styled_now d = styled_by d.items d.sources d.focus
+
+-- the node is an element `body`; tags compare by case
+abbrev pub is_body : Item → Bool
+is_body item = option_map_or (λ tag. is_same tag (codes "body")) (tag_in item.content) false
+
+-- the body is the first of them in document order
+unfoldable pub body_of : List Item → Option ℕ
+body_of items = first (places is_body items)
+
+-- the handler is the value of that attribute of the node
+abbrev pub is_handler : ℕ → List ℕ → HandlerState → Bool
+is_handler node name handler = (handler.node == node) && is_same name handler.name
+
+-- the place of its program among the document's, where the node has such a handler
+unfoldable pub handler_in : List HandlerState → ℕ → List ℕ → Option ℕ
+handler_in handlers node name =
+    option_map (λ handler. handler.program) (find (is_handler node name) handlers)
+
+-- a key passes where the used-key-list of the body in the normal state has its group
+unfoldable pub passes : ℕ → Document → Bool
+passes key d =
+    option_map_or (λ body. passes_list (normal_value (styled_now d) body UsedKeyList) key)
+    (body_of d.items) false
+
+-- the lines of its display list, as it is now: the boxes, texts and pictures, and the focus
+abbrev pub document_lines : Document → List ℕ
+document_lines d = display_lines (shown_by d.items d.sources d.focus) (number_of d.focus.focus)

@@ -1,0 +1,349 @@
+//! A document that acts.
+
+ghost use Rattle.std.specs.Io.{StartsWith};
+ghost use Rattle.std.specs.Prelude.{◌≡◌, ◌++◌, [], map, length, IfOk, OnOk};
+ghost use Rattle.document_load.specs.Scripts.{HavePlaces, unnamed_places};
+ghost use Rattle.document_load.specs.ScriptViews.{told_handler};
+ghost use Rattle.event_queue.specs.Queues.{first_of};
+ghost use Rattle.dom_tree.specs.NodeNumbers.{number_of};
+ghost use Rattle.acting_documents.specs.Handling.{without_first};
+ghost use Rattle.acting_documents.specs.Documents.{Document as TheDocument, body_of as spec_body_of};
+ghost use Rattle.acting_documents.specs.Doings.{Changes, Does};
+ghost use Rattle.acting_documents.specs.Handling.{default_action, focus_of, handled as spec_handled, handled_at, key_effect, released, run_handler as spec_run_handler};
+ghost use Rattle.acting_documents.specs.Documents.{document_lines};
+ghost use Rattle.acting_documents.specs.Kept.{IsDocument, kept_first, staged_first};
+ghost use Rattle.acting_documents.specs.Beginnings.{load_effect, run_scripts as spec_run_scripts, script_places};
+ghost use Rattle.acting_documents.specs.Runs.{run_program as spec_run_program};
+
+use crate::handlers::Handlers;
+use crate::stop_lines::push_stop_line;
+use bml_bytes::NoMemory;
+use document_load::{Document, Handler};
+use document_stages::{NO_EVENT, Stage};
+use dom_objects::CurrentEvent;
+use dom_tree::{NodeId, Tree};
+use es_eval::{Globals, are_few_functions, run};
+use es_reader::Program;
+use es_values::Heap;
+use event_queue::Event;
+use std::alloc::Global;
+use std::marker::Model;
+use style_cascade::Styles;
+use style_reader::Rules;
+
+/// The most steps of a script or a handler; this project's own limit.
+const MOST_STEPS: u32 = 100_000;
+
+/// A document with the world of its scripts, and the events that wait in it. Contracts see its
+/// parts; which document it is is the relation `IsDocument`.
+#[derive(Drop)]
+pub struct ActingDocument {
+    alloc: Global,
+    stage: Stage,
+    programs: Vec<Program>,
+    scripts: Vec<u32>,
+    handlers: Handlers,
+    globals: Globals,
+    heap: Heap,
+    body: Option<NodeId>,
+}
+
+impl Model for ActingDocument {
+    ghost use Rattle.dom_tree.specs.NodeNumbers.{number_of};
+    ghost use Rattle.acting_documents.specs.Kept.{IsActing, KeptDocument};
+
+    ghost Value = { KeptDocument };
+
+    ghost view = { λ d. record {
+      items = d.stage.acting.items;
+      sources = d.stage.acting.sources;
+      focus = d.stage.acting.focus;
+      queue = d.stage.acting.queue;
+      programs = d.programs.items;
+      handlers = d.handlers;
+      globals = d.globals;
+      heap = d.heap;
+      body = number_of d.body;
+      worked = d.stage.worked;
+    } };
+
+    ghost invariant = { λ d.
+        IsActing d.scripts.items d.programs.items d.handlers d.globals d.heap };
+}
+
+impl ActingDocument {
+    /// A document that was read, in which nothing happened yet. Its handlers and scripts name its
+    /// programs, as `document_load` gives them. One whose programs declare 2^48 functions takes
+    /// more memory than there is.
+    pub fn new(alloc: Global, document: Document) -> Result<ActingDocument, NoMemory>
+        requires { HavePlaces document.scripts.items (length document.programs.items)
+            (map told_handler document.handlers.items) }
+        ensures { IfOk result (λ acting. acting
+            ≡ kept_first document.tree document.rules document.programs.items
+            (map told_handler document.handlers.items)) }
+    {
+        let Document {
+            tree,
+            rules,
+            programs,
+            scripts,
+            handlers,
+            ..
+        } = document;
+        if !are_few_functions(&programs) {
+            return Err(NoMemory);
+        }
+        let body = body_of(&tree);
+        let (stage, handlers, globals) = parts_of(alloc, tree, rules, handlers)?;
+        Ok(ActingDocument {
+            alloc,
+            stage,
+            programs,
+            scripts,
+            handlers,
+            globals,
+            heap: Heap::new(alloc),
+            body,
+        })
+    }
+
+    /// Begins the document: its scripts run one behind the other, an element gets the focus where
+    /// no script gave it to one, and the first events are posted.
+    pub fn begin(&mut self, out: &mut Vec<u8>) -> Result<(), NoMemory>
+        ensures does { OnOk result
+            (Does load_effect self.old self.new out.old.items out.new.items) }
+        ensures grows { StartsWith out.new.items out.old.items }
+    {
+        self.run_scripts(out)?;
+        self.stage.prepare(NO_EVENT);
+        self.stage.begin()?;
+        self.stage.give_text(out)
+    }
+
+    // Runs the programs of the script elements, one behind the other.
+    fn run_scripts(&mut self, out: &mut Vec<u8>) -> Result<(), NoMemory>
+        ensures does { OnOk result (Does (λ d. spec_run_scripts (script_places d) d)
+            self.old self.new out.old.items out.new.items) }
+        ensures grows { StartsWith out.new.items out.old.items }
+    {
+        let places = self.script_places()?;
+        'scripts: for place in places {
+            self.run_program("script", NO_EVENT, place as usize, out)?;
+        }
+        Ok(())
+    }
+
+    // The places of the programs of the script elements.
+    fn script_places(&self) -> Result<Vec<u32>, NoMemory>
+        ensures { IfOk result (λ places. places.items
+            ≡ unnamed_places (length self.now.programs) self.now.handlers) }
+    {
+        let mut places = Vec::new(self.alloc);
+        places.extend_from_slice(self.scripts.as_slice())?;
+        Ok(places)
+    }
+
+    // Runs the program at a place, for the event of this name, as the handler of the current event.
+    fn run_program(
+        &mut self,
+        name: &'static str,
+        event: CurrentEvent,
+        place: usize,
+        out: &mut Vec<u8>,
+    ) -> Result<(), NoMemory>
+        ensures does { OnOk result (Does (spec_run_program name.now event place)
+            self.old self.new out.old.items out.new.items) }
+        ensures grows { StartsWith out.new.items out.old.items }
+    {
+        if place >= self.programs.len() {
+            return Ok(());
+        }
+        self.stage.prepare(event);
+        let outcome = run(
+            self.programs.as_slice(),
+            place,
+            &mut self.globals,
+            &mut self.heap,
+            &mut self.stage,
+            MOST_STEPS,
+        )?;
+        self.stage.give_text(out)?;
+        push_stop_line(outcome, name, out)
+    }
+
+    /// Takes the event that waits longest.
+    pub fn take_event(&mut self) -> Option<Event>
+        ensures event { result ≡ first_of self.old.queue }
+        ensures changes { Changes without_first self.old self.new }
+    {
+        self.stage.take_event()
+    }
+
+    /// Handles an event that was taken: its target's handler runs, or the default action of a key
+    /// is made.
+    #[tactic(auto, unfolding(crate::specs::Handling::handled))]
+    pub fn handle(&mut self, event: Event, out: &mut Vec<u8>) -> Result<(), NoMemory>
+        ensures does { OnOk result
+            (Does (spec_handled event) self.old self.new out.old.items out.new.items) }
+        ensures grows { StartsWith out.new.items out.old.items }
+    {
+        match event {
+            Event::Default(key) => self.act_by_default(key, out),
+            Event::KeyUp(key) => {
+                self.release(key);
+                self.handle_at_focus(event, out)
+            }
+            Event::KeyDown(_) => self.handle_at_focus(event, out),
+            Event::Load | Event::Unload => {
+                let body = self.body;
+                self.handle_at(body, event, out)
+            }
+            Event::Focus(node) | Event::Blur(node) | Event::Click(node) => {
+                self.run_handler(event, NodeId(node), out)
+            }
+        }
+    }
+
+    // Ends the active state, where the key that is released is key 18 (enter).
+    fn release(&mut self, key: u8)
+        ensures { Changes (released key) self.old self.new }
+    {
+        if key == 18 {
+            self.stage.deactivate();
+        }
+    }
+
+    // Runs the handler of an event at the element that has the focus.
+    fn handle_at_focus(&mut self, event: Event, out: &mut Vec<u8>) -> Result<(), NoMemory>
+        ensures does { OnOk result (Does (λ d. handled_at (focus_of d) event d)
+            self.old self.new out.old.items out.new.items) }
+        ensures grows { StartsWith out.new.items out.old.items }
+    {
+        let focus = self.stage.focused();
+        self.handle_at(focus, event, out)
+    }
+
+    // Runs the handler of an event at its target, where it has one.
+    fn handle_at(
+        &mut self,
+        target: Option<NodeId>,
+        event: Event,
+        out: &mut Vec<u8>,
+    ) -> Result<(), NoMemory>
+        ensures does { OnOk result (Does (handled_at (number_of target) event)
+            self.old self.new out.old.items out.new.items) }
+        ensures grows { StartsWith out.new.items out.old.items }
+    {
+        match target {
+            Some(node) => self.run_handler(event, node, out),
+            None => Ok(()),
+        }
+    }
+
+    // Runs the handler of an event that a node has, where it has one.
+    fn run_handler(&mut self, event: Event, node: NodeId, out: &mut Vec<u8>) -> Result<(), NoMemory>
+        ensures does { OnOk result (Does (spec_run_handler event node.0)
+            self.old self.new out.old.items out.new.items) }
+        ensures grows { StartsWith out.new.items out.old.items }
+    {
+        let place = self.handlers.program_of(node, event)?;
+        let Some(place) = place else {
+            return Ok(());
+        };
+        let current = CurrentEvent {
+            event: Some(event),
+            target: node.0,
+        };
+        self.run_program(event.name(), current, place as usize, out)
+    }
+
+    // Makes the default action of a key.
+    fn act_by_default(&mut self, key: u8, out: &mut Vec<u8>) -> Result<(), NoMemory>
+        ensures does { OnOk result
+            (Does (default_action key) self.old self.new out.old.items out.new.items) }
+        ensures grows { StartsWith out.new.items out.old.items }
+    {
+        self.stage.prepare(NO_EVENT);
+        self.stage.act_by_default(key)?;
+        self.stage.give_text(out)
+    }
+
+    /// Posts what a key does that is pressed or released, where the body lets it pass.
+    #[tactic(auto, unfolding(crate::specs::Handling::key_effect, crate::specs::Documents::passes))]
+    pub fn post_key(&mut self, key: u8, down: bool, out: &mut Vec<u8>) -> Result<(), NoMemory>
+        ensures does { OnOk result
+            (Does (key_effect key down) self.old self.new out.old.items out.new.items) }
+        ensures grows { StartsWith out.new.items out.old.items }
+    {
+        let Some(body) = self.body else {
+            return Ok(());
+        };
+        // Behind a call that found no memory nothing is known of the nodes.
+        if !self.stage.is_element(body) {
+            return Ok(());
+        }
+        if !self.stage.passes(body, key) {
+            return Ok(());
+        }
+        self.stage.prepare(NO_EVENT);
+        self.stage.post_key(key, down)?;
+        self.stage.give_text(out)
+    }
+
+    /// Appends the boxes, texts and pictures of the document, and its focus.
+    pub fn show(&mut self, out: &mut Vec<u8>) -> Result<(), NoMemory>
+        ensures shown { OnOk result ((d : TheDocument) → IsDocument self.old d
+            → out.new.items ≡ out.old.items ++ document_lines d) }
+        ensures same { Changes (λ d. d) self.old self.new }
+        ensures grows { StartsWith out.new.items out.old.items }
+    {
+        self.stage.show(out)
+    }
+
+    /// How many values its styles worked out.
+    pub fn worked(&self) -> u64
+        ensures { result ≡ self.now.worked }
+    {
+        self.stage.worked()
+    }
+}
+
+// What a document that was read acts on, with its handlers, and the globals of its scripts.
+fn parts_of(
+    alloc: Global,
+    tree: Tree,
+    rules: Rules,
+    handlers: Vec<Handler>,
+) -> Result<(Stage, Handlers, Globals), NoMemory>
+    ensures stage { IfOk result (λ made. made.0 ≡ staged_first tree rules) }
+    ensures handlers { IfOk result (λ made. made.1 ≡ map told_handler handlers.items) }
+    ensures globals { IfOk result (λ made. made.2 ≡ []) }
+{
+    let stage = stage_of(alloc, tree, rules)?;
+    let handlers = Handlers::new(alloc, handlers)?;
+    let globals = Globals::new(alloc)?;
+    Ok((stage, handlers, globals))
+}
+
+// What a document that was read acts on.
+fn stage_of(alloc: Global, tree: Tree, rules: Rules) -> Result<Stage, NoMemory>
+    ensures { IfOk result (λ stage. stage ≡ staged_first tree rules) }
+{
+    let styles = Styles::new(alloc, &tree, rules)?;
+    Ok(Stage::new(alloc, tree, styles))
+}
+
+// The first `body` of a document.
+fn body_of(tree: &Tree) -> Option<NodeId>
+    ensures { number_of result ≡ spec_body_of tree.now }
+{
+    'nodes: for number in 0..tree.node_count() {
+        let node = NodeId(number);
+        if let Some(tag) = tree.tag(node) {
+            if tag.is_word("body") {
+                return Some(node);
+            }
+        }
+    }
+    None
+}

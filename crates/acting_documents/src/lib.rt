@@ -1,0 +1,16 @@
+//! A document that acts: its scripts run, and its events are handled.
+//!
+//! [`ActingDocument::begin`] runs the scripts of a document that was read, and posts its first
+//! events (`specs/Beginnings.antt`); [`ActingDocument::handle`] does what the dispatch of an event
+//! does, and [`ActingDocument::post_key`] what a key does (`specs/Handling.antt`). What the run of
+//! a script comes to is said by `specs/Runs.antt`. Contracts see what is kept of a document, and
+//! say what becomes of each document for which it stands (`specs/Kept.antt`,
+//! `specs/Doings.antt`).
+#![tactic(auto)]
+
+mod attributes;
+mod documents;
+mod handlers;
+mod stop_lines;
+
+pub use crate::documents::ActingDocument;

@@ -1,0 +1,382 @@
+//! What handlers and default actions act on.
+
+ghost use Rattle.std.specs.Io.{StartsWith};
+ghost use Rattle.std.specs.Prelude.{◌≡◌, ◌++◌, ℕ, [], false, None, drop, OnOk};
+ghost use Rattle.dom_tree.specs.Items.{IsElement};
+ghost use Rattle.dom_tree.specs.NodeNumbers.{number_of};
+ghost use Rattle.style_cascade.specs.Keeping.{IsRight};
+ghost use Rattle.style_cascade.specs.States.{is_node, present_state};
+ghost use Rattle.style_cascade.specs.declared.states.State.{State};
+ghost use Rattle.focus_keys.specs.Defaults.{action_of};
+ghost use Rattle.focus_keys.specs.KeyTables.{passes_list};
+ghost use Rattle.focus_keys.specs.Targets.{normal_value};
+ghost use Rattle.style_reader.specs.declared.properties.Property.TheVariants as property;
+ghost use Rattle.display_list.specs.Show.{display_lines};
+ghost use Rattle.display_list.specs.Shown.{shown_by};
+ghost use Rattle.focus_keys.specs.Views.{styled_by};
+ghost use Rattle.event_queue.specs.Queues.{first_of};
+ghost use Rattle.document_stages.specs.Acting.{activated, acted, begun, first_focus, focused, key_posts, left_by, moved_to, no_focus, posted};
+ghost use Rattle.document_stages.specs.Stages.{IsElementOf};
+
+mod hosts;
+
+use crate::event_lines::push_lost_line;
+use bml_bytes::{NoMemory, law_of_fronts};
+use display_list::Shower;
+use dom_objects::CurrentEvent;
+use dom_tree::{NodeId, Tree};
+use event_queue::{Event, Queue};
+use focus_keys::{KeyDefault, default_of, is_focusable, nav_target, passes};
+use std::alloc::Global;
+use std::marker::Model;
+use style_cascade::{Focus, State, Styles};
+use style_reader::Property;
+
+/// No element has the focus, and none is active.
+pub const NO_FOCUS: Focus = Focus {
+    focus: None,
+    active: None,
+};
+
+/// Outside of handlers there is no current event.
+pub const NO_EVENT: CurrentEvent = CurrentEvent {
+    event: None,
+    target: 0,
+};
+
+/// The parts of a document that its scripts see, the event whose handler runs, and what was printed
+/// since it began. It is the host of the scripts. Contracts see it as `Acting`, and how many values
+/// its styles worked out.
+#[derive(Drop)]
+pub struct Stage {
+    alloc: Global,
+    tree: Tree,
+    styles: Styles,
+    focus: Focus,
+    queue: Queue,
+    event: CurrentEvent,
+    text: Vec<u8>,
+}
+
+impl Model for Stage {
+    ghost use Rattle.document_stages.specs.Stages.{IsStaged, StageState};
+
+    ghost Value = { StageState };
+
+    ghost view = { λ s. record {
+      acting = record {
+        items = s.tree;
+        sources = s.styles.sources;
+        focus = s.focus;
+        queue = s.queue;
+        event = s.event;
+        text = s.text.items;
+      };
+      worked = s.styles.worked;
+    } };
+
+    ghost invariant = { λ s. IsStaged s.tree s.focus s.styles };
+}
+
+impl Stage {
+    /// A document in which nothing happened yet.
+    pub fn new(alloc: Global, tree: Tree, styles: Styles) -> Stage
+        requires { (states : ℕ → State) → IsRight tree states styles }
+        ensures { result ≡ record {
+          acting = record {
+            items = tree;
+            sources = styles.sources;
+            focus = no_focus;
+            queue = [];
+            event = record { event = None; target = 0 };
+            text = [];
+          };
+          worked = styles.worked;
+        } }
+    {
+        Stage {
+            alloc,
+            tree,
+            styles,
+            focus: NO_FOCUS,
+            queue: Queue::new(),
+            event: NO_EVENT,
+            text: Vec::new(alloc),
+        }
+    }
+
+    /// Posts an event. Where 256 wait it is lost, and a line tells that.
+    pub fn post(&mut self, event: Event) -> Result<(), NoMemory>
+        ensures posted { OnOk result (self.new.acting ≡ posted event self.old.acting) }
+        ensures worked { self.new.worked ≡ self.old.worked }
+    {
+        if self.queue.post(event) {
+            return Ok(());
+        }
+        push_lost_line(event, &mut self.text)
+    }
+
+    /// Moves the focus to an element: `blur` tells that which had it, and then `focus` this one. No
+    /// element is active behind it. A move to the element that has the focus does nothing.
+    #[tactic(auto, unfolding(crate::specs::Acting::moved_to))]
+    pub fn move_focus(&mut self, node: NodeId) -> Result<(), NoMemory>
+        requires element { IsElement self.old.acting.items node.0 }
+        ensures moved { OnOk result (self.new.acting ≡ moved_to node.0 self.old.acting) }
+        ensures worked { self.new.worked ≡ self.old.worked }
+    {
+        if self.has_focus(node) {
+            return Ok(());
+        }
+        let before = self.focus.focus;
+        self.set_focus(Focus {
+            focus: Some(node),
+            active: None,
+        });
+        if let Some(before) = before {
+            self.post(Event::Blur(before.0))?;
+        }
+        self.post(Event::Focus(node.0))
+    }
+
+    /// Moves the focus to an element where it can have it.
+    pub fn focus_on(&mut self, node: NodeId) -> Result<(), NoMemory>
+        requires element { IsElement self.old.acting.items node.0 }
+        ensures focused { OnOk result (self.new.acting ≡ focused node.0 self.old.acting) }
+    {
+        if is_focusable(&self.tree, &mut self.styles, &self.focus, node) {
+            self.move_focus(node)?;
+        }
+        Ok(())
+    }
+
+    /// Gives the focus up, where this element has it, and posts `blur`.
+    #[tactic(auto, unfolding(crate::specs::Acting::left_by))]
+    pub fn leave_focus(&mut self, node: NodeId) -> Result<(), NoMemory>
+        ensures left { OnOk result (self.new.acting ≡ left_by node.0 self.old.acting) }
+        ensures worked { self.new.worked ≡ self.old.worked }
+    {
+        if !self.has_focus(node) {
+            return Ok(());
+        }
+        self.set_focus(NO_FOCUS);
+        self.post(Event::Blur(node.0))
+    }
+
+    /// Gives elements the focus and the active state, or none, and posts nothing.
+    pub fn set_focus(&mut self, focus: Focus)
+        requires focus { IsElementOf self.old.acting.items focus.focus }
+        requires active { IsElementOf self.old.acting.items focus.active }
+        ensures acting { self.new.acting ≡ record self.old.acting { focus = focus } }
+        ensures worked { self.new.worked ≡ self.old.worked }
+    {
+        follow_focus(&self.tree, &mut self.styles, &self.focus, &focus);
+        self.focus = focus;
+    }
+
+    // Whether this node has the focus.
+    fn has_focus(&self, node: NodeId) -> bool
+        ensures { result ≡ is_node node.0 self.now.acting.focus.focus }
+    {
+        match self.focus.focus {
+            Some(focus) => focus.0 == node.0,
+            None => false,
+        }
+    }
+
+    /// Takes the event that waits longest.
+    pub fn take_event(&mut self) -> Option<Event>
+        ensures event { result ≡ first_of self.old.acting.queue }
+        ensures acting { self.new.acting
+            ≡ record self.old.acting { queue = drop 1 self.old.acting.queue } }
+        ensures worked { self.new.worked ≡ self.old.worked }
+    {
+        self.queue.take()
+    }
+
+    /// Appends what was printed, which isn't kept any more.
+    pub fn give_text(&mut self, out: &mut Vec<u8>) -> Result<(), NoMemory>
+        ensures given { OnOk result (out.new.items ≡ out.old.items ++ self.old.acting.text) }
+        ensures acting { OnOk result (self.new.acting ≡ record self.old.acting { text = [] }) }
+        ensures worked { self.new.worked ≡ self.old.worked }
+        ensures grows { StartsWith out.new.items out.old.items }
+    {
+        law_of_fronts();
+        out.extend_from_slice(self.text.as_slice())?;
+        self.text.clear();
+        Ok(())
+    }
+
+    /// Begins what is done for an event: it is the current one, and nothing is printed yet.
+    pub fn prepare(&mut self, event: CurrentEvent)
+        ensures acting { self.new.acting
+            ≡ record self.old.acting { event = event; text = [] } }
+        ensures worked { self.new.worked ≡ self.old.worked }
+    {
+        self.event = event;
+        self.text.clear();
+    }
+
+    /// The element that has the focus.
+    pub fn focused(&self) -> Option<NodeId>
+        ensures { result ≡ self.now.acting.focus.focus }
+    {
+        self.focus.focus
+    }
+
+    /// No element is active any more.
+    pub fn deactivate(&mut self)
+        ensures acting { self.new.acting ≡ record self.old.acting {
+          focus = record { focus = self.old.acting.focus.focus; active = None };
+        } }
+        ensures worked { self.new.worked ≡ self.old.worked }
+    {
+        self.set_focus(Focus {
+            focus: self.focus.focus,
+            active: None,
+        });
+    }
+
+    /// Makes the default action of a key: the focus moves, or it becomes active and is clicked, or
+    /// an element is given it and clicked.
+    pub fn act_by_default(&mut self, key: u8) -> Result<(), NoMemory>
+        ensures acted { OnOk result (self.new.acting ≡ acted
+            (action_of (styled_by self.old.acting.items self.old.acting.sources
+            self.old.acting.focus) key (number_of self.old.acting.focus.focus)) self.old.acting) }
+    {
+        match default_of(key, &self.tree, &mut self.styles, &self.focus) {
+            KeyDefault::Nothing => Ok(()),
+            KeyDefault::Move(node) => self.move_focus(node),
+            KeyDefault::Activate(node) => self.activate(node),
+            KeyDefault::Access(node) => {
+                self.move_focus(node)?;
+                self.post(Event::Click(node.0))
+            }
+        }
+    }
+
+    // The element is active, and is clicked.
+    fn activate(&mut self, node: NodeId) -> Result<(), NoMemory>
+        requires element { IsElement self.old.acting.items node.0 }
+        ensures activated { OnOk result (self.new.acting ≡ activated node.0 self.old.acting) }
+        ensures worked { self.new.worked ≡ self.old.worked }
+    {
+        self.set_focus(Focus {
+            focus: self.focus.focus,
+            active: Some(node),
+        });
+        self.post(Event::Click(node.0))
+    }
+
+    /// Begins a document whose scripts have run: where none gave the focus to an element, that with
+    /// the nav-index 0 gets it; `load` is posted, and then that element's `focus`.
+    pub fn begin(&mut self) -> Result<(), NoMemory>
+        ensures begun { OnOk result (self.new.acting
+            ≡ begun (first_focus self.old.acting) self.old.acting) }
+    {
+        let first = self.first_focus();
+        if let Some(node) = first {
+            self.set_focus(Focus {
+                focus: Some(node),
+                active: None,
+            });
+        }
+        self.post(Event::Load)?;
+        match first {
+            Some(node) => self.post(Event::Focus(node.0)),
+            None => Ok(()),
+        }
+    }
+
+    // The element that gets the focus where none has it.
+    fn first_focus(&mut self) -> Option<NodeId>
+        ensures target { number_of result ≡ first_focus self.old.acting }
+        ensures within { IsElementOf self.old.acting.items result }
+        ensures acting { self.new.acting ≡ self.old.acting }
+    {
+        if self.focus.focus.is_some() {
+            return None;
+        }
+        nav_target(&self.tree, &mut self.styles, &self.focus, 0)
+    }
+
+    /// Whether the used-key-list of the body lets a key pass.
+    pub fn passes(&mut self, body: NodeId, key: u8) -> bool
+        requires element { IsElement self.old.acting.items body.0 }
+        ensures passes { result ≡ passes_list (normal_value (styled_by self.old.acting.items
+            self.old.acting.sources self.old.acting.focus) body.0 property.UsedKeyList) key }
+        ensures acting { self.new.acting ≡ self.old.acting }
+    {
+        let list = self.styles.get(
+            &self.tree,
+            body,
+            State::Normal,
+            &self.focus,
+            Property::UsedKeyList,
+        );
+        passes(list, key)
+    }
+
+    /// Posts what a key does that passes: `keydown` and then `default` where it is pressed, and
+    /// `keyup` where it is released.
+    pub fn post_key(&mut self, key: u8, down: bool) -> Result<(), NoMemory>
+        ensures posted { OnOk result (self.new.acting ≡ key_posts down key self.old.acting) }
+        ensures worked { self.new.worked ≡ self.old.worked }
+    {
+        if down {
+            self.post(Event::KeyDown(key))?;
+            self.post(Event::Default(key))
+        } else {
+            self.post(Event::KeyUp(key))
+        }
+    }
+
+    /// Appends the display list: the boxes, texts and pictures, and the focus.
+    pub fn show(&mut self, out: &mut Vec<u8>) -> Result<(), NoMemory>
+        ensures shown { OnOk result (out.new.items ≡ out.old.items ++ display_lines
+            (shown_by self.old.acting.items self.old.acting.sources self.old.acting.focus)
+            (number_of self.old.acting.focus.focus)) }
+        ensures acting { self.new.acting ≡ self.old.acting }
+        ensures grows { StartsWith out.new.items out.old.items }
+    {
+        Shower::new().show(&self.tree, &mut self.styles, &self.focus, out)
+    }
+
+    /// How many values its styles worked out.
+    pub fn worked(&self) -> u64
+        ensures { result ≡ self.now.worked }
+    {
+        self.styles.worked()
+    }
+}
+
+// The styles follow a change of the focus and of the active element: each element whose state may
+// have changed is told.
+fn follow_focus(tree: &Tree, styles: &mut Styles, before: &Focus, after: &Focus)
+    requires right { IsRight tree.now (present_state before.now) styles.old }
+    requires old_focus { IsElementOf tree.now before.now.focus }
+    requires old_active { IsElementOf tree.now before.now.active }
+    requires new_focus { IsElementOf tree.now after.now.focus }
+    requires new_active { IsElementOf tree.now after.now.active }
+    ensures right { IsRight tree.now (present_state after.now) styles.new }
+    ensures sources { styles.new.sources ≡ styles.old.sources }
+    ensures worked { styles.new.worked ≡ styles.old.worked }
+{
+    touch(tree, styles, before.focus);
+    touch(tree, styles, before.active);
+    touch(tree, styles, after.focus);
+    touch(tree, styles, after.active);
+}
+
+// Tells the styles of an element whose state may have changed, where there is one.
+fn touch(tree: &Tree, styles: &mut Styles, node: Option<NodeId>)
+    requires { IsElementOf tree.now node }
+    ensures sources { styles.new.sources ≡ styles.old.sources }
+    ensures worked { styles.new.worked ≡ styles.old.worked }
+    ensures right { (before after : ℕ → State)
+        → ((other : ℕ) → is_node other node ≡ false → after other ≡ before other)
+        → IsRight tree.now before styles.old → IsRight tree.now after styles.new }
+{
+    if let Some(node) = node {
+        styles.touch(tree, node);
+    }
+}
