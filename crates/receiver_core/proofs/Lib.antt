@@ -2,3 +2,4 @@ pub mod OutputLaws
 pub mod MapLaws
 pub mod BroadcastLaws
 pub mod ReceivingLaws
+mod WantedLaws

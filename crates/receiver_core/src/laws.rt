@@ -1,12 +1,15 @@
 //! Laws of what a receiver prints. Each function is a law: its contract is what it is for, and it
 //! does nothing.
-ghost use Rattle.std.specs.Prelude.{◌≡◌, List, ℕ, [], ◌++◌};
+ghost use Rattle.std.specs.Prelude.{◌≡◌, List, ℕ, [], ◌++◌, true, length};
 ghost use Rattle.psi_tables.specs.declared.services.Selection.{Selection};
 ghost use Rattle.es_reader.specs.Readers.{Reader};
 ghost use Rattle.receiver_core.specs.Fronts.{IsFront};
-ghost use Rattle.receiver_core.specs.Outputs.{Piece, outputs};
+ghost use Rattle.receiver_core.specs.Outputs.{Piece, outputs, pieces_of_turns};
 ghost use Rattle.receiver_core.specs.Receiving.{IsIdle, ReceiverState, StandsFor};
-ghost use Rattle.receiver_core.specs.State.{Input};
+ghost use Rattle.receiver_core.specs.State.{Input, State, wants};
+ghost use Rattle.receiver_core.specs.Turns.{turn};
+
+use psi_tables::law_of_unread_sections;
 
 /// Without inputs nothing is printed; further inputs add pieces behind those so far, and change
 /// none.
@@ -31,3 +34,14 @@ pub fn law_of_receivers()
         → StandsFor read selection area state inputs given
         → IsIdle state → given ≡ outputs read selection area inputs }
 {}
+
+/// A section leaves its own PID wanted, so none of the sections that a packet completes loses its
+/// turn: each prints a piece.
+pub fn law_of_wanted_sections()
+    ensures wanted { (pid : ℕ) (section : List ℕ) (s : State) → wants s pid ≡ true
+        → wants (turn pid section s).state pid ≡ true }
+    ensures pieces { (pid : ℕ) (sections : List (List ℕ)) (s : State) → wants s pid ≡ true
+        → length (pieces_of_turns pid sections s) ≡ length sections }
+{
+    law_of_unread_sections();
+}

@@ -15,5 +15,5 @@ mod broadcast;
 mod laws;
 mod receiver;
 
-pub use crate::laws::{law_of_outputs, law_of_receivers};
+pub use crate::laws::{law_of_outputs, law_of_receivers, law_of_wanted_sections};
 pub use crate::receiver::Receiver;

@@ -243,6 +243,7 @@ impl Receiver {
     pub fn show(&mut self, out: &mut Vec<u8>) -> Result<(), NoMemory>
         ensures shown { OnOk result
             (PrintsDisplay self.old self.new out.old.items out.new.items) }
+        ensures waiting { self.new.waiting ≡ self.old.waiting }
         ensures idle { IsIdle self.old → IsIdle self.new }
         ensures clock { OnOk result (self.new.clock ≡ self.old.clock) }
         ensures begins { StartsWith out.new.items out.old.items }
