@@ -1,6 +1,6 @@
 -- What a page keeps names what is there: nodes of its document, objects of its heap, functions of
 -- its programs. (This project's own.)
-use Rattle.std.specs.Prelude.{◌≡◌, ℕ, nat_lt, ◌<◌, ◌≤◌, Bool, true, is_some, List, length, All, IfSome, Option, map}
+use Rattle.std.specs.Prelude.{◌≡◌, ℕ, nat_lt, ◌<◌, ◌≤◌, Bool, false, true, is_some, List, length, All, IfSome, Option, map}
 use Rattle.std.specs.Option.{option_map_or}
 use Rattle.dom_tree.specs.Items.{Item, tag_of}
 use Rattle.dom_tree.specs.NodeNumbers.{number_of}
