@@ -2,18 +2,18 @@
 use Rattle.std.proofs.Common.{◌≡◌, ℕ, zero, suc, ◌/◌, ◌%◌, ◌*◌, ◌^◌, ◌<◌, ◌≤◌, ℤ, pos, negsuc, true, false, List, [], ◌∷◌, ◌++◌, refl, sym, ◌∙◌, ap, arith, append_assoc}
 use Rattle.std.specs.Prelude.{int_lt, nat_lt, unsigned_abs, OnOk, Result, Ok, Err}
 use Rattle.std.proofs.lemmas.Bool.Decides.{nat_tests}
-use Rattle.std.proofs.Math.Nat.{mod-eq_of_lt, div-lt_iff_lt-mul, pow-suc, pow-succ', pow-zero, pow-le-pow_left}
+use Rattle.std.proofs.Math.Nat.{mod-eq_of_lt, div-lt_iff_lt-mul, pow-suc, pow-zero, pow-le-pow_left}
 use Rattle.bml_bytes.specs.Numerals.{digit_character}
 use Rattle.es_builtins.specs.Numerals.{digits_within, signed_digits}
 
-within-small : (base more number : ℕ) → number < base → digits_within base more number ≡ digit_character (number % base) ∷ []
+pub within-small : (base more number : ℕ) → number < base → digits_within base more number ≡ digit_character (number % base) ∷ []
 unfolding digits_within
 within-small base zero number h = refl
 within-small base (suc more) number h =
     let e : nat_lt number base ≡ true = grind (arith, nat_tests) in
     rw e (ap (λ d. digit_character d ∷ []) (sym (mod-eq_of_lt {n = number} {m = base} h)))
 
-within-large : (base more number : ℕ) → base ≤ number → digits_within base (suc more) number ≡ digits_within base more (number / base) ++ digit_character (number % base) ∷ []
+pub within-large : (base more number : ℕ) → base ≤ number → digits_within base (suc more) number ≡ digits_within base more (number / base) ++ digit_character (number % base) ∷ []
 unfolding digits_within
 within-large base more number h = let e : nat_lt number base ≡ false = grind (arith, nat_tests) in rw e refl
 

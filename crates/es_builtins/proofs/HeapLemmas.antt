@@ -1,10 +1,9 @@
 -- The object that a heap was given last.
-use Rattle.std.proofs.Common.{◌≡◌, ℕ, ◌<◌, true, false, List, [], ◌∷◌, ◌++◌, length, refl, sym, ◌∙◌, ap, arith, length-append}
-use Rattle.std.specs.Prelude.{unwrap_or, slice_set as set}
+use Rattle.std.proofs.Common.{◌≡◌, ℕ, ◌<◌, true, false, List, [], ◌∷◌, ◌++◌, length, refl, ◌∙◌, ap, arith, length-append}
+use Rattle.std.specs.Prelude.{unwrap_or}
 use Rattle.std.proofs.lemmas.List.{get_or_at, set_at}
 use Rattle.std.proofs.lemmas.Option.{slice_get-get_or}
 use Rattle.es_values.specs.declared.numbers.Num.{Num}
-use Rattle.es_values.specs.declared.values.Value.{Value}
 use Rattle.es_values.specs.declared.values.Value.TheVariants.{Number}
 use Rattle.es_values.specs.Heaps.{is_length, new_object, object_at, with_length}
 use Rattle.es_values.specs.Objects.{ObjectState}

@@ -6,3 +6,5 @@ pub mod RowLemmas
 pub mod SortLawLemmas
 pub mod FrontLemmas
 pub mod PartLemmas
+pub mod SplitLemmas
+pub mod WrittenLemmas

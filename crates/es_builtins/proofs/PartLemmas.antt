@@ -28,6 +28,10 @@ passes p q (x ∷ xs) place e = by (p x) refl e (passes p q xs place)
 eq-of : (a b : ℕ) → nat_eq a b ≡ true → a ≡ b
 eq-of a b e = grind (arith, nat_tests)
 
+pub place-stands : (wanted text : List ℕ) (place : ℕ) → first_place wanted text 0 ≡ Some place → stands_at wanted text place ≡ true
+unfolding first_place
+place-stands wanted text place e = passes (stands_at wanted text) (nat_le 0) (range_with_len 0 (suc (length text))) place e
+
 pub place-within : (wanted text : List ℕ) (place : ℕ) → 0 < length wanted → first_place wanted text 0 ≡ Some place → place + length wanted ≤ length text
 unfolding first_place
 place-within wanted text place some e =
@@ -38,12 +42,12 @@ place-within wanted text place some e =
 
 -- ---- parts, one by one
 
-parts-none : (more : ℕ) (separator text : List ℕ) → first_place separator text 0 ≡ None → parts_within more separator text ≡ text ∷ []
+pub parts-none : (more : ℕ) (separator text : List ℕ) → first_place separator text 0 ≡ None → parts_within more separator text ≡ text ∷ []
 unfolding parts_within
 parts-none zero separator text e = refl
 parts-none (suc more) separator text e = rw (parts_within, e) refl
 
-parts-some : (more : ℕ) (separator text : List ℕ) (place : ℕ) → first_place separator text 0 ≡ Some place → parts_within (suc more) separator text ≡ take place text ∷ parts_within more separator (drop (place + length separator) text)
+pub parts-some : (more : ℕ) (separator text : List ℕ) (place : ℕ) → first_place separator text 0 ≡ Some place → parts_within (suc more) separator text ≡ take place text ∷ parts_within more separator (drop (place + length separator) text)
 unfolding parts_within
 parts-some more separator text place e = rw (parts_within, e) refl
 

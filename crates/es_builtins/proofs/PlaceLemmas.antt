@@ -1,6 +1,6 @@
 -- Places of a text in another, looked for one by one.
 use Rattle.std.proofs.Common.{◌≡◌, ℕ, zero, suc, ◌+◌, ◌-◌, ◌<◌, ◌≤◌, Bool, true, false, List, [], ◌∷◌, ◌++◌, length, refl, sym, ◌∙◌, ap, arith, add-one, zero-add, map}
-use Rattle.std.specs.Prelude.{nat_le, nat_lt, min, filter, if◌then◌else◌, Option, Some, None}
+use Rattle.std.specs.Prelude.{nat_le, nat_lt, filter, if◌then◌else◌, Some, None}
 use Rattle.std.specs.List.{find, range_with_len}
 use Rattle.std.proofs.lemmas.Bool.Decides.{nat_tests}
 use Rattle.std.proofs.lemmas.List.{append-nil, map-id}

@@ -1,10 +1,9 @@
 -- The built-in functions by their rows (ECMA-262 second edition, 15.1 to 15.7; their numbers and what
 -- they are charged are this project's own).
-use Rattle.std.specs.Prelude.{ℕ, ◌+◌, ◌==◌, Bool, true, false, if◌then◌else◌, pos, List, [], ◌∷◌, ◌++◌, length, map, Option, Some, None, option_map, codes}
+use Rattle.std.specs.Prelude.{ℕ, ◌+◌, ◌==◌, Bool, false, if◌then◌else◌, pos, List, [], ◌∷◌, ◌++◌, length, map, Option, Some, None, codes}
 use Rattle.std.specs.List.{sum_by}
 use Rattle.std.specs.Option.{option_map_or}
 use Rattle.bml_bytes.specs.Words.{is_same}
-use Rattle.es_values.specs.declared.numbers.Num.{Num}
 use Rattle.es_values.specs.declared.numbers.Num.TheVariants.{NotANumber, Whole}
 use Rattle.es_values.specs.declared.values.HostRef.TheVariants.{Document, Browser}
 use Rattle.es_values.specs.declared.values.Value.{Value}

@@ -1,5 +1,5 @@
 -- What a row keeps of the heap, and of the numbers that name objects and functions. (This project's own.)
-use Rattle.std.specs.Prelude.{◌≡◌, ℕ, ◌≤◌, true, ◌||◌, List, length}
+use Rattle.std.specs.Prelude.{◌≡◌, ℕ, true, ◌||◌, List}
 use Rattle.std.specs.List.{list_any}
 use Rattle.es_values.specs.declared.values.Value.{Value}
 use Rattle.es_values.specs.Heaps.{IsLive, IsSound, holds_function}

@@ -8,3 +8,4 @@ pub mod Keeping
 pub mod Fronts
 pub mod Tills
 pub mod Sorting
+pub mod Splitting

@@ -1,7 +1,7 @@
 -- The built-in methods by their rows: those of texts, numbers, arrays and the function String, and the
 -- two of nearly every value (ECMA-262 second edition, 15.2 to 15.7; what they are charged is this
 -- project's own).
-use Rattle.std.specs.Prelude.{ℕ, ◌+◌, ◌*◌, ◌==◌, max, Bool, true, false, if◌then◌else◌, List, [], ◌∷◌, ◌++◌, length, map, Option, Some, None, option_map, is_some, codes, slice_get}
+use Rattle.std.specs.Prelude.{ℕ, ◌+◌, ◌*◌, ◌==◌, max, if◌then◌else◌, List, [], ◌∷◌, length, map, Option, Some, None, option_map, codes, slice_get}
 use Rattle.std.specs.List.{sum_by}
 use Rattle.std.specs.Option.{option_map_or}
 use Rattle.es_values.specs.declared.numbers.Num.{Num}

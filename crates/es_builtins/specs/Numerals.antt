@@ -1,6 +1,6 @@
 -- Numbers in other bases, and codes (ECMA-262 second edition, 15.1.2.2, 15.5.3.2 and 15.7.4.2, over
 -- whole numbers; that bases outside of 2 to 36 give NaN or are ten is this project's own).
-use Rattle.std.specs.Prelude.{ℕ, zero, suc, ◌/◌, ◌%◌, ◌==◌, nat_eq, nat_le, nat_lt, Bool, true, false, ◌&&◌, ◌||◌, if◌then◌else◌, ℤ, pos, negsuc, List, [], ◌∷◌, ◌++◌, length, take, drop, Option, Some, None, codes, unwrap_or}
+use Rattle.std.specs.Prelude.{ℕ, zero, suc, ◌/◌, ◌%◌, ◌==◌, nat_eq, nat_le, nat_lt, Bool, true, false, ◌&&◌, if◌then◌else◌, ℤ, pos, negsuc, List, [], ◌∷◌, ◌++◌, length, take, drop, codes}
 use Rattle.std.specs.List.{prefix_len, starts_with}
 use Rattle.bml_bytes.specs.Numerals.{digit_character}
 use Rattle.es_values.specs.declared.numbers.Num.{Num}

@@ -1,6 +1,6 @@
 -- What the methods of texts give (ECMA-262 second edition, 15.5.4.4 to 15.5.4.10, on places that aren't
 -- moved into the range of the text, which is this project's own).
-use Rattle.std.specs.Prelude.{ℕ, zero, suc, ◌+◌, ◌-◌, nat_eq, nat_le, nat_lt, min, Bool, true, false, if◌then◌else◌, ℤ, pos, negsuc, List, [], ◌∷◌, length, map, filter, take, drop, Option, Some, None, slice_get, option_to_list}
+use Rattle.std.specs.Prelude.{ℕ, zero, suc, ◌+◌, ◌-◌, nat_eq, nat_le, nat_lt, min, Bool, false, if◌then◌else◌, pos, negsuc, List, [], ◌∷◌, length, map, filter, take, drop, Option, Some, None, slice_get, option_to_list}
 use Rattle.std.specs.List.{find, range_with_len, starts_with}
 use Rattle.std.specs.Option.{option_map_or, option_and_then}
 use Rattle.es_values.specs.declared.numbers.Num.{Num}

@@ -5,7 +5,8 @@
 //! is charged, which value is given and which heap is left (`specs/Rows.antt`). [`call_function`],
 //! [`construct`] and [`call_method`] do exactly what the row says: the steps are taken before
 //! anything is done, and where fewer are left nothing is done. [`law_of_rows`] says what all rows
-//! keep, and [`law_of_sorting`] what the order of `sort` is.
+//! keep, and [`law_of_sorting`] what the order of `sort` is; the other `law_of_..` functions say what arrays
+//! that are sorted, the parts of `split` and the digits of `toString` are.
 #![tactic(auto)]
 
 mod arguments;
@@ -28,4 +29,6 @@ mod tills;
 pub use crate::built::Built;
 pub use crate::calls::{call_function, call_method, construct};
 pub use crate::functions::{function_member, value_named};
-pub use crate::laws::{law_of_rows, law_of_sorting};
+pub use crate::laws::{
+    law_of_digits, law_of_rows, law_of_sorted_arrays, law_of_sorting, law_of_splitting,
+};

@@ -1,11 +1,9 @@
 -- Elements of arrays: their list, a list as the elements, and their order turned round.
-use Rattle.std.proofs.Common.{◌≡◌, ℕ, zero, suc, ◌+◌, ◌-◌, ◌<◌, ◌/◌, Bool, true, false, List, [], ◌∷◌, ◌++◌, length, take, refl, sym, ◌∙◌, ap, arith, append_assoc, add-one}
-use Rattle.std.specs.Prelude.{nat_lt, if◌then◌else◌, Option, Some, None, slice_index_or, option_to_list, is_some, IfSome}
+use Rattle.std.proofs.Common.{◌≡◌, ℕ, zero, suc, ◌+◌, ◌-◌, ◌<◌, Bool, true, false, List, [], ◌∷◌, ◌++◌, length, refl, sym, ◌∙◌, ap, arith, add-one}
+use Rattle.std.specs.Prelude.{nat_lt, if◌then◌else◌, Option, Some, None, option_to_list, is_some, IfSome}
 use Rattle.std.specs.Option.{option_map_or}
 use Rattle.std.specs.Map.{lookup}
 use Rattle.std.specs.List.{cons_option, filter_map, flat_map, range_with_len}
-use Rattle.std.proofs.lemmas.List.{append-nil}
-use Rattle.std.proofs.lemmas.List.Concat.{flat_map-append}
 use Rattle.std.proofs.lemmas.List.Elements.{filter_map-append}
 use Rattle.indexmap.specs.IndexMap.{insert_all, insert_entry}
 use Rattle.bml_bytes.specs.Numerals.{decimal_digits, decimal_number}
@@ -13,10 +11,9 @@ use Rattle.bml_bytes.specs.Words.{is_same}
 use Rattle.es_values.specs.declared.values.Value.{Value}
 use Rattle.es_values.specs.Objects.{ObjectState}
 use Rattle.es_values.specs.Heaps.{cut_at, index_of, with_property}
-use Rattle.es_values.specs.Arrays.{element_at, elements_below, named, new_element, new_elements, turned, turned_properties, with_elements, with_first_elements}
-use Rattle.es_values.specs.Slots.{placed, standing}
+use Rattle.es_values.specs.Arrays.{element_at, elements_below, named, new_element, new_elements, turned, with_elements, with_first_elements}
+use Rattle.es_values.specs.Slots.{placed}
 use Rattle.es_values.proofs.JoinLemmas.{digits-other}
-use Rattle.es_values.proofs.ListSteps.{standing-next}
 
 -- Lists
 
@@ -48,10 +45,10 @@ lookup-first : {X : Type 0} (t : Bool) (x : X) (o : Option X) → (if t then Som
 lookup-first true x o h = absurd (cc h)
 lookup-first false x o h = (refl, h)
 
-absent-rest : (test : List ℕ → Bool) (e : List ℕ × Value) (es : List (List ℕ × Value)) → lookup test (e ∷ es) ≡ None → (test e.0 ≡ false) × (lookup test es ≡ None)
+pub absent-rest : (test : List ℕ → Bool) (e : List ℕ × Value) (es : List (List ℕ × Value)) → lookup test (e ∷ es) ≡ None → (test e.0 ≡ false) × (lookup test es ≡ None)
 absent-rest test e es h = lookup-first (test e.0) e.1 (lookup test es) h
 
-absent-cons : (test : List ℕ → Bool) (e : List ℕ × Value) (es : List (List ℕ × Value)) → test e.0 ≡ false → lookup test es ≡ None → lookup test (e ∷ es) ≡ None
+pub absent-cons : (test : List ℕ → Bool) (e : List ℕ × Value) (es : List (List ℕ × Value)) → test e.0 ≡ false → lookup test es ≡ None → lookup test (e ∷ es) ≡ None
 absent-cons test e es h none = ap (λ b. if b then Some e.1 else lookup test es) h ∙ none
 
 pub absent-append : (test : List ℕ → Bool) (es fs : List (List ℕ × Value)) → lookup test es ≡ None → lookup test fs ≡ None → lookup test (es ++ fs) ≡ None
@@ -69,14 +66,14 @@ insert-new (e ∷ es) name v h =
 -- Elements turned round
 
 -- what stands of a property has its name
-abbrev HasName : List ℕ → Option (List ℕ × Value) → Type 0
+abbrev pub HasName : List ℕ → Option (List ℕ × Value) → Type 0
 HasName name o = IfSome o (λ p. p.0 ≡ name)
 
-named-name : (name : List ℕ) (v : Option Value) → HasName name (named name v)
+pub named-name : (name : List ℕ) (v : Option Value) → HasName name (named name v)
 named-name name None = tt
 named-name name (Some v) = refl
 
-turned-name : (count : ℕ) (es : List (List ℕ × Value)) (p : List ℕ × Value) → HasName p.0 (turned count es p)
+pub turned-name : (count : ℕ) (es : List (List ℕ × Value)) (p : List ℕ × Value) → HasName p.0 (turned count es p)
 turned-name count es p = by (index_of p.0)
   where
     within : (place : ℕ) (t : Bool) → HasName p.0 (if t then named p.0 (element_at es (count - 1 - place)) else Some p)
@@ -97,15 +94,9 @@ absent-turned count es name (p ∷ ps) h =
     by None same apart more = more
     by (Some q) same apart more = absent-cons (is_same name) q (filter_map (turned count es) ps) (ap (is_same name) same ∙ apart) more
 
-pub turned-next : (count : ℕ) (es : List (List ℕ × Value)) (slots : List (Option (List ℕ × Value))) (i : ℕ) (s : Option (List ℕ × Value)) (old new : List (List ℕ × Value)) → i < length slots → s ≡ slice_index_or slots i s → new ≡ old ++ filter_map (turned count es) (option_to_list s) → old ≡ filter_map (turned count es) (standing (take i slots)) → new ≡ filter_map (turned count es) (standing (take (i + 1) slots))
-turned-next count es slots i s old new below read step e =
-    step ∙ (ap (λ l. l ++ filter_map (turned count es) (option_to_list s)) e
-    ∙ (sym (filter_map-append (turned count es) (standing (take i slots)) (option_to_list s))
-    ∙ ap (filter_map (turned count es)) (sym (standing-next slots i s below read))))
-
 -- New elements
 
-absent-new : ((n : ℕ) → decimal_number (decimal_digits n) ≡ n) → (es : List (List ℕ × Value)) (place other i : ℕ) → (i ≡ place → ⊥) → lookup (is_same (decimal_digits i)) (new_element es place other) ≡ None
+pub absent-new : ((n : ℕ) → decimal_number (decimal_digits n) ≡ n) → (es : List (List ℕ × Value)) (place other i : ℕ) → (i ≡ place → ⊥) → lookup (is_same (decimal_digits i)) (new_element es place other) ≡ None
 absent-new back es place other i apart = by (is_some (element_at es place)) (element_at es other)
   where
     by : (t : Bool) (o : Option Value) → lookup (is_same (decimal_digits i)) (if t then [] else option_to_list (named (decimal_digits place) o)) ≡ None
@@ -113,7 +104,7 @@ absent-new back es place other i apart = by (is_some (element_at es place)) (ele
     by false None = refl
     by false (Some v) = absent-cons (is_same (decimal_digits i)) (decimal_digits place, v) [] (digits-other back i place apart) refl
 
-absent-news : ((n : ℕ) → decimal_number (decimal_digits n) ≡ n) → (count : ℕ) (es : List (List ℕ × Value)) (i from n : ℕ) → ((j : ℕ) → j < from + n → (i ≡ j → ⊥) × (i ≡ count - 1 - j → ⊥)) → lookup (is_same (decimal_digits i)) (flat_map (new_elements count es) (range_with_len from n)) ≡ None
+pub absent-news : ((n : ℕ) → decimal_number (decimal_digits n) ≡ n) → (count : ℕ) (es : List (List ℕ × Value)) (i from n : ℕ) → ((j : ℕ) → j < from + n → (i ≡ j → ⊥) × (i ≡ count - 1 - j → ⊥)) → lookup (is_same (decimal_digits i)) (flat_map (new_elements count es) (range_with_len from n)) ≡ None
 absent-news back count es i from zero apart = refl
 absent-news back count es i from (suc n) apart =
     let here = apart from (omega arith) in
@@ -121,47 +112,6 @@ absent-news back count es i from (suc n) apart =
     absent-append (is_same (decimal_digits i)) (new_elements count es from) rest
     (absent-append (is_same (decimal_digits i)) (new_element es from (count - 1 - from)) (new_element es (count - 1 - from) from) (absent-new back es from (count - 1 - from) i here.0) (absent-new back es (count - 1 - from) from i here.1))
     (absent-news back count es i (from + 1) n (λ j below. apart j (omega arith)))
-
--- what stands once the elements in front of a place, and those as far from the end, are turned round
-abbrev pub turned_upto : ℕ → List (List ℕ × Value) → ℕ → List (List ℕ × Value)
-turned_upto count es place = filter_map (turned count es) es ++ flat_map (new_elements count es) (range_with_len 0 place)
-
-pub absent-front : ((n : ℕ) → decimal_number (decimal_digits n) ≡ n) → (count : ℕ) (es : List (List ℕ × Value)) (place : ℕ) (done : List (List ℕ × Value)) → place < count / 2 → done ≡ turned_upto count es place → element_at es place ≡ None → element_at done place ≡ None
-absent-front back count es place done below e h =
-    ap (λ l. element_at l place) e
-    ∙ absent-append (is_same (decimal_digits place)) (filter_map (turned count es) es) (flat_map (new_elements count es) (range_with_len 0 place))
-    (absent-turned count es (decimal_digits place) es h)
-    (absent-news back count es place 0 place (λ j k. (λ same. omega arith, λ same. omega arith)))
-
-pub absent-behind : ((n : ℕ) → decimal_number (decimal_digits n) ≡ n) → (count : ℕ) (es : List (List ℕ × Value)) (place other : ℕ) (done next : List (List ℕ × Value)) → place < count / 2 → other ≡ count - 1 - place → done ≡ turned_upto count es place → next ≡ done ++ new_element es place other → element_at es other ≡ None → element_at next other ≡ None
-absent-behind back count es place other done next below far e step h =
-    ap (λ l. element_at l other) (step ∙ ap (λ l. l ++ new_element es place other) e)
-    ∙ absent-append (is_same (decimal_digits other)) (turned_upto count es place) (new_element es place other)
-    (absent-append (is_same (decimal_digits other)) (filter_map (turned count es) es) (flat_map (new_elements count es) (range_with_len 0 place))
-    (absent-turned count es (decimal_digits other) es h)
-    (absent-news back count es other 0 place (λ j k. (λ same. omega arith, λ same. omega arith))))
-    (absent-new back es place other other (λ same. omega arith))
-
-pub turned-more : (count : ℕ) (es : List (List ℕ × Value)) (place other : ℕ) (done next last : List (List ℕ × Value)) → other ≡ count - 1 - place → done ≡ turned_upto count es place → next ≡ done ++ new_element es place other → last ≡ next ++ new_element es other place → last ≡ turned_upto count es (place + 1)
-turned-more count es place other done next last far e one two =
-    two ∙ (ap (λ l. l ++ new_element es other place) (one ∙ ap (λ l. l ++ new_element es place other) e)
-    ∙ (append_assoc (turned_upto count es place) (new_element es place other) (new_element es other place)
-    ∙ (ap (λ k. turned_upto count es place ++ (new_element es place k ++ new_element es k place)) far
-    ∙ (append_assoc (filter_map (turned count es) es) (flat_map (new_elements count es) (range_with_len 0 place)) (new_elements count es place)
-    ∙ ap (λ l. filter_map (turned count es) es ++ l) more))))
-  where
-    more : flat_map (new_elements count es) (range_with_len 0 place) ++ new_elements count es place ≡ flat_map (new_elements count es) (range_with_len 0 (place + 1))
-    more =
-        ap (λ l. flat_map (new_elements count es) (range_with_len 0 place) ++ l) (sym (append-nil (new_elements count es place)))
-        ∙ (sym (flat_map-append (new_elements count es) (range_with_len 0 place) (place ∷ []))
-        ∙ ap (flat_map (new_elements count es)) (sym (range-next place)))
-
-pub turned-none : (count : ℕ) (es done : List (List ℕ × Value)) → done ≡ filter_map (turned count es) es → done ≡ turned_upto count es 0
-turned-none count es done e = e ∙ sym (append-nil (filter_map (turned count es) es))
-
-pub turned-all : (count : ℕ) (es done : List (List ℕ × Value)) (place : ℕ) → place ≡ count / 2 → done ≡ turned_upto count es place → done ≡ turned_properties count es
-unfolding turned_properties
-turned-all count es done place end e = e ∙ ap (turned_upto count es) end
 
 -- Values as elements
 

@@ -2,10 +2,13 @@ pub mod ArrayLemmas
 pub mod DecimalLemmas
 pub mod DigitLemmas
 pub mod HeldLemmas
+pub mod IndexLemmas
 pub mod JoinLemmas
 pub mod LawLemmas
 pub mod ListSteps
 pub mod NumberLemmas
 pub mod OrderLemmas
+pub mod ReverseLemmas
 pub mod SlotLemmas
 pub mod SoundLemmas
+pub mod TurnLemmas

@@ -1,6 +1,6 @@
 -- The order of insertion, an array's length, and elements at their places.
-use Rattle.std.proofs.Common.{◌≡◌, ℕ, zero, suc, ◌+◌, ◌<◌, ◌≤◌, Bool, true, false, List, [], ◌∷◌, ◌++◌, length, map, refl, sym, ◌∙◌, ap, arith, ◌⊎◌, inl, inr, ⊎_elim}
-use Rattle.std.specs.Prelude.{nat_le, nat_lt, max, not, pos, ◌||◌, if◌then◌else◌, slice_get, Option, Some, None}
+use Rattle.std.proofs.Common.{◌≡◌, ℕ, zero, suc, ◌+◌, ◌<◌, ◌≤◌, Bool, true, false, List, [], ◌∷◌, ◌++◌, length, map, refl, sym, ◌∙◌, ap, arith, ⊎_elim}
+use Rattle.std.specs.Prelude.{nat_le, nat_lt, max, not, ◌||◌, if◌then◌else◌, slice_get, Option, Some, None}
 use Rattle.std.specs.Option.{option_map_or}
 use Rattle.std.specs.List.{list_any}
 use Rattle.std.specs.Map.{lookup, remove_entry}
@@ -11,10 +11,9 @@ use Rattle.std.proofs.lemmas.Map.Entries.{lookup-filter-keys}
 use Rattle.indexmap.specs.IndexMap.{insert_entry}
 use Rattle.bml_bytes.specs.Numerals.{decimal_digits, decimal_number}
 use Rattle.bml_bytes.specs.Words.{is_same}
-use Rattle.es_values.specs.declared.numbers.Num.TheVariants.{Whole}
 use Rattle.es_values.specs.declared.values.Value.{Value}
 use Rattle.es_values.specs.Objects.{ObjectState}
-use Rattle.es_values.specs.Heaps.{cut_at, index_of, is_array_length, length_for, names_of, new_object, with_length, with_property, without_property}
+use Rattle.es_values.specs.Heaps.{cut_at, index_of, is_array_length, length_for, names_of, new_object, with_property, without_property}
 use Rattle.es_values.specs.Arrays.{array_of, element_at, with_elements, with_first_elements}
 use Rattle.es_values.specs.Slots.{is_element_name}
 use Rattle.es_values.proofs.JoinLemmas.{digits-other, index_of-digits}

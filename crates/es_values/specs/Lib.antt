@@ -11,3 +11,4 @@ pub mod Lengths
 pub mod Capped
 pub mod Arrays
 pub mod Slots
+pub mod devices

@@ -1,21 +1,20 @@
-//! The elements of an array as a list, and their order turned round.
+//! The elements of an array as a list, and their order turned round, both in a time for its places.
 
-ghost use Rattle.std.specs.Prelude.{◌≡◌, ◌<◌, ◌≤◌, ◌++◌, ◌∷◌, [], ℕ, List, Some, None, option_to_list, IfOk, OnOk};
-ghost use Rattle.std.specs.List.{filter_map};
-ghost use Rattle.std.specs.Option.{ForSome};
-ghost use Rattle.std.specs.Map.{lookup};
-ghost use Rattle.bml_bytes.specs.Numerals.{decimal_digits};
-ghost use Rattle.bml_bytes.specs.Words.{is_same};
-ghost use Rattle.es_values.specs.declared.values.Value.{Value};
-ghost use Rattle.es_values.specs.Arrays.{element_at as spec_element_at, elements_below, named, new_element, turned as spec_turned, turned_properties};
+ghost use Rattle.std.specs.Prelude.{◌≡◌, ◌<◌, ◌≤◌, ◌/◌, ◌++◌, option_to_list, IfOk, OnOk, OnErr};
+ghost use Rattle.std.specs.List.{flat_map, range_with_len};
+ghost use Rattle.es_values.specs.Arrays.{element_at as spec_element_at, elements_below, new_element, new_elements, turned_properties};
+ghost use Rattle.es_values.specs.devices.Turning.{all_changed, change_at, changed, changes_below};
 
-use crate::property_map::Properties;
-use crate::texts::{index_name, index_of_name};
+use crate::property_map::{Properties, Property};
+use crate::texts::index_name;
 use crate::values::Value;
 use bml_bytes::{NoMemory, Text, law_of_decimals};
 
 /// The greatest length of an array.
 pub const MOST_ELEMENTS: usize = 2_147_483_647;
+
+// The name of an element, and the value that it gets, if it stays.
+type Change = (Text, Option<Value>);
 
 // The elements below a place, in ascending place.
 pub fn elements(properties: &Properties, count: u32) -> Result<Vec<Value>, NoMemory>
@@ -29,124 +28,108 @@ pub fn elements(properties: &Properties, count: u32) -> Result<Vec<Value>, NoMem
     Ok(elements)
 }
 
-// The properties of an array of so many elements, with the elements turned round: first the names
-// that stand, in their order, and then the new ones.
-pub fn turned(properties: &Properties, count: u32) -> Result<Properties, NoMemory>
+// Turns the elements of an array of so many round: first those that stand, in their order, and then the new
+// ones. Properties that are no elements aren't looked at.
+pub fn turn(properties: &mut Properties, count: u32) -> Result<(), NoMemory>
     requires { count ≤ 2147483647 }
-    ensures { IfOk result
-        (λ turned. turned ≡ turned_properties count properties.now) }
+    ensures ok { OnOk result (properties.new ≡ turned_properties count properties.old) }
+    ensures err { OnErr result (properties.new ≡ properties.old) }
 {
     law_of_decimals();
-    let mut turned = turned_names(properties, count)?;
+    properties.is_distinct();
+    let changes = changes(properties, count)?;
+    let added = added(properties, count)?;
+    properties.put_all(added)?;
+    change_all(properties, changes);
+    Ok(())
+}
+
+// What becomes of the elements that stand: of each its name, and the value that it gets, if there is one.
+fn changes(properties: &Properties, count: u32) -> Result<Vec<Change>, NoMemory>
+    ensures { IfOk result (λ changes. changes.items ≡ changes_below count count properties.now) }
+{
+    let mut changes = Vec::new(properties.allocator());
+    for place in 0..count {
+        push_change(properties, count, place, &mut changes)?;
+    }
+    Ok(changes)
+}
+
+fn push_change(
+    properties: &Properties,
+    count: u32,
+    place: u32,
+    changes: &mut Vec<Change>,
+) -> Result<(), NoMemory>
+    requires { place < count }
+    ensures { OnOk result (changes.new.items
+        ≡ changes.old.items ++ option_to_list (change_at count properties.now place)) }
+{
+    if properties.lacks(place) {
+        return Ok(());
+    }
+    let name = index_name(properties.allocator(), place)?;
+    if properties.has(&name) {
+        let value = element_at(properties, count - 1 - place)?;
+        changes.push((name, value))?;
+    }
+    Ok(())
+}
+
+fn change_all(properties: &mut Properties, changes: Vec<Change>)
+    ensures { properties.new ≡ all_changed properties.old changes.items }
+{
+    for change in changes {
+        make_change(properties, change);
+    }
+}
+
+fn make_change(properties: &mut Properties, change: Change)
+    ensures { properties.new ≡ changed properties.old change }
+{
+    let (name, value) = change;
+    match value {
+        Some(value) => properties.replace(name, value),
+        None => {
+            properties.remove(&name);
+        }
+    }
+}
+
+// The elements that are new, from the ends of the array to its middle.
+fn added(properties: &Properties, count: u32) -> Result<Vec<Property>, NoMemory>
+    ensures { IfOk result (λ added. added.items
+        ≡ flat_map (new_elements count properties.now) (range_with_len 0 (count / 2))) }
+{
+    let mut added = Vec::new(properties.allocator());
     for place in 0..count / 2 {
         let other = count - 1 - place;
-        add_new_element(properties, place, other, &mut turned)?;
-        add_new_element(properties, other, place, &mut turned)?;
+        push_new_element(properties, place, other, &mut added)?;
+        push_new_element(properties, other, place, &mut added)?;
     }
-    Ok(turned)
+    Ok(added)
 }
 
-// The properties whose names stand.
-fn turned_names(properties: &Properties, count: u32) -> Result<Properties, NoMemory>
-    ensures { IfOk result (λ turned. turned
-        ≡ filter_map (spec_turned count properties.now) properties.now) }
-{
-    let mut turned = Properties::new(properties.allocator());
-    for slot in properties.slots() {
-        add_turned(properties, count, slot, &mut turned)?;
-    }
-    Ok(turned)
-}
-
-// Adds the property of a slot, with the value that it has once the elements are turned round, if it
-// stands.
-fn add_turned(
-    properties: &Properties,
-    count: u32,
-    slot: &Option<(Text, Value)>,
-    turned: &mut Properties,
-) -> Result<(), NoMemory>
-    requires { ForSome slot.now
-        (λ property. lookup (is_same property.0) turned.old ≡ None) }
-    ensures { OnOk result (turned.new
-        ≡ turned.old
-        ++ filter_map (spec_turned count properties.now) (option_to_list slot.now)) }
-{
-    match slot {
-        Some((name, value)) => add_turned_property(properties, count, name, value, turned),
-        None => Ok(()),
-    }
-}
-
-fn add_turned_property(
-    properties: &Properties,
-    count: u32,
-    name: &Text,
-    value: &Value,
-    turned: &mut Properties,
-) -> Result<(), NoMemory>
-    requires { lookup (is_same name.now) turned.old ≡ None }
-    ensures { OnOk result (turned.new
-        ≡ turned.old
-        ++ option_to_list (spec_turned count properties.now (name.now, value.now))) }
-{
-    match turned_value(properties, count, name, value)? {
-        Some(value) => add(turned, name.share()?, value),
-        None => Ok(()),
-    }
-}
-
-// The value that a property has once the elements are turned round, if it stands.
-fn turned_value(
-    properties: &Properties,
-    count: u32,
-    name: &Text,
-    value: &Value,
-) -> Result<Option<Value>, NoMemory>
-    ensures { IfOk result (λ turned. named name.now turned
-        ≡ spec_turned count properties.now (name.now, value.now)) }
-{
-    match index_of_name(name) {
-        Some(place) => {
-            if place < count {
-                element_at(properties, count - 1 - place)
-            } else {
-                Ok(Some(value.share()?))
-            }
-        }
-        None => Ok(Some(value.share()?)),
-    }
-}
-
-// Gives a place that has no element that of the other place, if there is one.
-fn add_new_element(
+// Appends an element at a place that has none, with the value of the other place, if there is one.
+fn push_new_element(
     properties: &Properties,
     place: u32,
     other: u32,
-    turned: &mut Properties,
+    added: &mut Vec<Property>,
 ) -> Result<(), NoMemory>
-    requires { spec_element_at properties.now place ≡ None
-        → spec_element_at turned.old place ≡ None }
-    ensures { OnOk result (turned.new
-        ≡ turned.old ++ new_element properties.now place other) }
+    ensures { OnOk result (added.new.items
+        ≡ added.old.items ++ new_element properties.now place other) }
 {
+    if properties.lacks(other) {
+        return Ok(());
+    }
     let name = index_name(properties.allocator(), place)?;
     if properties.has(&name) {
         return Ok(());
     }
-    match element_at(properties, other)? {
-        Some(value) => add(turned, name, value),
-        None => Ok(()),
+    if let Some(value) = element_at(properties, other)? {
+        added.push(Property::new(name, value)?)?;
     }
-}
-
-// Adds a property of a new name.
-fn add(properties: &mut Properties, name: Text, value: Value) -> Result<(), NoMemory>
-    requires { lookup (is_same name) properties.old ≡ None }
-    ensures { OnOk result
-        (properties.new ≡ properties.old ++ (name, value) ∷ []) }
-{
-    properties.put(name, value)?;
     Ok(())
 }
 
@@ -170,6 +153,9 @@ fn element_at(properties: &Properties, place: u32) -> Result<Option<Value>, NoMe
     ensures { IfOk result
         (λ element. element ≡ spec_element_at properties.now place) }
 {
+    if properties.lacks(place) {
+        return Ok(None);
+    }
     let name = index_name(properties.allocator(), place)?;
     match properties.get(&name) {
         Some(value) => Ok(Some(value.share()?)),

@@ -8,7 +8,7 @@ ghost use Rattle.es_values.specs.Operators.{addition_of, adds_texts as spec_adds
 use crate::heaps::Heap;
 use crate::numbers::Num;
 use crate::numerals::number_of_text;
-use crate::texts::{push_plain_text, push_word};
+use crate::texts::{plain_length, push_plain_text, push_word};
 use crate::values::Value;
 use bml_bytes::{NoMemory, Text};
 use std::cmp::Ordering;
@@ -24,7 +24,7 @@ impl Heap {
             return text.share();
         }
         let alloc = self.allocator();
-        let mut codes = Vec::new(alloc);
+        let mut codes = Vec::with_capacity(alloc, plain_length(value))?;
         self.push_text(value, &mut codes)?;
         Text::of_codes(alloc, &codes)
     }
@@ -71,7 +71,8 @@ impl Heap {
     {
         if adds_texts(left, right) {
             let alloc = self.allocator();
-            let mut codes = Vec::new(alloc);
+            let room = plain_length(left).saturating_add(plain_length(right));
+            let mut codes = Vec::with_capacity(alloc, room)?;
             self.push_text(left, &mut codes)?;
             self.push_text(right, &mut codes)?;
             let text = Text::of_codes(alloc, &codes)?;

@@ -1,7 +1,7 @@
 //! What the definitions of this crate say together. Each function is a law: its contract is what it
 //! is for, and it does nothing when it runs.
 
-ghost use Rattle.std.specs.Prelude.{◌≡◌, ◌<◌, ◌≤◌, ◌^◌, ◌+◌, ◌++◌, ◌||◌, ◌+ℤ◌, ℕ, ℤ, pos, List, [], ◌∷◌, All, Bool, Some, None, true, false, if◌then◌else◌, FitsSigned, is_some, length, max, nat_lt, slice_get};
+ghost use Rattle.std.specs.Prelude.{◌≡◌, ◌<◌, ◌≤◌, ◌^◌, ◌+◌, ◌-◌, ◌++◌, ◌||◌, ◌+ℤ◌, ℕ, ℤ, pos, List, [], ◌∷◌, All, Bool, Some, None, true, false, if◌then◌else◌, FitsSigned, is_some, length, max, nat_lt, slice_get};
 ghost use Rattle.std.specs.Int.{w32};
 ghost use Rattle.std.specs.List.{list_any};
 ghost use Rattle.std.specs.Map.{lookup};
@@ -86,6 +86,21 @@ pub fn law_of_elements()
         → (array_of values).array_length ≡ Some (length values) }
     ensures set { (object : ObjectState) (values : List Value) (place : ℕ) → place < 2147483647
         → element_at (with_first_elements object values).properties place ≡ slice_get values place }
+{
+    law_of_decimals();
+}
+
+/// Where an array is turned round, the elements at k and length - 1 - k have changed places, and one that
+/// is missing is missing at the other. What a name has that is no element's stays. (15.4.4.4.)
+pub fn law_of_reversal()
+    ensures elements { (object : ObjectState) (count place : ℕ)
+        → object.array_length ≡ Some count → count ≤ 2147483647 → place < count
+        → element_at (turned_object object).properties place
+        ≡ element_at object.properties (count - 1 - place) }
+    ensures others { (object : ObjectState) (count : ℕ) (name : List ℕ)
+        → object.array_length ≡ Some count → count ≤ 2147483647 → index_of name ≡ None
+        → lookup (is_same name) (turned_object object).properties
+        ≡ lookup (is_same name) object.properties }
 {
     law_of_decimals();
 }

@@ -10,11 +10,9 @@ ghost use Rattle.es_values.specs.Capped.{capped, saturated};
 ghost use Rattle.es_values.specs.Charges.{join_charge};
 ghost use Rattle.es_values.specs.Conversions.{join_of, object_text};
 
-use crate::arrays::{MOST_ELEMENTS, elements, turned};
+use crate::arrays::{MOST_ELEMENTS, elements, turn};
 use crate::numbers::Num;
-use crate::properties::{
-    count_from, joined_charge, joined_length, names, property_value, push_elements,
-};
+use crate::properties::{joined_charge, joined_length, names, property_value, push_elements};
 use crate::property_map::Properties;
 use crate::texts::{index_name, index_of_name};
 use crate::values::Value;
@@ -119,7 +117,7 @@ impl Object {
         match length {
             Num::Whole(length) => {
                 if length >= 0 {
-                    count_from(&self.properties, length.unsigned_abs())
+                    self.properties.count_from(length.unsigned_abs())
                 } else {
                     0
                 }
@@ -175,7 +173,7 @@ impl Object {
         ensures err { OnErr result (self.new ≡ self.old) }
     {
         if let Some(length) = self.length {
-            self.properties = turned(&self.properties, length)?;
+            turn(&mut self.properties, length)?;
         }
         Ok(())
     }

@@ -1,8 +1,9 @@
 //! The properties of an object: names with values, in order of insertion.
 
-ghost use Rattle.std.specs.Prelude.{◌≡◌, ◌<◌, ◌≤◌, ◌+◌, ◌-◌, ◌^◌, ◌++◌, ℕ, List, Some, length, map, min, count_by, option_to_list, IfOk, OnOk};
+ghost use Rattle.std.specs.Prelude.{◌≡◌, ◌<◌, ◌≤◌, ◌+◌, ◌-◌, ◌^◌, ◌++◌, ℕ, List, Some, length, map, min, option_to_list, IfOk, OnOk};
+ghost use Rattle.bml_bytes.specs.Numerals.{decimal_digits};
 ghost use Rattle.es_values.specs.declared.values.Value.{Value};
-ghost use Rattle.es_values.specs.Heaps.{is_element_from as spec_is_element_from, value_in};
+ghost use Rattle.es_values.specs.Heaps.{value_in};
 ghost use Rattle.es_values.specs.Capped.{capped};
 ghost use Rattle.es_values.specs.Charges.{begun_sixteens as spec_begun_sixteens};
 ghost use Rattle.es_values.specs.Conversions.{joined, separator_at, text_at};
@@ -10,9 +11,7 @@ ghost use Rattle.es_values.specs.Lengths.{element_codes, elements_codes, texts_l
 
 use crate::charges::begun_sixteens;
 use crate::property_map::Properties;
-use crate::texts::{
-    element_length, index_name, index_of_name, is_element_from, push_codes, push_element_text,
-};
+use crate::texts::{element_length, index_name, index_of_name, push_codes, push_element_text};
 use crate::values::Value;
 use bml_bytes::{NoMemory, Text, law_of_decimals};
 
@@ -46,17 +45,6 @@ fn push_name(slot: &Option<(Text, Value)>, names: &mut Vec<Text>) -> Result<(), 
         names.push(name.share()?)?;
     }
     Ok(())
-}
-
-// How many elements stand at a place and behind it.
-pub fn count_from(properties: &Properties, place: u32) -> usize
-    ensures { result ≡ count_by (spec_is_element_from place) properties.now }
-{
-    let mut count = 0;
-    for slot in properties.slots() {
-        count += counted(place, slot);
-    }
-    count
 }
 
 // Appends the texts of the first elements, with the separator between them.
@@ -129,6 +117,9 @@ fn length_by_places(properties: &Properties, count: u32) -> Result<u64, NoMemory
 fn length_at(properties: &Properties, place: u32) -> Result<u64, NoMemory>
     ensures { IfOk result (λ count. count ≡ length (text_at properties.now place)) }
 {
+    if properties.lacks(place) {
+        return Ok(0);
+    }
     let name = index_name(properties.allocator(), place)?;
     match properties.get(&name) {
         Some(value) => Ok(element_length(value) as u64),
@@ -185,10 +176,20 @@ fn push_element(
         ≡ out.old.items
         ++ (separator_at separator.now place ++ text_at properties.now place)) }
 {
-    let name = index_name(*out.allocator(), place)?;
-    let value = property_value(properties, &name)?;
+    let value = value_at(properties, place)?;
     push_separator(place, separator, out)?;
     push_element_text(&value, out)
+}
+
+// The value of the element at a place, and Undefined where there is none.
+fn value_at(properties: &Properties, place: u32) -> Result<Value, NoMemory>
+    ensures { IfOk result (λ value. value ≡ value_in properties.now (decimal_digits place)) }
+{
+    if properties.lacks(place) {
+        return Ok(Value::Undefined);
+    }
+    let name = index_name(properties.allocator(), place)?;
+    property_value(properties, &name)
 }
 
 fn push_separator(place: u32, separator: &[u16], out: &mut Vec<u16>) -> Result<(), NoMemory>
@@ -198,16 +199,5 @@ fn push_separator(place: u32, separator: &[u16], out: &mut Vec<u16>) -> Result<(
         Ok(())
     } else {
         push_codes(separator, out)
-    }
-}
-
-// 1 for an element at a place or behind it, and 0 for every other slot.
-fn counted(place: u32, slot: &Option<(Text, Value)>) -> usize
-    ensures count { result ≡ count_by (spec_is_element_from place) (option_to_list slot.now) }
-    ensures small { result ≤ 1 }
-{
-    match slot {
-        Some((name, _)) => { if is_element_from(place, name) { 1 } else { 0 } }
-        None => 0,
     }
 }

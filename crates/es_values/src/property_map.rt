@@ -1,42 +1,50 @@
 //! The properties of an object: a list in order of insertion, with an index of the names.
 
-ghost use Rattle.std.specs.Prelude.{◌≡◌, ◌≤◌, ◌<◌, ◌+◌, ◌++◌, ◌∷◌, [], ℕ, List, false, is_some, not, length, IfOk, OnOk, OnErr};
+ghost use Rattle.std.specs.Prelude.{◌≡◌, ◌≤◌, ◌<◌, ◌+◌, ◌++◌, ◌∷◌, [], ℕ, List, Some, None, slice_set, true, false, is_some, not, count_by, length, option_to_list, IfOk, IfSome, OnOk, OnErr};
 ghost use Rattle.std.specs.Map.{lookup, remove_entry, set_value};
 ghost use Rattle.std.specs.Option.{option_copied, option_map_or};
 ghost use Rattle.std.specs.Vec.{vec_capacity, vec_len};
 ghost use Rattle.indexmap.specs.IndexMap.{insert_all, insert_entry, spare};
 ghost use Rattle.bml_bytes.specs.Words.{is_same};
-ghost use Rattle.es_values.specs.Heaps.{cut_at};
+ghost use Rattle.es_values.specs.Arrays.{element_at};
+ghost use Rattle.es_values.specs.Heaps.{cut_at, is_element_from as spec_is_element_from};
 ghost use Rattle.es_values.specs.Slots.{HaveOwnNames, Indexes, IsIndexOfNames, is_element_name, placed, standing};
+ghost use Rattle.es_values.specs.devices.Indices.{AreKept, indices_of};
 
+use crate::indices::{Indices, greatest, indices_from, lacks, with_name, without_name};
 use crate::texts::{index_name, is_element_from};
 use crate::values::Value;
-use bml_bytes::{NoMemory, Text};
+use bml_bytes::{NoMemory, Text, law_of_decimals};
 use indexmap::IndexMap;
 use std::alloc::Global;
+use std::collections::BTreeSet;
 use std::marker::Model;
 
 /// Properties, each a name with a value, in order of insertion and found by name in constant time.
 /// Contracts see their list. A property stands in a slot, and a removed one leaves its slot empty:
 /// where more than half of the slots are empty they are closed up, so that a removal takes constant
-/// time on average. (This project's own.)
+/// time on average. The indices of elements are kept in order beside them, so that those at a place and
+/// behind it are found without a look at the others. (This project's own.)
 #[derive(Drop)]
 pub struct Properties {
     places: IndexMap<Text, usize>,
     slots: Vec<Option<(Text, Value)>>,
+    indices: Indices,
 }
 
 impl Model for Properties {
     ghost use Rattle.std.specs.Prelude.{List, ℕ};
     ghost use Rattle.es_values.specs.declared.values.Value.{Value as ScriptValue};
     ghost use Rattle.es_values.specs.Slots.{Indexes, standing};
+    ghost use Rattle.es_values.specs.devices.Indices.{AreKept, indices_of};
 
     ghost Value = { List (List ℕ × ScriptValue) };
 
     ghost view = { λ properties. standing properties.slots.items };
 
     ghost invariant = { λ properties.
-        Indexes properties.places.entries properties.slots.items };
+        Indexes properties.places.entries properties.slots.items
+        × AreKept properties.indices (indices_of (standing properties.slots.items)) };
 }
 
 impl Properties {
@@ -47,6 +55,7 @@ impl Properties {
         Properties {
             places: IndexMap::new(alloc),
             slots: Vec::new(alloc),
+            indices: Some(BTreeSet::new(alloc)),
         }
     }
 
@@ -61,6 +70,13 @@ impl Properties {
         ensures distinct { HaveOwnNames self.now }
     {
         &self.slots
+    }
+
+    /// No two have the same name. What is held is always so; this tells a caller.
+    pub fn is_distinct(&self)
+        ensures { HaveOwnNames self.now }
+    {
+        let _ = &self.slots;
     }
 
     /// The value of the property of this name.
@@ -81,6 +97,17 @@ impl Properties {
         self.get(name).is_some()
     }
 
+    /// Whether it is known without its name that no element stands at a place.
+    pub fn lacks(&self, place: u32) -> bool
+        ensures { result ≡ true → element_at self.now place ≡ None }
+    {
+        if place < 2_147_483_647 {
+            lacks(&self.indices, place)
+        } else {
+            false
+        }
+    }
+
     /// Gives a name a value. A property of the name keeps its place, and a new one goes last.
     pub fn put(&mut self, name: Text, value: Value) -> Result<(), NoMemory>
         ensures ok { OnOk result (self.new ≡ insert_entry is_same self.old name value) }
@@ -89,7 +116,12 @@ impl Properties {
         let property = Property::new(name, value)?;
         self.places.reserve(1)?;
         self.slots.reserve(1)?;
-        put_property(&mut self.places, &mut self.slots, property);
+        put_property(
+            &mut self.places,
+            &mut self.slots,
+            &mut self.indices,
+            property,
+        );
         Ok(())
     }
 
@@ -101,10 +133,32 @@ impl Properties {
         ensures err { OnErr result (self.new ≡ self.old) }
     {
         let properties = named_elements(self.allocator(), elements)?;
+        self.put_all(properties)
+    }
+
+    /// Puts properties in turn, or none where there is no memory.
+    pub fn put_all(&mut self, properties: Vec<Property>) -> Result<(), NoMemory>
+        ensures ok { OnOk result (self.new ≡ insert_all is_same self.old properties.items) }
+        ensures err { OnErr result (self.new ≡ self.old) }
+    {
         self.places.reserve(properties.len())?;
         self.slots.reserve(properties.len())?;
-        put_properties(&mut self.places, &mut self.slots, properties);
+        put_properties(
+            &mut self.places,
+            &mut self.slots,
+            &mut self.indices,
+            properties,
+        );
         Ok(())
+    }
+
+    /// Gives the property of a name another value, if there is one. This takes no memory.
+    pub fn replace(&mut self, name: Text, value: Value)
+        ensures { self.new ≡ set_value (is_same name) self.old value }
+    {
+        if let Some(place) = self.places.get(&name) {
+            set_slot(&mut self.slots, *place, (name, value));
+        }
     }
 
     /// Takes the property of this name away, and answers whether there was one. This takes no
@@ -116,6 +170,7 @@ impl Properties {
         match self.places.swap_remove(name) {
             Some(place) => {
                 self.slots[place] = None;
+                self.indices = without_name(self.indices.take(), name);
                 self.close_up();
                 true
             }
@@ -123,22 +178,72 @@ impl Properties {
         }
     }
 
-    /// Takes the elements at a place and behind it away. This takes no memory.
-    pub fn cut(&mut self, length: u32)
-        ensures { self.new ≡ cut_at length self.old }
+    /// How many elements stand at a place and behind it.
+    pub fn count_from(&self, place: u32) -> usize
+        ensures { result ≡ count_by (spec_is_element_from place) self.now }
     {
+        match indices_from(&self.indices, place) {
+            Some(count) => count,
+            None => count_from(&self.slots, place),
+        }
+    }
+
+    /// Takes the elements at a place and behind it away, in a time for those alone as long as there is
+    /// memory for their names.
+    pub fn cut(&mut self, place: u32)
+        ensures { self.new ≡ cut_at place self.old }
+    {
+        for _ in 0..indices_from(&self.indices, place).unwrap_or(0) {
+            self.remove_last(place);
+        }
+        if self.count_from(place) > 0 {
+            self.retain_below(place);
+        }
+    }
+
+    // Takes the last element away, where it stands at a place or behind it and there is memory for its
+    // name.
+    fn remove_last(&mut self, place: u32)
+        ensures { cut_at place self.new ≡ cut_at place self.old }
+    {
+        if let Some(name) = self.last_name(place) {
+            self.remove(&name);
+        }
+    }
+
+    // The name of the last element, where it stands at a place or behind it and there is memory for it.
+    fn last_name(&self, place: u32) -> Option<Text>
+        ensures { IfSome result (λ name. is_element_name place name ≡ true) }
+    {
+        law_of_decimals();
+        let index = greatest(&self.indices)?;
+        if index < place {
+            return None;
+        }
+        match index_name(self.allocator(), index) {
+            Ok(name) => Some(name),
+            Err(_) => None,
+        }
+    }
+
+    // Takes the elements at a place and behind it away, with a look at each property. No indices are kept
+    // any more.
+    fn retain_below(&mut self, place: u32)
+        ensures { self.new ≡ cut_at place self.old }
+    {
+        self.indices = None;
         self.places.retain(
-            |name: &Text, place: &mut usize| -> bool
-                ensures { (result ≡ not (is_element_name length name.now))
-                    × (place.new ≡ place.old) }
-            { !is_element_from(length, name) },
+            |name: &Text, stands: &mut usize| -> bool
+                ensures { (result ≡ not (is_element_name place name.now))
+                    × (stands.new ≡ stands.old) }
+            { !is_element_from(place, name) },
         );
         self.slots.retain(
             |slot: &Option<(Text, Value)>| -> bool
                 ensures { result
-                    ≡ option_map_or (λ property. not (is_element_name length property.0))
+                    ≡ option_map_or (λ property. not (is_element_name place property.0))
                     slot.now false }
-            { keeps_slot(length, slot) },
+            { keeps_slot(place, slot) },
         );
         renumber(&mut self.places, &self.slots);
     }
@@ -158,9 +263,9 @@ impl Properties {
     }
 }
 
-// A property with its name once more, for the index.
+/// A property with its name once more, for the index.
 #[derive(Drop)]
-struct Property {
+pub struct Property {
     name: Text,
     slot: (Text, Value),
 }
@@ -177,7 +282,7 @@ impl Model for Property {
 }
 
 impl Property {
-    fn new(name: Text, value: Value) -> Result<Property, NoMemory>
+    pub fn new(name: Text, value: Value) -> Result<Property, NoMemory>
         ensures { IfOk result (λ property. property ≡ (name, value)) }
     {
         Ok(Property {
@@ -206,6 +311,7 @@ fn named_elements(alloc: Global, elements: Vec<Value>) -> Result<Vec<Property>, 
 fn put_properties(
     places: &mut IndexMap<Text, usize>,
     slots: &mut Vec<Option<(Text, Value)>>,
+    indices: &mut Indices,
     properties: Vec<Property>,
 )
     requires indexed { Indexes places.old.entries slots.old.items }
@@ -214,9 +320,11 @@ fn put_properties(
     ensures indexed { Indexes places.new.entries slots.new.items }
     ensures standing { standing slots.new.items
         ≡ insert_all is_same (standing slots.old.items) properties.items }
+    ensures kept { AreKept indices.old (indices_of (standing slots.old.items))
+        → AreKept indices.new (indices_of (standing slots.new.items)) }
 {
     for property in properties {
-        put_property(places, slots, property);
+        put_property(places, slots, indices, property);
     }
 }
 
@@ -224,6 +332,7 @@ fn put_properties(
 fn put_property(
     places: &mut IndexMap<Text, usize>,
     slots: &mut Vec<Option<(Text, Value)>>,
+    indices: &mut Indices,
     property: Property,
 )
     requires indexed { Indexes places.old.entries slots.old.items }
@@ -232,6 +341,8 @@ fn put_property(
     ensures indexed { Indexes places.new.entries slots.new.items }
     ensures standing { standing slots.new.items
         ≡ insert_entry is_same (standing slots.old.items) property.0 property.1 }
+    ensures kept { AreKept indices.old (indices_of (standing slots.old.items))
+        → AreKept indices.new (indices_of (standing slots.new.items)) }
     ensures places { spare places.old ≤ spare places.new + 1 }
     ensures slots { vec_len slots.new ≤ vec_len slots.old + 1 }
     ensures capacity { vec_capacity slots.old ≤ vec_capacity slots.new }
@@ -240,10 +351,19 @@ fn put_property(
     match places.get(&name) {
         Some(place) => slots[*place] = Some(slot),
         None => {
+            *indices = with_name(indices.take(), &name);
             let _placed = places.insert(name, slots.len());
             let _pushed = slots.push(Some(slot));
         }
     }
+}
+
+// Puts a property into the slot at a place.
+fn set_slot(slots: &mut Vec<Option<(Text, Value)>>, place: usize, property: (Text, Value))
+    requires { place < length slots.old.items }
+    ensures { slots.new.items ≡ slice_set slots.old.items place (Some property) }
+{
+    slots[place] = Some(property);
 }
 
 // Gives each name the place at which it stands now.
@@ -285,5 +405,27 @@ fn keeps_slot(place: u32, slot: &Option<(Text, Value)>) -> bool
     match slot {
         Some((name, _)) => !is_element_from(place, name),
         None => false,
+    }
+}
+
+// How many elements stand at a place and behind it, with a look at each slot.
+fn count_from(slots: &[Option<(Text, Value)>], place: u32) -> usize
+    ensures { result ≡ count_by (spec_is_element_from place) (standing slots.now) }
+{
+    let mut count = 0;
+    for slot in slots {
+        count += counted(place, slot);
+    }
+    count
+}
+
+// 1 for an element at a place or behind it, and 0 for every other slot.
+fn counted(place: u32, slot: &Option<(Text, Value)>) -> usize
+    ensures count { result ≡ count_by (spec_is_element_from place) (option_to_list slot.now) }
+    ensures small { result ≤ 1 }
+{
+    match slot {
+        Some((name, _)) => { if is_element_from(place, name) { 1 } else { 0 } }
+        None => 0,
     }
 }

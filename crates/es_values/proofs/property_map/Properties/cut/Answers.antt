@@ -1,36 +1,14 @@
-use Rattle.std.proofs.Common.{◌∙◌, ℕ, List, ap, subst, sym, rules, false}
-use Rattle.std.specs.Prelude.{is_some, not}
-use Rattle.std.specs.Map.{lookup}
-use Rattle.std.specs.Option.{option_map_or}
-use Rattle.std.proofs.lemmas.Fn.{filter_same}
-use Rattle.std.proofs.lemmas.Map.Made.{IsDistinct-keys_filter}
-use Rattle.indexmap.proofs.CallerLemmas.{filter-RetainsPairs}
-use Rattle.bml_bytes.specs.Words.{is_same}
-use Rattle.es_values.specs.Heaps.{cut_at}
-use Rattle.es_values.specs.Slots.{HaveOwnNames, is_element_name, standing}
-use Rattle.es_values.proofs.SlotLemmas.{names-kept, standing-kept}
+use Rattle.std.proofs.Common.{◌≡◌, ◌∙◌, arith, sym}
+use Rattle.es_values.proofs.IndexLemmas.{cut-none}
 use Rattle.es_values.proofs.property_map.Properties.cut.Goals as goal
 
-pub renumber-requires-clause-names : goal.renumber-requires-clause-names
-renumber-requires-clause-names c name =
-    let stays = λ (n : List ℕ). not (is_element_name c.args.length n) in
-    let slots = c.self.inside.slots.items in
-    let places = filter-RetainsPairs _ (λ e. not (is_element_name c.args.length e.0)) _ (λ k v b w g call. search rules) _ _ c.retain.ensures.filtered in
-    let kept = filter_same _ (λ s. option_map_or (λ p. not (is_element_name c.args.length p.0)) s false) _ (λ s b g call. search rules) _ _ c.retain-2.ensures.filtered in
-    ap (λ l. is_some (lookup (is_same name) l)) places
-    ∙ (names-kept stays c.self.inside.places.entries slots c.self.invariant name
-    ∙ ap (λ l. is_some (lookup (is_same name) l)) (sym (ap standing (c.deref.ensures.value ∙ kept) ∙ standing-kept stays slots)))
+pub loop-preserved : goal.loop-preserved
+loop-preserved c = c.remove_last.ensures ∙ c.loop.invariant
 
-pub renumber-requires-clause-distinct : goal.renumber-requires-clause-distinct
-renumber-requires-clause-distinct c =
-    let stays = λ (n : List ℕ). not (is_element_name c.args.length n) in
-    let slots = c.self.inside.slots.items in
-    let kept = filter_same _ (λ s. option_map_or (λ p. not (is_element_name c.args.length p.0)) s false) _ (λ s b g call. search rules) _ _ c.retain-2.ensures.filtered in
-    subst HaveOwnNames (sym (ap standing (c.deref.ensures.value ∙ kept) ∙ standing-kept stays slots))
-    (IsDistinct-keys_filter is_same (λ p. stays p.0) (standing slots) c.self.invariant.distinct)
+pub returns-then-count_from-gt0 : goal.returns-then-count_from-gt0
+returns-then-count_from-gt0 c = c.retain_below.ensures ∙ c.loop.invariant
 
-pub returns : goal.returns
-returns c =
-    let stays = λ (n : List ℕ). not (is_element_name c.args.length n) in
-    let kept = filter_same _ (λ s. option_map_or (λ p. not (is_element_name c.args.length p.0)) s false) _ (λ s b g call. search rules) _ _ c.retain-2.ensures.filtered in
-    ap standing kept ∙ (standing-kept stays c.self.inside.slots.items ∙ ap (cut_at c.args.length) c.self.view_is)
+pub returns-else-count_from-gt0 : goal.returns-else-count_from-gt0
+returns-else-count_from-gt0 c =
+    let none : c.count_from.result ≡ 0 = omega arith in
+    sym (cut-none c.args.place c.loop.self (sym c.count_from.ensures ∙ none)) ∙ c.loop.invariant
