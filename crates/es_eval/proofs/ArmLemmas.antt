@@ -14,17 +14,18 @@ use Rattle.es_eval.specs.declared.works.Given.TheVariants as given
 use Rattle.es_eval.specs.declared.works.Now.{Now}
 use Rattle.es_eval.specs.declared.works.Now.TheVariants as now
 use Rattle.es_eval.specs.declared.works.Work.{Work}
-use Rattle.es_eval.specs.declared.operators.Sign.{Sign}
-use Rattle.es_eval.specs.declared.operators.Sign.TheVariants as sign_of
-use Rattle.es_eval.specs.Operations.{signed_number, signs}
+use Rattle.es_shapes.specs.declared.operators.Sign.{Sign}
+use Rattle.es_shapes.specs.declared.operators.Sign.TheVariants as sign_of
+use Rattle.es_shapes.specs.Operators.{signed_number}
+use Rattle.es_eval.specs.Operations.{signs}
 use Rattle.es_eval.specs.Actions.{Action, Next, as_number, behind, charged, gives, step, stops}
-use Rattle.es_eval.specs.Codes.{declared_by}
-use Rattle.es_eval.specs.Machines.{Carries, GoesOn, MachineState, Stays, rest, run_from, world_of}
+use Rattle.es_shapes.specs.Codes.{declared_by}
+use Rattle.es_eval.specs.devices.Machines.{Carries, GoesOn, MachineState, Stays, rest, run_from, world_of}
 use Rattle.es_eval.specs.Members.{delete_in}
 use Rattle.es_eval.specs.Rows.{expression_row, with_members}
-use Rattle.es_eval.specs.Syntax.{Expression, Function as Declared}
+use Rattle.es_shapes.specs.Syntax.{Expression, Function as Declared}
 use Rattle.es_eval.specs.Unbounded.{called, entered, valued}
-use Rattle.es_eval.specs.Works.{as_value, does, enters, is_without_members}
+use Rattle.es_eval.specs.devices.Works.{as_value, does, enters, is_without_members}
 use Rattle.es_eval.specs.Worlds.{World}
 use Rattle.es_eval.specs.Worlds.Run.{Over}
 

@@ -6,9 +6,9 @@ use Rattle.es_eval.specs.Actions.{Next, step}
 use Rattle.es_eval.specs.Evaluation.{call_body, enough, evaluate, execute, returned}
 use Rattle.es_eval.specs.Rows.{Completion, Task}
 use Rattle.es_eval.specs.Rows.Task.{Do, Turn, Visit}
-use Rattle.es_eval.specs.Syntax.{Expression, Function, Statement, Statements}
+use Rattle.es_shapes.specs.Syntax.{Expression, Function, Statement, Statements}
 use Rattle.es_eval.specs.Worlds.{World}
-use Rattle.es_eval.specs.Bounds.{Agree}
+use Rattle.es_eval.specs.devices.Bounds.{Agree}
 use Rattle.es_eval.proofs.AlikeLemmas.{Alike, Onward, Sooner, behind-alike, gives-alike, sooner-alike, step-sooner}
 use Rattle.es_eval.proofs.RowLemmas.{expression_row-alike}
 use Rattle.es_eval.proofs.TaskLemmas.{TurnsAlike, need, statements-alike, task_row-alike}

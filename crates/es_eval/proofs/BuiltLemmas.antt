@@ -14,7 +14,7 @@ use Rattle.es_values.specs.Objects.{ObjectState}
 use Rattle.es_eval.specs.declared.outcomes.Outcome.TheVariants.{Stopped}
 use Rattle.es_eval.specs.declared.outcomes.StopCause.TheVariants.{Budget as OutOfSteps}
 use Rattle.es_eval.specs.Actions.{Next, by_row_in}
-use Rattle.es_eval.specs.Machines.{AreLive, IsMachine, MachineState, built_run, values_of_built, world_of}
+use Rattle.es_eval.specs.devices.Machines.{AreLive, IsMachine, MachineState, built_run, values_of_built, world_of}
 use Rattle.es_eval.specs.Worlds.Run.{Over}
 use Rattle.es_eval.proofs.MachineLemmas.{frames-stay, named-stays}
 

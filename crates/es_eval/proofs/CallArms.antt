@@ -21,9 +21,9 @@ use Rattle.es_reader.specs.Programs.{ToldFunction, ToldProgram}
 use Rattle.es_values.specs.declared.values.HostRef.{HostRef}
 use Rattle.es_values.specs.declared.values.Value.{Value}
 use Rattle.es_values.specs.declared.values.Value.TheVariants.{Undefined, Null, Bool as Boolean, Number, Str, Object, Function as FunctionValue, Host}
-use Rattle.es_eval.specs.declared.codes.Code.{Code}
-use Rattle.es_eval.specs.declared.codes.Listing.TheVariants.{Body as BodyListing}
-use Rattle.es_eval.specs.declared.functions.Declared.{Declared}
+use Rattle.es_shapes.specs.declared.codes.Code.{Code}
+use Rattle.es_shapes.specs.declared.codes.Listing.TheVariants.{Body as BodyListing}
+use Rattle.es_shapes.specs.declared.functions.Declared.{Declared}
 use Rattle.es_eval.specs.declared.outcomes.Outcome.TheVariants.{Stopped}
 use Rattle.es_eval.specs.declared.outcomes.StopCause.TheVariants.{Budget, Depth}
 use Rattle.es_eval.specs.declared.works.Callee.{Callee}
@@ -37,17 +37,19 @@ use Rattle.es_eval.specs.declared.works.StatementWork.TheVariants.{Statements as
 use Rattle.es_eval.specs.declared.works.Work.{Work}
 use Rattle.es_eval.specs.declared.works.Work.TheVariants.{Call as CallItem, Statement as StatementItem}
 use Rattle.es_eval.specs.Actions.{Action, Next, answered, behind, by_row, charged, gives}
-use Rattle.es_eval.specs.Calls.{Body, bound, call_member, call_number, call_property, construct, declared_function, enter, inside, most_calls, new_value, object_or, outside, with_new_object}
-use Rattle.es_eval.specs.Codes.{declared_at, declared_by, function_at, function_trees, listed, parts_from, tree_of, trees_at, trees_from}
+use Rattle.es_eval.specs.Calls.{Body, bound, call_member, call_number, call_property, construct, enter, inside, most_calls, new_value, object_or, outside, with_new_object}
+use Rattle.es_shapes.specs.Functions.{declared_function}
+use Rattle.es_shapes.specs.devices.Parts.{declared_at, function_trees, listed, parts_from, tree_of, trees_from}
+use Rattle.es_shapes.specs.Codes.{declared_by, function_at, trees_at}
 use Rattle.es_eval.specs.Evaluation.{returned}
-use Rattle.es_eval.specs.Machines.{built_run, value_rest, GoesOn, MachineState, Stays, behind_frame, outside_of, rest, run_from, value_of_call, world_of}
+use Rattle.es_eval.specs.devices.Machines.{built_run, value_rest, GoesOn, MachineState, Stays, behind_frame, outside_of, rest, run_from, value_of_call, world_of}
 use Rattle.es_eval.specs.Rows.{Completion, statements, values, where_normal}
 use Rattle.es_eval.specs.Rows.Completion.{Normal, Broke, Continued, Returned}
-use Rattle.es_eval.specs.Sources.{expressions_of, statements_of}
-use Rattle.es_eval.specs.Syntax.{Function, Statements}
-use Rattle.es_eval.specs.Syntax.Statements.{NoStatements}
+use Rattle.es_shapes.specs.Sources.{expressions_of, statements_of}
+use Rattle.es_shapes.specs.Syntax.{Function, Statements}
+use Rattle.es_shapes.specs.Syntax.Statements.{NoStatements}
 use Rattle.es_eval.specs.Unbounded.{called, run_statement}
-use Rattle.es_eval.specs.Works.{as_value, calls_callee, calls_with, completed, does, enters, evaluates, executes}
+use Rattle.es_eval.specs.devices.Works.{as_value, calls_callee, calls_with, completed, does, enters, evaluates, executes}
 use Rattle.es_eval.specs.Worlds.{Run, World}
 use Rattle.es_eval.specs.Worlds.Run.{Calls, Over}
 use Rattle.es_eval.proofs.UnboundedLemmas.{called-row}

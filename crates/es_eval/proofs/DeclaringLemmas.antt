@@ -1,8 +1,11 @@
 -- Names that become globals one behind the other.
-use Rattle.std.proofs.Common.{◌≡◌, ◌∙◌, ◌+◌, ◌<◌, ℕ, Bool, true, false, List, [], ◌∷◌, length, drop, get_or, ap, sym, refl}
+use Rattle.std.proofs.Common.{◌≡◌, ◌∙◌, ◌+◌, ◌<◌, ◌≤◌, ℕ, Bool, true, false, List, [], ◌∷◌, length, drop, get_or, ap, sym, refl, arith}
 use Rattle.std.specs.Prelude.{if◌then◌else◌, is_some, map, Some, slice_get, take}
+use Rattle.std.specs.List.{flat_map}
 use Rattle.std.specs.Map.{lookup}
 use Rattle.std.specs.Option.{option_map_or}
+use Rattle.std.proofs.lemmas.List.{length-map}
+use Rattle.std.proofs.lemmas.List.Folds.{length-flat_map-take}
 use Rattle.bml_bytes.specs.Words.{is_same}
 use Rattle.es_reader.specs.Programs.{ToldProgram}
 use Rattle.es_expressions.specs.Nodes.{NodeRow}
@@ -11,15 +14,30 @@ use Rattle.es_reader.specs.declared.programs.FunctionDecl.{FunctionDecl}
 use Rattle.es_values.specs.declared.values.Value.{Value}
 use Rattle.es_values.specs.declared.values.Value.TheVariants.{Undefined, Function as FunctionValue}
 use Rattle.es_values.specs.Heaps.{with_value}
-use Rattle.es_eval.specs.Calls.{first_function}
-use Rattle.es_eval.specs.Codes.{declared_by, function_at}
-use Rattle.es_eval.specs.Declaring.{with_new, with_new_one, with_numbered}
+use Rattle.es_shapes.specs.Functions.{first_function}
+use Rattle.es_shapes.specs.Codes.{declared_by, function_at}
+use Rattle.es_shapes.specs.Syntax.{Function}
+use Rattle.es_eval.specs.devices.Declaring.{with_new, with_new_one, with_numbered}
 use Rattle.es_eval.specs.Evaluation.{with_functions, with_new_name, with_variables}
-use Rattle.es_eval.specs.Machines.{variables_of, with_declared}
+use Rattle.es_eval.specs.devices.Machines.{variables_of, with_declared}
 use Rattle.es_eval.specs.Worlds.{World}
 use Rattle.es_eval.proofs.TurnLemmas.{drop-at}
 
 -- ---- functions
+
+-- those before a place, and those of the program there, are at most all
+pub count-within : (programs : List ToldProgram) (i : ℕ) (told : ToldProgram)
+    → i < length programs → told ≡ get_or programs i told
+    → length (declared_by (take i programs)) + length told.functions
+    ≤ length (declared_by programs)
+unfolding declared_by
+count-within programs i told h is =
+    let f : ToldProgram → List Function = λ told. map (function_at told.rows) told.functions in
+    let within : length (flat_map f (take i programs)) + length (f (get_or programs i told))
+    ≤ length (flat_map f programs) = length-flat_map-take f programs i told h in
+    let same : length (f (get_or programs i told)) ≡ length told.functions =
+    ap (λ x. length (f x)) (sym is) ∙ length-map told.functions (function_at told.rows) in
+    omega arith
 
 abbrev pub names_of_all : List FunctionDecl → List (List ℕ)
 names_of_all functions = map (λ (f : FunctionDecl). f.name) functions

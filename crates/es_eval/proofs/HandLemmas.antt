@@ -11,8 +11,8 @@ use Rattle.es_eval.specs.declared.works.TargetWork.TheVariants as target
 use Rattle.es_eval.specs.declared.works.Work.{Work}
 use Rattle.es_eval.specs.declared.works.Work.TheVariants as work
 use Rattle.es_eval.specs.Actions.{Action, Next}
-use Rattle.es_eval.specs.Machines.{MachineState, rest, run_from, turns_of, world_of}
-use Rattle.es_eval.specs.Works.{does, with_value}
+use Rattle.es_eval.specs.devices.Machines.{MachineState, rest, run_from, turns_of, world_of}
+use Rattle.es_eval.specs.devices.Works.{does, with_value}
 use Rattle.es_eval.specs.Worlds.{World}
 
 abbrev pub IsNoStatement : Work → Type 0

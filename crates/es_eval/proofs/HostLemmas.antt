@@ -19,8 +19,8 @@ use Rattle.es_eval.specs.declared.works.Now.{Now}
 use Rattle.es_eval.specs.declared.works.Now.TheVariants as now
 use Rattle.es_eval.specs.Actions.{answered}
 use Rattle.es_eval.specs.Endings.{MayEnd}
-use Rattle.es_eval.specs.Leading.{LeadsTo}
-use Rattle.es_eval.specs.Machines.{AreLive, IsMachine, MachineState, burden, next_behind, rest, run_from, values_of_next, weight, weight_of_next, world_of}
+use Rattle.es_eval.specs.devices.Leading.{LeadsTo}
+use Rattle.es_eval.specs.devices.Machines.{AreLive, IsMachine, MachineState, burden, next_behind, rest, run_from, values_of_next, weight, weight_of_next, world_of}
 use Rattle.es_eval.specs.Worlds.{Run, World}
 use Rattle.es_eval.proofs.MachineLemmas.{frames-stay, named-stays}
 

@@ -5,13 +5,8 @@ pub mod RowLemmas
 pub mod TaskLemmas
 pub mod BoundLemmas
 pub mod RunLemmas
+pub mod FurtherLemmas
 pub mod UnboundedLemmas
-pub mod TreeLemmas
-pub mod CodeLemmas
-pub mod ShapeLemmas
-pub mod StatementLemmas
-pub mod BridgeLemmas
-pub mod FunctionLemmas
 pub mod MachineLemmas
 pub mod ArmLemmas
 pub mod ShapeRows

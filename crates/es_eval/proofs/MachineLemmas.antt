@@ -20,8 +20,9 @@ use Rattle.es_eval.specs.declared.works.Given.{Given}
 use Rattle.es_eval.specs.declared.works.Now.{Now}
 use Rattle.es_eval.specs.declared.works.Work.{Work}
 use Rattle.es_eval.specs.Actions.{Action, Next, takes}
-use Rattle.es_eval.specs.Machines.{IsFrameLive, IsMachine, IsNamedLive, IsWorkLive, MachineState, Stays, behind_frame, burden, items_of, next_run, rest, run_from, turns_of, values_of_work, world_of}
-use Rattle.es_eval.specs.Works.{does}
+use Rattle.es_eval.specs.devices.Machines.{IsFrameLive, IsMachine, IsWorkLive, MachineState, Stays, behind_frame, burden, items_of, next_run, rest, run_from, turns_of, values_of_work, world_of}
+use Rattle.es_eval.specs.Worlds.{IsNamedLive}
+use Rattle.es_eval.specs.devices.Works.{does}
 use Rattle.es_eval.specs.Worlds.{World, with_name}
 use Rattle.es_eval.specs.Worlds.Run.{Over}
 use Rattle.es_eval.proofs.NameLemmas.{live_with_value_in, local_there, local_written, no_local}

@@ -13,7 +13,8 @@ use Rattle.es_values.specs.declared.values.Value.{Value}
 use Rattle.es_values.specs.Heaps.{IsLive, with_value}
 use Rattle.es_values.specs.Objects.{ObjectState}
 use Rattle.es_eval.specs.declared.works.Work.{Work}
-use Rattle.es_eval.specs.Machines.{IsFrameLive, IsNamedLive}
+use Rattle.es_eval.specs.devices.Machines.{IsFrameLive}
+use Rattle.es_eval.specs.Worlds.{IsNamedLive}
 
 -- ---- places of names
 

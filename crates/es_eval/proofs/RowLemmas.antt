@@ -8,12 +8,12 @@ use Rattle.es_eval.specs.declared.outcomes.StopCause.TheVariants.{NotObject}
 use Rattle.es_eval.specs.Actions.{Action}
 use Rattle.es_eval.specs.Calls.{Body}
 use Rattle.es_eval.specs.Members.Place.{NamePlace, MemberPlace}
-use Rattle.es_eval.specs.Operations.{type_text}
+use Rattle.es_shapes.specs.Operators.{type_text}
 use Rattle.es_eval.specs.Rows.{Evaluation, call_row, delete_row, entered_place, expression_row, last_value, place_row, values, with_members}
-use Rattle.es_eval.specs.Syntax.{Expression, Expressions, Target, Function as Declared, Statements}
-use Rattle.es_eval.specs.Syntax.Expression.{This, Null as NullWord, Truth, Number as Numeral, Text, Name, Index, Member, Call, New, Signed, Typeof, Void, Delete, Stepped, Binary, And, Or, Choice, Assign, Update, Comma}
-use Rattle.es_eval.specs.Syntax.Expressions.{NoExpressions, OneMore}
-use Rattle.es_eval.specs.Syntax.Target.{NameTarget, IndexTarget, MemberTarget}
+use Rattle.es_shapes.specs.Syntax.{Expression, Expressions, Target, Function as Declared, Statements}
+use Rattle.es_shapes.specs.Syntax.Expression.{This, Null as NullWord, Truth, Number as Numeral, Text, Name, Index, Member, Call, New, Signed, Typeof, Void, Delete, Stepped, Binary, And, Or, Choice, Assign, Update, Comma}
+use Rattle.es_shapes.specs.Syntax.Expressions.{NoExpressions, OneMore}
+use Rattle.es_shapes.specs.Syntax.Target.{NameTarget, IndexTarget, MemberTarget}
 use Rattle.es_eval.proofs.AlikeLemmas.{Alike, as_text-alike, behind-alike, gives-alike, gives-in-alike, if-alike, step-alike, stops-alike}
 use Rattle.es_eval.proofs.CallLemmas.{call_member-alike, call_value-alike, new_value-alike}
 use Rattle.es_eval.proofs.MemberLemmas.{delete_index-alike, delete_member-alike, operates-alike, read_member-alike, read_name-alike, read_place-alike, signs-alike, step_row-alike, typeof_name-alike, write_place-alike}
@@ -85,7 +85,7 @@ module _ (functions : List Declared) (left : ℕ) (body other : Body)
 
   pub expression_row-alike : (e : Expression)
       → Alike left (expression_row functions body ev e) (expression_row functions other by e)
-  expression_row-alike This = gives-in-alike (λ w. w.this) (λ w. w) (λ w. refl)
+  expression_row-alike This = gives-in-alike (λ w. w.this) (λ w. w) (λ w. refl) (λ more w. refl) (λ more w. refl)
   expression_row-alike NullWord = gives-alike Null
   expression_row-alike (Truth truth) = gives-alike (Boolean truth)
   expression_row-alike (Numeral number) = gives-alike (Number (Whole number))

@@ -13,11 +13,12 @@ use Rattle.es_eval.specs.declared.outcomes.Outcome.{Outcome}
 use Rattle.es_eval.specs.declared.outcomes.Outcome.TheVariants.{Normal as AtEnd, Stopped}
 use Rattle.es_eval.specs.declared.outcomes.StopCause.TheVariants.{Unresolved}
 use Rattle.es_eval.specs.Actions.{step}
-use Rattle.es_eval.specs.Calls.{call_value, first_function}
+use Rattle.es_eval.specs.Calls.{call_value}
+use Rattle.es_shapes.specs.Functions.{first_function}
 use Rattle.es_eval.specs.Endings.{MayEnd}
 use Rattle.es_eval.specs.Evaluation.{all_functions, call_body, ends_normally, enough, execute, global_run, global_run_by, program_run, program_run_by, started, with_functions, with_new_name, with_variables, world}
 use Rattle.es_eval.specs.Rows.Task.{Do}
-use Rattle.es_eval.specs.Syntax.{Function, Program, Statement}
+use Rattle.es_shapes.specs.Syntax.{Function, Program, Statement}
 use Rattle.es_eval.specs.Worlds.{World, Run, global}
 use Rattle.es_eval.specs.Worlds.Run.{Over, Reads, Writes, Calls}
 use Rattle.es_eval.proofs.AlikeLemmas.{Alike, EndsWithin, Onward, Same, over-same, same_more, sooner-alike, step-sooner}
@@ -49,7 +50,7 @@ started-left functions program w =
 
 -- ---- runs with bounds that are enough
 
-entered-alike : (n m : ℕ) (functions : List Function) (left : ℕ) → enough left ≤ n → enough left ≤ m
+pub entered-alike : (n m : ℕ) (functions : List Function) (left : ℕ) → enough left ≤ n → enough left ≤ m
     → (s : Statement)
     → Alike left (step (execute functions n (Do s))) (step (execute functions m (Do s)))
 entered-alike n m functions left h l s = sooner-alike (step-sooner (λ less small.

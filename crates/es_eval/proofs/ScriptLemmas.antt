@@ -2,18 +2,17 @@
 -- text comes to.
 use Rattle.std.proofs.Common.{◌≡◌, ◌∙◌, ◌<◌, ◌++◌, ℕ, zero, suc, List, [], ◌∷◌, length, ap, subst, sym, refl, arith}
 use Rattle.std.specs.Prelude.{Option, Some, None, map, slice_get, take}
-use Rattle.std.specs.List.{AllZip}
 use Rattle.std.proofs.lemmas.List.{take-map}
 use Rattle.std.proofs.lemmas.Option.{slice_get-map}
 use Rattle.es_frames.specs.Frames.{Frame, below_last, next_item}
-use Rattle.es_reader.specs.Programs.{Tells, ToldProgram}
+use Rattle.es_reader.specs.Programs.{ToldProgram}
 use Rattle.es_reader.specs.Statements.{Item}
 use Rattle.es_values.specs.declared.hosts.HostAnswer.{HostAnswer}
 use Rattle.es_values.specs.declared.values.HostRef.{HostRef}
 use Rattle.es_values.specs.declared.values.Value.{Value}
 use Rattle.es_values.specs.declared.values.Value.TheVariants.{Undefined, Null, Bool as Boolean, Number, Str, Object, Function, Host}
 use Rattle.es_values.specs.Objects.{ObjectState}
-use Rattle.es_eval.specs.declared.codes.Listing.TheVariants.{Top}
+use Rattle.es_shapes.specs.declared.codes.Listing.TheVariants.{Top}
 use Rattle.es_eval.specs.declared.outcomes.Outcome.{Outcome}
 use Rattle.es_eval.specs.declared.outcomes.Outcome.TheVariants.{Normal as AtEnd, Stopped}
 use Rattle.es_eval.specs.declared.outcomes.StopCause.TheVariants.{NotCallable, Unresolved}
@@ -22,17 +21,17 @@ use Rattle.es_eval.specs.declared.works.Now.TheVariants as now
 use Rattle.es_eval.specs.declared.works.Work.{Work}
 use Rattle.es_eval.specs.Actions.{Action}
 use Rattle.es_eval.specs.Calls.{call_number, call_value}
-use Rattle.es_eval.specs.Codes.{declared_by, program_at, statements_from}
+use Rattle.es_shapes.specs.Codes.{declared_by, program_at}
+use Rattle.es_shapes.specs.devices.Parts.{statements_from}
 use Rattle.es_eval.specs.Endings.{EndsWith, MayEnd}
 use Rattle.es_eval.specs.Evaluation.{all_functions, ends_normally, global_run, run_at, with_variables, world}
-use Rattle.es_eval.specs.Machines.{GoesOn, MachineState, behind_frame, opened, rest, run_from, told_global_run, told_run, variables_of, with_declared, world_of}
+use Rattle.es_eval.specs.devices.Machines.{GoesOn, MachineState, behind_frame, opened, rest, run_from, told_global_run, told_run, variables_of, with_declared, world_of}
 use Rattle.es_eval.specs.Rows.{Completion, statements}
-use Rattle.es_eval.specs.Sources.{program_of}
+use Rattle.es_shapes.specs.Sources.{program_of}
 use Rattle.es_eval.specs.Unbounded.{called}
-use Rattle.es_eval.specs.Works.{as_completion, as_value, runs}
+use Rattle.es_eval.specs.devices.Works.{as_completion, as_value, runs}
 use Rattle.es_eval.specs.Worlds.{Run, World, global}
 use Rattle.es_eval.specs.Worlds.Run.{Over}
-use Rattle.es_eval.proofs.BridgeLemmas.{programs-are, top-is}
 use Rattle.es_eval.proofs.MachineLemmas.{rest-no_item}
 use Rattle.es_eval.proofs.UnboundedLemmas.{global-unbounded, program-unbounded}
 
@@ -134,10 +133,11 @@ declared-all (told ∷ programs) = ap (λ rest. (program_at told).functions ++ r
 pub told-run : (programs : List ToldProgram) (place : ℕ) (told : ToldProgram)
     (globals : List (List ℕ × Value)) (heap : List ObjectState) (budget : ℕ)
     → slice_get programs place ≡ Some told
+    → statements_from programs (Top place) 0 ≡ (program_at told).body
     → run_at (map program_at programs) place globals heap budget
     ≡ told_run programs place (world globals heap budget)
 unfolding run_at told_run with_declared program_at
-told-run programs place told globals heap budget is =
+told-run programs place told globals heap budget is top =
     rw (
       slice_get-map program_at programs place,
       is,
@@ -145,7 +145,7 @@ told-run programs place told globals heap budget is =
       take-map program_at place programs,
       declared-all programs,
       declared-all (take place programs),
-      top-is programs place told is,
+      top,
     ) refl
 
 pub told-global : (programs : List ToldProgram) (name : List ℕ)
@@ -167,21 +167,23 @@ there (told ∷ programs) (suc place) h = there programs place (omega arith)
 
 module _ (sources : List (List Item)) (programs told : List ToldProgram)
     (globals : List (List ℕ × Value)) (heap : List ObjectState) (budget : ℕ) (m : MachineState)
-    (tells : AllZip Tells sources programs) (same : told ≡ programs)
+    (texts : map program_at programs ≡ map program_of sources) (same : told ≡ programs)
     (start : m ≡ opened globals heap budget) where
   pub source-run : (place : ℕ) → place < length programs
+      → ((found : ToldProgram) → slice_get programs place ≡ Some found
+      → statements_from programs (Top place) 0 ≡ (program_at found).body)
       → run_at (map program_of sources) place globals heap budget
       ≡ told_run told place (world_of m)
-  source-run place h =
+  source-run place h tops =
       let found = there programs place h in
-      rw (← programs-are sources programs tells, same, start)
-      (told-run programs place found.0 globals heap budget found.1)
+      rw (← texts, same, start)
+      (told-run programs place found.0 globals heap budget found.1 (tops found.0 found.1))
 
   pub source-global : (name : List ℕ)
       → global_run (map program_of sources) name globals heap budget
       ≡ told_global_run told name (world_of m)
   source-global name =
-      rw (← programs-are sources programs tells, same, start)
+      rw (← texts, same, start)
       (told-global programs name globals heap budget)
 
 pub ends-with : {H : Type 0} (reads : H → HostRef → List ℕ → Value → H → Type 0)

@@ -8,26 +8,26 @@ use Rattle.es_reader.specs.Programs.{ToldProgram}
 use Rattle.es_values.specs.declared.values.Value.{Value}
 use Rattle.es_values.specs.declared.values.Value.TheVariants.{Undefined, Null, Bool as Boolean, Number, Str, Object, Function, Host}
 use Rattle.es_values.specs.Values.{type_name}
-use Rattle.es_eval.specs.declared.codes.Code.{Code}
-use Rattle.es_eval.specs.declared.shapes.Shape.{Shape}
-use Rattle.es_eval.specs.declared.shapes.Shape.TheVariants as shape
+use Rattle.es_shapes.specs.declared.codes.Code.{Code}
+use Rattle.es_shapes.specs.declared.shapes.Shape.{Shape}
+use Rattle.es_shapes.specs.declared.shapes.Shape.TheVariants as shape
 use Rattle.es_eval.specs.Actions.{Action, behind, gives}
 use Rattle.es_eval.specs.Calls.{Body, call_value}
 use Rattle.es_eval.specs.declared.works.Given.TheVariants as given
 use Rattle.es_eval.specs.declared.works.Now.{Now}
 use Rattle.es_eval.specs.declared.works.Now.TheVariants as now
-use Rattle.es_eval.specs.Machines.{GoesOn, MachineState, rest, run_from, world_of}
+use Rattle.es_eval.specs.devices.Machines.{GoesOn, MachineState, rest, run_from, world_of}
 use Rattle.es_eval.specs.Members.{named}
-use Rattle.es_eval.specs.Works.{as_value}
-use Rattle.es_eval.specs.Operations.{type_text}
+use Rattle.es_eval.specs.devices.Works.{as_value}
+use Rattle.es_shapes.specs.Operators.{type_text}
 use Rattle.es_eval.specs.Rows.{Evaluation, call_row, delete_row, expression_row, typeof_name, values}
-use Rattle.es_eval.specs.Shapes.{shaped}
-use Rattle.es_eval.specs.Codes.{expression_at, parts_from, tree_of, trees_from}
-use Rattle.es_eval.specs.Sources.{expressions_of, target_of}
-use Rattle.es_eval.specs.Syntax.{Expression, Expressions, Function as Declared}
-use Rattle.es_eval.specs.Syntax.Expression.{Typeof}
-use Rattle.es_eval.specs.Syntax.Expressions.{NoExpressions, OneMore}
-use Rattle.es_eval.specs.Syntax.Target.{NameTarget}
+use Rattle.es_shapes.specs.devices.Shapes.{shaped}
+use Rattle.es_shapes.specs.devices.Parts.{expression_at, parts_from, tree_of, trees_from}
+use Rattle.es_shapes.specs.Sources.{expressions_of, target_of}
+use Rattle.es_shapes.specs.Syntax.{Expression, Expressions, Function as Declared}
+use Rattle.es_shapes.specs.Syntax.Expression.{Typeof}
+use Rattle.es_shapes.specs.Syntax.Expressions.{NoExpressions, OneMore}
+use Rattle.es_shapes.specs.Syntax.Target.{NameTarget}
 
 -- the codes of an ASCII word are its bytes
 pub plain-type_name : (value : Value) → codes (type_name value) ≡ type_name value

@@ -14,8 +14,9 @@ use Rattle.es_values.specs.Objects.{ObjectState}
 use Rattle.es_reader.specs.Programs.{ToldProgram}
 use Rattle.es_eval.specs.declared.works.Work.{Work}
 use Rattle.es_eval.specs.Calls.{bound}
-use Rattle.es_eval.specs.Machines.{AreLive, IsFrameLive, IsMachine, IsNamedLive, IsWorkLive, MachineState, behind_frame, burden, items_of, rest, world_of}
-use Rattle.es_eval.specs.Slots.{with_values}
+use Rattle.es_eval.specs.devices.Machines.{AreLive, IsFrameLive, IsMachine, IsWorkLive, MachineState, behind_frame, burden, items_of, rest, world_of}
+use Rattle.es_eval.specs.Worlds.{IsNamedLive}
+use Rattle.es_eval.specs.devices.Slots.{with_values}
 use Rattle.es_eval.specs.Worlds.{World}
 
 -- ---- one value more

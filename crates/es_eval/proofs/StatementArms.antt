@@ -9,15 +9,15 @@ use Rattle.es_values.specs.declared.values.Value.{Value}
 use Rattle.es_values.specs.declared.values.Value.TheVariants.{Object}
 use Rattle.es_values.specs.Heaps.{has_property, object_at}
 use Rattle.es_values.specs.Values.{truth_of}
-use Rattle.es_eval.specs.declared.codes.Code.{Code}
-use Rattle.es_eval.specs.declared.codes.Listing.{Listing}
+use Rattle.es_shapes.specs.declared.codes.Code.{Code}
+use Rattle.es_shapes.specs.declared.codes.Listing.{Listing}
 use Rattle.es_eval.specs.declared.outcomes.Outcome.TheVariants.{Stopped}
 use Rattle.es_eval.specs.declared.outcomes.StopCause.TheVariants.{Budget}
-use Rattle.es_eval.specs.declared.shapes.DeclaratorShape.{DeclaratorShape}
-use Rattle.es_eval.specs.declared.shapes.FirstShape.TheVariants as head
-use Rattle.es_eval.specs.declared.shapes.StatementShape.{StatementShape}
-use Rattle.es_eval.specs.declared.shapes.VisitorShape.{VisitorShape}
-use Rattle.es_eval.specs.declared.shapes.VisitorShape.TheVariants as seen
+use Rattle.es_shapes.specs.declared.shapes.DeclaratorShape.{DeclaratorShape}
+use Rattle.es_shapes.specs.declared.shapes.FirstShape.TheVariants as head
+use Rattle.es_shapes.specs.declared.shapes.StatementShape.{StatementShape}
+use Rattle.es_shapes.specs.declared.shapes.VisitorShape.{VisitorShape}
+use Rattle.es_shapes.specs.declared.shapes.VisitorShape.TheVariants as seen
 use Rattle.es_eval.specs.declared.works.Given.{Given}
 use Rattle.es_eval.specs.declared.works.Given.TheVariants as given
 use Rattle.es_eval.specs.declared.works.Loop.{Loop}
@@ -28,18 +28,19 @@ use Rattle.es_eval.specs.declared.works.Use.TheVariants.{Visit as VisitUse}
 use Rattle.es_eval.specs.declared.works.Visit.{Visit as Visiting}
 use Rattle.es_eval.specs.declared.works.Work.TheVariants.{Statement as StatementItem}
 use Rattle.es_eval.specs.Actions.{Action, Next, and_then, behind, step}
-use Rattle.es_eval.specs.Codes.{declarator_at, declared_by, expression_at, listed, statement_at, statements_from, tree_of, trees_from}
-use Rattle.es_eval.specs.Machines.{Carries, GoesOn, MachineState, Stays, names_in, rest, run_from, world_of}
+use Rattle.es_shapes.specs.devices.Parts.{declarator_at, expression_at, listed, statement_at, statements_from, tree_of, trees_from}
+use Rattle.es_shapes.specs.Codes.{declared_by}
+use Rattle.es_eval.specs.devices.Machines.{Carries, GoesOn, MachineState, Stays, names_in, rest, run_from, world_of}
 use Rattle.es_eval.specs.Rows.{Completion, Evaluation, behind_body, declarator_row, declarators, entered_place, statement_row, statements, turn_body, turn_row, update_row, visit_all, visited_place, where_normal}
 use Rattle.es_eval.specs.Rows.Completion.{Normal, Broke, Continued, Returned}
 use Rattle.es_eval.specs.Rows.Task.{Do, Visit as VisitTurn}
 use Rattle.es_eval.specs.Members.{Place}
 use Rattle.es_eval.specs.Members.Place.{NamePlace}
-use Rattle.es_eval.specs.Shapes.{declared, first_shaped, stated, visitor_shaped}
-use Rattle.es_eval.specs.Sources.{declarators_of, statements_of, target_of}
-use Rattle.es_eval.specs.Syntax.{Declarator, Expression, Statement}
+use Rattle.es_shapes.specs.devices.Shapes.{declared, first_shaped, stated, visitor_shaped}
+use Rattle.es_shapes.specs.Sources.{declarators_of, statements_of, target_of}
+use Rattle.es_shapes.specs.Syntax.{Declarator, Expression, Statement}
 use Rattle.es_eval.specs.Unbounded.{done}
-use Rattle.es_eval.specs.Works.{as_completion, completed, declares, does, enters, evaluates, executes, loop_again, loop_body, loop_task, runs, starts_loop, statement_work_row, turns, use_row, visit_task}
+use Rattle.es_eval.specs.devices.Works.{as_completion, completed, declares, does, enters, evaluates, executes, loop_again, loop_body, loop_task, runs, starts_loop, statement_work_row, turns, use_row, visit_task}
 use Rattle.es_eval.specs.Worlds.{World}
 use Rattle.es_eval.proofs.ArmLemmas.{Steps, put-run, stepped-run, unstepped-run}
 use Rattle.es_eval.proofs.UnboundedLemmas.{done-row}

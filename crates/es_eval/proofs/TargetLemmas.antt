@@ -4,8 +4,8 @@ use Rattle.std.specs.Prelude.{Option, Some, None, if◌then◌else◌}
 use Rattle.es_reader.specs.Programs.{ToldProgram}
 use Rattle.es_values.specs.declared.numbers.Num.{Num}
 use Rattle.es_values.specs.declared.values.Value.TheVariants.{Number}
-use Rattle.es_eval.specs.declared.codes.Code.{Code}
-use Rattle.es_eval.specs.declared.operators.Operator.{Operator}
+use Rattle.es_shapes.specs.declared.codes.Code.{Code}
+use Rattle.es_shapes.specs.declared.operators.Operator.{Operator}
 use Rattle.es_eval.specs.declared.works.Given.{Given}
 use Rattle.es_eval.specs.declared.works.Now.{Now}
 use Rattle.es_eval.specs.declared.works.OperandWork.TheVariants as operand
@@ -17,12 +17,12 @@ use Rattle.es_eval.specs.declared.works.Visit.{Visit}
 use Rattle.es_eval.specs.declared.works.Work.{Work}
 use Rattle.es_eval.specs.declared.works.Work.TheVariants as work
 use Rattle.es_eval.specs.Actions.{Next, and_then, gives}
-use Rattle.es_eval.specs.Machines.{GoesOn, MachineState, rest, run_from, world_of}
+use Rattle.es_eval.specs.devices.Machines.{GoesOn, MachineState, rest, run_from, world_of}
 use Rattle.es_eval.specs.Members.{Place, read_place, write_place}
-use Rattle.es_eval.specs.Operations.{stepped}
+use Rattle.es_shapes.specs.Operators.{stepped}
 use Rattle.es_eval.specs.Rows.{Completion, behind_body}
 use Rattle.es_eval.specs.Rows.Completion.{Normal, Broke, Continued, Returned}
-use Rattle.es_eval.specs.Works.{as_completion, as_value, completed, does, executes, place_of, turns, use_row, visit_body, visit_task}
+use Rattle.es_eval.specs.devices.Works.{as_completion, as_value, completed, does, executes, place_of, turns, use_row, visit_body, visit_task}
 use Rattle.es_eval.specs.Worlds.{World}
 use Rattle.es_eval.proofs.ArmLemmas.{put-run}
 

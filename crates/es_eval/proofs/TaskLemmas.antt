@@ -11,12 +11,12 @@ use Rattle.es_eval.specs.Members.Place.{NamePlace}
 use Rattle.es_eval.specs.Rows.{Completion, Evaluation, Execution, Task, Turns, behind_body, declarator_row, declarators, first_row, return_row, statement_row, statements, task_row, turn_body, turn_row, update_row, visit_all, visit_row, visited_place, where_normal}
 use Rattle.es_eval.specs.Rows.Completion.{Normal, Broke, Continued, Returned}
 use Rattle.es_eval.specs.Rows.Task.{Do, Turn, Visit}
-use Rattle.es_eval.specs.Syntax.{Expression, Declarator, First, Visitor, Statement, Statements}
-use Rattle.es_eval.specs.Syntax.First.{NoFirst, FirstExpression, FirstVar}
-use Rattle.es_eval.specs.Syntax.Visitor.{VisitTarget, VisitVar}
-use Rattle.es_eval.specs.Syntax.Statement.{Block, Var, Empty, Evaluate, If, IfElse, While, For, ForIn, Continue, Break, Return}
-use Rattle.es_eval.specs.Syntax.Statements.{NoStatements, OneMoreStatement}
-use Rattle.es_eval.proofs.AlikeLemmas.{Alike, Sooner, alike_less, and_then-alike, behind-alike, charged-alike, gives-alike, if-alike, if-same, option-alike, sooner-alike, sooner-behind, step-alike}
+use Rattle.es_shapes.specs.Syntax.{Expression, Declarator, First, Visitor, Statement, Statements}
+use Rattle.es_shapes.specs.Syntax.First.{NoFirst, FirstExpression, FirstVar}
+use Rattle.es_shapes.specs.Syntax.Visitor.{VisitTarget, VisitVar}
+use Rattle.es_shapes.specs.Syntax.Statement.{Block, Var, Empty, Evaluate, If, IfElse, While, For, ForIn, Continue, Break, Return}
+use Rattle.es_shapes.specs.Syntax.Statements.{NoStatements, OneMoreStatement}
+use Rattle.es_eval.proofs.AlikeLemmas.{Alike, Sooner, alike_less, and_then-alike, behind-alike, charged-alike, gives-alike, if-alike, if-same, option-alike, sooner-alike, sooner-behind, step-alike, if-further}
 use Rattle.es_eval.proofs.MemberLemmas.{write_name-alike, write_place-alike}
 use Rattle.es_eval.proofs.RowLemmas.{entered_place-alike}
 
@@ -140,6 +140,10 @@ module _ (bound left : ℕ) (ev by : Evaluation) (ex run : Execution) (turns aga
         if-same (has_property (object_at w.heap object) name)
         ((visit-alike visitor object name names body room).same counted w l next other onward)
         ((visit_row-alike visitor object names body room).same counted w l next other onward);
+    further = λ more w l next other on.
+        if-further more (has_property (object_at w.heap object) name) _ _ _ _
+        ((visit-alike visitor object name names body room).further more w l next other on)
+        ((visit_row-alike visitor object names body room).further more w l next other on);
   }
 
   visit_all-alike : (visitor : Visitor) (body : Statement) (value : Value) → 2 * left < bound
@@ -148,6 +152,9 @@ module _ (bound left : ℕ) (ev by : Evaluation) (ex run : Execution) (turns aga
     same = λ counted w l next other onward.
         (later.within left (Visit visitor object (names_of (object_at w.heap object)) body)
         (omega arith)).same counted w l next other onward;
+    further = λ more w l next other on.
+        (later.within left (Visit visitor object (names_of (object_at w.heap object)) body)
+        (omega arith)).further more w l next other on;
   })
   visit_all-alike visitor body _ room = gives-alike Normal
 

@@ -2,16 +2,12 @@
 use Rattle.std.proofs.Common.{◌≡◌, ◌∙◌, ◌+◌, ◌<◌, ◌≤◌, ℕ, zero, suc, true, false, List, [], ◌∷◌, length, drop, get_or, ap, sym, refl, drop-cons, arith}
 use Rattle.es_values.specs.declared.values.Value.TheVariants.{Str}
 use Rattle.es_values.specs.Heaps.{has_property, object_at}
-use Rattle.es_expressions.specs.Trees.Trees.{NoTrees}
-use Rattle.es_reader.specs.Programs.{ToldProgram}
-use Rattle.es_eval.specs.declared.codes.Code.{Code}
-use Rattle.es_eval.specs.Codes.{below, children_of, rows_of, trees_at, trees_from}
 use Rattle.es_eval.specs.Actions.{Next, and_then, behind}
 use Rattle.es_eval.specs.Members.{write_place}
 use Rattle.es_eval.specs.Rows.{Completion, behind_body, visited_place}
 use Rattle.es_eval.specs.Rows.Completion.{Normal}
 use Rattle.es_eval.specs.Rows.Task.{Visit}
-use Rattle.es_eval.specs.Syntax.{Function, Statement, Visitor}
+use Rattle.es_shapes.specs.Syntax.{Function, Statement, Visitor}
 use Rattle.es_eval.specs.Unbounded.{done, entered, run_statement}
 use Rattle.es_eval.specs.Worlds.{World}
 use Rattle.es_eval.proofs.UnboundedLemmas.{done-row}
@@ -57,13 +53,3 @@ pub visit-turn : (functions : List Function) (visitor : Visitor) (object : ℕ) 
     (behind_body (done functions (Visit visitor object names body))))) w next
 visit-turn functions visitor object name names body w next there =
     rw (done-row functions (Visit visitor object (name ∷ names) body) w next, there) refl
-
--- ---- children
-
--- there is none behind the last
-pub no-part : (programs : List ToldProgram) (code : Code) (place : ℕ)
-    → length (children_of programs code) ≤ place → trees_from programs code place ≡ NoTrees
-unfolding trees_from
-no-part programs code place past =
-    ap (λ numbers. trees_at (rows_of programs code.program) (below code.node numbers))
-    (drop-end (children_of programs code) place past)

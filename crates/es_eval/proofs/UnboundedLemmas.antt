@@ -1,5 +1,5 @@
 -- Evaluation without bounds unfolds to its rows: each bound that is enough is alike to none.
-use Rattle.std.proofs.Common.{◌≡◌, false, ℕ, suc, ◌≤◌, List, [], length, ◌∙◌, refl, arith}
+use Rattle.std.proofs.Common.{◌≡◌, false, ℕ, suc, ◌+◌, ◌≤◌, List, [], length, ◌∙◌, refl, arith}
 use Rattle.std.specs.Prelude.{Option, Some, None}
 use Rattle.std.specs.Option.{option_map_or}
 use Rattle.es_values.specs.declared.values.Value.{Value}
@@ -7,12 +7,12 @@ use Rattle.es_values.specs.Objects.{ObjectState}
 use Rattle.es_eval.specs.declared.outcomes.Outcome.TheVariants.{Stopped}
 use Rattle.es_eval.specs.declared.outcomes.StopCause.TheVariants.{Unresolved}
 use Rattle.es_eval.specs.Actions.{Action, Next, behind, gives, step}
-use Rattle.es_eval.specs.Bounds.{Agree}
+use Rattle.es_eval.specs.devices.Bounds.{Agree}
 use Rattle.es_eval.specs.Calls.{call_value}
 use Rattle.es_eval.specs.Evaluation.{all_functions, call_body, ends_normally, enough, evaluate, execute, global_run, global_run_by, program_run, program_run_by, returned, started, world}
 use Rattle.es_eval.specs.Rows.{Completion, Task, expression_row, statements, task_row}
 use Rattle.es_eval.specs.Rows.Task.{Do, Turn, Visit}
-use Rattle.es_eval.specs.Syntax.{Expression, Function, Program, Statement, Statements}
+use Rattle.es_shapes.specs.Syntax.{Expression, Function, Program, Statement, Statements}
 use Rattle.es_eval.specs.Unbounded.{called, done, entered, run_statement, valued}
 use Rattle.es_eval.specs.Worlds.{World, global}
 use Rattle.es_eval.specs.Worlds.Run.{Over}
@@ -48,6 +48,11 @@ module _ (functions : List Function) (n : ℕ) where
         let all = all-alike functions (enough w.left) n (enough w.left) (omega arith)
         (omega arith) in
         (all.expressions w.left e (omega arith)).same counted w (omega arith) next other onward;
+    further = λ more w l next other on.
+        let steps = w.left + more in
+        let all = all-alike functions (enough steps) n (enough steps) (omega arith)
+        (omega arith) in
+        (all.expressions steps e (omega arith)).further more w (omega arith) next other on;
   }
 
   done-alike : (left : ℕ) (task : Task) → need left task ≤ n
@@ -60,6 +65,13 @@ module _ (functions : List Function) (n : ℕ) where
         let all = all-alike functions (need w.left task) n (enough w.left) (omega arith)
         (omega arith) in
         (all.tasks w.left task (omega arith)).same counted w (omega arith) next other onward;
+    further = λ more w l next other on.
+        let steps = w.left + more in
+        let less = need-less {less = steps} {left = left} task l in
+        let fits = need-enough steps task in
+        let all = all-alike functions (need steps task) n (enough steps) (omega arith)
+        (omega arith) in
+        (all.tasks steps task (omega arith)).further more w (omega arith) next other on;
   }
 
   called-alike : (left : ℕ) (inner : Statements) → enough left ≤ n
@@ -70,6 +82,11 @@ module _ (functions : List Function) (n : ℕ) where
         let all = all-alike functions (enough w.left) n (enough w.left) (omega arith)
         (omega arith) in
         (all.bodies w.left inner (omega arith)).same counted w (omega arith) next other onward;
+    further = λ more w l next other on.
+        let steps = w.left + more in
+        let all = all-alike functions (enough steps) n (enough steps) (omega arith)
+        (omega arith) in
+        (all.bodies steps inner (omega arith)).further more w (omega arith) next other on;
   }
 
   entered-sooner : (left : ℕ) (e : Expression) → enough left ≤ n

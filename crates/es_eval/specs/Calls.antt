@@ -1,7 +1,7 @@
 -- Calls: of functions of the programs, of built-in ones, of methods and of members of the host (ECMA-262
 -- second edition, 11.2.2, 11.2.3 and 13.2; how deep calls are nested, and what is stopped and charged, are
 -- this project's own).
-use Rattle.std.specs.Prelude.{ℕ, zero, suc, ◌+◌, ◌-◌, nat_le, nat_lt, false, if◌then◌else◌, List, [], ◌∷◌, ◌++◌, length, Option, None, slice_get}
+use Rattle.std.specs.Prelude.{ℕ, zero, suc, ◌+◌, nat_lt, false, if◌then◌else◌, List, [], ◌∷◌, ◌++◌, length}
 use Rattle.std.specs.List.{sum_by}
 use Rattle.std.specs.Option.{option_map_or}
 use Rattle.es_values.specs.declared.values.Value.{Value}
@@ -12,22 +12,14 @@ use Rattle.es_builtins.specs.Functions.{construction_row, function_row}
 use Rattle.es_builtins.specs.Methods.{method_row}
 use Rattle.es_eval.specs.declared.outcomes.StopCause.TheVariants.{Depth, NotCallable, NotObject}
 use Rattle.es_eval.specs.Actions.{Action, answered, by_row, charged, stops}
-use Rattle.es_eval.specs.Syntax.{Function as Declared, Statements}
+use Rattle.es_shapes.specs.Functions.{declared_function}
+use Rattle.es_shapes.specs.Syntax.{Function as Declared, Statements}
 use Rattle.es_eval.specs.Worlds.{World}
 use Rattle.es_eval.specs.Worlds.Run.{Calls}
 
 -- how many calls may be open at once
 unfoldable pub most_calls : ℕ
 most_calls = 64
-
--- the first number of a program's function; those below are built in or unused
-unfoldable pub first_function : ℕ
-first_function = 16
-
--- the function of a number among those that are declared
-abbrev pub declared_function : List Declared → ℕ → Option Declared
-declared_function functions number =
-    if nat_le first_function number then slice_get functions (number - first_function) else None
 
 -- the locals of a call: parameters with the arguments, which are Undefined where they are absent, and the
 -- other names with Undefined

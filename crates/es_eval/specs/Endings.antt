@@ -8,6 +8,8 @@ use Rattle.es_values.specs.Hosts.{IsAnswer, KeepsHeap}
 use Rattle.es_values.specs.Objects.{ObjectState}
 use Rattle.es_values.specs.Values.{is_plain}
 use Rattle.es_eval.specs.declared.outcomes.Outcome.{Outcome}
+use Rattle.es_eval.specs.declared.outcomes.Outcome.TheVariants.{Stopped}
+use Rattle.es_eval.specs.declared.outcomes.StopCause.TheVariants.{Budget}
 use Rattle.es_eval.specs.Worlds.{World, Run}
 use Rattle.es_eval.specs.Worlds.Run.{Over, Reads, Writes, Calls}
 
@@ -44,3 +46,13 @@ abbrev pub EndsWith : {H : Type 0}
 EndsWith {H} reads writes calls run h outcome globals heap h_after =
     (w : World) × (w.globals ≡ globals) × (w.heap ≡ heap)
     × MayEnd reads writes calls run h outcome w h_after
+
+-- The run may be stopped with this host for want of steps.
+abbrev pub MayRunOut : {H : Type 0}
+    → (H → HostRef → List ℕ → Value → H → Type 0)
+    → (H → HostRef → List ℕ → Value → List ObjectState → H → Type 0)
+    → (H → HostRef → List ℕ → List Value → List ObjectState → HostAnswer → H
+    → List ObjectState → Type 0)
+    → Run → H → Type 0
+MayRunOut {H} reads writes calls run h =
+    (w : World) × (h_after : H) × MayEnd reads writes calls run h (Stopped Budget) w h_after

@@ -11,11 +11,12 @@ use Rattle.es_values.specs.Objects.{ObjectState}
 use Rattle.es_eval.specs.declared.outcomes.Outcome.TheVariants.{Normal as AtEnd, Stopped}
 use Rattle.es_eval.specs.declared.outcomes.StopCause.TheVariants.{Budget, Unresolved}
 use Rattle.es_eval.specs.Actions.{Action, behind, gives, step, stops}
-use Rattle.es_eval.specs.Calls.{call_value, first_function}
+use Rattle.es_eval.specs.Calls.{call_value}
+use Rattle.es_shapes.specs.Functions.{first_function}
 use Rattle.es_eval.specs.Rows.{Completion, Task, expression_row, statements, task_row}
 use Rattle.es_eval.specs.Rows.Completion.{Normal, Broke, Continued, Returned}
 use Rattle.es_eval.specs.Rows.Task.{Do}
-use Rattle.es_eval.specs.Syntax.{Expression, Statements, Function, Program}
+use Rattle.es_shapes.specs.Syntax.{Expression, Statements, Function, Program}
 use Rattle.es_eval.specs.Worlds.{World, Run, global}
 use Rattle.es_eval.specs.Worlds.Run.{Over}
 

@@ -1,5 +1,3 @@
-pub mod Syntax
-pub mod Sources
 pub mod Worlds
 pub mod Endings
 pub mod Actions
@@ -8,15 +6,5 @@ pub mod Operations
 pub mod Calls
 pub mod Rows
 pub mod Evaluation
-pub mod Bounds
-pub mod Codes
-pub mod Numbers
-pub mod Shapes
 pub mod Unbounded
-pub mod Calculations
-pub mod Slots
-pub mod Declaring
-pub mod Works
-pub mod Machines
-pub mod Decoding
-pub mod Leading
+pub mod devices

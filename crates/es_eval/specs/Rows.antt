@@ -14,15 +14,16 @@ use Rattle.es_eval.specs.declared.outcomes.StopCause.TheVariants.{NotObject}
 use Rattle.es_eval.specs.Calls.{Body, call_member, call_value, new_value}
 use Rattle.es_eval.specs.Members.{Place, delete_index, delete_member, named, read_member, read_name, read_place, write_name, write_place}
 use Rattle.es_eval.specs.Members.Place.{NamePlace, MemberPlace}
-use Rattle.es_eval.specs.Operations.{operates, signs, stepped, type_text}
-use Rattle.es_eval.specs.Syntax.{Expression, Expressions, Target, Declarator, First, Visitor, Statement, Statements, Function as Declared}
-use Rattle.es_eval.specs.Syntax.Expression.{This, Null as NullWord, Truth, Number as Numeral, Text, Name, Index, Member, Call, New, Signed, Typeof, Void, Delete, Stepped, Binary, And, Or, Choice, Assign, Update, Comma}
-use Rattle.es_eval.specs.Syntax.Expressions.{NoExpressions, OneMore}
-use Rattle.es_eval.specs.Syntax.Target.{NameTarget, IndexTarget, MemberTarget}
-use Rattle.es_eval.specs.Syntax.First.{NoFirst, FirstExpression, FirstVar}
-use Rattle.es_eval.specs.Syntax.Visitor.{VisitTarget, VisitVar}
-use Rattle.es_eval.specs.Syntax.Statement.{Block, Var, Empty, Evaluate, If, IfElse, While, For, ForIn, Continue, Break, Return}
-use Rattle.es_eval.specs.Syntax.Statements.{NoStatements, OneMoreStatement}
+use Rattle.es_eval.specs.Operations.{operates, signs}
+use Rattle.es_shapes.specs.Operators.{stepped, type_text}
+use Rattle.es_shapes.specs.Syntax.{Expression, Expressions, Target, Declarator, First, Visitor, Statement, Statements, Function as Declared}
+use Rattle.es_shapes.specs.Syntax.Expression.{This, Null as NullWord, Truth, Number as Numeral, Text, Name, Index, Member, Call, New, Signed, Typeof, Void, Delete, Stepped, Binary, And, Or, Choice, Assign, Update, Comma}
+use Rattle.es_shapes.specs.Syntax.Expressions.{NoExpressions, OneMore}
+use Rattle.es_shapes.specs.Syntax.Target.{NameTarget, IndexTarget, MemberTarget}
+use Rattle.es_shapes.specs.Syntax.First.{NoFirst, FirstExpression, FirstVar}
+use Rattle.es_shapes.specs.Syntax.Visitor.{VisitTarget, VisitVar}
+use Rattle.es_shapes.specs.Syntax.Statement.{Block, Var, Empty, Evaluate, If, IfElse, While, For, ForIn, Continue, Break, Return}
+use Rattle.es_shapes.specs.Syntax.Statements.{NoStatements, OneMoreStatement}
 
 -- how an expression is evaluated, with its step
 abbrev pub Evaluation : Type 0

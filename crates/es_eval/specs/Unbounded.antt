@@ -1,5 +1,5 @@
--- A device of the proofs: evaluation with the bound that is enough for the steps that a world has
--- left, so that no bound is named.
+-- Evaluation with the bound that is enough for the steps that a world has left, so that no bound is named.
+-- (This project's own.)
 use Rattle.std.specs.Prelude.{List}
 use Rattle.es_values.specs.declared.values.Value.{Value}
 use Rattle.es_eval.specs.Actions.{Action, step}
@@ -7,7 +7,7 @@ use Rattle.es_eval.specs.Calls.{Body}
 use Rattle.es_eval.specs.Evaluation.{call_body, enough, evaluate, execute}
 use Rattle.es_eval.specs.Rows.{Completion, Task}
 use Rattle.es_eval.specs.Rows.Task.{Do}
-use Rattle.es_eval.specs.Syntax.{Expression, Function, Statement}
+use Rattle.es_shapes.specs.Syntax.{Expression, Function, Statement}
 
 -- the value of an expression, without its own step
 unfoldable pub valued : List Function → Expression → Action Value

@@ -1,11 +1,11 @@
 -- What a script has while it runs, and what it asks of its host. (This project's own.)
-use Rattle.std.specs.Prelude.{ℕ, List, Option, is_some, if◌then◌else◌}
+use Rattle.std.specs.Prelude.{ℕ, ◌+◌, List, Option, is_some, if◌then◌else◌}
 use Rattle.std.specs.Map.{lookup}
 use Rattle.bml_bytes.specs.Words.{is_same}
 use Rattle.es_values.specs.declared.hosts.HostAnswer.{HostAnswer}
 use Rattle.es_values.specs.declared.values.HostRef.{HostRef}
 use Rattle.es_values.specs.declared.values.Value.{Value}
-use Rattle.es_values.specs.Heaps.{with_value}
+use Rattle.es_values.specs.Heaps.{IsLive, with_value}
 use Rattle.es_values.specs.Objects.{ObjectState}
 use Rattle.es_eval.specs.declared.outcomes.Outcome.{Outcome}
 
@@ -18,6 +18,10 @@ pub record World : Type 0 where
   pub depth : ℕ
   pub heap : List ObjectState
   pub left : ℕ
+
+-- a name whose value's object, where it is one, is in the heap
+abbrev pub IsNamedLive : List ObjectState → List ℕ × Value → Type 0
+IsNamedLive heap named = IsLive heap named.1
 
 abbrev pub global : World → List ℕ → Option Value
 global w name = lookup (is_same name) w.globals
@@ -35,6 +39,10 @@ with_local name value w = record w { locals = with_value w.locals name value }
 abbrev pub with_name : List ℕ → Value → World → World
 with_name name value w =
     if is_some (local w name) then with_local name value w else with_global name value w
+
+-- with so many steps more left
+abbrev pub with_more : ℕ → World → World
+with_more more w = record w { left = w.left + more }
 
 -- ---- what a run comes to
 

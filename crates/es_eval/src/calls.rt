@@ -8,17 +8,16 @@ ghost use Rattle.es_builtins.specs.Methods.{method_row};
 ghost use Rattle.es_values.specs.declared.values.Value.TheVariants.{Host as HostValue, Object as AnObject};
 ghost use Rattle.es_values.specs.Heaps.{IsLive};
 ghost use Rattle.es_eval.specs.declared.works.Work.TheVariants.{Call as CallItem};
-ghost use Rattle.es_eval.specs.declared.works.CallWork.TheVariants.{IndexKey, MemberBase};
-ghost use Rattle.es_eval.specs.Syntax.{Function};
+ghost use Rattle.es_eval.specs.declared.works.CallWork.TheVariants.{Argument, IndexKey, MemberBase};
+ghost use Rattle.es_shapes.specs.Syntax.{Function};
 ghost use Rattle.es_eval.specs.Actions.{by_row};
 ghost use Rattle.es_eval.specs.Calls.{call_member as spec_call_member, call_number as spec_call_number, call_value as spec_call_value, construct as spec_construct, enter as spec_enter, inside, outside, new_value as spec_new_value};
-ghost use Rattle.es_eval.specs.Codes.{declared_at, function_trees, tree_of, declared_by};
-ghost use Rattle.es_eval.specs.Machines.{AreLive, GoesOn, IsLess, IsNextLive, IsWorkLive, MachineState, built_run, burden, run_from, value_rest, values_of_built, values_of_callee, values_of_next, weight, weight_of_next, world_of};
+ghost use Rattle.es_shapes.specs.devices.Parts.{declared_at, function_trees, tree_of};
+ghost use Rattle.es_shapes.specs.Codes.{declared_by};
+ghost use Rattle.es_eval.specs.devices.Machines.{AreLive, GoesOn, IsLess, IsNextLive, IsWorkLive, MachineState, built_run, burden, run_from, value_rest, values_of_built, values_of_callee, values_of_next, weight, weight_of_next, world_of};
 ghost use Rattle.es_eval.specs.Unbounded.{called};
-ghost use Rattle.es_eval.specs.Works.{as_value, call_work_row, calls_callee, calls_with};
+ghost use Rattle.es_eval.specs.devices.Works.{as_value, call_work_row, calls_callee, calls_with};
 
-use crate::codes::{Code, Listing, listed_statement, part};
-use crate::functions::{Declared, Programs, declaration};
 use crate::machine::Machine;
 use crate::members::has_no_members;
 use crate::nexts::{stopped, value};
@@ -27,6 +26,7 @@ use crate::works::{CallWork, Callee, Now, OpenCall, StatementWork, Work};
 use bml_bytes::{NoMemory, Text};
 use es_builtins::Built;
 use es_reader::Program;
+use es_shapes::{Code, Declared, Listing, Programs, declaration, listed_statement, part};
 use es_values::{HostRef, Value};
 
 impl Machine {
@@ -55,15 +55,31 @@ impl Machine {
             CallWork::Constructor(call) => {
                 self.open_call(programs, Callee::Constructor(given), call)
             }
-            CallWork::Argument(mut opened) => {
-                opened.given.push(given)?;
-                self.go_on(programs, opened)
-            }
+            CallWork::Argument(opened) => self.add_argument(programs, opened, given),
             CallWork::Constructed(new) => Ok(value(match given {
                 Value::Object(object) => Value::Object(object),
                 _ => new,
             })),
         }
+    }
+
+    // An argument is there, and the next one follows.
+    fn add_argument(
+        &mut self,
+        programs: &mut Programs<'_>,
+        mut opened: OpenCall,
+        given: Value,
+    ) -> Result<Now, NoMemory>
+        requires item { IsWorkLive self.old.heap (CallItem (Argument opened)) }
+        requires given { IsLive self.old.heap given }
+        ensures run { IfOk result (λ next. GoesOn programs.old self.old
+            (as_value (call_work_row programs.old (Argument opened) given)) self.new next) }
+        ensures live { IfOk result (IsNextLive self.new) }
+        ensures less { IfOk result (IsLess self.old self.new) }
+        ensures programs { programs.new ≡ programs.old }
+    {
+        opened.given.push(given)?;
+        self.go_on(programs, opened)
     }
 
     // A member that is called has its base.

@@ -6,13 +6,12 @@ ghost use Rattle.es_reader.specs.Programs.{ToldProgram};
 ghost use Rattle.es_values.specs.Heaps.{IsLive, IsSound};
 ghost use Rattle.es_eval.specs.declared.works.Given.TheVariants.{Value as GivenValue};
 ghost use Rattle.es_eval.specs.declared.outcomes.Outcome.{Outcome as OutcomeOf};
-ghost use Rattle.es_eval.specs.declared.works.Now.TheVariants.{Gives, Over as IsOver};
+ghost use Rattle.es_eval.specs.declared.works.Now.TheVariants.{Calls, Gives, Over as IsOver, Reads, Writes};
 ghost use Rattle.es_eval.specs.Endings.{MayEnd};
-ghost use Rattle.es_eval.specs.Machines.{AreLive, GoesOn, IsLessAfter, IsNextLive, IsWorkLive, burden, next_behind as spec_next_behind, run_from, value_of_call as spec_value_of_call, values_of_given, weight, world_of};
-ghost use Rattle.es_eval.specs.Leading.{LeadsTo};
-ghost use Rattle.es_eval.specs.Works.{does};
+ghost use Rattle.es_eval.specs.devices.Machines.{AreLive, GoesOn, IsLessAfter, IsNextLive, IsWorkLive, burden, next_behind as spec_next_behind, run_from, value_of_call as spec_value_of_call, values_of_given, weight, world_of};
+ghost use Rattle.es_eval.specs.devices.Leading.{LeadsTo};
+ghost use Rattle.es_eval.specs.devices.Works.{does};
 
-use crate::functions::Programs;
 use crate::globals::Globals;
 use crate::machine::Machine;
 use crate::nexts::{stopped, value};
@@ -20,6 +19,7 @@ use crate::outcomes::{Outcome, StopCause};
 use crate::works::{Given, Now, Work, discard};
 use bml_bytes::{NoMemory, Text};
 use es_reader::Program;
+use es_shapes::Programs;
 use es_values::{Heap, Host, HostAnswer, HostRef, Value};
 
 impl Machine {
@@ -132,16 +132,62 @@ impl Machine {
             Now::Evaluate(code) => self.evaluate(programs.list(), code),
             Now::Execute(code) => self.execute(programs.list(), code),
             Now::Gives(given) => self.hand(programs, given),
-            Now::Reads(base, name) => Ok(value(host.get(base, &name)?)),
-            Now::Writes(base, name, written) => {
-                host.set(base, &name, &written, &self.heap)?;
-                Ok(value(written))
-            }
-            Now::Calls(base, name, args) => {
-                let answer = host.call(base, &name, &args, &mut self.heap)?;
-                Ok(next_behind(answer, &self.heap))
-            }
+            Now::Reads(base, name) => self.read_host(host, base, name),
+            Now::Writes(base, name, written) => self.write_host(host, base, name, written),
+            Now::Calls(base, name, args) => self.ask_host(host, base, name, args),
         }
+    }
+
+    // Reads a member of the host.
+    fn read_host<H: Host>(&self, host: &mut H, base: HostRef, name: Text) -> Result<Now, NoMemory>
+        ensures leads { IfOk result (λ next. (programs : List ToldProgram)
+            → LeadsTo H.reads H.writes H.calls (run_from programs self.now next) host.new
+            (run_from programs self.now (Reads base name)) host.old) }
+        ensures live { IfOk result (IsNextLive self.now) }
+        ensures less { IfOk result (λ next. weight self.now next
+            < weight self.now (Reads base name)) }
+    {
+        Ok(value(host.get(base, &name)?))
+    }
+
+    // Writes a member of the host.
+    fn write_host<H: Host>(
+        &self,
+        host: &mut H,
+        base: HostRef,
+        name: Text,
+        written: Value,
+    ) -> Result<Now, NoMemory>
+        requires { IsNextLive self.now (Writes base name written) }
+        ensures leads { IfOk result (λ next. (programs : List ToldProgram)
+            → LeadsTo H.reads H.writes H.calls (run_from programs self.now next) host.new
+            (run_from programs self.now (Writes base name written)) host.old) }
+        ensures live { IfOk result (IsNextLive self.now) }
+        ensures less { IfOk result (λ next. weight self.now next
+            < weight self.now (Writes base name written)) }
+    {
+        host.set(base, &name, &written, &self.heap)?;
+        Ok(value(written))
+    }
+
+    // Calls a member of the host.
+    fn ask_host<H: Host>(
+        &mut self,
+        host: &mut H,
+        base: HostRef,
+        name: Text,
+        args: Vec<Value>,
+    ) -> Result<Now, NoMemory>
+        requires { IsNextLive self.old (Calls base name args) }
+        ensures leads { IfOk result (λ next. (programs : List ToldProgram)
+            → LeadsTo H.reads H.writes H.calls (run_from programs self.new next) host.new
+            (run_from programs self.old (Calls base name args)) host.old) }
+        ensures live { IfOk result (IsNextLive self.new) }
+        ensures less { IfOk result (λ next. weight self.new next
+            < weight self.old (Calls base name args)) }
+    {
+        let answer = host.call(base, &name, &args, &mut self.heap)?;
+        Ok(next_behind(answer, &self.heap))
     }
 }
 

@@ -4,23 +4,23 @@ ghost use Rattle.std.specs.Prelude.{◌≡◌, ◌≤◌, List, IfOk};
 ghost use Rattle.es_reader.specs.Programs.{ToldProgram};
 ghost use Rattle.es_eval.specs.declared.works.Given.TheVariants.{Value as GivenValue};
 ghost use Rattle.es_eval.specs.Actions.{step};
-ghost use Rattle.es_eval.specs.Codes.{declared_by, expression_at, parts_from};
-ghost use Rattle.es_eval.specs.Machines.{GoesOn, IsLess, IsNextLive, IsWorkLive, burden, weight};
-ghost use Rattle.es_eval.specs.Rows.{call_row, delete_row, expression_row};
-ghost use Rattle.es_eval.specs.Shapes.{shaped};
-ghost use Rattle.es_eval.specs.Syntax.Expression.{Typeof};
+ghost use Rattle.es_shapes.specs.Codes.{declared_by};
+ghost use Rattle.es_shapes.specs.devices.Parts.{expression_at, parts_from};
+ghost use Rattle.es_eval.specs.devices.Machines.{GoesOn, IsLess, IsNextLive, IsWorkLive, burden, weight};
+ghost use Rattle.es_eval.specs.Rows.{call_row, delete_row, expression_row, typeof_name as spec_typeof_name};
+ghost use Rattle.es_shapes.specs.devices.Shapes.{shaped};
+ghost use Rattle.es_shapes.specs.Syntax.Expression.{Typeof};
 ghost use Rattle.es_eval.specs.Unbounded.{called};
-ghost use Rattle.es_eval.specs.Works.{as_value, does, enters, evaluates};
+ghost use Rattle.es_eval.specs.devices.Works.{as_value, does, enters, evaluates};
 
-use crate::codes::Code;
 use crate::laws::law_of_unfolding;
 use crate::machine::Machine;
 use crate::nexts::{stopped, value};
 use crate::outcomes::StopCause;
-use crate::shapes::{Shape, expression};
 use crate::works::{CallWork, MemberWork, Now, OperandWork, Use, Work, discard};
-use bml_bytes::NoMemory;
+use bml_bytes::{NoMemory, Text};
 use es_reader::Program;
+use es_shapes::{Code, Shape, expression};
 use es_values::{Num, Value};
 
 impl Machine {
@@ -40,7 +40,7 @@ impl Machine {
     }
 
     // What an expression of this shape does first.
-    #[tactic(auto, unfolding(crate::specs::Shapes::shaped))]
+    #[tactic(auto, unfolding(es_shapes::specs::devices::Shapes::shaped))]
     fn begin(&mut self, programs: &[Program], code: Code, shape: Shape) -> Result<Now, NoMemory>
         ensures run { IfOk result (λ next. GoesOn programs.now self.old
             (as_value (expression_row (declared_by programs.now)
@@ -50,7 +50,7 @@ impl Machine {
         ensures less { IfOk result (IsLess self.old self.new) }
     {
         match shape {
-            Shape::This => Ok(value(self.this()?)),
+            Shape::This => self.this_value(),
             Shape::Null => Ok(value(Value::Null)),
             Shape::Truth(truth) => Ok(value(Value::Bool(truth))),
             Shape::Number(number) => Ok(value(Value::Number(Num::Whole(number)))),
@@ -97,6 +97,16 @@ impl Machine {
         }
     }
 
+    // The `this` of the call that runs.
+    fn this_value(&self) -> Result<Now, NoMemory>
+        ensures run { IfOk result (λ next. (programs : List ToldProgram)
+            → GoesOn programs self.now (as_value (λ w go. go w.this w)) self.now next) }
+        ensures live { IfOk result (IsNextLive self.now) }
+        ensures less { IfOk result (IsLess self.now self.now) }
+    {
+        Ok(value(self.this()?))
+    }
+
     // A callee: of a member its base, and its key, with the member's own step.
     fn enter_callee(
         &mut self,
@@ -131,13 +141,24 @@ impl Machine {
         ensures live { IfOk result (IsNextLive self.new) }
         ensures less { IfOk result (IsLess self.old self.new) }
     {
-        let Shape::Name(name) = expression(programs, operand)? else {
-            return self.evaluate_then(Work::Operand(OperandWork::Typeof), operand);
-        };
+        match expression(programs, operand)? {
+            Shape::Name(name) => self.typeof_name(&name),
+            _ => self.evaluate_then(Work::Operand(OperandWork::Typeof), operand),
+        }
+    }
+
+    // The name of the type of a name's value.
+    fn typeof_name(&mut self, name: &Text) -> Result<Now, NoMemory>
+        ensures run { IfOk result (λ next. (programs : List ToldProgram)
+            → GoesOn programs self.old (as_value (step (spec_typeof_name name.now))) self.new
+            next) }
+        ensures live { IfOk result (IsNextLive self.new) }
+        ensures less { IfOk result (IsLess self.old self.new) }
+    {
         if !self.take_step() {
             return Ok(stopped(StopCause::Budget));
         }
-        let found = self.read_name(&name)?.unwrap_or(Value::Undefined);
+        let found = self.read_name(name)?.unwrap_or(Value::Undefined);
         Ok(value(self.type_text(&found)?))
     }
 

@@ -6,7 +6,7 @@ ghost use Rattle.std.specs.Option.{option_copied};
 ghost use Rattle.bml_bytes.specs.Words.{is_same};
 ghost use Rattle.es_values.specs.Heaps.{IsLive, with_value};
 ghost use Rattle.es_values.specs.Objects.{ObjectState};
-ghost use Rattle.es_eval.specs.Machines.{IsNamedLive};
+ghost use Rattle.es_eval.specs.Worlds.{IsNamedLive};
 
 use bml_bytes::{NoMemory, Text};
 use es_values::Value;

@@ -1,22 +1,22 @@
 //! What the definition of evaluation says. Each function is a law: its contract is what it is for,
 //! and it does nothing when it runs.
 
-ghost use Rattle.std.specs.Prelude.{◌≡◌, ◌≤◌, ℕ, List, [], length};
+ghost use Rattle.std.specs.Prelude.{◌≡◌, ◌≤◌, ◌+◌, ℕ, List, [], length};
 ghost use Rattle.std.specs.Option.{option_map_or};
 ghost use Rattle.es_values.specs.declared.values.Value.{Value};
 ghost use Rattle.es_values.specs.Objects.{ObjectState};
 ghost use Rattle.es_eval.specs.declared.outcomes.Outcome.{Outcome};
 ghost use Rattle.es_eval.specs.declared.outcomes.Outcome.TheVariants.{Stopped};
-ghost use Rattle.es_eval.specs.declared.outcomes.StopCause.TheVariants.{Unresolved};
+ghost use Rattle.es_eval.specs.declared.outcomes.StopCause.TheVariants.{Budget, Unresolved};
 ghost use Rattle.es_eval.specs.Actions.{Next, behind, gives};
-ghost use Rattle.es_eval.specs.Bounds.{Agree};
+ghost use Rattle.es_eval.specs.devices.Bounds.{Agree};
 ghost use Rattle.es_eval.specs.Calls.{call_value};
-ghost use Rattle.es_eval.specs.Endings.{MayEnd};
+ghost use Rattle.es_eval.specs.Endings.{MayEnd, MayRunOut};
 ghost use Rattle.es_eval.specs.Evaluation.{all_functions, call_body, ends_normally, enough, evaluate, execute, global_run, global_run_by, program_run, program_run_by, returned, started, world};
 ghost use Rattle.es_eval.specs.Rows.{Completion, Task, expression_row, statements, task_row};
-ghost use Rattle.es_eval.specs.Syntax.{Expression, Function, Program, Statements};
+ghost use Rattle.es_shapes.specs.Syntax.{Expression, Function, Program, Statements};
 ghost use Rattle.es_eval.specs.Unbounded.{called, done, entered, run_statement, valued};
-ghost use Rattle.es_eval.specs.Worlds.{World, global};
+ghost use Rattle.es_eval.specs.Worlds.{World, global, with_more};
 ghost use Rattle.es_eval.specs.Worlds.Run.{Over};
 
 use es_values::Host;
@@ -91,4 +91,36 @@ pub fn law_of_steps<H: Host>()
         → MayEnd H.reads H.writes H.calls (global_run programs name globals heap budget) host
         outcome w after
         → w.left ≤ budget }
+{}
+
+/// Exactly the steps that are given count. A run that isn't stopped for want of steps ends the same
+/// with more, and has as many more left; and one that is stopped for want of steps may be so with
+/// fewer, by the same answers of its host.
+pub fn law_of_more_steps<H: Host>()
+    ensures programs { (programs before : List Program) (program : Program)
+        (globals : List (List ℕ × Value)) (heap : List ObjectState) (budget more : ℕ) (host : H)
+        (outcome : Outcome) (w : World) (after : H) → (outcome ≡ Stopped Budget → ⊥)
+        → MayEnd H.reads H.writes H.calls
+        (program_run programs before program globals heap budget) host outcome w after
+        → MayEnd H.reads H.writes H.calls
+        (program_run programs before program globals heap (budget + more)) host outcome
+        (with_more more w) after }
+    ensures stopped_programs { (programs before : List Program) (program : Program)
+        (globals : List (List ℕ × Value)) (heap : List ObjectState) (budget more : ℕ) (host : H)
+        (w : World) (after : H) → MayEnd H.reads H.writes H.calls
+        (program_run programs before program globals heap (budget + more)) host (Stopped Budget) w
+        after → MayRunOut H.reads H.writes H.calls
+        (program_run programs before program globals heap budget) host }
+    ensures globals { (programs : List Program) (name : List ℕ)
+        (globals : List (List ℕ × Value)) (heap : List ObjectState) (budget more : ℕ) (host : H)
+        (outcome : Outcome) (w : World) (after : H) → (outcome ≡ Stopped Budget → ⊥)
+        → MayEnd H.reads H.writes H.calls (global_run programs name globals heap budget) host
+        outcome w after
+        → MayEnd H.reads H.writes H.calls (global_run programs name globals heap (budget + more))
+        host outcome (with_more more w) after }
+    ensures stopped_globals { (programs : List Program) (name : List ℕ)
+        (globals : List (List ℕ × Value)) (heap : List ObjectState) (budget more : ℕ) (host : H)
+        (w : World) (after : H) → MayEnd H.reads H.writes H.calls
+        (global_run programs name globals heap (budget + more)) host (Stopped Budget) w after
+        → MayRunOut H.reads H.writes H.calls (global_run programs name globals heap budget) host }
 {}

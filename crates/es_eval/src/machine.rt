@@ -18,23 +18,21 @@ ghost use Rattle.es_eval.specs.declared.works.Given.TheVariants.{Value as GivenV
 ghost use Rattle.es_eval.specs.declared.works.Now.TheVariants.{Gives};
 ghost use Rattle.es_eval.specs.Actions.{Action, Next, as_number, as_text, by_row, charged, step};
 ghost use Rattle.es_eval.specs.Calls.{bound, with_new_object};
-ghost use Rattle.es_eval.specs.Machines.{AreLive, Carries, IsWorkLive, Stays, behind_frame, built_run, burden, names_in, rest, run_from, turns_of, value_of_call, values_of_built, values_of_next, weight, world_of};
+ghost use Rattle.es_eval.specs.devices.Machines.{AreLive, Carries, IsWorkLive, Stays, behind_frame, built_run, burden, names_in, rest, run_from, turns_of, value_of_call, values_of_built, values_of_next, weight, world_of};
 ghost use Rattle.es_eval.specs.Members.{delete_in, named, put_member};
 ghost use Rattle.es_eval.specs.Operations.{operates};
-ghost use Rattle.es_eval.specs.Slots.{with_values};
-ghost use Rattle.es_eval.specs.Works.{completed, does, evaluates, executes};
+ghost use Rattle.es_eval.specs.devices.Slots.{with_values};
+ghost use Rattle.es_eval.specs.devices.Works.{completed, does, evaluates, executes};
 ghost use Rattle.es_eval.specs.Worlds.{local as spec_local, with_name};
 ghost use Rattle.es_eval.specs.Worlds.Run.{Over};
 
-use crate::codes::Code;
 use crate::globals::Globals;
-use crate::operations::{charge_all, charge_operation, operated};
-use crate::operators::Operator;
 use crate::works::{Now, Work};
 use bml_bytes::{NoMemory, Text};
 use es_builtins::{Built, call_function, call_method, construct, law_of_rows, value_named};
 use es_frames::Frames;
 use es_reader::FunctionDecl;
+use es_shapes::{Code, Operator, charge_all, charge_operation, operated};
 use es_values::{Budget, Heap, Num, Value};
 use std::marker::Model;
 
@@ -48,7 +46,7 @@ pub struct Machine {
 }
 
 impl Model for Machine {
-    ghost use Rattle.es_eval.specs.Machines.{IsMachine, MachineState};
+    ghost use Rattle.es_eval.specs.devices.Machines.{IsMachine, MachineState};
 
     ghost Value = { MachineState };
 

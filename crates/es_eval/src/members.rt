@@ -5,10 +5,10 @@ ghost use Rattle.es_reader.specs.Programs.{ToldProgram};
 ghost use Rattle.es_values.specs.Heaps.{IsLive};
 ghost use Rattle.es_eval.specs.declared.works.Work.TheVariants.{Member as MemberItem};
 ghost use Rattle.es_eval.specs.Actions.{as_text, behind};
-ghost use Rattle.es_eval.specs.Machines.{GoesOn, IsLess, IsNextLive, IsWorkLive};
+ghost use Rattle.es_eval.specs.devices.Machines.{GoesOn, IsLess, IsNextLive, IsWorkLive};
 ghost use Rattle.es_eval.specs.Members.{delete_index as spec_delete_index, delete_member as spec_delete_member, read_member as spec_read_member, text_member as spec_text_member};
 ghost use Rattle.es_eval.specs.Rows.{with_members};
-ghost use Rattle.es_eval.specs.Works.{as_value, is_without_members, member_row};
+ghost use Rattle.es_eval.specs.devices.Works.{as_value, is_without_members, member_row};
 
 use crate::machine::Machine;
 use crate::nexts::{stopped, value};

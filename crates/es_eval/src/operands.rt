@@ -5,20 +5,21 @@ ghost use Rattle.es_reader.specs.Programs.{ToldProgram};
 ghost use Rattle.es_values.specs.declared.values.Value.TheVariants.{Number};
 ghost use Rattle.es_values.specs.Heaps.{IsLive};
 ghost use Rattle.es_eval.specs.declared.works.Work.TheVariants.{Operand as OperandItem};
-ghost use Rattle.es_eval.specs.Machines.{GoesOn, IsLess, IsNextLive, IsWorkLive};
-ghost use Rattle.es_eval.specs.Operations.{operates, signed_number, signs, type_text as spec_type_text};
+ghost use Rattle.es_eval.specs.devices.Machines.{GoesOn, IsLess, IsNextLive, IsWorkLive};
+ghost use Rattle.es_eval.specs.Actions.{gives};
+ghost use Rattle.es_eval.specs.Operations.{operates, signs};
+ghost use Rattle.es_shapes.specs.Operators.{signed_number, type_text as spec_type_text};
 ghost use Rattle.es_eval.specs.Rows.{last_value};
-ghost use Rattle.es_eval.specs.Codes.{parts_from};
-ghost use Rattle.es_eval.specs.Works.{as_value, enters, operand_row};
+ghost use Rattle.es_shapes.specs.devices.Parts.{parts_from};
+ghost use Rattle.es_eval.specs.devices.Works.{as_value, enters, operand_row};
 
-use crate::codes::{Code, part};
 use crate::machine::Machine;
 use crate::nexts::{stopped, value};
-use crate::operators::{Operator, Sign};
 use crate::outcomes::StopCause;
 use crate::works::{Now, OperandWork, Work};
 use bml_bytes::{NoMemory, Text};
 use es_reader::Program;
+use es_shapes::{Code, Operator, Sign, part};
 use es_values::{Num, Value};
 
 impl Machine {
@@ -58,10 +59,21 @@ impl Machine {
             })),
             OperandWork::Comma(code, next) => self.evaluate_parts(programs, code, next, given),
             OperandWork::Sign(sign) => self.sign(sign, &given),
-            OperandWork::Typeof => Ok(value(self.type_text(&given)?)),
+            OperandWork::Typeof => self.typed(&given),
             OperandWork::Void => Ok(value(Value::Undefined)),
             OperandWork::Instead(other) => Ok(value(other)),
         }
+    }
+
+    // The name of a value's type.
+    fn typed(&self, operand: &Value) -> Result<Now, NoMemory>
+        ensures run { IfOk result (λ next. (programs : List ToldProgram)
+            → GoesOn programs self.now (as_value (gives (spec_type_text operand.now))) self.now
+            next) }
+        ensures live { IfOk result (IsNextLive self.now) }
+        ensures less { IfOk result (IsLess self.now self.now) }
+    {
+        Ok(value(self.type_text(operand)?))
     }
 
     // What an operator gives, where its charge is left.

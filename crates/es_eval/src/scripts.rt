@@ -7,16 +7,15 @@ ghost use Rattle.es_reader.specs.Programs.{Tells};
 ghost use Rattle.es_reader.specs.Statements.{Item};
 ghost use Rattle.es_reader.specs.declared.programs.FunctionDecl.{FunctionDecl};
 ghost use Rattle.es_values.specs.Objects.{ObjectState};
-ghost use Rattle.es_eval.specs.Codes.{declared_by};
-ghost use Rattle.es_eval.specs.Declaring.{with_new, with_new_one, with_numbered};
+ghost use Rattle.es_shapes.specs.Codes.{declared_by};
+ghost use Rattle.es_eval.specs.devices.Declaring.{with_new, with_new_one, with_numbered};
 ghost use Rattle.es_eval.specs.Endings.{EndsWith, MayEnd};
 ghost use Rattle.es_eval.specs.Evaluation.{global_run, run_at, with_variables};
-ghost use Rattle.es_eval.specs.Machines.{IsNamedLive, IsNextLive, opened, run_from, told_global_run, told_run, variables_of, with_declared, world_of};
-ghost use Rattle.es_eval.specs.Sources.{program_of};
+ghost use Rattle.es_eval.specs.Worlds.{IsNamedLive};
+ghost use Rattle.es_eval.specs.devices.Machines.{IsNextLive, opened, run_from, told_global_run, told_run, variables_of, with_declared, world_of};
+ghost use Rattle.es_shapes.specs.Sources.{program_of};
 ghost use Rattle.es_eval.specs.Worlds.{global};
 
-use crate::codes::Listing;
-use crate::functions::{FIRST_FUNCTION, Programs, function_count};
 use crate::globals::Globals;
 use crate::machine::Machine;
 use crate::nexts::stopped;
@@ -25,6 +24,7 @@ use crate::works::Now;
 use bml_bytes::{NoMemory, Text};
 use es_frames::Frames;
 use es_reader::{FunctionDecl, Program};
+use es_shapes::{FIRST_FUNCTION, Listing, Programs, function_count, law_of_told_programs};
 use es_values::{Budget, Heap, Host, Value};
 use std::mem;
 
@@ -50,6 +50,7 @@ pub fn run<H: Host>(
         globals.new heap.new host.new) }
     ensures live { All (IsNamedLive heap.new) globals.new }
 {
+    law_of_told_programs();
     let mut machine = Machine::over(globals, heap, budget)?;
     let ended = machine.run_program(&mut Programs::new(heap.allocator(), programs), which, host);
     machine.give_back(globals, heap);
@@ -74,6 +75,7 @@ pub fn run_global<H: Host>(
         globals.new heap.new host.new) }
     ensures live { All (IsNamedLive heap.new) globals.new }
 {
+    law_of_told_programs();
     let mut machine = Machine::over(globals, heap, budget)?;
     let ended = machine.run_global(&mut Programs::new(heap.allocator(), programs), name, host);
     machine.give_back(globals, heap);

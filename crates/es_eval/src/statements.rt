@@ -4,23 +4,26 @@ ghost use Rattle.std.specs.Prelude.{◌≡◌, ◌≤◌, ◌<◌, [], List, len
 ghost use Rattle.es_reader.specs.Programs.{ToldProgram};
 ghost use Rattle.es_values.specs.Heaps.{IsLive};
 ghost use Rattle.es_eval.specs.declared.works.Given.TheVariants.{Broke as GivenBroke, Continued as GivenContinued, Normal as GivenNormal, Value as GivenValue};
+ghost use Rattle.es_eval.specs.declared.works.StatementWork.TheVariants.{Declared as DeclaredItem};
 ghost use Rattle.es_eval.specs.declared.works.Use.TheVariants.{Visit as VisitUse};
 ghost use Rattle.es_eval.specs.declared.works.Work.TheVariants.{Statement as StatementItem};
 ghost use Rattle.es_eval.specs.Actions.{behind, gives};
-ghost use Rattle.es_eval.specs.Codes.{statement_at, statements_from};
-ghost use Rattle.es_eval.specs.Machines.{AreLive, GoesOn, IsLess, IsNextLive, IsWorkLive, burden, values_of_given, weight};
+ghost use Rattle.es_shapes.specs.devices.Parts.{statement_at, statements_from};
+ghost use Rattle.es_eval.specs.devices.Machines.{AreLive, GoesOn, IsLess, IsNextLive, IsWorkLive, burden, values_of_given, weight};
 ghost use Rattle.es_eval.specs.Rows.{statement_row, statements as spec_statements, visit_all, visited_place};
-ghost use Rattle.es_eval.specs.Shapes.{stated, visitor_shaped};
-ghost use Rattle.es_eval.specs.Works.{as_completion, declares, enters, loop_again, loop_body, loop_task, runs, starts_loop, statement_work_row, turns, use_row, visit_task};
+ghost use Rattle.es_shapes.specs.devices.Shapes.{stated, visitor_shaped};
+ghost use Rattle.es_eval.specs.devices.Works.{as_completion, declares, enters, loop_again, loop_body, loop_task, runs, starts_loop, statement_work_row, turns, use_row, visit_task};
 
-use crate::codes::{Code, Listing, listed_statement, part, part_count};
 use crate::machine::Machine;
 use crate::nexts::stopped;
 use crate::outcomes::StopCause;
-use crate::shapes::{FirstShape, StatementShape, VisitorShape, declarator, statement};
 use crate::works::{Given, Loop, Now, Place, StatementWork, Use, Visit, Work};
 use bml_bytes::{NoMemory, Text};
 use es_reader::Program;
+use es_shapes::{
+    Code, FirstShape, Listing, StatementShape, VisitorShape, declarator, listed_statement, part,
+    part_count, statement,
+};
 use es_values::Value;
 
 impl Machine {
@@ -40,7 +43,7 @@ impl Machine {
     }
 
     // A statement of this shape, behind its step.
-    #[tactic(auto, unfolding(crate::specs::Shapes::stated))]
+    #[tactic(auto, unfolding(es_shapes::specs::devices::Shapes::stated))]
     fn execute_shape(
         &mut self,
         programs: &[Program],
@@ -129,8 +132,7 @@ impl Machine {
         match item {
             StatementWork::Discard => Ok(Now::Gives(Given::Normal)),
             StatementWork::Declared(name, code, next) => {
-                self.write_name(&name, given)?;
-                self.declare(programs, code, next)
+                self.declare_value(programs, &name, given, code, next)
             }
             StatementWork::If(body) => Ok(if given.truth() {
                 Now::Execute(body)
@@ -155,6 +157,26 @@ impl Machine {
             StatementWork::Statements(_, _) | StatementWork::Body(_) | StatementWork::Visiting(_) =>
                 Ok(Now::Gives(Given::Value(given))),
         }
+    }
+
+    // The value of a declarator is written, and the next one follows.
+    fn declare_value(
+        &mut self,
+        programs: &[Program],
+        name: &Text,
+        given: Value,
+        code: Code,
+        next: usize,
+    ) -> Result<Now, NoMemory>
+        requires { IsLive self.old.heap given }
+        ensures run { IfOk result (λ now. GoesOn programs.now self.old
+            (statement_work_row programs.now (DeclaredItem name.now code next) (GivenValue given))
+            self.new now) }
+        ensures live { IfOk result (IsNextLive self.new) }
+        ensures less { IfOk result (IsLess self.old self.new) }
+    {
+        self.write_name(name, given)?;
+        self.declare(programs, code, next)
     }
 
     // What is done behind a statement that ended normally.
@@ -237,7 +259,7 @@ impl Machine {
     // ---- `while` and `for`
 
     // The first part of a `for`, and then its turns.
-    #[tactic(auto, unfolding(crate::specs::Shapes::first_shaped))]
+    #[tactic(auto, unfolding(es_shapes::specs::devices::Shapes::first_shaped))]
     fn start_loop(
         &mut self,
         programs: &[Program],
@@ -403,17 +425,5 @@ fn on_break(item: &StatementWork) -> Given
     match item {
         StatementWork::Body(_) | StatementWork::Visiting(_) => Given::Normal,
         _ => Given::Broke,
-    }
-}
-
-impl VisitorShape {
-    /// The same again, which takes no memory.
-    fn share(&self) -> Result<VisitorShape, NoMemory>
-        ensures { IfOk result (λ visitor. visitor ≡ self.now) }
-    {
-        match self {
-            VisitorShape::VisitTarget(target) => Ok(VisitorShape::VisitTarget(*target)),
-            VisitorShape::VisitVar(name) => Ok(VisitorShape::VisitVar(name.share()?)),
-        }
     }
 }

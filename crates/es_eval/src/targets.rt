@@ -8,25 +8,23 @@ ghost use Rattle.es_eval.specs.declared.works.TargetWork.TheVariants.{IndexKey, 
 ghost use Rattle.es_eval.specs.declared.works.Use.TheVariants.{Step as StepUse, Update as UpdateUse, Visit as VisitUse};
 ghost use Rattle.es_eval.specs.declared.works.Work.TheVariants.{Target as TargetItem};
 ghost use Rattle.es_eval.specs.Actions.{and_then, behind, gives};
-ghost use Rattle.es_eval.specs.Codes.{expression_at};
-ghost use Rattle.es_eval.specs.Machines.{AreLive, GoesOn, IsLess, IsLessAfter, IsLittle, IsNextLive, IsWorkLive, burden, values_of_place, values_of_use, weight};
+ghost use Rattle.es_shapes.specs.devices.Parts.{expression_at};
+ghost use Rattle.es_eval.specs.devices.Machines.{AreLive, GoesOn, IsLess, IsLessAfter, IsLittle, IsNextLive, IsWorkLive, burden, values_of_place, values_of_use, weight};
 ghost use Rattle.es_eval.specs.Members.{read_name as spec_read_name, read_place as spec_read_place, write_member as spec_write_member, write_place as spec_write_place};
-ghost use Rattle.es_eval.specs.Operations.{stepped as spec_stepped};
+ghost use Rattle.es_shapes.specs.Operators.{stepped as spec_stepped};
 ghost use Rattle.es_eval.specs.Members.Place.{NamePlace};
 ghost use Rattle.es_eval.specs.Rows.{entered_place, place_row};
-ghost use Rattle.es_eval.specs.Shapes.{shaped};
-ghost use Rattle.es_eval.specs.Sources.{target_of};
-ghost use Rattle.es_eval.specs.Works.{as_value, enters, place_of, steps_from, target_row, use_row};
+ghost use Rattle.es_shapes.specs.devices.Shapes.{shaped};
+ghost use Rattle.es_shapes.specs.Sources.{target_of};
+ghost use Rattle.es_eval.specs.devices.Works.{as_value, enters, place_of, steps_from, target_row, use_row};
 
-use crate::codes::Code;
 use crate::machine::Machine;
 use crate::nexts::{stopped, value};
-use crate::operators::Operator;
 use crate::outcomes::StopCause;
-use crate::shapes::{Shape, expression};
 use crate::works::{Now, OperandWork, Place, StatementWork, TargetWork, Use, Visit, Work, discard};
 use bml_bytes::{NoMemory, Text};
 use es_reader::Program;
+use es_shapes::{Code, Operator, Shape, expression};
 use es_values::{HostRef, Num, Value};
 
 impl Machine {
@@ -59,7 +57,7 @@ impl Machine {
     }
 
     // A target of this shape, behind its step.
-    #[tactic(auto, unfolding(crate::specs::Shapes::shaped))]
+    #[tactic(auto, unfolding(es_shapes::specs::devices::Shapes::shaped))]
     fn enter_shaped(
         &mut self,
         programs: &[Program],

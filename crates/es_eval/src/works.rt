@@ -1,10 +1,8 @@
 //! What is still to be done of a script: the items of a control stack, and what comes next.
 
-use crate::codes::{Code, Listing};
-use crate::operators::{Operator, Sign};
 use crate::outcomes::Outcome;
-use crate::shapes::VisitorShape;
 use bml_bytes::Text;
+use es_shapes::{Code, Listing, Operator, Sign, VisitorShape};
 use es_values::{HostRef, Value};
 
 /// What an expression gives, or how a statement is completed (ECMA-262 second edition, 8.9).

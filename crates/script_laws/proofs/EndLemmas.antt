@@ -19,7 +19,7 @@ use Rattle.es_eval.specs.declared.outcomes.Outcome.{Outcome}
 use Rattle.es_eval.specs.Endings.{MayEnd}
 use Rattle.es_eval.specs.Evaluation.{global_run, program_run}
 use Rattle.script_laws.specs.Soundness.{AreSound, HasNumbers, StaySound, function_limit}
-use Rattle.es_eval.specs.Syntax.{Program}
+use Rattle.es_shapes.specs.Syntax.{Program}
 use Rattle.es_eval.specs.Worlds.{World, Run}
 use Rattle.es_eval.specs.Worlds.Run.{Over, Reads, Writes, Calls}
 use Rattle.script_laws.specs.Keeping.{KeepsTest}

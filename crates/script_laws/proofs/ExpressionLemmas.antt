@@ -10,12 +10,12 @@ use Rattle.es_eval.specs.declared.outcomes.StopCause.TheVariants.{NotObject}
 use Rattle.es_eval.specs.Actions.{Action}
 use Rattle.es_eval.specs.Calls.{Body}
 use Rattle.es_eval.specs.Members.Place.{NamePlace, MemberPlace}
-use Rattle.es_eval.specs.Operations.{type_text}
+use Rattle.es_shapes.specs.Operators.{type_text}
 use Rattle.es_eval.specs.Rows.{Evaluation, call_row, delete_row, entered_place, expression_row, last_value, place_row, values, with_members}
-use Rattle.es_eval.specs.Syntax.{Expression, Expressions, Target, Function as Declared, Statements}
-use Rattle.es_eval.specs.Syntax.Expression.{This, Null as NullWord, Truth, Number as Numeral, Text, Name, Index, Member, Call, New, Signed, Typeof, Void, Delete, Stepped, Binary, And, Or, Choice, Assign, Update, Comma}
-use Rattle.es_eval.specs.Syntax.Expressions.{NoExpressions, OneMore}
-use Rattle.es_eval.specs.Syntax.Target.{NameTarget, IndexTarget, MemberTarget}
+use Rattle.es_shapes.specs.Syntax.{Expression, Expressions, Target, Function as Declared, Statements}
+use Rattle.es_shapes.specs.Syntax.Expression.{This, Null as NullWord, Truth, Number as Numeral, Text, Name, Index, Member, Call, New, Signed, Typeof, Void, Delete, Stepped, Binary, And, Or, Choice, Assign, Update, Comma}
+use Rattle.es_shapes.specs.Syntax.Expressions.{NoExpressions, OneMore}
+use Rattle.es_shapes.specs.Syntax.Target.{NameTarget, IndexTarget, MemberTarget}
 use Rattle.script_laws.proofs.StateLemmas.{AllKnown, Keeps, Known, Setting, all_more, as_text-keeps, behind-keeps, gives-keeps, if-keeps, keeps_more, known_more, simple-keeps, simple-known, reads-keeps, step-keeps, stops-keeps, value-keeps}
 use Rattle.script_laws.proofs.CallLemmas.{call_member-keeps, call_value-keeps, new_value-keeps}
 use Rattle.script_laws.proofs.MemberLemmas.{PlaceKnown, delete_index-keeps, delete_member-keeps, operates-keeps, place_more, read_member-keeps, read_name-keeps, read_place-keeps, signs-keeps, step_row-keeps, typeof_name-keeps, write_place-keeps}

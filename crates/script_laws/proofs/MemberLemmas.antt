@@ -17,15 +17,16 @@ use Rattle.es_values.specs.Values.{IsLiveAmong, truth_of}
 use Rattle.es_builtins.specs.declared.functions.BuiltIn.{BuiltIn}
 use Rattle.es_builtins.specs.declared.functions.BuiltIn.TheVariants as built
 use Rattle.es_builtins.specs.Functions.{all_functions, first_with, function_member, function_name, function_number, other_named, value_named}
-use Rattle.es_eval.specs.declared.operators.Operator.{Operator}
-use Rattle.es_eval.specs.declared.operators.Operator.TheVariants as the
-use Rattle.es_eval.specs.declared.operators.Sign.{Sign}
-use Rattle.es_eval.specs.declared.operators.Sign.TheVariants as sign
+use Rattle.es_shapes.specs.declared.operators.Operator.{Operator}
+use Rattle.es_shapes.specs.declared.operators.Operator.TheVariants as the
+use Rattle.es_shapes.specs.declared.operators.Sign.{Sign}
+use Rattle.es_shapes.specs.declared.operators.Sign.TheVariants as sign
 use Rattle.es_eval.specs.declared.outcomes.StopCause.TheVariants.{NotObject, Unresolved}
 use Rattle.es_eval.specs.Actions.{gives, stops}
 use Rattle.es_eval.specs.Members.{Place, delete_in, delete_index, delete_member, first_of, named, put_member, read_member, read_name, read_place, text_member, write_member, write_name, write_place, write_to_host}
 use Rattle.es_eval.specs.Members.Place.{NamePlace, MemberPlace}
-use Rattle.es_eval.specs.Operations.{operated, operates, signed_number, signs, stepped, type_text}
+use Rattle.es_shapes.specs.Operators.{operated, signed_number, stepped, type_text}
+use Rattle.es_eval.specs.Operations.{operates, signs}
 use Rattle.es_eval.specs.Rows.{step_row, typeof_name}
 use Rattle.es_eval.specs.Worlds.{World, global, local, with_global, with_local, with_name}
 use Rattle.script_laws.specs.Staying.{IsFit}

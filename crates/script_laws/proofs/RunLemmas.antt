@@ -12,13 +12,14 @@ use Rattle.es_values.specs.Objects.{ObjectState}
 use Rattle.es_eval.specs.declared.outcomes.Outcome.TheVariants.{Normal as AtEnd, Stopped}
 use Rattle.es_eval.specs.declared.outcomes.StopCause.TheVariants.{Budget, Unresolved}
 use Rattle.es_eval.specs.Actions.{step}
-use Rattle.es_eval.specs.Calls.{call_value, first_function}
+use Rattle.es_eval.specs.Calls.{call_value}
+use Rattle.es_shapes.specs.Functions.{first_function}
 use Rattle.es_eval.specs.Evaluation.{all_functions, call_body, ends_normally, enough, evaluate, execute, global_run, global_run_by, program_run, program_run_by, returned, run_at, started, with_functions, with_new_name, with_variables, world}
 use Rattle.es_eval.specs.Rows.{Completion, Task}
 use Rattle.es_eval.specs.Rows.Completion.{Normal, Broke, Continued, Returned}
 use Rattle.es_eval.specs.Rows.Task.{Do}
 use Rattle.script_laws.specs.Soundness.{HasNumbers, function_limit}
-use Rattle.es_eval.specs.Syntax.{Expression, Function, Program, Statement, Statements}
+use Rattle.es_shapes.specs.Syntax.{Expression, Function, Program, Statement, Statements}
 use Rattle.es_eval.specs.Worlds.{World, global}
 use Rattle.es_eval.specs.Worlds.Run.{Over}
 use Rattle.script_laws.specs.Passing.{PassesOwn}

@@ -12,11 +12,11 @@ use Rattle.es_eval.specs.Members.Place.{NamePlace}
 use Rattle.es_eval.specs.Rows.{Completion, Evaluation, Execution, Task, Turns, behind_body, declarator_row, declarators, first_row, return_row, statement_row, statements, task_row, turn_body, turn_row, update_row, visit_all, visit_row, visited_place, where_normal}
 use Rattle.es_eval.specs.Rows.Completion.{Normal, Broke, Continued, Returned}
 use Rattle.es_eval.specs.Rows.Task.{Do, Turn, Visit}
-use Rattle.es_eval.specs.Syntax.{Expression, Declarator, First, Visitor, Statement, Statements}
-use Rattle.es_eval.specs.Syntax.First.{NoFirst, FirstExpression, FirstVar}
-use Rattle.es_eval.specs.Syntax.Visitor.{VisitTarget, VisitVar}
-use Rattle.es_eval.specs.Syntax.Statement.{Block, Var, Empty, Evaluate, If, IfElse, While, For, ForIn, Continue, Break, Return}
-use Rattle.es_eval.specs.Syntax.Statements.{NoStatements, OneMoreStatement}
+use Rattle.es_shapes.specs.Syntax.{Expression, Declarator, First, Visitor, Statement, Statements}
+use Rattle.es_shapes.specs.Syntax.First.{NoFirst, FirstExpression, FirstVar}
+use Rattle.es_shapes.specs.Syntax.Visitor.{VisitTarget, VisitVar}
+use Rattle.es_shapes.specs.Syntax.Statement.{Block, Var, Empty, Evaluate, If, IfElse, While, For, ForIn, Continue, Break, Return}
+use Rattle.es_shapes.specs.Syntax.Statements.{NoStatements, OneMoreStatement}
 use Rattle.script_laws.proofs.StateLemmas.{Keeps, Known, Setting, and_then-keeps, behind-keeps, charged-keeps, gives-keeps, if-stays, if-keeps, keeps_more, known_more, option-keeps, simple-known, step-keeps}
 use Rattle.script_laws.proofs.MemberLemmas.{PlaceKnown, write_name-keeps, write_place-keeps}
 use Rattle.script_laws.proofs.ExpressionLemmas.{entered_place-keeps, value-at}

@@ -6,9 +6,9 @@ use Rattle.es_values.specs.declared.values.Value.{Value}
 use Rattle.es_values.specs.Heaps.{IsLive, IsSound, holds_function}
 use Rattle.es_values.specs.Objects.{ObjectState}
 use Rattle.es_values.specs.Values.{is_function}
-use Rattle.es_eval.specs.Calls.{first_function}
+use Rattle.es_shapes.specs.Functions.{first_function}
 use Rattle.es_eval.specs.Evaluation.{all_functions}
-use Rattle.es_eval.specs.Syntax.{Program}
+use Rattle.es_shapes.specs.Syntax.{Program}
 
 -- each function of programs, and each built-in one, has a number below this one
 abbrev pub function_limit : List Program → ℕ

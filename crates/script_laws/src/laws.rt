@@ -9,7 +9,7 @@ ghost use Rattle.es_builtins.specs.Methods.{method_row};
 ghost use Rattle.es_eval.specs.declared.outcomes.Outcome.{Outcome};
 ghost use Rattle.es_eval.specs.Endings.{MayEnd};
 ghost use Rattle.es_eval.specs.Evaluation.{global_run, program_run, run_at};
-ghost use Rattle.es_eval.specs.Syntax.{Program};
+ghost use Rattle.es_shapes.specs.Syntax.{Program};
 ghost use Rattle.es_eval.specs.Worlds.{World, Run};
 ghost use Rattle.script_laws.specs.Keeping.{KeepsTest};
 ghost use Rattle.script_laws.specs.Passing.{AllPass, HeapPasses, PassesOwn, RowPasses};

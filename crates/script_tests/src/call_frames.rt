@@ -1,7 +1,7 @@
 //! The frames of calls, one operation after the other.
 
-use crate::value_words::push_word;
-use bml_bytes::{NoMemory, Text, push_count, push_decimal, read_decimal};
+use crate::lines::Line;
+use bml_bytes::{NoMemory, Text, read_decimal};
 use es_frames::Frames;
 use es_values::{Num, Value};
 use std::alloc::Global;
@@ -11,31 +11,35 @@ fn number_value(number: u32) -> Value {
 }
 
 // Appends a whole number, `U` for another value, and `-` for none.
-fn push_value(value: Option<&Value>, out: &mut Vec<u8>) -> Result<(), NoMemory> {
+fn push_value(value: Option<&Value>, out: &mut Line) {
     match value {
-        Some(Value::Number(Num::Whole(whole))) => push_decimal(i64::from(*whole), out),
-        Some(_) => push_word(b"U", out),
-        None => push_word(b"-", out),
+        Some(Value::Number(Num::Whole(whole))) => out.number(i64::from(*whole)),
+        Some(_) => out.byte(b'U'),
+        None => out.byte(b'-'),
     }
 }
 
 // Appends a place or an item, and `-` for none.
-fn push_number(number: Option<u32>, out: &mut Vec<u8>) -> Result<(), NoMemory> {
+fn push_number(number: Option<u32>, out: &mut Line) {
     match number {
-        Some(number) => push_count(u64::from(number), out),
-        None => push_word(b"-", out),
+        Some(number) => out.count(u64::from(number)),
+        None => out.byte(b'-'),
     }
 }
 
 // Adds a frame with the names `b` and `a`.
 fn call(alloc: Global, frames: &mut Frames<u32>, this: u32) -> Result<(), NoMemory> {
     let mut names = Vec::new(alloc);
-    for name in [b"b", b"a"] {
-        names.push(Text::of_bytes(alloc, name)?)?;
-    }
+    push_names(alloc, &mut names)?;
     if names.len() <= 2 && frames.depth() <= 64 {
         frames.push(&names, number_value(this))?;
     }
+    Ok(())
+}
+
+fn push_names(alloc: Global, names: &mut Vec<Text>) -> Result<(), NoMemory> {
+    names.push(Text::of_bytes(alloc, b"b")?)?;
+    names.push(Text::of_bytes(alloc, b"a")?)?;
     Ok(())
 }
 
@@ -47,24 +51,15 @@ fn put(frames: &mut Frames<u32>, item: u32) -> Result<(), NoMemory> {
 }
 
 // Appends whether a place was given the value.
-fn set(
-    frames: &mut Frames<u32>,
-    place: u32,
-    number: u32,
-    out: &mut Vec<u8>,
-) -> Result<(), NoMemory> {
+fn set(frames: &mut Frames<u32>, place: u32, number: u32, out: &mut Line) {
     let there = frames.set_slot(place, number_value(number));
-    push_word(if there { b"yes" } else { b"no" }, out)
+    out.word(if there { b"yes" } else { b"no" });
 }
 
-fn find(
-    alloc: Global,
-    frames: &Frames<u32>,
-    name: &[u8],
-    out: &mut Vec<u8>,
-) -> Result<(), NoMemory> {
+fn find(alloc: Global, frames: &Frames<u32>, name: &[u8], out: &mut Line) -> Result<(), NoMemory> {
     let name = Text::of_bytes(alloc, name)?;
-    push_number(frames.find(&name), out)
+    push_number(frames.find(&name), out);
+    Ok(())
 }
 
 // Does what a word says: `c` and a `this` is a call, which adds a frame, and `r` takes it; `p` and
@@ -75,7 +70,7 @@ fn act(
     alloc: Global,
     frames: &mut Frames<u32>,
     word: &[u8],
-    out: &mut Vec<u8>,
+    out: &mut Line,
 ) -> Result<(), NoMemory> {
     let Some((kind, rest)) = word.split_first() else {
         return Ok(());
@@ -83,28 +78,46 @@ fn act(
     let number = read_decimal(rest).unwrap_or(0);
     match *kind {
         b'c' => call(alloc, frames, number),
-        b'r' => push_value(frames.pop().as_ref(), out),
         b'p' => put(frames, number),
+        b'f' => find(alloc, frames, rest, out),
+        _ => {
+            answer(frames, *kind, number, out);
+            Ok(())
+        }
+    }
+}
+
+// Does what takes no memory.
+fn answer(frames: &mut Frames<u32>, kind: u8, number: u32, out: &mut Line) {
+    match kind {
+        b'r' => push_value(frames.pop().as_ref(), out),
         b't' => push_number(frames.take(), out),
         b's' => set(frames, 1, number, out),
         b'z' => set(frames, 2, number, out),
-        b'd' => push_count(u64::from(frames.depth()), out),
+        b'd' => out.count(u64::from(frames.depth())),
         b'h' => push_value(frames.this(), out),
-        b'f' => find(alloc, frames, rest, out),
         _ => push_value(frames.slot(number), out),
     }
 }
 
-/// What frames answer to words.
-pub fn told(alloc: Global, words: &[u8]) -> Result<Vec<u8>, NoMemory> {
+/// Appends what frames answer to words.
+pub fn push_told(alloc: Global, words: &[u8], out: &mut Line) -> Result<(), NoMemory> {
     let mut frames = Frames::new(alloc);
-    let mut out = Vec::new(alloc);
+    push_acts(alloc, &mut frames, words, out)
+}
+
+fn push_acts(
+    alloc: Global,
+    frames: &mut Frames<u32>,
+    words: &[u8],
+    out: &mut Line,
+) -> Result<(), NoMemory> {
     for word in words.split(|code| *code == b' ') {
-        let before = out.len();
-        act(alloc, &mut frames, word, &mut out)?;
-        if out.len() > before {
-            out.push(b' ')?;
+        let before = out.told().len();
+        act(alloc, frames, word, out)?;
+        if out.told().len() > before {
+            out.byte(b' ');
         }
     }
-    Ok(out)
+    Ok(())
 }

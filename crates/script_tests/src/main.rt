@@ -22,6 +22,7 @@ mod built_in_arrays;
 mod built_in_names;
 mod call_frames;
 mod kinds;
+mod lines;
 mod object_words;
 mod program_levels;
 mod program_lines;
@@ -37,8 +38,8 @@ mod value_numbers;
 mod value_objects;
 mod value_words;
 
+use crate::lines::Line;
 use crate::reports::push_report;
-use bml_bytes::NoMemory;
 use std::io::{self, ErrorKind, Write};
 use std::process::ExitCode;
 use std::{env, fs};
@@ -68,11 +69,12 @@ fn report_files(rt: &HostRuntime) -> io::Result<bool> {
 // Prints the report of a file, and answers whether its rows are as expected.
 fn report_file(rt: &HostRuntime, name: &str) -> io::Result<bool> {
     let bytes = fs::read(rt, name)?;
-    let mut out = Vec::new(rt.alloc());
+    let mut out = Line::new(rt.alloc());
     let answer = push_report(rt.alloc(), name, &bytes, &mut out);
-    rt.stdout().write_all(&out)?;
-    match answer {
-        Ok(right) => Ok(right),
-        Err(NoMemory) => Err(ErrorKind::OutOfMemory.into()),
+    rt.stdout().write_all(out.told())?;
+    if out.is_whole() {
+        Ok(answer)
+    } else {
+        Err(ErrorKind::OutOfMemory.into())
     }
 }

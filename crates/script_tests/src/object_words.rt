@@ -7,6 +7,7 @@
 ghost use Rattle.std.specs.Prelude.{◌≡◌, ◌<◌, length, All, IfOk};
 ghost use Rattle.es_values.specs.Heaps.{IsLive};
 
+use crate::lines::Line;
 use crate::value_words::object_of;
 use bml_bytes::{NoMemory, Text};
 use es_values::{Heap, Num, Value};
@@ -102,13 +103,31 @@ pub fn put_word(heap: &mut Heap, object: u64, word: &[u8]) -> Result<(), NoMemor
 }
 
 /// Appends the words of an object's properties, each with a blank behind it.
-pub fn push_words(heap: &Heap, object: u64, out: &mut Vec<u8>) -> Result<(), NoMemory>
+pub fn push_words(heap: &Heap, object: u64, out: &mut Line)
     requires { object < length heap.now }
 {
-    for name in &heap.names(object)? {
-        name.push_bytes(out)?;
-        out.push(letter_of(&heap.get(object, name)?))?;
-        out.push(b' ')?;
+    match heap.names(object) {
+        Ok(names) => push_properties(heap, object, &names, out),
+        Err(NoMemory) => out.fail(),
     }
-    Ok(())
+}
+
+fn push_properties(heap: &Heap, object: u64, names: &[Text], out: &mut Line)
+    requires { object < length heap.now }
+{
+    for name in names {
+        out.text(name);
+        push_letter(heap, object, name, out);
+        out.byte(b' ');
+    }
+}
+
+/// Appends the letter of the value of an object's property.
+pub fn push_letter(heap: &Heap, object: u64, name: &Text, out: &mut Line)
+    requires { object < length heap.now }
+{
+    match heap.get(object, name) {
+        Ok(value) => out.byte(letter_of(&value)),
+        Err(NoMemory) => out.fail(),
+    }
 }

@@ -1,6 +1,8 @@
 //! Deep texts and long ones: how many levels they have, by the rules for levels, and how many nodes.
 
-use bml_bytes::{NoMemory, Text, push_count, push_decimal, push_word};
+use crate::lines::Line;
+use crate::program_lines::push_fault;
+use bml_bytes::{NoMemory, Text};
 use es_reader::{Program, SyntaxFault, read_program};
 use std::alloc::Global;
 
@@ -28,73 +30,67 @@ pub fn around<'a>(piece: &'a [u8], middle: &'a [u8], close: &'a [u8]) -> Nest<'a
     }
 }
 
-fn push_times(piece: &[u8], count: u32, out: &mut Vec<u8>) -> Result<(), NoMemory> {
+fn push_times(piece: &[u8], count: u32, out: &mut Line) {
     for _ in 0..count {
-        out.extend_from_slice(piece)?;
+        out.word(piece);
+    }
+}
+
+fn text_of(alloc: Global, nest: Nest, count: u32) -> Result<Text, NoMemory> {
+    let mut bytes = Line::new(alloc);
+    bytes.word(nest.front);
+    push_times(nest.piece, count, &mut bytes);
+    bytes.word(nest.middle);
+    push_times(nest.close, count, &mut bytes);
+    bytes.word(nest.back);
+    Text::of_bytes(alloc, bytes.told())
+}
+
+/// Appends `whole` for a program, `deep`, or `bad` and the place.
+pub fn push_nest(alloc: Global, nest: Nest, count: u32, out: &mut Line) -> Result<(), NoMemory> {
+    let text = text_of(alloc, nest, count)?;
+    match read_program(alloc, &text) {
+        Ok(_) => {
+            out.word(b"whole");
+            Ok(())
+        }
+        Err(fault) => push_fault(fault, out),
+    }
+}
+
+/// Appends with how many pieces a nest is still a program, and what it is with one more.
+pub fn push_levels(alloc: Global, nest: Nest, out: &mut Line) -> Result<(), NoMemory> {
+    for count in 0..MOST_PIECES {
+        if !is_program(alloc, nest, count)? {
+            out.number(i64::from(count) - 1);
+            out.byte(b' ');
+            return push_nest(alloc, nest, count, out);
+        }
     }
     Ok(())
 }
 
-fn text_of(alloc: Global, nest: Nest, count: u32) -> Result<Text, NoMemory> {
-    let mut bytes = nest.front.to_vec(alloc)?;
-    push_times(nest.piece, count, &mut bytes)?;
-    bytes.extend_from_slice(nest.middle)?;
-    push_times(nest.close, count, &mut bytes)?;
-    bytes.extend_from_slice(nest.back)?;
-    Text::of_bytes(alloc, bytes.as_slice())
-}
-
-// Appends why a text is no program of at most 64 levels: `deep`, or `bad` and the place.
-fn push_fault(fault: SyntaxFault, out: &mut Vec<u8>) -> Result<(), NoMemory> {
-    match fault {
-        SyntaxFault::Bad { place } => {
-            push_word("bad ", out)?;
-            push_count(place as u64, out)
-        }
-        SyntaxFault::TooDeep => push_word("deep", out),
-        SyntaxFault::NoMemory => Err(NoMemory),
-    }
-}
-
-/// `whole` for a program, `deep`, or `bad` and the place.
-pub fn told_nest(alloc: Global, nest: Nest, count: u32) -> Result<Vec<u8>, NoMemory> {
+fn is_program(alloc: Global, nest: Nest, count: u32) -> Result<bool, NoMemory> {
     let text = text_of(alloc, nest, count)?;
-    let mut out = Vec::new(alloc);
     match read_program(alloc, &text) {
-        Ok(_) => push_word("whole", &mut out)?,
-        Err(fault) => push_fault(fault, &mut out)?,
+        Ok(_) => Ok(true),
+        Err(SyntaxFault::NoMemory) => Err(NoMemory),
+        Err(_) => Ok(false),
     }
-    Ok(out)
 }
 
-/// With how many pieces a nest is still a program, and what it is with one more.
-pub fn told_levels(alloc: Global, nest: Nest) -> Result<Vec<u8>, NoMemory> {
-    let mut out = Vec::new(alloc);
-    for count in 0..MOST_PIECES {
-        let outcome = told_nest(alloc, nest, count)?;
-        if outcome.as_slice() != b"whole".as_slice() {
-            push_decimal(i64::from(count) - 1, &mut out)?;
-            out.push(b' ')?;
-            out.extend_from_slice(&outcome)?;
-            break;
-        }
-    }
-    Ok(out)
-}
-
-/// How many nodes and statements a program has.
-pub fn told_sizes(alloc: Global, nest: Nest, count: u32) -> Result<Vec<u8>, NoMemory> {
+/// Appends how many nodes and statements a program has.
+pub fn push_sizes(alloc: Global, nest: Nest, count: u32, out: &mut Line) -> Result<(), NoMemory> {
     let text = text_of(alloc, nest, count)?;
-    let mut out = Vec::new(alloc);
     match read_program(alloc, &text) {
         Ok(program) => {
-            push_count(u64::from(node_count(&program)), &mut out)?;
-            out.push(b' ')?;
-            push_count(u64::from(statement_count(&program)), &mut out)?;
+            out.count(u64::from(node_count(&program)));
+            out.byte(b' ');
+            out.count(program.statements().len() as u64);
+            Ok(())
         }
-        Err(fault) => push_fault(fault, &mut out)?,
+        Err(fault) => push_fault(fault, out),
     }
-    Ok(out)
 }
 
 fn node_count(program: &Program) -> u32 {
@@ -106,46 +102,37 @@ fn node_count(program: &Program) -> u32 {
     u32::MAX
 }
 
-fn statement_count(program: &Program) -> u32 {
-    for place in 0..u32::MAX {
-        if program.top(place).is_none() {
-            return place;
-        }
-    }
-    u32::MAX
-}
-
-// The front of a function with so many parameters, each with a name of its own, and a comma.
-fn long_front(alloc: Global, count: i64) -> Result<Vec<u8>, NoMemory> {
-    let mut bytes = b"function f(".to_vec(alloc)?;
+// Appends the front of a function with so many parameters, each with a name of its own, and a comma.
+fn push_long_front(count: i64, out: &mut Line) {
+    out.word(b"function f(");
     for number in 0..count {
-        bytes.push(b'a')?;
-        push_decimal(number, &mut bytes)?;
-        bytes.push(b',')?;
+        out.byte(b'a');
+        out.number(number);
+        out.byte(b',');
     }
-    Ok(bytes)
 }
 
-/// How many parameters and locals a function has with 50,000 parameters and this behind them, or the
-/// place where it is bad.
-pub fn told_parameters(alloc: Global, behind: &[u8]) -> Result<Vec<u8>, NoMemory> {
-    let mut bytes = long_front(alloc, 50_000)?;
-    bytes.extend_from_slice(behind)?;
-    let text = Text::of_bytes(alloc, bytes.as_slice())?;
-    let mut out = Vec::new(alloc);
+/// Appends how many parameters and locals a function has with 50,000 parameters and this behind
+/// them, or the place where it is bad.
+pub fn push_parameter_counts(alloc: Global, behind: &[u8], out: &mut Line) -> Result<(), NoMemory> {
+    let mut bytes = Line::new(alloc);
+    push_long_front(50_000, &mut bytes);
+    bytes.word(behind);
+    let text = Text::of_bytes(alloc, bytes.told())?;
     match read_program(alloc, &text) {
-        Ok(program) => push_parameters(&program, &mut out)?,
-        Err(fault) => push_fault(fault, &mut out)?,
+        Ok(program) => {
+            push_parameters(&program, out);
+            Ok(())
+        }
+        Err(fault) => push_fault(fault, out),
     }
-    Ok(out)
 }
 
 // Appends how many parameters and locals the first function has.
-fn push_parameters(program: &Program, out: &mut Vec<u8>) -> Result<(), NoMemory> {
+fn push_parameters(program: &Program, out: &mut Line) {
     if let Some(function) = program.function(0) {
-        push_count(u64::from(function.parameters), out)?;
-        out.push(b' ')?;
-        push_count(function.locals.len() as u64, out)?;
+        out.count(u64::from(function.parameters));
+        out.byte(b' ');
+        out.count(function.locals.len() as u64);
     }
-    Ok(())
 }

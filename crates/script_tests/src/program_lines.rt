@@ -1,12 +1,13 @@
 //! Programs as lines: their trees and functions, or the names of their `var`s outside of functions,
 //! or where they go wrong.
 
-use bml_bytes::{NoMemory, Text, push_count, push_word};
+use crate::lines::Line;
+use bml_bytes::{NoMemory, Text};
 use es_expressions::{Form, Symbol};
 use es_reader::{FunctionDecl, Program, SyntaxFault, read_program};
 use std::alloc::Global;
 
-// More than a line here has of statements, of functions and of steps through a tree.
+// More than a line here has of steps through a tree.
 const MOST: u32 = 1_000;
 
 /// What is printed of a program: its nodes, its nodes with their places, or the names of its `var`s
@@ -60,27 +61,21 @@ fn word_of(form: Form) -> &'static [u8] {
 }
 
 // A word for the form, `:` and the name where there is one, and `@` and the places if wanted.
-fn push_node(
-    program: &Program,
-    number: u32,
-    detail: Detail,
-    out: &mut Vec<u8>,
-) -> Result<(), NoMemory> {
+fn push_node(program: &Program, number: u32, detail: Detail, out: &mut Line) {
     let Some(node) = program.node(number) else {
-        return Ok(());
+        return;
     };
-    out.extend_from_slice(word_of(node.form))?;
+    out.word(word_of(node.form));
     if let Some(Symbol::Name(name)) = &node.symbol {
-        out.push(b':')?;
-        name.push_bytes(out)?;
+        out.byte(b':');
+        out.text(name);
     }
     if let Detail::Places = detail {
-        out.push(b'@')?;
-        push_count(node.start as u64, out)?;
-        out.push(b'-')?;
-        push_count(node.end as u64, out)?;
+        out.byte(b'@');
+        out.count(node.start as u64);
+        out.byte(b'-');
+        out.count(node.end as u64);
     }
-    Ok(())
 }
 
 // A node, and its children in parentheses.
@@ -88,32 +83,45 @@ fn push_tree(
     program: &Program,
     number: u32,
     detail: Detail,
-    out: &mut Vec<u8>,
+    open: &mut Vec<OpenNode>,
+    out: &mut Line,
 ) -> Result<(), NoMemory> {
-    push_node(program, number, detail, out)?;
-    let mut open = Vec::new(*out.allocator());
+    push_node(program, number, detail, out);
     open.push(OpenNode { number, next: 0 })?;
     for _ in 0..MOST {
-        let Some(OpenNode { number, next }) = open.pop() else {
+        let Some(last) = open.pop() else {
             break;
         };
-        match program.child(number, next) {
-            Some(child) => {
-                out.push(if next == 0 { b'(' } else { b' ' })?;
-                push_node(program, child, detail, out)?;
-                open.push(OpenNode {
-                    number,
-                    next: next.saturating_add(1),
-                })?;
-                open.push(OpenNode {
-                    number: child,
-                    next: 0,
-                })?;
-            }
-            None if 0 < next => out.push(b')')?,
-            None => {}
-        }
+        push_next(program, last, detail, open, out)?;
     }
+    Ok(())
+}
+
+// The next child of an open node, or its end.
+fn push_next(
+    program: &Program,
+    last: OpenNode,
+    detail: Detail,
+    open: &mut Vec<OpenNode>,
+    out: &mut Line,
+) -> Result<(), NoMemory> {
+    let OpenNode { number, next } = last;
+    let Some(child) = program.child(number, next) else {
+        if 0 < next {
+            out.byte(b')');
+        }
+        return Ok(());
+    };
+    out.byte(if next == 0 { b'(' } else { b' ' });
+    push_node(program, child, detail, out);
+    open.push(OpenNode {
+        number,
+        next: next.saturating_add(1),
+    })?;
+    open.push(OpenNode {
+        number: child,
+        next: 0,
+    })?;
     Ok(())
 }
 
@@ -121,13 +129,14 @@ fn push_statements(
     program: &Program,
     numbers: &[u32],
     detail: Detail,
-    out: &mut Vec<u8>,
+    open: &mut Vec<OpenNode>,
+    out: &mut Line,
 ) -> Result<(), NoMemory> {
     for (place, number) in numbers.iter().enumerate() {
         if 0 < place {
-            out.push(b' ')?;
+            out.byte(b' ');
         }
-        push_tree(program, *number, detail, out)?;
+        push_tree(program, *number, detail, open, out)?;
     }
     Ok(())
 }
@@ -137,75 +146,92 @@ fn push_function(
     program: &Program,
     function: &FunctionDecl,
     detail: Detail,
-    out: &mut Vec<u8>,
+    open: &mut Vec<OpenNode>,
+    out: &mut Line,
 ) -> Result<(), NoMemory> {
-    if !out.is_empty() {
-        out.push(b' ')?;
+    if !out.told().is_empty() {
+        out.byte(b' ');
     }
-    function.name.push_bytes(out)?;
-    out.push(b'/')?;
-    push_count(u64::from(function.parameters), out)?;
-    out.push(b'(')?;
-    for (place, local) in function.locals.iter().enumerate() {
-        if 0 < place {
-            out.push(b' ')?;
-        }
-        local.push_bytes(out)?;
-    }
-    out.extend_from_slice(b"){")?;
-    push_statements(program, function.body.as_slice(), detail, out)?;
-    out.push(b'}')?;
+    out.text(&function.name);
+    out.byte(b'/');
+    out.count(u64::from(function.parameters));
+    out.byte(b'(');
+    push_names(&function.locals, out);
+    out.word(b"){");
+    push_statements(program, &function.body, detail, open, out)?;
+    out.byte(b'}');
     Ok(())
+}
+
+// Names with blanks between them.
+fn push_names(names: &[Text], out: &mut Line) {
+    for (place, name) in names.iter().enumerate() {
+        if 0 < place {
+            out.byte(b' ');
+        }
+        out.text(name);
+    }
 }
 
 // The statements, and then the functions.
-fn push_program(program: &Program, detail: Detail, out: &mut Vec<u8>) -> Result<(), NoMemory> {
-    let mut numbers = Vec::new(*out.allocator());
-    for place in 0..MOST {
-        match program.top(place) {
-            Some(number) => numbers.push(number)?,
-            None => break,
-        }
-    }
-    push_statements(program, numbers.as_slice(), detail, out)?;
-    for place in 0..MOST {
-        match program.function(place) {
-            Some(function) => push_function(program, function, detail, out)?,
-            None => break,
-        }
+fn push_program(
+    program: &Program,
+    detail: Detail,
+    open: &mut Vec<OpenNode>,
+    out: &mut Line,
+) -> Result<(), NoMemory> {
+    push_statements(program, program.statements(), detail, open, out)?;
+    for function in program.functions() {
+        push_function(program, function, detail, open, out)?;
     }
     Ok(())
 }
 
-// The names of the `var`s outside of functions.
-fn push_variables(program: &Program, out: &mut Vec<u8>) -> Result<(), NoMemory> {
-    for place in 0..MOST {
-        let Some(name) = program.variable(place) else {
-            break;
-        };
-        if 0 < place {
-            out.push(b' ')?;
+// A program: the names of its `var`s outside of functions, or its nodes.
+fn push_whole(
+    alloc: Global,
+    program: &Program,
+    detail: Detail,
+    out: &mut Line,
+) -> Result<(), NoMemory> {
+    match detail {
+        Detail::Variables => {
+            push_names(program.variables(), out);
+            Ok(())
         }
-        name.push_bytes(out)?;
+        Detail::Forms | Detail::Places => {
+            let mut open = Vec::new(alloc);
+            push_program(program, detail, &mut open, out)
+        }
     }
-    Ok(())
 }
 
-/// A line for a text: its program, `deep`, or `bad` and the place.
-pub fn told(alloc: Global, bytes: &[u8], detail: Detail) -> Result<Vec<u8>, NoMemory> {
-    let mut out = Vec::new(alloc);
+/// Appends the program of a text, `deep`, or `bad` and the place.
+pub fn push_told(
+    alloc: Global,
+    bytes: &[u8],
+    detail: Detail,
+    out: &mut Line,
+) -> Result<(), NoMemory> {
     let text = Text::of_bytes(alloc, bytes)?;
     match read_program(alloc, &text) {
-        Ok(program) => match detail {
-            Detail::Variables => push_variables(&program, &mut out)?,
-            _ => push_program(&program, detail, &mut out)?,
-        },
-        Err(SyntaxFault::Bad { place }) => {
-            push_word("bad ", &mut out)?;
-            push_count(place as u64, &mut out)?;
-        }
-        Err(SyntaxFault::TooDeep) => push_word("deep", &mut out)?,
-        Err(SyntaxFault::NoMemory) => return Err(NoMemory),
+        Ok(program) => push_whole(alloc, &program, detail, out),
+        Err(fault) => push_fault(fault, out),
     }
-    Ok(out)
+}
+
+/// Appends why a text is no program of at most 64 levels: `deep`, or `bad` and the place.
+pub fn push_fault(fault: SyntaxFault, out: &mut Line) -> Result<(), NoMemory> {
+    match fault {
+        SyntaxFault::Bad { place } => {
+            out.word(b"bad ");
+            out.count(place as u64);
+            Ok(())
+        }
+        SyntaxFault::TooDeep => {
+            out.word(b"deep");
+            Ok(())
+        }
+        SyntaxFault::NoMemory => Err(NoMemory),
+    }
 }

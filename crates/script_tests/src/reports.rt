@@ -1,18 +1,14 @@
 //! What is told of the rows of a file.
 
-use crate::kinds::line_of;
+use crate::kinds::push_line;
+use crate::lines::Line;
 use crate::rows::words_of;
-use bml_bytes::{NoMemory, push_count, push_line_end, push_word};
+use bml_bytes::NoMemory;
 use std::alloc::Global;
 
 /// Appends what is told of the rows of a file: of each section how many are as expected, and each
 /// row that isn't. Answers whether all are.
-pub fn push_report(
-    alloc: Global,
-    name: &str,
-    bytes: &[u8],
-    out: &mut Vec<u8>,
-) -> Result<bool, NoMemory> {
+pub fn push_report(alloc: Global, name: &str, bytes: &[u8], out: &mut Line) -> bool {
     let mut all = true;
     let mut title = name.as_bytes();
     let mut count = 0_u64;
@@ -20,66 +16,74 @@ pub fn push_report(
         match line {
             [] | [b'#', ..] => {}
             [b'=', b'=', b' ', next @ ..] => {
-                push_section(title, count, out)?;
+                push_section(title, count, out);
                 title = next;
                 count = 0;
             }
-            row => match difference(alloc, row)? {
-                None => count = count.saturating_add(1),
-                Some(told) => {
-                    push_difference(name, place, &told, out)?;
+            row => {
+                if is_expected(alloc, name, place, row, out) {
+                    count = count.saturating_add(1);
+                } else {
                     all = false;
                 }
-            },
+            }
         }
     }
-    push_section(title, count, out)?;
-    Ok(all)
+    push_section(title, count, out);
+    all
 }
 
 // Appends how many rows of a section are as expected, where there are some.
-fn push_section(title: &[u8], count: u64, out: &mut Vec<u8>) -> Result<(), NoMemory> {
+fn push_section(title: &[u8], count: u64, out: &mut Line) {
     if 0 < count {
-        out.extend_from_slice(title)?;
-        push_word(": ", out)?;
-        push_count(count, out)?;
-        push_word(" as expected\n", out)?;
+        out.word(title);
+        out.word(b": ");
+        out.count(count);
+        out.word(b" as expected\n");
     }
-    Ok(())
 }
 
-// Appends a row that isn't as expected, with the number of its line.
-fn push_difference(
-    name: &str,
-    place: usize,
-    told: &[u8],
-    out: &mut Vec<u8>,
-) -> Result<(), NoMemory> {
-    push_word(name, out)?;
-    push_word(":", out)?;
-    push_count((place as u64).saturating_add(1), out)?;
-    push_word(": ", out)?;
-    out.extend_from_slice(told)?;
-    push_line_end(out)
-}
-
-// What is told of a row that isn't as expected.
-fn difference(alloc: Global, row: &[u8]) -> Result<Option<Vec<u8>>, NoMemory> {
-    let words = words_of(alloc, row)?;
-    let [kind, fields @ .., expected] = words.as_slice() else {
-        return told_of(alloc, &[b"no row"]);
+// Whether a row is as expected. Appends one that isn't, with the number of its line.
+fn is_expected(alloc: Global, name: &str, place: usize, row: &[u8], out: &mut Line) -> bool {
+    let Ok(words) = words_of(alloc, row) else {
+        out.fail();
+        return false;
     };
-    match line_of(alloc, kind, fields)? {
-        Some(line) if line == *expected => Ok(None),
-        Some(line) => told_of(alloc, &[kind, b" gives: ", &line, b", and not: ", expected]),
-        None => told_of(alloc, &[kind, b" with other fields, or no kind"]),
+    match words.as_slice() {
+        [kind, fields @ .., expected] => {
+            let mut line = Line::new(alloc);
+            if push_line(alloc, kind, fields, &mut line).is_err() || !line.is_whole() {
+                out.fail();
+            }
+            let same = line.told() == expected.as_slice();
+            if !same {
+                push_place(name, place, out);
+                push_difference(kind, line.told(), expected, out);
+            }
+            same
+        }
+        _ => {
+            push_place(name, place, out);
+            out.word(b"no row\n");
+            false
+        }
     }
 }
 
-fn told_of(alloc: Global, pieces: &[&[u8]]) -> Result<Option<Vec<u8>>, NoMemory> {
-    let mut told = Vec::new(alloc);
-    for piece in pieces {
-        told.extend_from_slice(piece)?;
-    }
-    Ok(Some(told))
+// Appends the number of a line.
+fn push_place(name: &str, place: usize, out: &mut Line) {
+    out.word(name.as_bytes());
+    out.byte(b':');
+    out.count((place as u64).saturating_add(1));
+    out.word(b": ");
+}
+
+// Appends what a row gives, and what was expected.
+fn push_difference(kind: &[u8], line: &[u8], expected: &[u8], out: &mut Line) {
+    out.word(kind);
+    out.word(b" gives: ");
+    out.word(line);
+    out.word(b", and not: ");
+    out.word(expected);
+    out.byte(b'\n');
 }

@@ -8,15 +8,25 @@ use std::alloc::Global;
 /// The words of a line, which have a tab between them.
 pub fn words_of(alloc: Global, line: &[u8]) -> Result<Vec<Vec<u8>>, NoMemory> {
     let mut words = Vec::new(alloc);
+    push_words(alloc, line, &mut words)?;
+    Ok(words)
+}
+
+fn push_words(alloc: Global, line: &[u8], words: &mut Vec<Vec<u8>>) -> Result<(), NoMemory> {
     for written in line.split(|byte| *byte == b'\t') {
         words.push(word_of(alloc, written)?)?;
     }
-    Ok(words)
+    Ok(())
 }
 
 // The bytes that are written so.
 fn word_of(alloc: Global, written: &[u8]) -> Result<Vec<u8>, NoMemory> {
     let mut word = Vec::new(alloc);
+    push_bytes(written, &mut word)?;
+    Ok(word)
+}
+
+fn push_bytes(written: &[u8], word: &mut Vec<u8>) -> Result<(), NoMemory> {
     let mut rest = written;
     for _ in 0..written.len() {
         let Some((byte, behind)) = split_byte(rest) else {
@@ -25,7 +35,7 @@ fn word_of(alloc: Global, written: &[u8]) -> Result<Vec<u8>, NoMemory> {
         word.push(byte)?;
         rest = behind;
     }
-    Ok(word)
+    Ok(())
 }
 
 // The byte that is written at the front, and what is written behind it; none where nothing but a

@@ -1,6 +1,7 @@
 //! What is read of texts as expressions.
 
-use bml_bytes::{NoMemory, Text, push_count};
+use crate::lines::Line;
+use bml_bytes::{NoMemory, Text};
 use es_expressions::{Extent, Form, Found, Lexeme, Nodes, lexemes_of, read_expression};
 use es_lexer::LexRefusal;
 use std::alloc::Global;
@@ -22,41 +23,39 @@ fn letter_of(form: Form) -> u8 {
     }
 }
 
-fn push_found(nodes: &Nodes, found: Found, out: &mut Vec<u8>) -> Result<(), NoMemory> {
-    out.push(b' ')?;
+fn push_found(nodes: &Nodes, found: Found, out: &mut Line) {
+    out.byte(b' ');
     if let Some(node) = nodes.node(found.node) {
-        out.push(letter_of(node.form))?;
+        out.byte(letter_of(node.form));
     }
-    push_count(u64::from(found.height), out)?;
+    out.count(u64::from(found.height));
     if found.is_target {
-        out.push(b'=')?;
+        out.byte(b'=');
     }
-    Ok(())
 }
 
 // The number of tokens that are read, and where they are a whole expression a letter for its form,
 // its height, and `=` where it is a target.
-fn push_reading(alloc: Global, lexemes: &[Lexeme], out: &mut Vec<u8>) -> Result<(), NoMemory> {
+fn push_reading(alloc: Global, lexemes: &[Lexeme], out: &mut Line) -> Result<(), NoMemory> {
     let mut nodes = Nodes::new(alloc);
     let reading = read_expression(lexemes, 0, Extent::WithCommas, &mut nodes)?;
-    push_count(reading.end as u64, out)?;
+    out.count(reading.end as u64);
     if let Some(found) = reading.found {
-        push_found(&nodes, found, out)?;
+        push_found(&nodes, found, out);
     }
     Ok(())
 }
 
-/// What is read of a text, or `!` and the place at which it has no token.
-pub fn told(alloc: Global, bytes: &[u8]) -> Result<Vec<u8>, NoMemory> {
+/// Appends what is read of a text, or `!` and the place at which it has no token.
+pub fn push_told(alloc: Global, bytes: &[u8], out: &mut Line) -> Result<(), NoMemory> {
     let text = Text::of_bytes(alloc, bytes)?;
-    let mut out = Vec::new(alloc);
     match lexemes_of(alloc, &text) {
-        Ok(lexemes) => push_reading(alloc, &lexemes, &mut out)?,
+        Ok(lexemes) => push_reading(alloc, &lexemes, out),
         Err(LexRefusal::Bad { place }) => {
-            out.push(b'!')?;
-            push_count(place as u64, &mut out)?;
+            out.byte(b'!');
+            out.count(place as u64);
+            Ok(())
         }
-        Err(LexRefusal::NoMemory) => return Err(NoMemory),
+        Err(LexRefusal::NoMemory) => Err(NoMemory),
     }
-    Ok(out)
 }

@@ -6,9 +6,10 @@
 ghost use Rattle.std.specs.Prelude.{◌≤◌, All};
 ghost use Rattle.es_values.specs.Heaps.{IsLive};
 
+use crate::lines::Line;
 use crate::object_words::add_object;
-use crate::value_words::{push_value, push_word, value_of, values_of};
-use bml_bytes::{NoMemory, Text, push_count};
+use crate::value_words::{push_value, value_of, values_of};
+use bml_bytes::{NoMemory, Text};
 use es_builtins::{Built, call_function, call_method, construct, value_named};
 use es_values::{Budget, Heap, Value};
 use std::alloc::Global;
@@ -21,36 +22,52 @@ pub enum Call<'a> {
     Method(&'a [u8], &'a [u8]),
 }
 
-/// What a call answers with 1,000 steps, and how many of them it takes. It is told if it answers
-/// anything else with just these steps, or isn't over budget and without effect with one step
-/// fewer.
-pub fn told(alloc: Global, call: Call, args: &[u8]) -> Result<Vec<u8>, NoMemory> {
-    let mut out = Vec::new(alloc);
-    let left = push_answer(alloc, call, args, 1000, &mut out)?;
+/// Appends what a call answers with 1,000 steps, and how many of them it takes. It is told if it
+/// answers anything else with just these steps, or isn't over budget and without effect with one
+/// step fewer.
+pub fn push_told(alloc: Global, call: Call, args: &[u8], out: &mut Line) -> Result<(), NoMemory> {
+    let mut answer = Line::new(alloc);
+    let left = push_answer(alloc, call, args, 1000, &mut answer)?;
     let charge = 1000_u32.saturating_sub(left);
-    if !is_answer(alloc, call, args, charge, &out, 0)? {
-        push_word(b" not with as many", &mut out)?;
-    }
-    if let Some(fewer) = charge.checked_sub(1) {
-        if !is_answer(alloc, call, args, fewer, b"over", fewer)? {
-            push_word(b" not over with fewer", &mut out)?;
-        }
-    }
-    out.push(b' ')?;
-    push_count(u64::from(charge), &mut out)?;
-    Ok(out)
+    out.word(answer.told());
+    push_checked(alloc, call, args, charge, answer.told(), out)?;
+    out.byte(b' ');
+    out.count(u64::from(charge));
+    Ok(())
 }
 
-/// What a call of a function answers, and the same call with `new`, which is told if that answers
-/// anything else.
-pub fn told_both(alloc: Global, name: &[u8], args: &[u8]) -> Result<Vec<u8>, NoMemory> {
-    let mut out = told(alloc, Call::Function(name), args)?;
-    let made = told(alloc, Call::New(name), args)?;
-    if made != out {
-        push_word(b", with new ", &mut out)?;
-        push_word(&made, &mut out)?;
+// Appends whether a call with just these steps answers anything else, and whether it isn't over
+// budget with one fewer.
+fn push_checked(
+    alloc: Global,
+    call: Call,
+    args: &[u8],
+    charge: u32,
+    answer: &[u8],
+    out: &mut Line,
+) -> Result<(), NoMemory>
+    requires { charge ≤ 100000 }
+{
+    if !is_answer(alloc, call, args, charge, answer, 0)? {
+        out.word(b" not with as many");
     }
-    Ok(out)
+    if 0 < charge && !is_answer(alloc, call, args, charge - 1, b"over", charge - 1)? {
+        out.word(b" not over with fewer");
+    }
+    Ok(())
+}
+
+/// Appends what a call of a function answers, and the same call with `new`, which is told if that
+/// answers anything else.
+pub fn push_both(alloc: Global, name: &[u8], args: &[u8], out: &mut Line) -> Result<(), NoMemory> {
+    push_told(alloc, Call::Function(name), args, out)?;
+    let mut made = Line::new(alloc);
+    push_told(alloc, Call::New(name), args, &mut made)?;
+    if made.told() != out.told() {
+        out.word(b", with new ");
+        out.word(made.told());
+    }
+    Ok(())
 }
 
 // Whether a call with so many steps answers this, and leaves so many.
@@ -64,9 +81,9 @@ fn is_answer(
 ) -> Result<bool, NoMemory>
     requires { steps ≤ 100000 }
 {
-    let mut out = Vec::new(alloc);
+    let mut out = Line::new(alloc);
     let rest = push_answer(alloc, call, args, steps, &mut out)?;
-    Ok(out.as_slice() == expected && rest == left)
+    Ok(out.told() == expected && rest == left)
 }
 
 // Appends what a call answers, and gives the steps that it leaves.
@@ -75,25 +92,36 @@ fn push_answer(
     call: Call,
     args: &[u8],
     steps: u32,
-    out: &mut Vec<u8>,
+    out: &mut Line,
 ) -> Result<u32, NoMemory>
     requires { steps ≤ 100000 }
 {
     let mut heap = Heap::new(alloc);
-    add_samples(&mut heap)?;
+    push_answer_in(&mut heap, call, args, steps, out)
+}
+
+fn push_answer_in(
+    heap: &mut Heap,
+    call: Call,
+    args: &[u8],
+    steps: u32,
+    out: &mut Line,
+) -> Result<u32, NoMemory>
+    requires { steps ≤ 100000 }
+{
+    add_samples(heap)?;
     let objects = heap.len();
-    let args = values_of(alloc, &heap, args)?;
     let mut budget = Budget { left: steps };
-    let built = answered(alloc, call, &args, &mut heap, &mut budget)?;
-    push_built(&heap, &built, out)?;
+    let args = values_of(heap, args)?;
+    let built = answered(call, &args, heap, &mut budget)?;
+    push_built(heap, &built, out);
     if heap.len() != objects {
-        push_word(b" new", out)?;
+        out.word(b" new");
     }
     Ok(budget.left)
 }
 
 fn answered(
-    alloc: Global,
     call: Call,
     args: &[Value],
     heap: &mut Heap,
@@ -104,16 +132,16 @@ fn answered(
 {
     match call {
         Call::Function(name) => {
-            let number = function_number(alloc, name)?;
+            let number = function_number(heap.allocator(), name)?;
             call_function(number, args, heap, budget)
         }
         Call::New(name) => {
-            let number = function_number(alloc, name)?;
+            let number = function_number(heap.allocator(), name)?;
             construct(number, args, heap, budget)
         }
         Call::Method(base, name) => {
-            let base = value_of(alloc, heap, base)?;
-            let name = Text::of_bytes(alloc, name)?;
+            let base = value_of(heap, base)?;
+            let name = Text::of_bytes(heap.allocator(), name)?;
             call_method(&base, &name, args, heap, budget)
         }
     }
@@ -137,10 +165,10 @@ fn add_samples(heap: &mut Heap) -> Result<(), NoMemory> {
     Ok(())
 }
 
-fn push_built(heap: &Heap, built: &Built, out: &mut Vec<u8>) -> Result<(), NoMemory> {
+fn push_built(heap: &Heap, built: &Built, out: &mut Line) {
     match built {
         Built::Value(value) => push_value(heap, value, out),
-        Built::NotCallable => push_word(b"not callable", out),
-        Built::OverBudget => push_word(b"over", out),
+        Built::NotCallable => out.word(b"not callable"),
+        Built::OverBudget => out.word(b"over"),
     }
 }

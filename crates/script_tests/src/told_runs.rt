@@ -2,11 +2,11 @@
 //! their names.
 
 ghost use Rattle.std.specs.Prelude.{◌≤◌, ◌<◌, ◌^◌, length, All, OnOk};
-ghost use Rattle.es_eval.specs.Codes.{declared_by};
-ghost use Rattle.es_eval.specs.Machines.{IsNamedLive};
+ghost use Rattle.es_shapes.specs.Codes.{declared_by};
+ghost use Rattle.es_eval.specs.Worlds.{IsNamedLive};
 
+use crate::lines::Line;
 use crate::told_scripts::{ALL_STEPS, program_of, push_global, word};
-use crate::value_words::push_word;
 use bml_bytes::{NoMemory, Text};
 use es_eval::{Globals, Outcome, are_few_functions, run, run_global};
 use es_reader::Program;
@@ -48,14 +48,13 @@ fn programs_of(
     first: &[u8],
     second: &[u8],
 ) -> Result<Option<Vec<Program>>, NoMemory> {
-    let mut programs = Vec::new(alloc);
-    for script in [first, second] {
-        match program_of(alloc, script)? {
-            Some(program) => programs.push(program)?,
-            None => return Ok(None),
-        }
+    let Some(first) = program_of(alloc, first)? else {
+        return Ok(None);
+    };
+    match program_of(alloc, second)? {
+        Some(second) => Ok(Some(vec![in alloc; first, second]?)),
+        None => Ok(None),
     }
-    Ok(Some(programs))
 }
 
 // Appends how runs end, each with so many steps.
@@ -66,7 +65,7 @@ fn push_ends(
     heap: &mut Heap,
     host: &mut RowHost,
     steps: u32,
-    out: &mut Vec<u8>,
+    out: &mut Line,
 ) -> Result<(), NoMemory>
     requires steps { steps ≤ 100000 }
     requires functions { length (declared_by programs.now) < 2 ^ 48 }
@@ -75,8 +74,8 @@ fn push_ends(
 {
     for named in runs.split(|code| *code == b' ') {
         let outcome = run_one(programs, named, globals, heap, host, steps)?;
-        push_word(word(outcome), out)?;
-        push_word(b" ", out)?;
+        out.word(word(outcome));
+        out.byte(b' ');
     }
     Ok(())
 }
@@ -88,7 +87,7 @@ fn push_runs(
     runs: &[u8],
     steps: u32,
     shown: &[u8],
-    out: &mut Vec<u8>,
+    out: &mut Line,
 ) -> Result<(), NoMemory>
     requires { steps ≤ 100000 }
 {
@@ -110,21 +109,23 @@ fn push_runs(
     push_global(&globals, &heap, shown, out)
 }
 
-/// How runs of two programs end, each with so many steps, and the text of a global behind them. A run
-/// is the place of one of the programs, or the name of a global that is called.
-pub fn told(
+/// Appends how runs of two programs end, each with so many steps, and the text of a global behind
+/// them. A run is the place of one of the programs, or the name of a global that is called.
+pub fn push_told(
     alloc: Global,
     first: &[u8],
     second: &[u8],
     runs: &[u8],
     steps: u32,
     shown: &[u8],
-) -> Result<Vec<u8>, NoMemory> {
+    out: &mut Line,
+) -> Result<(), NoMemory> {
     let steps = if steps < ALL_STEPS { steps } else { ALL_STEPS };
-    let mut out = Vec::new(alloc);
     match programs_of(alloc, first, second)? {
-        Some(programs) => push_runs(alloc, &programs, runs, steps, shown, &mut out)?,
-        None => push_word(b"no program", &mut out)?,
+        Some(programs) => push_runs(alloc, &programs, runs, steps, shown, out),
+        None => {
+            out.word(b"no program");
+            Ok(())
+        }
     }
-    Ok(out)
 }

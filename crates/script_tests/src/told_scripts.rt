@@ -1,11 +1,11 @@
 //! Scripts: how a script ends, the text of its global `s`, and the fewest steps with which it isn't
 //! stopped for want of steps. It is run with just these, and with one fewer.
 
-ghost use Rattle.std.specs.Prelude.{◌≤◌, All, IfOk};
-ghost use Rattle.es_eval.specs.Machines.{IsNamedLive};
+ghost use Rattle.std.specs.Prelude.{◌≤◌, All, IfOk, OnOk};
+ghost use Rattle.es_eval.specs.Worlds.{IsNamedLive};
 
-use crate::value_words::push_word;
-use bml_bytes::{NoMemory, Text, push_count};
+use crate::lines::Line;
+use bml_bytes::{NoMemory, Text};
 use es_eval::{Globals, Outcome, StopCause, are_few_functions, run};
 use es_reader::{Program, SyntaxFault, read_program};
 use es_values::{Heap, RowHost};
@@ -24,24 +24,38 @@ pub fn program_of(alloc: Global, script: &[u8]) -> Result<Option<Program>, NoMem
     }
 }
 
-// How a script ends that has so many steps, and the text of its global `s`.
+// How a script ends that has so many steps. Appends the text of its global `s`.
 fn ending(
     alloc: Global,
     programs: &[Program],
     steps: u32,
-    value: &mut Vec<u8>,
+    value: &mut Line,
 ) -> Result<Outcome, NoMemory>
     requires { steps ≤ 100000 }
+{
+    let mut globals = Globals::new(alloc)?;
+    let mut heap = Heap::new(alloc);
+    let mut host = RowHost::new(alloc);
+    let outcome = run_first(programs, steps, &mut globals, &mut heap, &mut host)?;
+    push_global(&globals, &heap, b"s", value)?;
+    Ok(outcome)
+}
+
+fn run_first(
+    programs: &[Program],
+    steps: u32,
+    globals: &mut Globals,
+    heap: &mut Heap,
+    host: &mut RowHost,
+) -> Result<Outcome, NoMemory>
+    requires steps { steps ≤ 100000 }
+    requires live { All (IsNamedLive heap.old) globals.old }
+    ensures live { OnOk result (All (IsNamedLive heap.new) globals.new) }
 {
     if programs.is_empty() || !are_few_functions(programs) {
         return Err(NoMemory);
     }
-    let mut globals = Globals::new(alloc)?;
-    let mut heap = Heap::new(alloc);
-    let mut host = RowHost::new(alloc);
-    let outcome = run(programs, 0, &mut globals, &mut heap, &mut host, steps)?;
-    push_global(&globals, &heap, b"s", value)?;
-    Ok(outcome)
+    run(programs, 0, globals, heap, host, steps)
 }
 
 /// Appends the text of a global, where there is one of that name.
@@ -49,13 +63,13 @@ pub fn push_global(
     globals: &Globals,
     heap: &Heap,
     name: &[u8],
-    out: &mut Vec<u8>,
+    out: &mut Line,
 ) -> Result<(), NoMemory>
     requires { All (IsNamedLive heap.now) globals.now }
 {
     let name = Text::of_bytes(heap.allocator(), name)?;
     if let Some(found) = globals.get(&name) {
-        heap.to_text(found)?.push_bytes(out)?;
+        out.text(&heap.to_text(found)?);
     }
     Ok(())
 }
@@ -64,10 +78,11 @@ pub fn push_global(
 fn is_enough(alloc: Global, programs: &[Program], steps: u32) -> Result<bool, NoMemory>
     requires { steps ≤ 100000 }
 {
-    let mut value = Vec::new(alloc);
-    match ending(alloc, programs, steps, &mut value)? {
-        Outcome::Stopped(StopCause::Budget) => Ok(false),
-        _ => Ok(true),
+    let mut value = Line::new(alloc);
+    match ending(alloc, programs, steps, &mut value) {
+        Ok(Outcome::Stopped(StopCause::Budget)) => Ok(false),
+        Ok(_) => Ok(true),
+        Err(NoMemory) => Err(NoMemory),
     }
 }
 
@@ -104,41 +119,61 @@ pub fn word(outcome: Outcome) -> &'static [u8] {
     }
 }
 
-// How a program ends that has so many steps, and the text of its global `s`.
-fn ended(alloc: Global, programs: &[Program], steps: u32) -> Result<Vec<u8>, NoMemory>
+// Appends how a program ends that has so many steps, and the text of its global `s`.
+fn push_ended(
+    alloc: Global,
+    programs: &[Program],
+    steps: u32,
+    out: &mut Line,
+) -> Result<(), NoMemory>
     requires { steps ≤ 100000 }
 {
-    let mut value = Vec::new(alloc);
+    let mut value = Line::new(alloc);
     let outcome = ending(alloc, programs, steps, &mut value)?;
-    let mut out = word(outcome).to_vec(alloc)?;
-    push_word(b" ", &mut out)?;
-    push_word(&value, &mut out)?;
-    Ok(out)
+    out.word(word(outcome));
+    out.byte(b' ');
+    out.word(value.told());
+    Ok(())
+}
+
+// Whether a program that has so many steps ends so, with this text of its global `s`.
+fn is_ended(
+    alloc: Global,
+    programs: &[Program],
+    steps: u32,
+    expected: &[u8],
+) -> Result<bool, NoMemory>
+    requires { steps ≤ 100000 }
+{
+    let mut line = Line::new(alloc);
+    push_ended(alloc, programs, steps, &mut line)?;
+    Ok(line.told() == expected)
 }
 
 // Appends what a program comes to with all steps, and the fewest steps. It is told if it comes to
 // anything else with these.
-fn push_told(alloc: Global, programs: &[Program], out: &mut Vec<u8>) -> Result<(), NoMemory> {
-    let line = ended(alloc, programs, ALL_STEPS)?;
-    push_word(&line, out)?;
-    push_word(b" ", out)?;
+fn push_run(alloc: Global, programs: &[Program], out: &mut Line) -> Result<(), NoMemory> {
+    push_ended(alloc, programs, ALL_STEPS, out)?;
     let fewest = fewest_steps(alloc, programs)?;
-    push_count(u64::from(fewest), out)?;
-    if ended(alloc, programs, fewest)? != line {
-        push_word(b" not with as many", out)?;
+    let same = is_ended(alloc, programs, fewest, out.told())?;
+    out.byte(b' ');
+    out.count(u64::from(fewest));
+    if !same {
+        out.word(b" not with as many");
     }
     Ok(())
 }
 
-/// What a script comes to.
-pub fn told(alloc: Global, script: &[u8]) -> Result<Vec<u8>, NoMemory> {
-    let mut out = Vec::new(alloc);
+/// Appends what a script comes to.
+pub fn push_told(alloc: Global, script: &[u8], out: &mut Line) -> Result<(), NoMemory> {
     match program_of(alloc, script)? {
         Some(program) => {
             let programs = vec![in alloc; program]?;
-            push_told(alloc, &programs, &mut out)?;
+            push_run(alloc, &programs, out)
         }
-        None => push_word(b"no program", &mut out)?,
+        None => {
+            out.word(b"no program");
+            Ok(())
+        }
     }
-    Ok(out)
 }

@@ -1,6 +1,7 @@
 //! Numbers: what operators give, which numbers texts mean, and which names are indices.
 
-use bml_bytes::{NoMemory, Text, push_count, push_decimal};
+use crate::lines::Line;
+use bml_bytes::{NoMemory, Text};
 use es_values::{Num, index_name, index_of_name, number_of_text};
 use std::alloc::Global;
 
@@ -10,14 +11,12 @@ fn number_of(alloc: Global, bytes: &[u8]) -> Result<Num, NoMemory> {
     Ok(number_of_text(text.codes()))
 }
 
-// A number in base ten, or `NaN`.
-fn told(alloc: Global, number: Num) -> Result<Vec<u8>, NoMemory> {
-    let mut out = Vec::new(alloc);
+// Appends a number in base ten, or `NaN`.
+fn push_number(number: Num, out: &mut Line) {
     match number {
-        Num::NotANumber => out.extend_from_slice(b"NaN")?,
-        Num::Whole(whole) => push_decimal(i64::from(whole), &mut out)?,
+        Num::NotANumber => out.word(b"NaN"),
+        Num::Whole(whole) => out.number(i64::from(whole)),
     }
-    Ok(out)
 }
 
 // What an operator gives; `l`, `r` and `u` are the shifts to the left, to the right and without
@@ -40,52 +39,58 @@ fn operate(operator: u8, left: Num, right: Num) -> Num {
     }
 }
 
-/// What an operator gives of two numbers.
-pub fn told_operator(
+/// Appends what an operator gives of two numbers.
+pub fn push_operator(
     alloc: Global,
     operator: u8,
     left: &[u8],
     right: &[u8],
-) -> Result<Vec<u8>, NoMemory> {
+    out: &mut Line,
+) -> Result<(), NoMemory> {
     let left = number_of(alloc, left)?;
     let right = number_of(alloc, right)?;
-    told(alloc, operate(operator, left, right))
+    push_number(operate(operator, left, right), out);
+    Ok(())
 }
 
-/// How two numbers are compared: `=` where they are equal, `<` where the left one is less, and `?`
-/// where it is NaN.
-pub fn told_comparison(alloc: Global, left: &[u8], right: &[u8]) -> Result<Vec<u8>, NoMemory> {
+/// Appends how two numbers are compared: `=` where they are equal, `<` where the left one is less,
+/// and `?` where it is NaN.
+pub fn push_comparison(
+    alloc: Global,
+    left: &[u8],
+    right: &[u8],
+    out: &mut Line,
+) -> Result<(), NoMemory> {
     let left = number_of(alloc, left)?;
     let right = number_of(alloc, right)?;
-    let mut out = Vec::new(alloc);
     if left.equals(right) {
-        out.push(b'=')?;
+        out.byte(b'=');
     }
     if left.is_less_than(right) {
-        out.push(b'<')?;
+        out.byte(b'<');
     }
     if left.is_not_a_number() {
-        out.push(b'?')?;
+        out.byte(b'?');
     }
-    Ok(out)
+    Ok(())
 }
 
-/// The number that a text means.
-pub fn told_numeral(alloc: Global, bytes: &[u8]) -> Result<Vec<u8>, NoMemory> {
-    told(alloc, number_of(alloc, bytes)?)
+/// Appends the number that a text means.
+pub fn push_numeral(alloc: Global, bytes: &[u8], out: &mut Line) -> Result<(), NoMemory> {
+    push_number(number_of(alloc, bytes)?, out);
+    Ok(())
 }
 
-/// The number of a count.
-pub fn told_count(alloc: Global, count: u32) -> Result<Vec<u8>, NoMemory> {
-    told(alloc, Num::of_count(count as usize))
+/// Appends the number of a count.
+pub fn push_count(count: u32, out: &mut Line) {
+    push_number(Num::of_count(count as usize), out);
 }
 
-/// The index that the name of an index means, and nothing where it means none.
-pub fn told_index(alloc: Global, index: u32) -> Result<Vec<u8>, NoMemory> {
+/// Appends the index that the name of an index means, and nothing where it means none.
+pub fn push_index(alloc: Global, index: u32, out: &mut Line) -> Result<(), NoMemory> {
     let name = index_name(alloc, index)?;
-    let mut out = Vec::new(alloc);
     if let Some(meant) = index_of_name(&name) {
-        push_count(u64::from(meant), &mut out)?;
+        out.count(u64::from(meant));
     }
-    Ok(out)
+    Ok(())
 }

@@ -1,4 +1,4 @@
-use Rattle.es_eval.specs.Codes.{listed}
+use Rattle.es_shapes.specs.devices.Parts.{listed}
 use Rattle.es_eval.proofs.calls.first_statement.Goals as goal
 
 pub returns : goal.returns

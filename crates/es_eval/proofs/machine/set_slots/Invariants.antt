@@ -1,5 +1,5 @@
 use Rattle.std.proofs.Common.{◌≡◌, length}
-use Rattle.es_eval.specs.Slots.{with_values}
+use Rattle.es_eval.specs.devices.Slots.{with_values}
 use Rattle.es_eval.proofs.machine.set_slots.Given as goal
 
 abbrev pub invariant-loop-value : goal.invariant-loop-value

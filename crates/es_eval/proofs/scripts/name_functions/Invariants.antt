@@ -2,8 +2,8 @@ use Rattle.std.proofs.Common.{◌≡◌, ◌+◌, List, drop}
 use Rattle.std.specs.Prelude.{All, map}
 use Rattle.es_reader.specs.declared.programs.FunctionDecl.{FunctionDecl}
 use Rattle.es_values.specs.Objects.{ObjectState}
-use Rattle.es_eval.specs.Declaring.{with_numbered}
-use Rattle.es_eval.specs.Machines.{IsNamedLive}
+use Rattle.es_eval.specs.devices.Declaring.{with_numbered}
+use Rattle.es_eval.specs.Worlds.{IsNamedLive}
 use Rattle.es_eval.proofs.scripts.name_functions.Given as goal
 
 abbrev pub invariant-loop-function : goal.invariant-loop-function

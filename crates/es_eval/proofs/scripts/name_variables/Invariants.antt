@@ -1,8 +1,8 @@
 use Rattle.std.proofs.Common.{◌≡◌, List, drop}
 use Rattle.std.specs.Prelude.{All}
 use Rattle.es_values.specs.Objects.{ObjectState}
-use Rattle.es_eval.specs.Declaring.{with_new}
-use Rattle.es_eval.specs.Machines.{IsNamedLive}
+use Rattle.es_eval.specs.devices.Declaring.{with_new}
+use Rattle.es_eval.specs.Worlds.{IsNamedLive}
 use Rattle.es_eval.proofs.scripts.name_variables.Given as goal
 
 abbrev pub invariant-loop-name : goal.invariant-loop-name

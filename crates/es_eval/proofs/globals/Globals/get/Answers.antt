@@ -6,7 +6,7 @@ use Rattle.bml_bytes.specs.Words.{is_same}
 use Rattle.es_values.specs.declared.values.Value.{Value}
 use Rattle.es_values.specs.Heaps.{IsLive}
 use Rattle.es_values.specs.Objects.{ObjectState}
-use Rattle.es_eval.specs.Machines.{IsNamedLive}
+use Rattle.es_eval.specs.Worlds.{IsNamedLive}
 use Rattle.es_eval.proofs.NameLemmas.{live_global}
 use Rattle.es_eval.proofs.globals.Globals.get.Goals as goal
 

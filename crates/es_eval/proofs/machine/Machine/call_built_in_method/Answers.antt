@@ -1,7 +1,7 @@
 use Rattle.std.proofs.Common.{◌∷◌}
 use Rattle.std.proofs.lemmas.Result.{IfOk-weaker}
 use Rattle.es_builtins.specs.Methods.{method_row}
-use Rattle.es_eval.specs.Machines.{MachineState}
+use Rattle.es_eval.specs.devices.Machines.{MachineState}
 use Rattle.es_eval.proofs.BuiltLemmas.{answered-row, live_built, machine_with_heap}
 use Rattle.es_eval.proofs.machine.Machine.call_built_in_method.Goals as goal
 

@@ -2,8 +2,8 @@ use Rattle.std.proofs.Common.{[], ◌∙◌, sym, subst}
 use Rattle.std.proofs.lemmas.Result.{IfOk-weaker}
 use Rattle.es_eval.specs.declared.works.Callee.TheVariants.{Member}
 use Rattle.es_eval.specs.Actions.{as_text}
-use Rattle.es_eval.specs.Machines.{GoesOn}
-use Rattle.es_eval.specs.Works.{as_value, calls_with}
+use Rattle.es_eval.specs.devices.Machines.{GoesOn}
+use Rattle.es_eval.specs.devices.Works.{as_value, calls_with}
 use Rattle.es_eval.proofs.ArmLemmas.{carried-run, members-more, stopped-run}
 use Rattle.es_eval.proofs.machine.Machine.call_index.Goals as goal
 

@@ -3,7 +3,7 @@ use Rattle.std.specs.Prelude.{None}
 use Rattle.es_frames.specs.Frames.{next_item}
 use Rattle.es_eval.specs.declared.outcomes.Outcome.TheVariants.{Normal as AtEnd}
 use Rattle.es_eval.specs.declared.works.Now.TheVariants.{Gives}
-use Rattle.es_eval.specs.Machines.{MachineState, burden, run_from, value_of_call, world_of}
+use Rattle.es_eval.specs.devices.Machines.{MachineState, burden, run_from, value_of_call, world_of}
 use Rattle.es_eval.specs.Worlds.Run.{Over}
 use Rattle.es_eval.proofs.EndLemmas.{closed-less, closed-machine, closed-run, ends}
 use Rattle.es_eval.proofs.machine.Machine.close_function.Goals as goal

@@ -1,6 +1,6 @@
 use Rattle.std.proofs.lemmas.Result.{IfOk-weaker}
 use Rattle.es_builtins.specs.Functions.{construction_row}
-use Rattle.es_eval.specs.Machines.{MachineState}
+use Rattle.es_eval.specs.devices.Machines.{MachineState}
 use Rattle.es_eval.proofs.BuiltLemmas.{answered-row, live_built, machine_with_heap}
 use Rattle.es_eval.proofs.machine.Machine.construct_built_in.Goals as goal
 

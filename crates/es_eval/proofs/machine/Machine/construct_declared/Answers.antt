@@ -1,6 +1,6 @@
 use Rattle.std.proofs.Common.{◌≤◌, ◌<◌, length, arith}
 use Rattle.std.proofs.lemmas.Result.{IfOk-weaker}
-use Rattle.es_eval.specs.Codes.{declared_by}
+use Rattle.es_shapes.specs.Codes.{declared_by}
 use Rattle.es_eval.specs.Unbounded.{called}
 use Rattle.es_eval.proofs.CallArms.{construct-run, deep-construct, empty-construct, on_named}
 use Rattle.es_eval.proofs.machine.Machine.construct_declared.Goals as goal

@@ -1,8 +1,8 @@
 use Rattle.std.proofs.Common.{◌≡◌, ◌∙◌, ◌≤◌, subst, sym, arith}
 use Rattle.std.proofs.lemmas.Result.{IfOk-weaker}
 use Rattle.es_expressions.specs.Trees.Trees.{NoTrees}
-use Rattle.es_eval.specs.Codes.{trees_from}
-use Rattle.es_eval.specs.Machines.{IsLess}
+use Rattle.es_shapes.specs.devices.Parts.{trees_from}
+use Rattle.es_eval.specs.devices.Machines.{IsLess}
 use Rattle.es_eval.proofs.StatementArms.{declare-end, declare-on, declared-without}
 use Rattle.es_eval.proofs.machine.Machine.declare.Goals as goal
 use Rattle.es_eval.proofs.machine.Machine.declare.Goals.{else-loop-place-test, then-loop-place-test+in_default}

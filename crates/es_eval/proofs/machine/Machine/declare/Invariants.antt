@@ -1,7 +1,7 @@
 use Rattle.std.proofs.Common.{◌≡◌}
 use Rattle.es_eval.specs.Actions.{Next}
 use Rattle.es_eval.specs.Rows.{Completion}
-use Rattle.es_eval.specs.Works.{declares}
+use Rattle.es_eval.specs.devices.Works.{declares}
 use Rattle.es_eval.specs.Worlds.{World}
 use Rattle.es_eval.proofs.machine.Machine.declare.Given as goal
 

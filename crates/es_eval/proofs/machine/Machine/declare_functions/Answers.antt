@@ -6,8 +6,7 @@ use Rattle.std.proofs.lemmas.List.{length-map}
 use Rattle.std.proofs.lemmas.Result.{on_ok_weaker}
 use Rattle.es_reader.specs.Told.{told_function}
 use Rattle.es_reader.specs.declared.programs.FunctionDecl.{FunctionDecl}
-use Rattle.es_eval.proofs.DeclaringLemmas.{declared-world}
-use Rattle.es_eval.proofs.FunctionLemmas.{count-within}
+use Rattle.es_eval.proofs.DeclaringLemmas.{count-within, declared-world}
 use Rattle.es_eval.proofs.MachineLemmas.{machine_with_globals}
 use Rattle.es_eval.proofs.machine.Machine.declare_functions.Goals as goal
 

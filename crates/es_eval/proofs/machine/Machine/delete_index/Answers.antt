@@ -1,9 +1,9 @@
 use Rattle.std.proofs.Common.{subst, sym}
 use Rattle.es_values.specs.declared.values.Value.{Value}
 use Rattle.es_eval.specs.Actions.{as_text}
-use Rattle.es_eval.specs.Machines.{GoesOn}
+use Rattle.es_eval.specs.devices.Machines.{GoesOn}
 use Rattle.es_eval.specs.Members.{delete_in, delete_index}
-use Rattle.es_eval.specs.Works.{as_value}
+use Rattle.es_eval.specs.devices.Works.{as_value}
 use Rattle.es_eval.proofs.ArmLemmas.{carried-run, deleted-run, stopped-run}
 use Rattle.es_eval.proofs.machine.Machine.delete_index.Goals as goal
 

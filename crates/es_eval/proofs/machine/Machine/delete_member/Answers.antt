@@ -1,8 +1,8 @@
 use Rattle.std.proofs.Common.{subst, sym}
 use Rattle.es_values.specs.declared.values.Value.{Value}
-use Rattle.es_eval.specs.Machines.{GoesOn}
+use Rattle.es_eval.specs.devices.Machines.{GoesOn}
 use Rattle.es_eval.specs.Members.{delete_member}
-use Rattle.es_eval.specs.Works.{as_value}
+use Rattle.es_eval.specs.devices.Works.{as_value}
 use Rattle.es_eval.proofs.ArmLemmas.{deleted-run}
 use Rattle.es_eval.proofs.machine.Machine.delete_member.Goals as goal
 

@@ -1,6 +1,6 @@
 use Rattle.std.proofs.Common.{◌≤◌, ◌<◌, length, arith}
 use Rattle.std.proofs.lemmas.Result.{IfOk-weaker}
-use Rattle.es_eval.specs.Codes.{declared_by}
+use Rattle.es_shapes.specs.Codes.{declared_by}
 use Rattle.es_eval.specs.Unbounded.{called}
 use Rattle.es_eval.proofs.CallArms.{deep-run, enter-run, no_statements-run}
 use Rattle.es_eval.proofs.machine.Machine.enter.Goals as goal

@@ -2,13 +2,14 @@ use Rattle.std.proofs.Common.{◌∙◌, ap, subst, sym}
 use Rattle.std.proofs.lemmas.Result.{IfOk-weaker}
 use Rattle.es_eval.specs.Actions.{Action, behind}
 use Rattle.es_eval.specs.Calls.{call_value}
-use Rattle.es_eval.specs.Codes.{declared_by, expression_at, parts_from}
-use Rattle.es_eval.specs.Machines.{GoesOn}
+use Rattle.es_shapes.specs.Codes.{declared_by}
+use Rattle.es_shapes.specs.devices.Parts.{expression_at, parts_from}
+use Rattle.es_eval.specs.devices.Machines.{GoesOn}
 use Rattle.es_eval.specs.Rows.{call_row, values}
-use Rattle.es_eval.specs.Shapes.{shaped}
-use Rattle.es_eval.specs.Syntax.{Expression}
+use Rattle.es_shapes.specs.devices.Shapes.{shaped}
+use Rattle.es_shapes.specs.Syntax.{Expression}
 use Rattle.es_eval.specs.Unbounded.{called}
-use Rattle.es_eval.specs.Works.{as_value, enters}
+use Rattle.es_eval.specs.devices.Works.{as_value, enters}
 use Rattle.es_values.specs.declared.values.Value.{Value}
 use Rattle.es_eval.proofs.ShapeRows.{callee-other, other-row}
 use Rattle.es_eval.proofs.machine.Machine.enter_callee.Goals as goal

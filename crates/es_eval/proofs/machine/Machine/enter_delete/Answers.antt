@@ -4,12 +4,12 @@ use Rattle.es_values.specs.declared.values.Value.{Value}
 use Rattle.es_values.specs.declared.values.Value.TheVariants.{Bool as Boolean}
 use Rattle.std.specs.Prelude.{false}
 use Rattle.es_eval.specs.Actions.{Action, behind, gives}
-use Rattle.es_eval.specs.Codes.{expression_at}
-use Rattle.es_eval.specs.Machines.{GoesOn, run_from}
+use Rattle.es_shapes.specs.devices.Parts.{expression_at}
+use Rattle.es_eval.specs.devices.Machines.{GoesOn, run_from}
 use Rattle.es_eval.specs.Rows.{delete_row}
-use Rattle.es_eval.specs.Shapes.{shaped}
-use Rattle.es_eval.specs.Syntax.{Expression}
-use Rattle.es_eval.specs.Works.{as_value, enters}
+use Rattle.es_shapes.specs.devices.Shapes.{shaped}
+use Rattle.es_shapes.specs.Syntax.{Expression}
+use Rattle.es_eval.specs.devices.Works.{as_value, enters}
 use Rattle.es_eval.proofs.ArmLemmas.{stepped-run, unstepped-run}
 use Rattle.es_eval.proofs.ShapeRows.{delete-other, other-row}
 use Rattle.es_eval.proofs.machine.Machine.enter_delete.Goals as goal

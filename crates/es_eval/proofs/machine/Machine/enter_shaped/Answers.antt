@@ -1,10 +1,10 @@
 use Rattle.std.proofs.Common.{sym, subst}
 use Rattle.std.proofs.lemmas.Result.{IfOk-weaker}
 use Rattle.es_eval.specs.Actions.{behind}
-use Rattle.es_eval.specs.Machines.{GoesOn}
+use Rattle.es_eval.specs.devices.Machines.{GoesOn}
 use Rattle.es_eval.specs.Rows.{place_row}
-use Rattle.es_eval.specs.Syntax.{Target}
-use Rattle.es_eval.specs.Works.{enters, use_row}
+use Rattle.es_shapes.specs.Syntax.{Target}
+use Rattle.es_eval.specs.devices.Works.{enters, use_row}
 use Rattle.es_eval.proofs.ShapeRows.{target-other}
 use Rattle.es_eval.proofs.machine.Machine.enter_shaped.Goals as goal
 

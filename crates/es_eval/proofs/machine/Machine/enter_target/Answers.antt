@@ -1,13 +1,13 @@
 use Rattle.std.proofs.Common.{ap, sym, subst}
 use Rattle.std.proofs.lemmas.Result.{IfOk-weaker}
 use Rattle.es_eval.specs.Actions.{behind}
-use Rattle.es_eval.specs.Codes.{expression_at}
-use Rattle.es_eval.specs.Machines.{GoesOn}
+use Rattle.es_shapes.specs.devices.Parts.{expression_at}
+use Rattle.es_eval.specs.devices.Machines.{GoesOn}
 use Rattle.es_eval.specs.Rows.{entered_place, place_row}
-use Rattle.es_eval.specs.Shapes.{shaped}
-use Rattle.es_eval.specs.Sources.{target_of}
-use Rattle.es_eval.specs.Syntax.{Target}
-use Rattle.es_eval.specs.Works.{enters, use_row}
+use Rattle.es_shapes.specs.devices.Shapes.{shaped}
+use Rattle.es_shapes.specs.Sources.{target_of}
+use Rattle.es_shapes.specs.Syntax.{Target}
+use Rattle.es_eval.specs.devices.Works.{enters, use_row}
 use Rattle.es_eval.proofs.ArmLemmas.{stepped-run, unstepped-run}
 use Rattle.es_eval.proofs.machine.Machine.enter_target.Goals as goal
 

@@ -1,6 +1,6 @@
 use Rattle.std.proofs.lemmas.Result.{IfOk-weaker}
-use Rattle.es_eval.specs.Codes.{expression_at}
-use Rattle.es_eval.specs.Shapes.{shaped}
+use Rattle.es_shapes.specs.devices.Parts.{expression_at}
+use Rattle.es_shapes.specs.devices.Shapes.{shaped}
 use Rattle.es_eval.proofs.ArmLemmas.{evaluated-run}
 use Rattle.es_eval.proofs.machine.Machine.evaluate.Goals as goal
 

@@ -1,9 +1,9 @@
 use Rattle.std.proofs.Common.{ap, subst, sym}
 use Rattle.std.proofs.lemmas.Result.{IfOk-weaker}
-use Rattle.es_eval.specs.Machines.{GoesOn, run_from}
+use Rattle.es_eval.specs.devices.Machines.{GoesOn, run_from}
 use Rattle.es_eval.specs.Rows.{last_value}
-use Rattle.es_eval.specs.Syntax.{Expressions}
-use Rattle.es_eval.specs.Works.{as_value, enters}
+use Rattle.es_shapes.specs.Syntax.{Expressions}
+use Rattle.es_eval.specs.devices.Works.{as_value, enters}
 use Rattle.es_eval.proofs.ShapeRows.{parts-more, parts-none}
 use Rattle.es_eval.proofs.machine.Machine.evaluate_parts.Goals as goal
 

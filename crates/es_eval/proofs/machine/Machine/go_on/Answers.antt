@@ -1,8 +1,8 @@
 use Rattle.std.proofs.Common.{◌+◌, ◌∙◌, ap, refl, sym}
 use Rattle.std.proofs.lemmas.Result.{IfOk-weaker}
 use Rattle.es_eval.specs.declared.works.OpenCall.{OpenCall}
-use Rattle.es_eval.specs.Machines.{rest, world_of}
-use Rattle.es_eval.specs.Works.{as_value, calls_callee}
+use Rattle.es_eval.specs.devices.Machines.{rest, world_of}
+use Rattle.es_eval.specs.devices.Works.{as_value, calls_callee}
 use Rattle.es_eval.proofs.CallArms.{argument-run, arguments-end}
 use Rattle.es_eval.proofs.machine.Machine.go_on.Goals as goal
 

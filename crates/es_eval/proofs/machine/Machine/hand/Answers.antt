@@ -1,6 +1,6 @@
 use Rattle.std.proofs.Common.{List, ap, refl, subst, sym, arith}
 use Rattle.es_values.specs.Objects.{ObjectState}
-use Rattle.es_eval.specs.Machines.{AreLive, values_of_given}
+use Rattle.es_eval.specs.devices.Machines.{AreLive, values_of_given}
 use Rattle.es_eval.proofs.HandLemmas.{handed-run, some-turn}
 use Rattle.es_eval.proofs.machine.Machine.hand.Goals as goal
 

@@ -1,7 +1,7 @@
 use Rattle.std.proofs.lemmas.Result.{IfOk-weaker}
 use Rattle.es_eval.specs.Actions.{as_text}
 use Rattle.es_eval.specs.Members.Place.{MemberPlace}
-use Rattle.es_eval.specs.Works.{use_row}
+use Rattle.es_eval.specs.devices.Works.{use_row}
 use Rattle.es_eval.proofs.ArmLemmas.{carried-run, stopped-run}
 use Rattle.es_eval.proofs.machine.Machine.on_key.Goals as goal
 

@@ -1,8 +1,8 @@
 use Rattle.std.proofs.Common.{ℕ, List, subst}
 use Rattle.std.proofs.lemmas.Result.{IfOk-weaker}
-use Rattle.es_eval.specs.Machines.{GoesOn}
+use Rattle.es_eval.specs.devices.Machines.{GoesOn}
 use Rattle.es_eval.specs.Members.Place.{NamePlace}
-use Rattle.es_eval.specs.Works.{use_row}
+use Rattle.es_eval.specs.devices.Works.{use_row}
 use Rattle.es_eval.proofs.machine.Machine.on_no_target.Goals as goal
 
 pub returns-in-Ok-clause-run : goal.returns-in-Ok-clause-run

@@ -1,8 +1,8 @@
 use Rattle.std.proofs.Common.{subst, sym}
 use Rattle.std.specs.Result.{IfOk}
 use Rattle.es_eval.specs.declared.works.OperandWork.{OperandWork}
-use Rattle.es_eval.specs.Machines.{GoesOn}
-use Rattle.es_eval.specs.Works.{as_value, operand_row}
+use Rattle.es_eval.specs.devices.Machines.{GoesOn}
+use Rattle.es_eval.specs.devices.Works.{as_value, operand_row}
 use Rattle.es_eval.proofs.machine.Machine.on_operand.Goals as goal
 
 pub returns-in-Comma-clause-run : goal.returns-in-Comma-clause-run

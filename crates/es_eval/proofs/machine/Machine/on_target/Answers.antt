@@ -1,8 +1,8 @@
 use Rattle.std.proofs.Common.{subst, sym}
 use Rattle.std.proofs.lemmas.Result.{IfOk-weaker}
 use Rattle.es_eval.specs.declared.works.TargetWork.{TargetWork}
-use Rattle.es_eval.specs.Machines.{GoesOn}
-use Rattle.es_eval.specs.Works.{target_row}
+use Rattle.es_eval.specs.devices.Machines.{GoesOn}
+use Rattle.es_eval.specs.devices.Works.{target_row}
 use Rattle.es_eval.proofs.TargetLemmas.{visited-run}
 use Rattle.es_eval.proofs.machine.Machine.on_target.Goals as goal
 

@@ -1,6 +1,6 @@
 use Rattle.std.proofs.Common.{◌≡◌, ◌∙◌, ◌∷◌, refl, take}
 use Rattle.es_frames.specs.Frames.{new_frame}
-use Rattle.es_eval.specs.Slots.{with_values}
+use Rattle.es_eval.specs.devices.Slots.{with_values}
 use Rattle.es_eval.proofs.SlotLemmas.{burden_opened, machine_opened, rest_opened, world_opened}
 use Rattle.es_eval.proofs.machine.Machine.open_function.Goals as goal
 

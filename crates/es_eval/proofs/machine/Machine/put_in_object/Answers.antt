@@ -4,7 +4,7 @@ use Rattle.es_values.specs.Charges.{put_charge}
 use Rattle.es_values.specs.declared.values.Value.{Value}
 use Rattle.es_eval.specs.Actions.{charged, gives}
 use Rattle.es_eval.specs.declared.works.Given.TheVariants as given_of
-use Rattle.es_eval.specs.Machines.{run_from}
+use Rattle.es_eval.specs.devices.Machines.{run_from}
 use Rattle.es_eval.specs.Members.{put_member}
 use Rattle.es_eval.proofs.ArmLemmas.{carried-run, stopped-run}
 use Rattle.es_eval.proofs.machine.Machine.put_in_object.Goals as goal

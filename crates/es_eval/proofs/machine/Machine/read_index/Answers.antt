@@ -2,9 +2,9 @@ use Rattle.std.proofs.Common.{◌∙◌, subst, sym}
 use Rattle.std.proofs.lemmas.Result.{IfOk-weaker}
 use Rattle.es_values.specs.declared.values.Value.{Value}
 use Rattle.es_eval.specs.Actions.{Action, as_text, behind}
-use Rattle.es_eval.specs.Machines.{GoesOn}
+use Rattle.es_eval.specs.devices.Machines.{GoesOn}
 use Rattle.es_eval.specs.Members.{read_member}
-use Rattle.es_eval.specs.Works.{as_value}
+use Rattle.es_eval.specs.devices.Works.{as_value}
 use Rattle.es_eval.proofs.ArmLemmas.{carried-run, members-more, stopped-run}
 use Rattle.es_eval.proofs.machine.Machine.read_index.Goals as goal
 

@@ -1,6 +1,6 @@
 use Rattle.std.proofs.Common.{◌∙◌}
 use Rattle.std.proofs.lemmas.Result.{IfOk-weaker}
-use Rattle.es_eval.specs.Machines.{rest, world_of}
+use Rattle.es_eval.specs.devices.Machines.{rest, world_of}
 use Rattle.es_eval.proofs.StatementArms.{behind_all, behind_statement}
 use Rattle.es_eval.proofs.machine.Machine.run_listed.Goals as goal
 

@@ -2,7 +2,7 @@ use Rattle.std.proofs.Common.{◌≡◌, List, subst}
 use Rattle.std.proofs.lemmas.Result.{IfOk-weaker}
 use Rattle.es_reader.specs.Programs.{ToldProgram}
 use Rattle.es_eval.specs.Endings.{MayEnd}
-use Rattle.es_eval.specs.Machines.{run_from, told_run, world_of}
+use Rattle.es_eval.specs.devices.Machines.{run_from, told_run, world_of}
 use Rattle.es_eval.specs.Worlds.{Run}
 use Rattle.es_eval.proofs.ScriptLemmas.{program-starts}
 use Rattle.es_eval.proofs.machine.Machine.run_program.Goals as goal

@@ -1,5 +1,5 @@
 use Rattle.std.proofs.Common.{◌∙◌}
-use Rattle.es_eval.specs.Machines.{run_from}
+use Rattle.es_eval.specs.devices.Machines.{run_from}
 use Rattle.es_eval.proofs.HostLemmas.{leads-behind, leads-in, leads-over}
 use Rattle.es_eval.proofs.machine.Machine.run_to_end.Goals as goal
 

@@ -1,6 +1,6 @@
 use Rattle.std.proofs.Common.{◌≡◌}
-use Rattle.es_eval.specs.Machines.{IsNextLive, run_from, weight}
-use Rattle.es_eval.specs.Leading.{LeadsTo}
+use Rattle.es_eval.specs.devices.Machines.{IsNextLive, run_from, weight}
+use Rattle.es_eval.specs.devices.Leading.{LeadsTo}
 use Rattle.es_eval.proofs.machine.Machine.run_to_end.Given as goal
 
 -- each end from here is one from the start

@@ -3,9 +3,9 @@ use Rattle.es_values.specs.declared.values.Value.{Value}
 use Rattle.es_eval.specs.declared.works.Given.TheVariants as given
 use Rattle.es_eval.specs.declared.works.Now.TheVariants as now
 use Rattle.es_eval.specs.Actions.{Action, as_number, gives}
-use Rattle.es_eval.specs.Machines.{GoesOn, run_from}
-use Rattle.es_eval.specs.Operations.{signed_number}
-use Rattle.es_eval.specs.Works.{as_value}
+use Rattle.es_eval.specs.devices.Machines.{GoesOn, run_from}
+use Rattle.es_shapes.specs.Operators.{signed_number}
+use Rattle.es_eval.specs.devices.Works.{as_value}
 use Rattle.es_eval.proofs.ArmLemmas.{carried-run, signs-number, stopped-run}
 use Rattle.es_eval.proofs.machine.Machine.sign.Goals as goal
 

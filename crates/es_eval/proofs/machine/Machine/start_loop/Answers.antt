@@ -1,7 +1,7 @@
 use Rattle.std.proofs.Common.{subst, sym}
 use Rattle.std.proofs.lemmas.Result.{IfOk-weaker}
-use Rattle.es_eval.specs.Machines.{GoesOn}
-use Rattle.es_eval.specs.Works.{as_completion, starts_loop}
+use Rattle.es_eval.specs.devices.Machines.{GoesOn}
+use Rattle.es_eval.specs.devices.Works.{as_completion, starts_loop}
 use Rattle.es_eval.proofs.StatementArms.{var-stopped, var-turns}
 use Rattle.es_eval.proofs.machine.Machine.start_loop.Goals as goal
 

@@ -3,8 +3,8 @@ use Rattle.es_values.specs.declared.values.Value.TheVariants.{Number}
 use Rattle.std.specs.Prelude.{if◌then◌else◌}
 use Rattle.es_eval.specs.Actions.{and_then, as_number, gives}
 use Rattle.es_eval.specs.Members.{write_place}
-use Rattle.es_eval.specs.Operations.{stepped}
-use Rattle.es_eval.specs.Works.{as_value, place_of}
+use Rattle.es_shapes.specs.Operators.{stepped}
+use Rattle.es_eval.specs.devices.Works.{as_value, place_of}
 use Rattle.es_eval.proofs.ArmLemmas.{carried-run, stopped-run}
 use Rattle.es_eval.proofs.machine.Machine.step_place.Goals as goal
 

@@ -1,6 +1,6 @@
 use Rattle.std.proofs.lemmas.Result.{IfOk-weaker}
 use Rattle.es_eval.specs.declared.works.Given.TheVariants as given
-use Rattle.es_eval.specs.Works.{does, evaluates}
+use Rattle.es_eval.specs.devices.Works.{does, evaluates}
 use Rattle.es_eval.proofs.ArmLemmas.{stepped-run, unstepped-run}
 use Rattle.es_eval.proofs.machine.Machine.step_then.Goals as goal
 

@@ -1,6 +1,6 @@
 use Rattle.std.proofs.Common.{◌∙◌}
 use Rattle.std.proofs.lemmas.Result.{IfOk-weaker}
-use Rattle.es_eval.specs.Machines.{rest, world_of}
+use Rattle.es_eval.specs.devices.Machines.{rest, world_of}
 use Rattle.es_eval.proofs.StatementArms.{body-turn, test-turn}
 use Rattle.es_eval.proofs.machine.Machine.turn.Goals as goal
 

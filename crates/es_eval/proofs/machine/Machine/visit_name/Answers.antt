@@ -2,7 +2,7 @@ use Rattle.std.proofs.Common.{◌∙◌, sym}
 use Rattle.std.proofs.lemmas.Result.{IfOk-weaker}
 use Rattle.es_eval.specs.declared.works.Use.TheVariants.{Visit as VisitUse}
 use Rattle.es_eval.specs.Members.Place.{NamePlace}
-use Rattle.es_eval.specs.Works.{use_row}
+use Rattle.es_eval.specs.devices.Works.{use_row}
 use Rattle.es_eval.proofs.ArmLemmas.{stepped-run, unstepped-run}
 use Rattle.es_eval.proofs.StatementArms.{visit-target, visit-var}
 use Rattle.es_eval.proofs.machine.Machine.visit_name.Goals as goal

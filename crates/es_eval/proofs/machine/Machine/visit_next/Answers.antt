@@ -1,6 +1,6 @@
 use Rattle.std.proofs.Common.{◌≡◌, ◌∙◌, ◌<◌, ◌≤◌, length, get_or, rules, sym, subst, arith}
 use Rattle.std.proofs.lemmas.Result.{IfOk-weaker}
-use Rattle.es_eval.specs.Machines.{IsLess}
+use Rattle.es_eval.specs.devices.Machines.{IsLess}
 use Rattle.es_eval.proofs.StatementArms.{visit-end, visit-on, visit-past}
 use Rattle.es_eval.proofs.machine.Machine.visit_next.Goals as goal
 

@@ -1,9 +1,9 @@
 use Rattle.std.proofs.Common.{◌≡◌, ◌-◌}
 use Rattle.std.specs.Prelude.{vec_len}
 use Rattle.es_eval.specs.Actions.{Next}
-use Rattle.es_eval.specs.Machines.{world_of}
+use Rattle.es_eval.specs.devices.Machines.{world_of}
 use Rattle.es_eval.specs.Rows.{Completion}
-use Rattle.es_eval.specs.Works.{turns, visit_task}
+use Rattle.es_eval.specs.devices.Works.{turns, visit_task}
 use Rattle.es_eval.proofs.machine.Machine.visit_next.Given as goal
 
 abbrev pub invariant-names : goal.invariant-names

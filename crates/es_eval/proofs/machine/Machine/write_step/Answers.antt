@@ -1,5 +1,5 @@
 use Rattle.std.proofs.lemmas.Result.{IfOk-weaker}
-use Rattle.es_eval.specs.Works.{place_of}
+use Rattle.es_eval.specs.devices.Works.{place_of}
 use Rattle.es_eval.proofs.TargetLemmas.{instead-run}
 use Rattle.es_eval.proofs.machine.Machine.write_step.Goals as goal
 

@@ -1,8 +1,0 @@
-use Rattle.std.proofs.Common.{◌≤◌, length, subst}
-use Rattle.es_eval.proofs.TurnLemmas.{no-part}
-use Rattle.es_eval.proofs.codes.part_count.Goals as goal
-
-pub returns : goal.returns
-returns c place past =
-    no-part c.args.programs.now c.args.code place
-    (subst (λ numbers. length numbers ≤ place) c.children.ensures past)

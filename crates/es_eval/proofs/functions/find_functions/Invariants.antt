@@ -1,8 +1,0 @@
-use Rattle.std.proofs.Common.{◌≡◌, ◌++◌, take}
-use Rattle.es_eval.specs.Codes.{places_in}
-use Rattle.es_eval.proofs.functions.find_functions.Given as goal
-
-abbrev pub invariant-loop-function : goal.invariant-loop-function
-invariant-loop-function l =
-    l.found.items
-    ≡ l.initial.found.items ++ places_in l.place 0 (take l.function l.program.functions)
