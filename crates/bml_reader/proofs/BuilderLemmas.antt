@@ -8,9 +8,9 @@ use Rattle.dom_tree.specs.Items.{Attribute, Item, Content, tag_in, tag_of, attri
 use Rattle.dom_tree.specs.Items.Content.{Element, Text}
 use Rattle.dom_tree.specs.Walks.{path_of, IsOpen, Extends, KeepsPlaces}
 use Rattle.bml_reader.specs.Markup.{NamesDiffer}
-use Rattle.bml_reader.specs.Nodes.{AreOpen, top_of, numbers_in}
+use Rattle.bml_reader.specs.devices.Nodes.{AreOpen, top_of, numbers_in}
 use Rattle.dom_tree.specs.declared.node_ids.NodeId.{NodeId}
-use Rattle.bml_reader.specs.BuilderViews.{put_attributes, with_attributes, KeepsPlacesOf, IsGrown}
+use Rattle.bml_reader.specs.devices.BuilderViews.{put_attributes, with_attributes, KeepsPlacesOf, IsGrown}
 
 Contains-behind : (x : ℕ) (xs : List ℕ) (n : ℕ) → Contains xs n → Contains (x ∷ xs) n
 Contains-behind x xs n c = (suc c.0, omega (arith, c.1), c.2)

@@ -7,7 +7,7 @@ use Rattle.std.proofs.lemmas.List.{length-append}
 use Rattle.std.proofs.Math.Seq.{take-append_seam}
 use Rattle.bml_reader.specs.Bytes.{front, behind, behind_mark}
 use Rattle.bml_reader.specs.Markup.{EndsAtFirst}
-use Rattle.bml_reader.specs.Lexing.{Found, found, up_to}
+use Rattle.bml_reader.specs.devices.Lexing.{Found, found, up_to}
 
 pub both : (a b : Bool) → (a && b) ≡ true → (a ≡ true) × (b ≡ true)
 both true b e = (refl, e)

@@ -13,7 +13,7 @@ use Rattle.bml_reader.specs.Markup.Markup.{StartTag, EndTag, Run, Cdata, Remark,
 use Rattle.bml_reader.specs.Grammar.{Contents, markup_of, IsContent, IsMisc, IsRooted, IsDocument, nodes_of, tree_of}
 use Rattle.bml_reader.specs.Grammar.Contents.{Nothing, Text, Section, Aside, DocumentType, Element, EmptyElement}
 use Rattle.bml_reader.specs.Faults.{most_levels}
-use Rattle.bml_reader.specs.Machine.{State, Opened, start_state, items_with_text, step, steps}
+use Rattle.bml_reader.specs.devices.Machine.{State, Opened, start_state, items_with_text, step, steps}
 use Rattle.bml_reader.specs.declared.phases.Phase.{Phase}
 use Rattle.bml_reader.specs.declared.phases.Phase.TheVariants.{BeforeDoctype, BeforeRoot, Inside, Behind}
 use Rattle.bml_reader.proofs.ByteLemmas.{some-same}

@@ -11,9 +11,9 @@ use Rattle.bml_reader.specs.Markup.{Markup, IsMarkup}
 use Rattle.bml_reader.specs.Markup.Markup.{StartTag, EndTag, Run, Cdata, Remark, Doctype}
 use Rattle.bml_reader.specs.Grammar.{Reads}
 use Rattle.bml_reader.specs.Faults.{ReadsWell, HasFault}
-use Rattle.bml_reader.specs.Lexing.{Found, found, markup_at}
-use Rattle.bml_reader.specs.Machine.{State, NodesSoFar, few_nodes, start_state, step, IsSound, IsSoundIn}
-use Rattle.bml_reader.specs.ReaderViews.{Seen, seen_of, seen_step, IsTaken, HasDifferentNames, Refuses, IsRead}
+use Rattle.bml_reader.specs.devices.Lexing.{Found, found, markup_at}
+use Rattle.bml_reader.specs.devices.Machine.{State, NodesSoFar, few_nodes, start_state, step, IsSound, IsSoundIn}
+use Rattle.bml_reader.specs.devices.ReaderViews.{Seen, seen_of, seen_step, IsTaken, HasDifferentNames, Refuses, IsRead}
 use Rattle.bml_reader.specs.declared.faults.DocFault.{DocFault}
 use Rattle.bml_reader.specs.declared.faults.DocFault.TheVariants.{Malformed, WrongRoot, TooDeep, TooManyNodes, NoMemory}
 use Rattle.bml_reader.specs.declared.phases.Phase.{Phase}

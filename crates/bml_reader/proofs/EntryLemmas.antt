@@ -7,7 +7,7 @@ use Rattle.std.specs.HashMap.{HashMap, get}
 use Rattle.std.specs.Map.{lookup}
 use Rattle.bml_bytes.specs.Words.{is_same}
 use Rattle.dom_tree.specs.Items.{Attribute, value_in}
-use Rattle.bml_reader.specs.AttributeViews.{attribute_of_entry, attributes_in_map}
+use Rattle.bml_reader.specs.devices.AttributeViews.{attribute_of_entry, attributes_in_map}
 
 value_in-cond : (b : Bool) (v : List ℕ) (o : Option Attribute) (a : Attribute) (p : Option (List ℕ)) → option_map (λ x. x.value) o ≡ p → option_map (λ x. x.value) (cond b (Some a) o) ≡ cond b (Some a.value) p
 value_in-cond true v o a p h = refl

@@ -16,7 +16,7 @@ use Rattle.bml_reader.specs.Markup.Markup.{StartTag, EndTag, Run, Cdata, Remark}
 use Rattle.bml_reader.specs.Grammar.{Contents, markup_of, IsContent, is_left_out, text_before, nodes_of}
 use Rattle.bml_reader.specs.Grammar.Contents.{Nothing, Text, Section, Aside, DocumentType, Element, EmptyElement}
 use Rattle.bml_reader.specs.Faults.{most_levels}
-use Rattle.bml_reader.specs.Machine.{State, Opened, items_with_text, phase_of, step, steps}
+use Rattle.bml_reader.specs.devices.Machine.{State, Opened, items_with_text, phase_of, step, steps}
 
 -- One piece, and several
 

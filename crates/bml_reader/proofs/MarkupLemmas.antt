@@ -10,7 +10,7 @@ use Rattle.dom_tree.specs.Items.{Attribute}
 use Rattle.bml_reader.specs.Bytes.{front, behind, behind_mark, is_white, is_letter, is_digit, is_name_start, is_name_byte, is_name, is_text_byte, is_doctype_byte}
 use Rattle.bml_reader.specs.Markup.{Markup, IsWhite, SpellsAttributes, NamesDiffer, tag_end, IsStartTag, IsEndTag, IsRun, EndsText, EndsAtFirst, IsMarked, IsRemark, IsDoctype, IsMarkup}
 use Rattle.bml_reader.specs.Markup.Markup.{StartTag, EndTag, Run, Cdata, Remark, Doctype}
-use Rattle.bml_reader.specs.Lexing.{Found, found, Inner, name_at, inner_at, up_to, start_tag_of_name, start_tag_at, end_tag_of_name, end_tag_at, comment_at, instruction_at, cdata_at, doctype_at, declaration_at, bracketed_at, markup_at}
+use Rattle.bml_reader.specs.devices.Lexing.{Found, found, Inner, name_at, inner_at, up_to, start_tag_of_name, start_tag_at, end_tag_of_name, end_tag_at, comment_at, instruction_at, cdata_at, doctype_at, declaration_at, bracketed_at, markup_at}
 use Rattle.bml_reader.proofs.ByteLemmas.{both, some-same, Ends, front-cons, front-run, behind-run, front-behind, front-all, behind-ends, behind_mark-is, UpTo, up_to-first, up_to-is, mapped, chained}
 use Rattle.bml_reader.proofs.TagLemmas.{white-no-name, ends-white, ends-tag_end, name_at-name, name_at-is, spells-length, inner_at-spelled, InnerAt, inner_at-is}
 

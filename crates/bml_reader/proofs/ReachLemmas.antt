@@ -6,8 +6,8 @@ use Rattle.bml_reader.specs.Markup.{Markup, IsMarkup, Spells}
 use Rattle.bml_reader.specs.Markup.Markup.{StartTag, EndTag, Run, Cdata, Remark, Doctype}
 use Rattle.bml_reader.specs.Grammar.{Contents, markup_of, tree_of, Reads}
 use Rattle.bml_reader.specs.Grammar.Contents.{Nothing, Text, Section, Aside, DocumentType, Element, EmptyElement}
-use Rattle.bml_reader.specs.Lexing.{Found, found, markup_at}
-use Rattle.bml_reader.specs.Machine.{State, start_state, step, steps}
+use Rattle.bml_reader.specs.devices.Lexing.{Found, found, markup_at}
+use Rattle.bml_reader.specs.devices.Machine.{State, start_state, step, steps}
 use Rattle.bml_reader.specs.declared.phases.Phase.TheVariants.{Behind}
 use Rattle.bml_reader.proofs.ByteLemmas.{some-same}
 use Rattle.bml_reader.proofs.MarkupLemmas.{markup_at-markup, markup_at-is, markup_at-empty}

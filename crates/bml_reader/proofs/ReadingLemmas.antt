@@ -10,10 +10,10 @@ use Rattle.dom_tree.specs.Nested.{Nested, items_of}
 use Rattle.bml_reader.specs.Markup.{Markup, Spells}
 use Rattle.bml_reader.specs.Grammar.{Reads, markup_of, tree_of}
 use Rattle.bml_reader.specs.Faults.{ReadsWell, HasFault, HasWrongRoot, IsTooDeep, HasTooManyNodes}
-use Rattle.bml_reader.specs.Lexing.{Found, found, markup_at}
-use Rattle.bml_reader.specs.Machine.{State, NodesSoFar, few_nodes, start_state, step, steps}
+use Rattle.bml_reader.specs.devices.Lexing.{Found, found, markup_at}
+use Rattle.bml_reader.specs.devices.Machine.{State, NodesSoFar, few_nodes, start_state, step, steps}
 use Rattle.bml_reader.specs.Readings.{IsReading, read_markup, has_other_root, result_of_nodes, result_of_state, result_where_read, reading_of}
-use Rattle.bml_reader.specs.ReaderViews.{seen_of, Refuses}
+use Rattle.bml_reader.specs.devices.ReaderViews.{seen_of, Refuses}
 use Rattle.bml_reader.specs.declared.faults.DocFault.{DocFault}
 use Rattle.bml_reader.specs.declared.faults.DocFault.TheVariants.{Malformed, WrongRoot, TooDeep, TooManyNodes, NoMemory}
 use Rattle.bml_reader.specs.declared.phases.Phase.{Phase}

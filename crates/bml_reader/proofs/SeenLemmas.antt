@@ -15,10 +15,10 @@ use Rattle.bml_reader.specs.Markup.{Markup}
 use Rattle.bml_reader.specs.Markup.Markup.{StartTag, EndTag, Run, Cdata, Remark, Doctype}
 use Rattle.bml_reader.specs.Grammar.{is_left_out}
 use Rattle.bml_reader.specs.Faults.{most_levels}
-use Rattle.bml_reader.specs.Machine.{State, Opened, NodesSoFar, few_nodes, innermost, items_with_text, phase_of, elements_with, after_start_tag, step, IsSound, IsSoundIn}
-use Rattle.bml_reader.specs.Nodes.{nodes_with_element, nodes_with_text, nodes_outside}
+use Rattle.bml_reader.specs.devices.Machine.{State, Opened, NodesSoFar, few_nodes, innermost, items_with_text, phase_of, elements_with, after_start_tag, step, IsSound, IsSoundIn}
+use Rattle.bml_reader.specs.devices.Nodes.{nodes_with_element, nodes_with_text, nodes_outside}
 use Rattle.bml_reader.specs.Readings.{has_other_root}
-use Rattle.bml_reader.specs.ReaderViews.{Seen, seen_of, nodes_with_text_of, seen_flushed, seen_started, phase_of_tags, tags_with, seen_step, IsReady}
+use Rattle.bml_reader.specs.devices.ReaderViews.{Seen, seen_of, nodes_with_text_of, seen_flushed, seen_started, phase_of_tags, tags_with, seen_step, IsReady}
 use Rattle.bml_reader.specs.declared.phases.Phase.{Phase}
 use Rattle.bml_reader.specs.declared.phases.Phase.TheVariants.{BeforeDoctype, BeforeRoot, Inside, Behind}
 use Rattle.bml_reader.proofs.ByteLemmas.{some-same}

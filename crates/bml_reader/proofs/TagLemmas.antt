@@ -10,7 +10,7 @@ use Rattle.dom_tree.specs.Items.{Attribute, value_in}
 use Rattle.bml_reader.specs.Bytes.{front, behind, behind_mark, is_white, is_letter, is_digit, is_name_start, is_name_byte, is_name, is_value_byte, is_quote}
 use Rattle.bml_reader.specs.References.{read_references}
 use Rattle.bml_reader.specs.Markup.{IsWhite, IsAttribute, SpellsAttributes, NamesDiffer, tag_end}
-use Rattle.bml_reader.specs.Lexing.{Found, found, Written, Inner, name_at, equals_at, closed_value, value_at, value_of_name, attribute_at, attribute_of, tag_end_at, inner_at}
+use Rattle.bml_reader.specs.devices.Lexing.{Found, found, Written, Inner, name_at, equals_at, closed_value, value_at, value_of_name, attribute_at, attribute_of, tag_end_at, inner_at}
 use Rattle.bml_reader.proofs.ByteLemmas.{both, both-back, some-same, Ends, front-cons, front-run, behind-run, front-behind, front-all, behind-ends, behind_mark-append, behind_mark-is, mapped, chained, passed}
 
 -- Bytes of one kind that aren't of another

@@ -3,15 +3,5 @@ pub mod References
 pub mod Markup
 pub mod Grammar
 pub mod Faults
-pub mod Lexing
-pub mod Machine
-pub mod Views
-pub mod ReferenceViews
-pub mod MarkupKinds
-pub mod MarkupViews
-pub mod AttributeViews
-pub mod TagViews
-pub mod Nodes
-pub mod BuilderViews
 pub mod Readings
-pub mod ReaderViews
+pub mod devices

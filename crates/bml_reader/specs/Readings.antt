@@ -10,8 +10,8 @@ use Rattle.dom_tree.specs.Items.{Item, tag_in}
 use Rattle.dom_tree.specs.Walks.{most_nodes}
 use Rattle.bml_reader.specs.Faults.{HasFault, ReadsWell}
 use Rattle.bml_reader.specs.Markup.{Markup}
-use Rattle.bml_reader.specs.Lexing.{Found, markup_at}
-use Rattle.bml_reader.specs.Machine.{State, start_state, step}
+use Rattle.bml_reader.specs.devices.Lexing.{Found, markup_at}
+use Rattle.bml_reader.specs.devices.Machine.{State, start_state, step}
 use Rattle.bml_reader.specs.declared.faults.DocFault.{DocFault}
 use Rattle.bml_reader.specs.declared.faults.DocFault.TheVariants.{Malformed, WrongRoot, TooDeep, TooManyNodes, NoMemory}
 use Rattle.bml_reader.specs.declared.phases.Phase.{Phase}

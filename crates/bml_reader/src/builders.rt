@@ -5,9 +5,9 @@ ghost use Rattle.dom_tree.specs.Items.{IsElement, attributes_of, changed_at, ele
 ghost use Rattle.dom_tree.specs.Items.Content.{Element};
 ghost use Rattle.dom_tree.specs.Walks.{most_nodes, KeepsPlaces};
 ghost use Rattle.bml_reader.specs.Markup.{NamesDiffer};
-ghost use Rattle.bml_reader.specs.AttributeViews.{attribute_of_entry, attributes_in_map};
-ghost use Rattle.bml_reader.specs.Nodes.{top_of, path_with, numbers_in};
-ghost use Rattle.bml_reader.specs.BuilderViews.{items_or_none, IsGrown, with_attributes, KeepsPlacesOf};
+ghost use Rattle.bml_reader.specs.devices.AttributeViews.{attribute_of_entry, attributes_in_map};
+ghost use Rattle.bml_reader.specs.devices.Nodes.{top_of, path_with, numbers_in};
+ghost use Rattle.bml_reader.specs.devices.BuilderViews.{items_or_none, IsGrown, with_attributes, KeepsPlacesOf};
 
 use bml_bytes::{NoMemory, Text};
 use dom_tree::{MOST_NODES, NodeId, Tree};
@@ -27,8 +27,8 @@ pub struct TreeBuilder {
 
 impl Model for TreeBuilder {
     ghost use Rattle.std.specs.Prelude.{Option};
-    ghost use Rattle.bml_reader.specs.Machine.{NodesSoFar};
-    ghost use Rattle.bml_reader.specs.BuilderViews.{nodes_by, IsBuilding};
+    ghost use Rattle.bml_reader.specs.devices.Machine.{NodesSoFar};
+    ghost use Rattle.bml_reader.specs.devices.BuilderViews.{nodes_by, IsBuilding};
 
     ghost Value = { Option NodesSoFar };
 
@@ -40,7 +40,7 @@ impl Model for TreeBuilder {
 impl TreeBuilder {
     ghost use Rattle.std.specs.Prelude.{nat_le, true, IsNone};
     ghost use Rattle.std.specs.Option.{option_and_then};
-    ghost use Rattle.bml_reader.specs.Nodes.{nodes_with_element, nodes_with_text, nodes_outside, IsRootNext};
+    ghost use Rattle.bml_reader.specs.devices.Nodes.{nodes_with_element, nodes_with_text, nodes_outside, IsRootNext};
 
     /// No nodes.
     pub fn new(alloc: Global) -> TreeBuilder

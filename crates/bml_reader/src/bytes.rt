@@ -2,8 +2,8 @@
 
 ghost use Rattle.std.specs.Prelude.{◌≡◌, ◌≤◌, length, option_map, option_copied};
 ghost use Rattle.bml_reader.specs.Bytes.{front, behind, behind_mark as spec_behind_mark, is_letter as spec_is_letter, is_digit as spec_is_digit, is_name_start as spec_is_name_start};
-ghost use Rattle.bml_reader.specs.Lexing.{up_to};
-ghost use Rattle.bml_reader.specs.Views.{in_class, found_bytes};
+ghost use Rattle.bml_reader.specs.devices.Lexing.{up_to};
+ghost use Rattle.bml_reader.specs.devices.Views.{in_class, found_bytes};
 
 /// Classes of bytes that stand one behind the other in a document.
 #[derive(Clone, Copy)]
@@ -24,7 +24,7 @@ pub enum ByteClass {
 
 impl ByteClass {
     ghost use Rattle.std.specs.Prelude.{◌≡◌};
-    ghost use Rattle.bml_reader.specs.Views.{in_class};
+    ghost use Rattle.bml_reader.specs.devices.Views.{in_class};
 
     /// Whether the byte is of the class.
     #[tactic(auto, unfolding(crate::specs::Bytes::is_text_byte, crate::specs::Bytes::is_value_byte, crate::specs::Bytes::is_doctype_byte))]

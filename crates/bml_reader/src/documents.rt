@@ -6,8 +6,8 @@ ghost use Rattle.dom_tree.specs.Items.{Item};
 ghost use Rattle.dom_tree.specs.Nested.{Nested};
 ghost use Rattle.bml_reader.specs.Faults.{HasFault, ReadsWell};
 ghost use Rattle.bml_reader.specs.Grammar.{Reads};
-ghost use Rattle.bml_reader.specs.Machine.{start_state};
-ghost use Rattle.bml_reader.specs.ReaderViews.{IsRead, seen_by, seen_of};
+ghost use Rattle.bml_reader.specs.devices.Machine.{start_state};
+ghost use Rattle.bml_reader.specs.devices.ReaderViews.{IsRead, seen_by, seen_of};
 ghost use Rattle.bml_reader.specs.Readings.{IsReading, reading_of};
 
 use crate::faults::DocFault;

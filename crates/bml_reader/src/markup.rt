@@ -2,8 +2,8 @@
 //! document type.
 
 ghost use Rattle.std.specs.Prelude.{◌≡◌, option_map, IfOk};
-ghost use Rattle.bml_reader.specs.Lexing.{markup_at, bracketed_at, declaration_at, comment_at, instruction_at, cdata_at, doctype_at, start_tag_at, end_tag_at};
-ghost use Rattle.bml_reader.specs.MarkupViews.{found_markup};
+ghost use Rattle.bml_reader.specs.devices.Lexing.{markup_at, bracketed_at, declaration_at, comment_at, instruction_at, cdata_at, doctype_at, start_tag_at, end_tag_at};
+ghost use Rattle.bml_reader.specs.devices.MarkupViews.{found_markup};
 
 use crate::bytes::{ByteClass, behind_mark, behind_run, split_at_mark, split_run};
 use crate::tags::{Inside, inside_tag, name};
@@ -29,7 +29,7 @@ pub enum Markup<'a> {
 }
 
 /// The piece at the front, and what stands behind it. None where no piece is there.
-#[tactic(auto, unfolding(crate::specs::Lexing::markup_at))]
+#[tactic(auto, unfolding(crate::specs::devices::Lexing::markup_at))]
 pub fn next_markup(alloc: Global, bytes: &[u8]) -> Result<Option<(Markup, &[u8])>, NoMemory>
     ensures { IfOk result (λ found. option_map found_markup found ≡ markup_at bytes.now) }
 {
@@ -44,7 +44,7 @@ pub fn next_markup(alloc: Global, bytes: &[u8]) -> Result<Option<(Markup, &[u8])
 }
 
 // The piece whose `<` stands in front of the bytes.
-#[tactic(auto, unfolding(crate::specs::Lexing::bracketed_at))]
+#[tactic(auto, unfolding(crate::specs::devices::Lexing::bracketed_at))]
 fn bracketed(alloc: Global, bytes: &[u8]) -> Result<Option<(Markup, &[u8])>, NoMemory>
     ensures { IfOk result (λ found. option_map found_markup found ≡ bracketed_at bytes.now) }
 {
@@ -57,7 +57,7 @@ fn bracketed(alloc: Global, bytes: &[u8]) -> Result<Option<(Markup, &[u8])>, NoM
     }
 }
 
-#[tactic(auto, unfolding(crate::specs::Lexing::start_tag_at, crate::specs::Lexing::start_tag_of_name))]
+#[tactic(auto, unfolding(crate::specs::devices::Lexing::start_tag_at, crate::specs::devices::Lexing::start_tag_of_name))]
 fn start_tag(alloc: Global, bytes: &[u8]) -> Result<Option<(Markup, &[u8])>, NoMemory>
     ensures { IfOk result (λ found. option_map found_markup found ≡ start_tag_at bytes.now) }
 {
@@ -71,7 +71,7 @@ fn start_tag(alloc: Global, bytes: &[u8]) -> Result<Option<(Markup, &[u8])>, NoM
     }
 }
 
-#[tactic(auto, unfolding(crate::specs::Lexing::end_tag_at, crate::specs::Lexing::end_tag_of_name))]
+#[tactic(auto, unfolding(crate::specs::devices::Lexing::end_tag_at, crate::specs::devices::Lexing::end_tag_of_name))]
 fn end_tag(bytes: &[u8]) -> Option<(Markup, &[u8])>
     ensures { option_map found_markup result ≡ end_tag_at bytes.now }
 {
@@ -81,7 +81,7 @@ fn end_tag(bytes: &[u8]) -> Option<(Markup, &[u8])>
 }
 
 // The piece whose `<!` stands in front of the bytes.
-#[tactic(auto, unfolding(crate::specs::Lexing::declaration_at))]
+#[tactic(auto, unfolding(crate::specs::devices::Lexing::declaration_at))]
 fn declaration(bytes: &[u8]) -> Option<(Markup, &[u8])>
     ensures { option_map found_markup result ≡ declaration_at bytes.now }
 {
@@ -96,7 +96,7 @@ fn declaration(bytes: &[u8]) -> Option<(Markup, &[u8])>
     doctype(behind_mark(bytes, b"DOCTYPE")?)
 }
 
-#[tactic(auto, unfolding(crate::specs::Lexing::comment_at))]
+#[tactic(auto, unfolding(crate::specs::devices::Lexing::comment_at))]
 fn comment(bytes: &[u8]) -> Option<(Markup, &[u8])>
     ensures { option_map found_markup result ≡ comment_at bytes.now }
 {
@@ -104,7 +104,7 @@ fn comment(bytes: &[u8]) -> Option<(Markup, &[u8])>
     Some((Markup::Remark, rest))
 }
 
-#[tactic(auto, unfolding(crate::specs::Lexing::instruction_at))]
+#[tactic(auto, unfolding(crate::specs::devices::Lexing::instruction_at))]
 fn instruction(bytes: &[u8]) -> Option<(Markup, &[u8])>
     ensures { option_map found_markup result ≡ instruction_at bytes.now }
 {
@@ -112,7 +112,7 @@ fn instruction(bytes: &[u8]) -> Option<(Markup, &[u8])>
     Some((Markup::Remark, rest))
 }
 
-#[tactic(auto, unfolding(crate::specs::Lexing::cdata_at))]
+#[tactic(auto, unfolding(crate::specs::devices::Lexing::cdata_at))]
 fn cdata(bytes: &[u8]) -> Option<(Markup, &[u8])>
     ensures { option_map found_markup result ≡ cdata_at bytes.now }
 {
@@ -120,7 +120,7 @@ fn cdata(bytes: &[u8]) -> Option<(Markup, &[u8])>
     Some((Markup::Cdata(inside), rest))
 }
 
-#[tactic(auto, unfolding(crate::specs::Lexing::doctype_at))]
+#[tactic(auto, unfolding(crate::specs::devices::Lexing::doctype_at))]
 fn doctype(bytes: &[u8]) -> Option<(Markup, &[u8])>
     ensures { option_map found_markup result ≡ doctype_at bytes.now }
 {

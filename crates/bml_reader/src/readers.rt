@@ -1,12 +1,13 @@
 //! Reading a document piece by piece.
 
 ghost use Rattle.std.specs.Prelude.{◌≡◌, not, codes as ascii};
+ghost use Rattle.bml_bytes.specs.Codes.{codes};
 ghost use Rattle.bml_bytes.specs.Words.{is_same};
 ghost use Rattle.std.specs.List.{list_all};
 ghost use Rattle.bml_reader.specs.Bytes.{is_white as spec_is_white};
 ghost use Rattle.bml_reader.specs.Grammar.{is_left_out as spec_is_left_out, drops_white as spec_drops_white};
-ghost use Rattle.bml_reader.specs.MarkupViews.{seen_markup};
-ghost use Rattle.bml_reader.specs.MarkupKinds.{is_misc as spec_is_misc};
+ghost use Rattle.bml_reader.specs.devices.MarkupViews.{seen_markup};
+ghost use Rattle.bml_reader.specs.devices.MarkupKinds.{is_misc as spec_is_misc};
 
 use crate::builders::TreeBuilder;
 use crate::bytes::{ByteClass, behind_run};
@@ -39,12 +40,12 @@ pub struct Reader {
 
 impl Reader {
     ghost use Rattle.std.specs.Prelude.{◌≢◌, ◌↔◌, [], Some, None, Err, true, false, IfOk, IfErr, OnOk, IfSome, IsTrue, option_map, reverse};
-    ghost use Rattle.bml_reader.specs.Machine.{start_state};
-    ghost use Rattle.bml_reader.specs.AttributeViews.{attributes_in_map};
+    ghost use Rattle.bml_reader.specs.devices.Machine.{start_state};
+    ghost use Rattle.bml_reader.specs.devices.AttributeViews.{attributes_in_map};
     ghost use Rattle.bml_reader.specs.Markup.{NamesDiffer};
-    ghost use Rattle.bml_reader.specs.Nodes.{IsRootNext};
+    ghost use Rattle.bml_reader.specs.devices.Nodes.{IsRootNext};
     ghost use Rattle.bml_reader.specs.declared.phases.Phase.TheVariants.{BeforeDoctype, BeforeRoot, Inside, Behind};
-    ghost use Rattle.bml_reader.specs.ReaderViews.{seen_of, seen_by, seen_step, seen_before_doctype, seen_before_root, seen_inside, seen_started, seen_flushed, seen_ended, with_root, seen_in_phase, phase_of_tags, IsTaken, IsReady, IsReadyIn, HasDifferentNames, Refuses};
+    ghost use Rattle.bml_reader.specs.devices.ReaderViews.{seen_of, seen_by, seen_step, seen_before_doctype, seen_before_root, seen_inside, seen_started, seen_flushed, seen_ended, with_root, seen_in_phase, phase_of_tags, tags_with, IsTaken, IsReady, IsReadyIn, HasDifferentNames, Refuses};
 
     /// Nothing is read yet.
     pub fn new(alloc: Global) -> Reader
@@ -108,7 +109,7 @@ impl Reader {
     }
 
     // Takes a piece where the reader is.
-    #[tactic(auto, unfolding(crate::specs::ReaderViews::seen_step))]
+    #[tactic(auto, unfolding(crate::specs::devices::ReaderViews::seen_step))]
     fn take_in_phase(&mut self, markup: &Markup) -> Result<bool, NoMemory>
         requires ready { IsReady (seen_by self.old) }
         requires names { HasDifferentNames (seen_markup markup.now) }
@@ -164,10 +165,7 @@ impl Reader {
     {
         match markup {
             Markup::StartTag(start) => self.start_inside(start),
-            Markup::EndTag(name) => {
-                let tag = Text::of_bytes(self.alloc, name)?;
-                self.end(&tag)
-            }
+            Markup::EndTag(name) => self.end_named(name),
             Markup::Run(bytes) => {
                 push_read(bytes, &mut self.text)?;
                 Ok(true)
@@ -228,11 +226,33 @@ impl Reader {
             &start.inside.attributes,
             start.inside.is_empty,
         )?;
+        self.keep_open(start)
+    }
+
+    // Keeps the element of a start tag open, unless it is empty.
+    fn keep_open(&mut self, start: &StartTag) -> Result<(), NoMemory>
+        ensures { OnOk result
+            (let before = seen_by self.old in
+            let tags = tags_with start.now.inside.is_empty start.now.tag before.tags in
+            seen_by self.new ≡ record before { phase = phase_of_tags tags; tags = tags }) }
+    {
         if !start.inside.is_empty {
             self.tags.push(start.tag.share()?)?;
         }
         self.settle();
         Ok(())
+    }
+
+    // Ends the innermost element, where this is the name of its tag.
+    fn end_named(&mut self, name: &[u8]) -> Result<bool, NoMemory>
+        requires ready { IsReadyIn Inside (seen_by self.old) }
+        ensures { IfOk result
+            (λ taken. IsTaken
+            (seen_ended (codes name.now) (seen_by self.old).tags (seen_by self.old)) taken
+            (seen_by self.new)) }
+    {
+        let tag = Text::of_bytes(self.alloc, name)?;
+        self.end(&tag)
     }
 
     // Ends the innermost element, where this is its tag.

@@ -3,8 +3,8 @@
 ghost use Rattle.std.specs.Prelude.{◌≡◌, ◌++◌, ◌∷◌, [], ◌+◌, ◌*◌, ◌≤◌, ◌<◌, length, option_map, min, IfOk, IfSome, OnOk, MatchOption};
 ghost use Rattle.bml_bytes.specs.Codes.{codes};
 ghost use Rattle.bml_reader.specs.References.{read_references, read_behind, reference_at, numeric_at, number_at, closed_by, number_behind, hex_value};
-ghost use Rattle.bml_reader.specs.ReferenceViews.{found_reference};
-ghost use Rattle.bml_reader.specs.Views.{in_class};
+ghost use Rattle.bml_reader.specs.devices.ReferenceViews.{found_reference};
+ghost use Rattle.bml_reader.specs.devices.Views.{in_class};
 
 use crate::bytes::{ByteClass, behind_mark, split_run};
 use bml_bytes::{NoMemory, Text};

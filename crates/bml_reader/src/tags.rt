@@ -3,11 +3,11 @@
 ghost use Rattle.std.specs.Prelude.{◌≡◌, ◌∷◌, ◌++◌, option_map, is_some, not, true, IfOk, None, Some, length, suc, []};
 ghost use Rattle.bml_bytes.specs.Codes.{codes};
 ghost use Rattle.dom_tree.specs.Items.{value_in};
-ghost use Rattle.bml_reader.specs.AttributeViews.{attributes_in_map};
-ghost use Rattle.bml_reader.specs.Lexing.{name_at, equals_at, value_at, closed_value, attribute_at, value_of_name, tag_end_at, inner_at};
-ghost use Rattle.bml_reader.specs.Views.{found_bytes, found_written, found_flag};
+ghost use Rattle.bml_reader.specs.devices.AttributeViews.{attributes_in_map};
+ghost use Rattle.bml_reader.specs.devices.Lexing.{name_at, equals_at, value_at, closed_value, attribute_at, value_of_name, tag_end_at, inner_at};
+ghost use Rattle.bml_reader.specs.devices.Views.{found_bytes, found_written, found_flag};
 ghost use Rattle.bml_reader.specs.References.{read_references};
-ghost use Rattle.bml_reader.specs.TagViews.{found_end, found_inner};
+ghost use Rattle.bml_reader.specs.devices.TagViews.{found_end, found_inner};
 ghost use Rattle.std.specs.Option.{option_and_then, option_copied};
 
 use crate::bytes::{ByteClass, behind_mark, behind_run, is_name_start, split_run};
@@ -25,7 +25,7 @@ pub struct Inside {
 }
 
 /// The name at the front, and what stands behind it.
-#[tactic(auto, unfolding(crate::specs::Lexing::name_at))]
+#[tactic(auto, unfolding(crate::specs::devices::Lexing::name_at))]
 pub fn name(bytes: &[u8]) -> Option<(&[u8], &[u8])>
     ensures { option_map found_bytes result ≡ name_at bytes.now }
 {
@@ -125,7 +125,7 @@ fn add_attribute(
 }
 
 // Whether the tag ends at the front, behind white, and the element with it.
-#[tactic(auto, unfolding(crate::specs::Lexing::tag_end_at))]
+#[tactic(auto, unfolding(crate::specs::devices::Lexing::tag_end_at))]
 fn tag_end(bytes: &[u8]) -> Option<(bool, &[u8])>
     ensures { option_map found_flag result ≡ tag_end_at bytes.now }
 {
@@ -140,7 +140,7 @@ fn tag_end(bytes: &[u8]) -> Option<(bool, &[u8])>
 
 // The name and the value of the attribute at the front, which begins with white, and what stands
 // behind it.
-#[tactic(auto, unfolding(crate::specs::Lexing::attribute_at))]
+#[tactic(auto, unfolding(crate::specs::devices::Lexing::attribute_at))]
 fn attribute(bytes: &[u8]) -> Option<(&[u8], &[u8], &[u8])>
     ensures { option_map found_written result ≡ attribute_at bytes.now }
 {
@@ -152,7 +152,7 @@ fn attribute(bytes: &[u8]) -> Option<(&[u8], &[u8], &[u8])>
 }
 
 // The name and the value at the front, and what stands behind them.
-#[tactic(auto, unfolding(crate::specs::Lexing::value_of_name))]
+#[tactic(auto, unfolding(crate::specs::devices::Lexing::value_of_name))]
 fn named_value(bytes: &[u8]) -> Option<(&[u8], &[u8], &[u8])>
     ensures { option_map found_written result
         ≡ option_and_then value_of_name (name_at bytes.now) }
@@ -163,7 +163,7 @@ fn named_value(bytes: &[u8]) -> Option<(&[u8], &[u8], &[u8])>
 }
 
 // What stands behind `=` and the white round it.
-#[tactic(auto, unfolding(crate::specs::Lexing::equals_at))]
+#[tactic(auto, unfolding(crate::specs::devices::Lexing::equals_at))]
 fn equals(bytes: &[u8]) -> Option<&[u8]>
     ensures { option_copied result ≡ equals_at bytes.now }
 {
@@ -172,7 +172,7 @@ fn equals(bytes: &[u8]) -> Option<&[u8]>
 }
 
 // The bytes of the value in quotes at the front, and what stands behind it.
-#[tactic(auto, unfolding(crate::specs::Lexing::value_at, crate::specs::Lexing::closed_value, crate::specs::Bytes::is_quote))]
+#[tactic(auto, unfolding(crate::specs::devices::Lexing::value_at, crate::specs::devices::Lexing::closed_value, crate::specs::Bytes::is_quote))]
 fn value(bytes: &[u8]) -> Option<(&[u8], &[u8])>
     ensures { option_map found_bytes result ≡ value_at bytes.now }
 {

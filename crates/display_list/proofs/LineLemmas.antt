@@ -9,8 +9,8 @@ use Rattle.display_list.specs.Show.{box_line, clock_line, focus_line, number_fie
 use Rattle.display_list.specs.declared.node_styles.NodeStyle.{NodeStyle}
 use Rattle.display_list.specs.declared.places.Place.{Place}
 
-pub four-fields : (out x y w h a b c d e f g : List ℕ) → a ≡ out ++ x → b ≡ a ++ 32 ∷ [] → c ≡ b ++ y → d ≡ c ++ 32 ∷ [] → e ≡ d ++ w → f ≡ e ++ 32 ∷ [] → g ≡ f ++ h → g ≡ out ++ join_with_byte 32 (x ∷ y ∷ w ∷ h ∷ [])
-four-fields out x y w h a b c d e f g ea eb ec ed ee ef eg = rw (eg, ef, ee, ed, ec, eb, ea) (simp append_assoc)
+pub four-fields : (out x y w h a b c : List ℕ) → a ≡ out ++ (x ++ 32 ∷ [] ++ y) → b ≡ a ++ 32 ∷ [] → c ≡ b ++ (w ++ 32 ∷ [] ++ h) → c ≡ out ++ join_with_byte 32 (x ∷ y ∷ w ∷ h ∷ [])
+four-fields out x y w h a b c ea eb ec = rw (ec, eb, ea) (simp append_assoc)
 
 pub two-parts : (out x y a b : List ℕ) → a ≡ out ++ x → b ≡ a ++ y → b ≡ out ++ (x ++ y)
 two-parts out x y a b ea eb = rw (eb, ea) (simp append_assoc)
@@ -18,11 +18,14 @@ two-parts out x y a b ea eb = rw (eb, ea) (simp append_assoc)
 pub three-parts : (out x y z a b c : List ℕ) → a ≡ out ++ x → b ≡ a ++ y → c ≡ b ++ z → c ≡ out ++ (x ++ y ++ z)
 three-parts out x y z a b c ea eb ec = rw (ec, eb, ea) (simp append_assoc)
 
-pub five-parts : (out x y z t u a b c d e : List ℕ) → a ≡ out ++ x → b ≡ a ++ y → c ≡ b ++ z → d ≡ c ++ t → e ≡ d ++ u → e ≡ out ++ (x ++ y ++ z ++ t ++ u)
-five-parts out x y z t u a b c d e ea eb ec ed ee = rw (ee, ed, ec, eb, ea) (simp append_assoc)
+pub box-parts : (out x y z t u v a b c d : List ℕ) → a ≡ out ++ x → b ≡ a ++ y → c ≡ b ++ (z ++ t ++ u) → d ≡ c ++ v → d ≡ out ++ (x ++ y ++ z ++ t ++ u ++ v)
+box-parts out x y z t u v a b c d ea eb ec ed = rw (ed, ec, eb, ea) (simp append_assoc)
 
-pub six-parts : (out x y z t u v a b c d e f : List ℕ) → a ≡ out ++ x → b ≡ a ++ y → c ≡ b ++ z → d ≡ c ++ t → e ≡ d ++ u → f ≡ e ++ v → f ≡ out ++ (x ++ y ++ z ++ t ++ u ++ v)
-six-parts out x y z t u v a b c d e f ea eb ec ed ee ef = rw (ef, ee, ed, ec, eb, ea) (simp append_assoc)
+pub front-parts : (out x y z t u a b c d : List ℕ) → a ≡ out ++ x → b ≡ a ++ y → c ≡ b ++ (z ++ t) → d ≡ c ++ u → d ≡ out ++ (x ++ y ++ z ++ t ++ u)
+front-parts out x y z t u a b c d ea eb ec ed = rw (ed, ec, eb, ea) (simp append_assoc)
+
+pub picture-parts : (out x y z t u a b c : List ℕ) → a ≡ out ++ x → b ≡ a ++ (y ++ z ++ t) → c ≡ b ++ u → c ≡ out ++ (x ++ y ++ z ++ t ++ u)
+picture-parts out x y z t u a b c ea eb ec = rw (ec, eb, ea) (simp append_assoc)
 
 -- a fact on all of some lines, on their definition
 pub clock_line-is : (out text : List ℕ) (clock : ℕ) → text ≡ out ++ (codes "show " ++ decimal_digits clock ++ codes "\n") → text ≡ out ++ clock_line clock

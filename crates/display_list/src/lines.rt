@@ -4,6 +4,7 @@ ghost use Rattle.std.specs.Prelude.{◌≡◌, ◌++◌, codes, OnOk};
 ghost use Rattle.std.specs.Io.{StartsWith};
 ghost use Rattle.bml_bytes.specs.Codes.{bytes_of};
 ghost use Rattle.bml_bytes.specs.Escapes.{escaped};
+ghost use Rattle.bml_bytes.specs.Numerals.{signed_decimal_digits};
 ghost use Rattle.bml_bytes.specs.declared.line_fields.Escapes.TheVariants.{Controls};
 ghost use Rattle.display_list.specs.Show.{box_line, clock_line, field_of, focus_line, number_field, picture_front, place_fields, text_front, text_line};
 
@@ -29,9 +30,7 @@ pub fn push_box_line(place: Place, style: NodeStyle, out: &mut Vec<u8>) -> Resul
 {
     push_word("box ", out)?;
     push_place(place, out)?;
-    push_number(style.background, out)?;
-    push_number(style.border_width, out)?;
-    push_number(style.border_color, out)?;
+    push_border(style, out)?;
     push_line_end(out)?;
     Ok(())
 }
@@ -107,9 +106,33 @@ fn push_text_front(place: Place, style: NodeStyle, out: &mut Vec<u8>) -> Result<
 {
     push_word("text ", out)?;
     push_place(place, out)?;
+    push_letters(style, out)?;
+    push_word(" ", out)?;
+    Ok(())
+}
+
+// Appends the colour and the size of letters.
+fn push_letters(style: NodeStyle, out: &mut Vec<u8>) -> Result<(), NoMemory>
+    ensures ok { OnOk result (out.new.items
+        ≡ out.old.items ++ (number_field style.color ++ number_field style.font_size)) }
+    ensures grows { StartsWith out.new.items out.old.items }
+{
     push_number(style.color, out)?;
     push_number(style.font_size, out)?;
-    push_word(" ", out)?;
+    Ok(())
+}
+
+// Appends the colour of a box, and the width and the colour of its border.
+fn push_border(style: NodeStyle, out: &mut Vec<u8>) -> Result<(), NoMemory>
+    ensures ok { OnOk result (out.new.items
+        ≡ out.old.items
+        ++ (number_field style.background ++ number_field style.border_width
+        ++ number_field style.border_color)) }
+    ensures grows { StartsWith out.new.items out.old.items }
+{
+    push_number(style.background, out)?;
+    push_number(style.border_width, out)?;
+    push_number(style.border_color, out)?;
     Ok(())
 }
 
@@ -127,12 +150,20 @@ fn push_place(place: Place, out: &mut Vec<u8>) -> Result<(), NoMemory>
     ensures ok { OnOk result (out.new.items ≡ out.old.items ++ place_fields place) }
     ensures grows { StartsWith out.new.items out.old.items }
 {
-    push_decimal(i64::from(place.x), out)?;
+    push_two(i64::from(place.x), i64::from(place.y), out)?;
     push_word(" ", out)?;
-    push_decimal(i64::from(place.y), out)?;
+    push_two(i64::from(place.width), i64::from(place.height), out)?;
+    Ok(())
+}
+
+// Appends two numbers.
+fn push_two(first: i64, second: i64, out: &mut Vec<u8>) -> Result<(), NoMemory>
+    ensures ok { OnOk result (out.new.items ≡ out.old.items
+        ++ (signed_decimal_digits first ++ codes " " ++ signed_decimal_digits second)) }
+    ensures grows { StartsWith out.new.items out.old.items }
+{
+    push_decimal(first, out)?;
     push_word(" ", out)?;
-    push_decimal(i64::from(place.width), out)?;
-    push_word(" ", out)?;
-    push_decimal(i64::from(place.height), out)?;
+    push_decimal(second, out)?;
     Ok(())
 }

@@ -1,6 +1,6 @@
 //! The display list of a document.
 
-ghost use Rattle.std.specs.Prelude.{◌≡◌, ◌<◌, ◌++◌, length, IfSome, OnOk};
+ghost use Rattle.std.specs.Prelude.{◌≡◌, ◌<◌, ◌++◌, codes, length, IfSome, OnOk};
 ghost use Rattle.std.specs.Io.{StartsWith};
 ghost use Rattle.std.specs.List.{flat_map};
 ghost use Rattle.dom_tree.specs.Items.{IsElement};
@@ -10,12 +10,12 @@ ghost use Rattle.style_cascade.specs.States.{present_state};
 ghost use Rattle.display_list.specs.Shown.{shown_by};
 ghost use Rattle.display_list.specs.Places.{boxes_of};
 ghost use Rattle.display_list.specs.Show.{attribute_field, display_lines, element_lines, focus_lines, focus_lines_of, hanging_lines, held_lines, input_lines, inside_lines, object_line, text_lines};
-ghost use Rattle.display_list.specs.devices.Views.{shown_of, IsScene};
+ghost use Rattle.display_list.specs.devices.Views.{shown_in, shown_of, IsScene};
 
 use crate::lines::{
     push_box_line, push_break_line, push_field, push_focus_line, push_picture_front, push_text_line,
 };
-use crate::node_styles::node_styles_of;
+use crate::node_styles::{NodeStyle, node_styles_of};
 use crate::places::Place;
 use crate::scenes::Scene;
 use crate::tags::{is_break, is_input, is_object};
@@ -55,11 +55,40 @@ impl Shower {
         law_of_fronts();
         let alloc = *out.allocator();
         let node_styles = node_styles_of(alloc, tree, styles, focus)?;
-        let scene = Scene::new(alloc, tree, node_styles)?;
-        push_boxes(&scene, out)?;
-        push_focus(&scene, focus.focus, out)?;
-        Ok(())
+        push_styled(tree, node_styles, focus.focus, out)
     }
+}
+
+// Appends the lines of a document whose nodes have these styles.
+fn push_styled(
+    tree: &Tree,
+    styles: Vec<NodeStyle>,
+    focus: Option<NodeId>,
+    out: &mut Vec<u8>,
+) -> Result<(), NoMemory>
+    requires styles { length styles.items ≡ length tree.now }
+    requires focus { IfSome focus (λ node. node.0 < length tree.now) }
+    ensures ok { OnOk result (out.new.items
+        ≡ out.old.items ++ display_lines (shown_in tree.now styles.items) (number_of focus)) }
+    ensures grows { StartsWith out.new.items out.old.items }
+{
+    law_of_fronts();
+    let scene = Scene::new(*out.allocator(), tree, styles)?;
+    push_scene(&scene, focus, out)
+}
+
+// Appends the lines of a document.
+fn push_scene(scene: &Scene, focus: Option<NodeId>, out: &mut Vec<u8>) -> Result<(), NoMemory>
+    requires scene { IsScene scene.now }
+    requires focus { IfSome focus (λ node. node.0 < length scene.now.tree.now) }
+    ensures ok { OnOk result (out.new.items
+        ≡ out.old.items ++ display_lines (shown_of scene.now) (number_of focus)) }
+    ensures grows { StartsWith out.new.items out.old.items }
+{
+    law_of_fronts();
+    push_boxes(scene, out)?;
+    push_focus(scene, focus, out)?;
+    Ok(())
 }
 
 // Appends the boxes of a document.
@@ -160,10 +189,22 @@ fn push_object(scene: &Scene, node: NodeId, out: &mut Vec<u8>) -> Result<(), NoM
     ensures grows { StartsWith out.new.items out.old.items }
 {
     push_picture_front(scene.place(node), out)?;
+    push_picture_names(scene, node, out)?;
+    push_line_end(out)?;
+    Ok(())
+}
+
+// Appends the type and the name of the data of an object's picture.
+fn push_picture_names(scene: &Scene, node: NodeId, out: &mut Vec<u8>) -> Result<(), NoMemory>
+    requires { node.0 < length scene.now.tree.now }
+    ensures ok { OnOk result (out.new.items ≡ out.old.items
+        ++ (attribute_field scene.now.tree.now node.0 scene.now.names.media_type ++ codes " "
+        ++ attribute_field scene.now.tree.now node.0 scene.now.names.data_name)) }
+    ensures grows { StartsWith out.new.items out.old.items }
+{
     push_attribute(scene.tree, node, &scene.names.media_type, out)?;
     push_word(" ", out)?;
     push_attribute(scene.tree, node, &scene.names.data_name, out)?;
-    push_line_end(out)?;
     Ok(())
 }
 

@@ -10,9 +10,12 @@ use Rattle.style_reader.specs.declared.properties.Property.{Property}
 use Rattle.style_reader.specs.declared.properties.StyleValue.{StyleValue}
 use Rattle.style_reader.specs.declared.rules.Rule.{Rule}
 use Rattle.style_cascade.specs.Cascade.{Place, Sources, asked_count, first_own, own_value, place, said_to, said_value, write_of}
-use Rattle.style_cascade.specs.Keeping.{IsRight, StylesState, kept_value, said_of, styled_by}
+use Rattle.style_cascade.specs.Keeping.{IsRight, StylesState}
+use Rattle.style_cascade.specs.devices.Kept.{IsKept, KeptTables, kept_value, said_of, styled_by}
 use Rattle.style_cascade.specs.Matching.{subject_of}
-use Rattle.style_cascade.specs.Writes.{cell_of}
+use Rattle.style_cascade.specs.Writes.{cell, written_value}
+use Rattle.style_cascade.specs.devices.Tables.{cell_of, writes_in}
+use Rattle.style_cascade.proofs.WriteLemmas.{get-writes}
 use Rattle.style_cascade.proofs.ChainLemmas.{below-or_at}
 use Rattle.style_cascade.specs.declared.states.State.{State}
 use Rattle.style_cascade.specs.declared.states.State.TheVariants as states
@@ -25,21 +28,31 @@ element-within (item ∷ items) zero h = omega arith
 element-within (item ∷ items) (suc node) h = omega (arith, element-within items node h)
 
 -- what is kept is what is said of the element itself
-pub kept-own : (items : List Item) (present : ℕ → State) (styles : StylesState) (node : ℕ) (state : State) (property : Property) → IsRight items present styles → node < length items → kept_value styles node state property ≡ own_value items styles.sources node state property
+pub kept-own : (items : List Item) (present : ℕ → State) (styles : StylesState) (node : ℕ) (state : State) (property : Property) → IsRight items present styles → node < length items → kept_value styles.kept node state property ≡ own_value items styles.sources node state property
 unfolding IsRight
 kept-own items present styles node state property right within =
-    ap (λ (o : Option StyleValue). option_or (write_of styles.sources node state property) (option_or (write_of styles.sources node states.Normal property) o)) (right.said node state property within)
+    let written : (at : State) → cell_of styles.kept.written node at property ≡ write_of styles.sources node at property = λ at. sym (ap (written_value (cell node at property)) right.writes ∙ get-writes styles.kept.written node at property) in
+    ap (λ (o : Option StyleValue). option_or o (option_or (cell_of styles.kept.written node states.Normal property) (cell_of styles.kept.said node state property))) (written state)
+    ∙ (ap (λ (o : Option StyleValue). option_or (write_of styles.sources node state property) (option_or o (cell_of styles.kept.said node state property))) (written states.Normal)
+    ∙ ap (λ (o : Option StyleValue). option_or (write_of styles.sources node state property) (option_or (write_of styles.sources node states.Normal property) o)) (right.said node state property within))
 
-pub room-of : (items : List Item) (present : ℕ → State) (styles : StylesState) → IsRight items present styles → length styles.sources.writes ≡ 51 * length items
+pub room-of : (items : List Item) (present : ℕ → State) (styles : StylesState) → IsRight items present styles → length styles.kept.written ≡ 51 * length items
 unfolding IsRight
 room-of items present styles right = right.room
 
--- a write changes nothing that is kept of the tree
-pub right-put : (items : List Item) (present : ℕ → State) (old new : StylesState) → new.kept ≡ old.kept → new.sources.rules ≡ old.sources.rules → length new.sources.writes ≡ length old.sources.writes → IsRight items present old → IsRight items present new
+-- the styles are right while they keep the same
+pub right-kept : (items : List Item) (present : ℕ → State) (old new : StylesState) → new.kept ≡ old.kept → new.sources ≡ old.sources → IsRight items present old → IsRight items present new
 unfolding IsRight
-right-put items present old new kept rules room right =
+right-kept items present old new kept sources right =
+    subst (λ (s : Sources). IsKept items s new.kept) (sym sources) (subst (λ (k : KeptTables). IsKept items old.sources k) (sym kept) right)
+
+-- a write changes nothing that is said of the tree
+pub right-put : (items : List Item) (present : ℕ → State) (old new : StylesState) → new.kept.said ≡ old.kept.said → new.sources.rules ≡ old.sources.rules → length new.kept.written ≡ length old.kept.written → new.sources.writes ≡ writes_in new.kept.written → IsRight items present old → IsRight items present new
+unfolding IsRight
+right-put items present old new kept rules room writes right =
     record {
       room = room ∙ right.room;
+      writes = writes;
       said = λ node state property within. ap (λ (k : List (Option StyleValue)). cell_of k node state property) kept ∙ right.said node state property within ∙ ap (λ (r : List Rule). said_value items r node state property) (sym rules);
     }
 

@@ -1,4 +1,5 @@
 pub mod PlaceLemmas
+pub mod WriteLemmas
 pub mod SearchLemmas
 pub mod RuleLemmas
 pub mod IndexLemmas

@@ -12,7 +12,8 @@ use Rattle.style_reader.specs.declared.properties.Property.{Property}
 use Rattle.style_reader.specs.declared.properties.Property.TheVariants.{Left, Top, Width, Height, Visibility, ZIndex, NavIndex, NavUp, NavDown, NavLeft, NavRight, UsedKeyList, ColorIndex, BackgroundColorIndex, BorderWidth, BorderColorIndex, FontSize}
 use Rattle.style_reader.specs.declared.properties.StyleValue.{StyleValue}
 use Rattle.style_cascade.specs.Candidates.{property_place}
-use Rattle.style_cascade.specs.Writes.{AreFitting, cell_of, cell_place, state_place}
+use Rattle.style_cascade.specs.Writes.{state_place}
+use Rattle.style_cascade.specs.devices.Tables.{AreFitting, cell_of, cell_place}
 use Rattle.style_cascade.specs.contracts.states.State.{the_type as state_type}
 use Rattle.style_cascade.specs.declared.states.State.{State}
 use Rattle.style_cascade.specs.declared.states.State.TheVariants as states
@@ -99,7 +100,7 @@ state_at-place states.Normal = refl
 state_at-place states.Focus = refl
 state_at-place states.Active = refl
 
-state_place-one : (one other : State) → state_place one ≡ state_place other → one ≡ other
+pub state_place-one : (one other : State) → state_place one ≡ state_place other → one ≡ other
 state_place-one one other e = sym (state_at-place one) ∙ ap state_at e ∙ state_at-place other
 
 pub state_place-small : (state : State) → state_place state < 3

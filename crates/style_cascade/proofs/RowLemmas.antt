@@ -13,7 +13,7 @@ use Rattle.style_cascade.specs.Candidates.{is_same_property, last_value, propert
 use Rattle.style_cascade.specs.devices.Indexing.{Covers, IsSound, Question, better_of, is_weaker, offer_of, rule_offer, with_offer}
 use Rattle.style_cascade.specs.devices.Rows.{found_in}
 use Rattle.style_cascade.specs.devices.Searching.{best_with_both}
-use Rattle.style_cascade.specs.Writes.{cell_place}
+use Rattle.style_cascade.specs.devices.Tables.{cell_place}
 use Rattle.style_cascade.specs.declared.rows.Found.{Found}
 use Rattle.style_cascade.specs.declared.search.Candidate.{Candidate}
 use Rattle.style_cascade.specs.declared.states.State.{State}

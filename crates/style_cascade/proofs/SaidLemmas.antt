@@ -9,9 +9,9 @@ use Rattle.style_reader.specs.declared.properties.Property.{Property}
 use Rattle.style_reader.specs.declared.properties.StyleValue.{StyleValue}
 use Rattle.style_reader.specs.declared.rules.Rule.{Rule}
 use Rattle.style_cascade.specs.Candidates.{declared_value, property_place}
-use Rattle.style_cascade.specs.Keeping.{said_of}
+use Rattle.style_cascade.specs.devices.Kept.{said_of}
 use Rattle.style_cascade.specs.devices.Rows.{said_in, value_at}
-use Rattle.style_cascade.specs.Writes.{cell_of, cell_place}
+use Rattle.style_cascade.specs.devices.Tables.{cell_of, cell_place}
 use Rattle.style_cascade.specs.declared.said.Said.{Said}
 use Rattle.style_cascade.specs.declared.states.State.{State}
 use Rattle.style_cascade.specs.declared.states.State.TheVariants as states

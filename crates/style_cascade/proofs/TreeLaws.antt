@@ -49,6 +49,7 @@ unfolding IsRight
 right-same old new same present styles right =
     record {
       room = omega (arith, right.room, same.places.count);
+      writes = right.writes;
       said = λ node state property within. right.said node state property (omega (arith, within, same.places.count)) ∙ sym (said-same old new same styles.sources.rules node state property);
     }
 

@@ -1,7 +1,7 @@
 -- The value that an element has for a property in a state (CSS level 1, 1.3 and 3.2; that what
 -- scripts write counts first, and that an inherited value is that of the present state of the
 -- element above, is this project's own).
-use Rattle.std.specs.Prelude.{ℕ, ◌+◌, ◌*◌, List, [], ◌∷◌, Option, Some, None, is_some, length, map, option_and_then, replicate, slice_set, unwrap_or, if◌then◌else◌}
+use Rattle.std.specs.Prelude.{ℕ, ◌+◌, List, [], ◌∷◌, Option, None, is_some, map, option_and_then, unwrap_or, if◌then◌else◌}
 use Rattle.std.specs.Option.{option_map_or, option_or}
 use Rattle.dom_tree.specs.Items.{Item, parent_of}
 use Rattle.dom_tree.specs.Walks.{path_of}
@@ -11,7 +11,7 @@ use Rattle.style_reader.specs.declared.properties.StyleValue.{StyleValue}
 use Rattle.style_reader.specs.declared.rules.Rule.{Rule}
 use Rattle.style_cascade.specs.Candidates.{declared_value, inline_value}
 use Rattle.style_cascade.specs.Matching.{subject_of}
-use Rattle.style_cascade.specs.Writes.{cell_of, cell_place}
+use Rattle.style_cascade.specs.Writes.{StyleWrites, cell, written_value, with_value}
 use Rattle.style_cascade.specs.declared.states.State.{State}
 use Rattle.style_cascade.specs.declared.states.State.TheVariants as states
 use Rattle.style_cascade.specs.declared.subjects.Subject.{Subject}
@@ -19,22 +19,21 @@ use Rattle.style_cascade.specs.declared.subjects.Subject.{Subject}
 -- what values come from: the rules of the style texts, and what scripts have written
 pub record Sources : Type 0 where
   pub rules : List Rule
-  pub writes : List (Option StyleValue)
+  pub writes : StyleWrites
 
--- the sources of a document before a script has written: each place for a value is empty
-abbrev pub unwritten : List Item → List Rule → Sources
-unwritten items rules =
-    record { rules = rules; writes = replicate (51 * length items) None }
+-- the sources of a document before a script has written
+abbrev pub unwritten : List Rule → Sources
+unwritten rules = record { rules = rules; writes = [] }
 
 -- what was written last for the node, the state and the property
 abbrev pub write_of : Sources → ℕ → State → Property → Option StyleValue
-write_of sources node state property = cell_of sources.writes node state property
+write_of sources node state property = written_value (cell node state property) sources.writes
 
 -- the sources once a script has written: this value is what was written last for the node, the
 -- state and the property, and all else is as it was
 abbrev pub with_write : ℕ → State → Property → StyleValue → Sources → Sources
 with_write node state property value sources =
-    record sources { writes = slice_set sources.writes (cell_place node state property) (Some value) }
+    record sources { writes = with_value (cell node state property) value sources.writes }
 
 -- the inline declaration, and without one that of the rules
 abbrev pub said_to : List Rule → State → Property → Subject → Option StyleValue

@@ -4,4 +4,5 @@ pub mod Candidates
 pub mod Writes
 pub mod Cascade
 pub mod Keeping
+pub mod StyledTrees
 pub mod devices

@@ -1,4 +1,6 @@
 -- Devices of the proofs, which nobody has to believe.
+pub mod Tables
+pub mod Kept
 pub mod Indexing
 pub mod Rows
 pub mod Searching

@@ -11,9 +11,10 @@ ghost use Rattle.style_reader.specs.declared.declarations.Declaration.{Declarati
 ghost use Rattle.style_reader.specs.declared.properties.Property.{Property};
 ghost use Rattle.style_reader.specs.declared.properties.StyleValue.{StyleValue};
 ghost use Rattle.style_reader.specs.declared.rules.Rule.{Rule};
-ghost use Rattle.style_cascade.specs.Cascade.{Sources, own_value, style_value};
+ghost use Rattle.style_cascade.specs.Cascade.{Sources, own_value, style_value, unwritten, with_write, write_of};
 ghost use Rattle.style_cascade.specs.Candidates.{inline_rules, inline_value, is_at_least, last_value, strongest};
 ghost use Rattle.style_cascade.specs.Keeping.{IsRight, StylesState};
+ghost use Rattle.style_cascade.specs.Writes.{are_in_order};
 ghost use Rattle.style_cascade.specs.declared.states.State.{State};
 ghost use Rattle.style_cascade.specs.declared.subjects.Subject.{Subject};
 
@@ -71,6 +72,32 @@ pub fn law_of_inheritance()
 {
     law_of_paths();
 }
+
+/// What scripts have written is one value, or none, for each state of a node and each property: a
+/// write puts its value in place of the one that was there, and changes no other. There is nothing
+/// else in it: sources of the same rules that have the same values are the same.
+pub fn law_of_writes()
+    ensures unwritten { (rules : List Rule) (node : ℕ) (state : State) (property : Property) →
+        write_of (unwritten rules) node state property ≡ None }
+    ensures order { (rules : List Rule) → IsTrue (are_in_order (unwritten rules).writes) }
+    ensures kept_order { (sources : Sources) (node : ℕ) (state : State) (property : Property)
+        (value : StyleValue) → IsTrue (are_in_order sources.writes) →
+        IsTrue (are_in_order (with_write node state property value sources).writes) }
+    ensures written { (sources : Sources) (node : ℕ) (state : State) (property : Property)
+        (value : StyleValue) →
+        write_of (with_write node state property value sources) node state property ≡ Some value }
+    ensures others { (sources : Sources) (node : ℕ) (state : State) (property : Property)
+        (value : StyleValue) (other : ℕ) (at : State) (of : Property) →
+        ((other ≡ node) × (at ≡ state) × (of ≡ property) → ⊥) →
+        write_of (with_write node state property value sources) other at of
+        ≡ write_of sources other at of }
+    ensures same { (one other : Sources) →
+        IsTrue (are_in_order one.writes) → IsTrue (are_in_order other.writes) →
+        one.rules ≡ other.rules →
+        ((node : ℕ) (state : State) (property : Property) →
+        write_of one node state property ≡ write_of other node state property) →
+        one ≡ other }
+{}
 
 /// Another text for a text node changes no value, and the styles are still those of the tree.
 pub fn law_of_text_writes()

@@ -3,9 +3,9 @@
 ghost use Rattle.std.specs.Prelude.{◌≡◌, ◌≢◌, ◌+◌, ◌*◌, ◌<◌, ◌≤◌, ℕ, None, length, IfOk, IfSome, IsTrue, OnOk};
 ghost use Rattle.style_reader.specs.Values.{fits};
 ghost use Rattle.style_cascade.specs.Cascade.{said_value};
-ghost use Rattle.style_cascade.specs.Keeping.{said_of};
+ghost use Rattle.style_cascade.specs.devices.Kept.{said_of};
 ghost use Rattle.style_cascade.specs.devices.Rows.{said_in};
-ghost use Rattle.style_cascade.specs.Writes.{cell_of};
+ghost use Rattle.style_cascade.specs.devices.Tables.{cell_of};
 ghost use Rattle.style_cascade.specs.declared.states.State.{State};
 ghost use Rattle.style_reader.specs.declared.properties.Property.{Property};
 

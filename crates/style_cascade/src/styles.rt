@@ -48,20 +48,21 @@ struct Answer {
 
 impl Model for Styles {
     ghost use Rattle.style_cascade.specs.Keeping.{StylesState};
+    ghost use Rattle.style_cascade.specs.devices.Tables.{writes_in};
 
     ghost Value = { StylesState };
 
     ghost view = { λ styles. record {
-      sources = record { rules = styles.rules; writes = styles.writes };
+      sources = record { rules = styles.rules; writes = writes_in styles.writes };
       worked = styles.worked;
-      kept = styles.said;
+      kept = record { said = styles.said; written = styles.writes };
     } };
 }
 
 impl Tables {
     ghost use Rattle.std.specs.Prelude.{◌*◌, ◌<◌, length, replicate};
     ghost use Rattle.style_cascade.specs.Cascade.{said_value};
-    ghost use Rattle.style_cascade.specs.Writes.{cell_of};
+    ghost use Rattle.style_cascade.specs.devices.Tables.{cell_of};
 
     // Those of a document of which scripts have written nothing.
     fn new(alloc: Global, tree: &Tree, sheet: &Sheet) -> Result<Tables, NoMemory>
@@ -83,13 +84,14 @@ impl Tables {
 
 impl Styles {
     ghost use Rattle.style_cascade.specs.Cascade.{asked_count, asked_places, first_own, places_above, style_value, unwritten, values_asked, with_write, write_of};
-    ghost use Rattle.style_cascade.specs.Keeping.{IsRight, kept_value};
+    ghost use Rattle.style_cascade.specs.Keeping.{IsRight};
+    ghost use Rattle.style_cascade.specs.devices.Kept.{kept_value};
 
     /// The styles of a document with these rules. Nothing is written yet. What rules and inline
     /// texts say is worked out here: for each element each rule that asks for a name of it is
     /// looked at once.
     pub fn new(alloc: Global, tree: &Tree, rules: Rules) -> Result<Styles, NoMemory>
-        ensures sources { IfOk result (λ styles. styles.sources ≡ unwritten tree.now rules) }
+        ensures sources { IfOk result (λ styles. styles.sources ≡ unwritten rules) }
         ensures rules { IfOk result (λ styles. styles.sources.rules ≡ rules) }
         ensures unwritten { IfOk result
             (λ styles. (node : ℕ) (state : State) (property : Property) →
@@ -252,7 +254,7 @@ impl Styles {
 
     // What is said of the element itself.
     fn own(&self, node: NodeId, state: State, property: Property) -> Option<StyleValue>
-        ensures value { result ≡ kept_value self.now node.0 state property }
+        ensures value { result ≡ kept_value self.now.kept node.0 state property }
         ensures fits { IfSome result (λ value. IsTrue (spec_fits property value)) }
     {
         let written = self.writes.get(node, state, property);

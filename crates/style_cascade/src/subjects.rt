@@ -6,7 +6,7 @@ ghost use Rattle.bml_bytes.specs.Words.{is_same};
 ghost use Rattle.dom_tree.specs.Items.{value_of};
 ghost use Rattle.style_reader.specs.Values.{words_of as spec_words_of};
 ghost use Rattle.style_cascade.specs.Candidates.{inline_rules as spec_inline_rules};
-ghost use Rattle.style_cascade.specs.Keeping.{styled_by};
+ghost use Rattle.style_cascade.specs.devices.Kept.{styled_by};
 ghost use Rattle.style_cascade.specs.Matching.{has_mark as spec_has_mark, has_tag as spec_has_tag, is_for_state as spec_is_for_state, matches as spec_matches, subject_of as spec_subject_of, words_in};
 
 use crate::states::State;
@@ -102,10 +102,13 @@ impl Attributes {
         ensures style { IfOk result
             (λ found. found.style ≡ value_of tree.now node.0 (codes "style")) }
     {
-        let id = attribute_at(tree, node, &names.id)?;
-        let style = attribute_at(tree, node, &names.style)?;
+        let texts = texts_at(tree, names, node)?;
         let classes = classes_at(alloc, tree, node, &names.class)?;
-        Ok(Attributes { id, classes, style })
+        Ok(Attributes {
+            id: texts.0,
+            classes,
+            style: texts.1,
+        })
     }
 }
 
@@ -160,6 +163,21 @@ fn subject_at(
         classes: attributes.classes,
         style: attributes.style,
     }))
+}
+
+// The values of `id` and `style`.
+fn texts_at(
+    tree: &Tree,
+    names: &Names,
+    node: NodeId,
+) -> Result<(Option<Text>, Option<Text>), NoMemory>
+    requires { node.0 < length tree.now }
+    ensures id { IfOk result (λ texts. texts.0 ≡ value_of tree.now node.0 (codes "id")) }
+    ensures style { IfOk result (λ texts. texts.1 ≡ value_of tree.now node.0 (codes "style")) }
+{
+    let id = attribute_at(tree, node, &names.id)?;
+    let style = attribute_at(tree, node, &names.style)?;
+    Ok((id, style))
 }
 
 fn attribute_at(tree: &Tree, node: NodeId, name: &Text) -> Result<Option<Text>, NoMemory>

@@ -3,7 +3,7 @@
 ghost use Rattle.std.specs.Prelude.{◌≡◌, ◌+◌, ◌*◌, ◌<◌, ◌≤◌, ℕ, None, length, replicate, slice_set, IfOk, IfSome, IsTrue};
 ghost use Rattle.style_reader.specs.Values.{fits};
 ghost use Rattle.style_cascade.specs.Candidates.{property_place};
-ghost use Rattle.style_cascade.specs.Writes.{cell_place as spec_cell_place};
+ghost use Rattle.style_cascade.specs.devices.Tables.{cell_place as spec_cell_place};
 ghost use Rattle.style_cascade.specs.declared.states.State.{State};
 ghost use Rattle.style_reader.specs.declared.properties.Property.{Property};
 
@@ -31,7 +31,7 @@ impl Model for Table {
 
     ghost Value = { List (Option StyleValue) };
 
-    ghost use Rattle.style_cascade.specs.Writes.{AreFitting};
+    ghost use Rattle.style_cascade.specs.devices.Tables.{AreFitting};
 
     ghost view = { λ table. table.cells.items };
 
@@ -39,7 +39,7 @@ impl Model for Table {
 }
 
 impl Table {
-    ghost use Rattle.style_cascade.specs.Writes.{cell_of};
+    ghost use Rattle.style_cascade.specs.devices.Tables.{cell_of};
 
     /// A table without values, for so many nodes.
     pub fn new(alloc: Global, nodes: u32) -> Result<Table, NoMemory>

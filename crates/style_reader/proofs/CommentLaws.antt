@@ -6,7 +6,7 @@ use Rattle.style_reader.specs.Characters.{begins_with}
 use Rattle.style_reader.specs.Comments.{Commented, IsClosedAtFirst, IsNeverClosed, SpellsComments, uncommented}
 use Rattle.style_reader.specs.Comments.Commented.{Nothing, Code, Comment, OpenComment}
 use Rattle.style_reader.specs.Readings.{plain_from, plain_text}
-use Rattle.style_reader.specs.Views.{behind_pair}
+use Rattle.style_reader.specs.devices.Views.{behind_pair}
 use Rattle.style_reader.proofs.CommentSteps.{plain-inside, plain-opened, plain-outside, plain-end}
 
 -- ---- two codes at the front

@@ -2,7 +2,7 @@
 use Rattle.std.proofs.Common.{◌≡◌, ℕ, suc, ◌<◌, Bool, true, false, cond, nat_eq, List, [], ◌∷◌, length, Some, None, refl, ap, arith}
 use Rattle.std.specs.Prelude.{◌&&◌}
 use Rattle.style_reader.specs.Readings.{plain_from}
-use Rattle.style_reader.specs.Views.{behind_pair}
+use Rattle.style_reader.specs.devices.Views.{behind_pair}
 
 -- behind the end of a comment
 closed-by : (b : Bool) (first second : ℕ) (rest outside : List ℕ) → cond b (Some rest) None ≡ Some outside → cond b (plain_from false rest) (plain_from true (second ∷ rest)) ≡ plain_from false outside

@@ -4,7 +4,7 @@ use Rattle.std.specs.Prelude.{◌&&◌, ◌||◌}
 use Rattle.std.specs.List.{after_first, before_first, list_all, list_any, position_or_len}
 use Rattle.style_reader.specs.Characters.{is_white, without_white_front}
 use Rattle.style_reader.specs.Sheets.{IsWhite}
-use Rattle.style_reader.specs.Views.{IsParted}
+use Rattle.style_reader.specs.devices.Views.{IsParted}
 use Rattle.style_reader.proofs.WordLemmas.{without_white-black, without_white-white}
 
 one_more : (n : ℕ) → 1 + n ≡ suc n

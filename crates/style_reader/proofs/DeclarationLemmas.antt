@@ -6,7 +6,7 @@ use Rattle.std.specs.List.{cons_option, filter_map, list_any, slice_split}
 use Rattle.style_reader.specs.Characters.{trimmed}
 use Rattle.style_reader.specs.Declarations.{declaration_of, declaration_with, declarations_in, is_colon, is_semicolon, property_of}
 use Rattle.style_reader.specs.Values.{value_of}
-use Rattle.style_reader.specs.Views.{IsParted, pieces_from}
+use Rattle.style_reader.specs.devices.Views.{IsParted, pieces_from}
 use Rattle.style_reader.specs.declared.declarations.Declaration.{Declaration}
 use Rattle.style_reader.specs.declared.properties.Property.{Property}
 use Rattle.style_reader.specs.declared.properties.StyleValue.{StyleValue}

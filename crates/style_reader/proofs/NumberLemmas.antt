@@ -6,7 +6,7 @@ use Rattle.std.specs.Prelude.{option_map}
 use Rattle.std.specs.List.{list_all}
 use Rattle.bml_bytes.specs.Numbers.{number_in}
 use Rattle.bml_bytes.specs.Numerals.{is_decimal_digit, decimal_number}
-use Rattle.style_reader.specs.Views.{capped, digits_number}
+use Rattle.style_reader.specs.devices.Views.{capped, digits_number}
 
 -- one digit more behind the others: what the law on decimals says
 abbrev pub IsMore : Type 0

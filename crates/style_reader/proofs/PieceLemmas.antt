@@ -7,7 +7,7 @@ use Rattle.std.proofs.lemmas.List.Splits.{slice_split_none, slice_split_first}
 use Rattle.std.proofs.lemmas.List.Sums.{fails_before_first}
 use Rattle.std.specs.Prelude.{All, nat_lt, not, ◌||◌, position}
 use Rattle.std.specs.List.{before_first, after_first, list_any, position_or_len, slice_split}
-use Rattle.style_reader.specs.Views.{IsParted, pieces_from}
+use Rattle.style_reader.specs.devices.Views.{IsParted, pieces_from}
 
 nat_lt-step : (m n : ℕ) → nat_lt (1 + m) (suc n) ≡ nat_lt m n
 nat_lt-step m n = grind (arith, nat_tests)

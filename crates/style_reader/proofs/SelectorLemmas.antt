@@ -7,7 +7,7 @@ use Rattle.style_reader.specs.Characters.{trimmed}
 use Rattle.style_reader.specs.Declarations.{is_colon}
 use Rattle.style_reader.specs.Readings.{all_selectors, asked_of, asked_tag, before_pseudo_class, begins_mark, marked, parted, pseudo_class_of, selector_of, selectors_of}
 use Rattle.style_reader.specs.Rules.{is_comma}
-use Rattle.style_reader.specs.Views.{IsParted, pieces_from}
+use Rattle.style_reader.specs.devices.Views.{IsParted, pieces_from}
 use Rattle.style_reader.specs.declared.selectors.PseudoClass.{PseudoClass}
 use Rattle.style_reader.specs.declared.selectors.Selector.{Selector}
 use Rattle.style_reader.proofs.PieceLemmas.{position-none, position-some, rest_whole}

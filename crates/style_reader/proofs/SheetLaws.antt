@@ -7,7 +7,7 @@ use Rattle.style_reader.specs.Readings.{Found, at_rule_found, behind_at_rule, bl
 use Rattle.style_reader.specs.Readings.Found.{Nothing, FoundRule, FoundOpenRule, FoundAtRule, FoundOpenAtRule}
 use Rattle.style_reader.specs.Sheets.{AreSelectors, BeginsRule, IsAtRule, IsBehindWhite, IsOpenAtRule, IsOpenRule, IsRest, IsRule, Sheet, Spells, is_at, is_close, is_open}
 use Rattle.style_reader.specs.Sheets.Sheet.{Rest, Rule, OpenRule, AtRule, OpenAtRule}
-use Rattle.style_reader.specs.Views.{IsParted}
+use Rattle.style_reader.specs.devices.Views.{IsParted}
 use Rattle.style_reader.proofs.BlockLaws.{at_rule-ended, at_rule-found, the_code}
 use Rattle.style_reader.proofs.CutLemmas.{IsBlack, IsWhiteBefore, joined-at, parted-at, white-before, white-cut}
 use Rattle.style_reader.proofs.SheetLemmas.{LeavesLess, found_at-less, sheet_of-step, sheet_with, sheet_within-step}

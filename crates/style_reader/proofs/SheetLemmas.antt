@@ -10,7 +10,7 @@ use Rattle.style_reader.specs.declared.rules.Rule.{Rule as StyleRule}
 use Rattle.style_reader.specs.Declarations.{is_semicolon}
 use Rattle.style_reader.specs.Sheets.{Sheet, is_at, is_close, is_open}
 use Rattle.style_reader.specs.Sheets.Sheet.{Rest, Rule, OpenRule, AtRule, OpenAtRule}
-use Rattle.style_reader.specs.Views.{FirstPart, first_part, part_of}
+use Rattle.style_reader.specs.devices.Views.{FirstPart, first_part, part_of}
 use Rattle.style_reader.proofs.PieceLemmas.{list_any-is}
 
 -- ---- what is found is shorter

@@ -7,4 +7,4 @@ pub mod Declarations
 pub mod Sheets
 pub mod Rules
 pub mod Readings
-pub mod Views
+pub mod devices

@@ -2,7 +2,7 @@
 
 ghost use Rattle.std.specs.Prelude.{◌≡◌, ◌∷◌, [], ◌<◌, ◌≤◌, true, false, length, option_copied, IfOk, IfSome, MatchOption};
 ghost use Rattle.style_reader.specs.Readings.{plain_from, plain_text as spec_plain_text};
-ghost use Rattle.style_reader.specs.Views.{behind_pair as spec_behind_pair};
+ghost use Rattle.style_reader.specs.devices.Views.{behind_pair as spec_behind_pair};
 
 use bml_bytes::NoMemory;
 use std::alloc::Global;

@@ -3,7 +3,7 @@
 ghost use Rattle.std.specs.Prelude.{◌≡◌, ◌≤◌, ◌-◌, is_some, IfSome, option_copied, option_map, pos, option_and_then};
 ghost use Rattle.bml_bytes.specs.Numerals.{is_decimal_digit};
 ghost use Rattle.style_reader.specs.Values.{numeral as spec_numeral, pixel_count as spec_pixel_count, signed as spec_signed, whole_between as spec_whole_between};
-ghost use Rattle.style_reader.specs.Views.{capped, count_in, before_unit, digits_number};
+ghost use Rattle.style_reader.specs.devices.Views.{capped, count_in, before_unit, digits_number};
 
 use crate::properties::StyleValue;
 use bml_bytes::{is_word, is_word_in_any_case, law_of_decimals};

@@ -2,7 +2,7 @@
 
 ghost use Rattle.std.specs.Prelude.{◌≡◌, ◌<◌, length, option_copied, position, false, IfSome, MatchOption};
 ghost use Rattle.std.specs.List.{list_any, slice_split};
-ghost use Rattle.style_reader.specs.Views.{IsParted, is_code, pieces_from};
+ghost use Rattle.style_reader.specs.devices.Views.{IsParted, is_code, pieces_from};
 
 /// What stands before the first such code, and what stands behind it. None where it stands nowhere.
 pub fn split_at_code(text: &[u16], sought: u16) -> Option<(&[u16], &[u16])>

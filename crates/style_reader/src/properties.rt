@@ -2,7 +2,7 @@
 
 ghost use Rattle.std.specs.Prelude.{◌≡◌};
 ghost use Rattle.style_reader.specs.Properties.{all_properties, initial_of, is_inherited as spec_is_inherited, name_of, script_name_of, values_of};
-ghost use Rattle.style_reader.specs.Views.{seen_values};
+ghost use Rattle.style_reader.specs.devices.Views.{seen_values};
 
 /// A property of a style (after BML, ARIB STD-B24 volume 2; the choice is this project's own).
 #[derive(Clone, Copy, Debug, PartialEq, Eq)]

@@ -4,7 +4,7 @@ ghost use Rattle.std.specs.Prelude.{◌≡◌, ◌++◌, [], IfOk, OnErr, OnOk};
 ghost use Rattle.std.specs.Option.{option_to_list};
 ghost use Rattle.style_reader.specs.Readings.{inline_rules_by, inline_rules_of, plain_text as spec_plain_text, rules_by, rules_in, rules_of, sheet_of};
 ghost use Rattle.style_reader.specs.Rules.{AreFitting};
-ghost use Rattle.style_reader.specs.Views.{KeepsFront, rules_by_part};
+ghost use Rattle.style_reader.specs.devices.Views.{KeepsFront, rules_by_part};
 
 use crate::comments::{has_comment, plain_text};
 use crate::declarations::{Declaration, declarations_in};

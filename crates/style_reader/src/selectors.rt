@@ -3,7 +3,7 @@
 ghost use Rattle.std.specs.Prelude.{◌≡◌, IfOk, option_map, position};
 ghost use Rattle.style_reader.specs.Readings.{asked_tag, asked_of as spec_asked_of, before_pseudo_class, begins_mark, mark_of as spec_mark_of, marked as spec_marked, pseudo_class_of as spec_pseudo_class_of, selector_of as spec_selector_of, selectors_of as spec_selectors_of, tag_of as spec_tag_of};
 ghost use Rattle.style_reader.specs.Selectors.{specificity as spec_specificity};
-ghost use Rattle.style_reader.specs.Views.{seen_asked, seen_before};
+ghost use Rattle.style_reader.specs.devices.Views.{seen_asked, seen_before};
 
 use crate::characters::{is_name, trimmed};
 use crate::pieces::{first_piece, split_at_code};

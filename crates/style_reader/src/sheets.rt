@@ -2,7 +2,7 @@
 
 ghost use Rattle.std.specs.Prelude.{◌≡◌, ◌<◌, length, option_copied, option_map, IfSome};
 ghost use Rattle.style_reader.specs.Readings.{behind_at_rule as spec_behind_at_rule, behind_block as spec_behind_block, found_at, found_behind_white, rule_found};
-ghost use Rattle.style_reader.specs.Views.{part_of, seen_part};
+ghost use Rattle.style_reader.specs.devices.Views.{part_of, seen_part};
 
 use crate::characters::without_white_front;
 use crate::pieces::split_at_code;

@@ -5,7 +5,7 @@ ghost use Rattle.std.specs.Io.{StartsWith};
 ghost use Rattle.bml_bytes.specs.Numerals.{signed_decimal_digits};
 ghost use Rattle.style_reader.specs.Values.{fits as spec_fits, is_among as spec_is_among, printed, unit_behind, value_among as spec_value_among, value_of as spec_value_of};
 ghost use Rattle.style_reader.specs.Properties.Values.{KeyGroups, NumbersOrNone, VisibleOrHidden};
-ghost use Rattle.style_reader.specs.Views.{seen_values};
+ghost use Rattle.style_reader.specs.devices.Views.{seen_values};
 
 use crate::characters::trimmed;
 use crate::keys::{group_text, key_groups};

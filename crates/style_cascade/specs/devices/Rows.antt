@@ -5,7 +5,7 @@ use Rattle.style_reader.specs.declared.properties.Property.{Property}
 use Rattle.style_reader.specs.declared.properties.StyleValue.{StyleValue}
 use Rattle.style_reader.specs.declared.rules.Rule.{Rule}
 use Rattle.style_cascade.specs.devices.Indexing.{Covers, CoversChain, Improves, found_value, question}
-use Rattle.style_cascade.specs.Writes.{cell_place}
+use Rattle.style_cascade.specs.devices.Tables.{cell_place}
 use Rattle.style_cascade.specs.declared.index.Link.{Link}
 use Rattle.style_cascade.specs.declared.rows.Found.{Found}
 use Rattle.style_cascade.specs.declared.said.Said.{Said}

@@ -1,8 +1,8 @@
 use Rattle.std.proofs.Common.{◌≡◌, List, None, take, ◌∙◌, sym, ap, subst, arith}
 use Rattle.std.proofs.lemmas.Option.{slice_get_within}
 use Rattle.dom_tree.specs.Items.{Attribute, Item, changed_at, with_last_attribute, value_of}
-use Rattle.bml_reader.specs.AttributeViews.{attribute_of_entry, attributes_in_map}
-use Rattle.bml_reader.specs.BuilderViews.{with_attributes}
+use Rattle.bml_reader.specs.devices.AttributeViews.{attribute_of_entry, attributes_in_map}
+use Rattle.bml_reader.specs.devices.BuilderViews.{with_attributes}
 use Rattle.bml_reader.proofs.BuilderLemmas.{none-given, places-same, places-chain, may-be-given, one-more-given, take-one-more}
 use Rattle.bml_reader.proofs.builders.give_each.Goals as goal
 

@@ -1,8 +1,8 @@
 use Rattle.std.proofs.Common.{◌≡◌, ◌≤◌, ◌-◌, length, take}
 use Rattle.dom_tree.specs.Items.{changed_at}
 use Rattle.dom_tree.specs.Walks.{KeepsPlaces}
-use Rattle.bml_reader.specs.AttributeViews.{attributes_in_map}
-use Rattle.bml_reader.specs.BuilderViews.{with_attributes}
+use Rattle.bml_reader.specs.devices.AttributeViews.{attributes_in_map}
+use Rattle.bml_reader.specs.devices.BuilderViews.{with_attributes}
 use Rattle.bml_reader.proofs.builders.give_each.Given as goal
 
 abbrev pub invariant-places : goal.invariant-places

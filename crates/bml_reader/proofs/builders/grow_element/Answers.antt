@@ -1,7 +1,7 @@
 use Rattle.std.proofs.Common.{◌≡◌, ℕ, List, Option, Some, [], ◌∷◌, ◌++◌, sym, subst, ap, ◌∙◌}
-use Rattle.bml_reader.specs.Nodes.{top_of, numbers_in}
-use Rattle.bml_reader.specs.AttributeViews.{attributes_in_map}
-use Rattle.bml_reader.specs.BuilderViews.{IsGrown, items_or_none}
+use Rattle.bml_reader.specs.devices.Nodes.{top_of, numbers_in}
+use Rattle.bml_reader.specs.devices.AttributeViews.{attributes_in_map}
+use Rattle.bml_reader.specs.devices.BuilderViews.{IsGrown, items_or_none}
 use Rattle.dom_tree.specs.Items.{Item, element_in}
 use Rattle.dom_tree.specs.declared.node_ids.NodeId.{NodeId}
 use Rattle.bml_reader.proofs.BuilderLemmas.{places-grown, given-some, numbers-more}

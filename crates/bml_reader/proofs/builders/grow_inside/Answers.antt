@@ -1,6 +1,6 @@
 use Rattle.std.proofs.Common.{ℕ, List, Option, Some, [], ◌∷◌, ◌++◌, length, sym, subst}
-use Rattle.bml_reader.specs.Nodes.{AreOpen, numbers_in}
-use Rattle.bml_reader.specs.BuilderViews.{IsGrown}
+use Rattle.bml_reader.specs.devices.Nodes.{AreOpen, numbers_in}
+use Rattle.bml_reader.specs.devices.BuilderViews.{IsGrown}
 use Rattle.dom_tree.specs.Items.{Item, element_in}
 use Rattle.dom_tree.specs.Walks.{Extends}
 use Rattle.bml_reader.proofs.BuilderLemmas.{stay-open, open-element}

@@ -1,7 +1,7 @@
 use Rattle.std.proofs.Common.{◌≡◌, ℕ, List, Option, Some, sym, subst, ◌∙◌, ap}
 use Rattle.std.specs.Option.{option_copied}
-use Rattle.bml_reader.specs.Nodes.{AreOpen, top_of, numbers_in}
-use Rattle.bml_reader.specs.BuilderViews.{IsGrown}
+use Rattle.bml_reader.specs.devices.Nodes.{AreOpen, top_of, numbers_in}
+use Rattle.bml_reader.specs.devices.BuilderViews.{IsGrown}
 use Rattle.dom_tree.specs.Items.{Item}
 use Rattle.bml_reader.proofs.BuilderLemmas.{stay-open, top-last}
 use Rattle.bml_reader.proofs.builders.grow_text.Goals as goal

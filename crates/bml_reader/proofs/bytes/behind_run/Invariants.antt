@@ -1,6 +1,6 @@
 use Rattle.std.proofs.Common.{◌≡◌, ◌≤◌, length}
 use Rattle.bml_reader.specs.Bytes.{behind}
-use Rattle.bml_reader.specs.Views.{in_class}
+use Rattle.bml_reader.specs.devices.Views.{in_class}
 use Rattle.bml_reader.proofs.bytes.behind_run.Given as goal
 
 abbrev pub invariant-run : goal.invariant-run

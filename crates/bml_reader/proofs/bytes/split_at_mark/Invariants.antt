@@ -1,6 +1,6 @@
 use Rattle.std.proofs.Common.{◌≡◌, List, ℕ, ◌++◌, length}
 use Rattle.std.specs.Prelude.{option_map}
-use Rattle.bml_reader.specs.Lexing.{Found, found, up_to}
+use Rattle.bml_reader.specs.devices.Lexing.{Found, found, up_to}
 use Rattle.bml_reader.proofs.bytes.split_at_mark.Given as goal
 
 abbrev pub invariant-places : goal.invariant-places

@@ -1,6 +1,6 @@
 use Rattle.std.proofs.Common.{◌≡◌, List, ℕ, length, take, ◌-◌, subst, sym}
 use Rattle.bml_reader.specs.Bytes.{front}
-use Rattle.bml_reader.specs.Views.{in_class}
+use Rattle.bml_reader.specs.devices.Views.{in_class}
 use Rattle.bml_reader.proofs.ByteLemmas.{take-front}
 use Rattle.bml_reader.proofs.bytes.split_run.Goals as goal
 

@@ -1,9 +1,9 @@
 use Rattle.std.proofs.Common.{◌≡◌, List, ℕ, Bool, true, false, Some, None, ◌∙◌, sym, ap, subst}
 use Rattle.std.specs.Prelude.{option_map}
 use Rattle.bml_reader.specs.Markup.{Markup}
-use Rattle.bml_reader.specs.Lexing.{Found, found, markup_at}
-use Rattle.bml_reader.specs.MarkupViews.{seen_markup, found_markup}
-use Rattle.bml_reader.specs.ReaderViews.{Seen, seen_by, seen_step, IsTaken, IsReady}
+use Rattle.bml_reader.specs.devices.Lexing.{Found, found, markup_at}
+use Rattle.bml_reader.specs.devices.MarkupViews.{seen_markup, found_markup}
+use Rattle.bml_reader.specs.devices.ReaderViews.{Seen, seen_by, seen_step, IsTaken, IsReady}
 use Rattle.bml_reader.proofs.SeenLemmas.{ready}
 use Rattle.bml_reader.proofs.EndLemmas.{Keeps-start, Keeps-step, Keeps-refused, Keeps-stopped, Keeps-read, different-names, markup-shorter, some-rest, no-rest}
 use Rattle.bml_reader.proofs.documents.read_pieces.Goals as goal

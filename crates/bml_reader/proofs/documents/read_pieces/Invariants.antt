@@ -1,5 +1,5 @@
 use Rattle.std.proofs.Common.{length}
-use Rattle.bml_reader.specs.ReaderViews.{seen_by}
+use Rattle.bml_reader.specs.devices.ReaderViews.{seen_by}
 use Rattle.bml_reader.proofs.EndLemmas.{Keeps}
 use Rattle.bml_reader.proofs.documents.read_pieces.Given as goal
 

@@ -2,7 +2,7 @@ use Rattle.std.proofs.Common.{◌≡◌, ℕ, List, ◌∷◌, false, Some, None
 use Rattle.std.specs.Prelude.{◌==◌, option_map}
 use Rattle.std.proofs.lemmas.Bool.Decides.{nat_tests}
 use Rattle.bml_reader.specs.References.{Reference, reference_at, read_behind}
-use Rattle.bml_reader.specs.ReferenceViews.{found_reference}
+use Rattle.bml_reader.specs.devices.ReferenceViews.{found_reference}
 use Rattle.bml_reader.proofs.ReferenceLemmas.{read-reference, reference-shorter, read-plain, read-ampersand}
 use Rattle.bml_reader.proofs.references.character.Goals as goal
 

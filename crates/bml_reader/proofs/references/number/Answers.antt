@@ -2,7 +2,7 @@ use Rattle.std.proofs.Common.{◌≡◌, ◌∙◌, ap, sym, subst, length, true
 use Rattle.std.specs.Prelude.{nat_lt}
 use Rattle.bml_reader.specs.Bytes.{front}
 use Rattle.bml_reader.specs.References.{number_behind, closed_by}
-use Rattle.bml_reader.specs.Views.{in_class}
+use Rattle.bml_reader.specs.devices.Views.{in_class}
 use Rattle.bml_reader.proofs.ReferenceLemmas.{number_at-found, some-left, closed_by-min}
 use Rattle.bml_reader.proofs.references.number.Goals as goal
 

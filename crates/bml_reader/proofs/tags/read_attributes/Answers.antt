@@ -2,9 +2,9 @@ use Rattle.std.proofs.Common.{◌≡◌, List, ℕ, suc, Bool, true, false, Some
 use Rattle.std.specs.Prelude.{option_map, is_some, not}
 use Rattle.bml_bytes.specs.Codes.{codes}
 use Rattle.dom_tree.specs.Items.{Attribute, value_in}
-use Rattle.bml_reader.specs.Lexing.{Found, Written, attribute_at, attribute_of, tag_end_at, inner_at}
-use Rattle.bml_reader.specs.Views.{found_written, found_flag}
-use Rattle.bml_reader.specs.AttributeViews.{attributes_in_map}
+use Rattle.bml_reader.specs.devices.Lexing.{Found, Written, attribute_at, attribute_of, tag_end_at, inner_at}
+use Rattle.bml_reader.specs.devices.Views.{found_written, found_flag}
+use Rattle.bml_reader.specs.devices.AttributeViews.{attributes_in_map}
 use Rattle.bml_reader.proofs.TagLemmas.{inner_at-end, inner_at-none, inner_at-twice, inner_at-step, attribute-shorter}
 use Rattle.bml_reader.proofs.tags.read_attributes.Goals as goal
 

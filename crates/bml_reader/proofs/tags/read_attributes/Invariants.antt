@@ -1,6 +1,6 @@
 use Rattle.std.proofs.Common.{◌≡◌, suc, length}
-use Rattle.bml_reader.specs.Lexing.{inner_at}
-use Rattle.bml_reader.specs.AttributeViews.{attributes_in_map}
+use Rattle.bml_reader.specs.devices.Lexing.{inner_at}
+use Rattle.bml_reader.specs.devices.AttributeViews.{attributes_in_map}
 use Rattle.bml_reader.proofs.tags.read_attributes.Given as goal
 
 abbrev pub invariant-attributes : goal.invariant-attributes

@@ -1,6 +1,6 @@
 use Rattle.std.proofs.Common.{◌≡◌, Some, None, sym, ap, ◌∙◌}
 use Rattle.std.specs.Prelude.{option_and_then, option_map}
-use Rattle.style_cascade.specs.Keeping.{said_of, styled_by}
+use Rattle.style_cascade.specs.devices.Kept.{said_of, styled_by}
 use Rattle.style_cascade.specs.Matching.{subject_of}
 use Rattle.style_cascade.proofs.ChainLemmas.{OnOk-then}
 use Rattle.style_cascade.proofs.KeptLemmas.{said-by}

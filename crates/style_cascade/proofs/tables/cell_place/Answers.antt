@@ -1,5 +1,5 @@
 use Rattle.std.proofs.Common.{arith}
-use Rattle.style_cascade.specs.Writes.{cell_place}
+use Rattle.style_cascade.specs.devices.Tables.{cell_place}
 use Rattle.style_cascade.proofs.tables.cell_place.Goals as goal
 
 pub returns-clause-place : goal.returns-clause-place

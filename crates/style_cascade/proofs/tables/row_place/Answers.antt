@@ -1,5 +1,5 @@
 use Rattle.std.proofs.Common.{arith}
-use Rattle.style_cascade.specs.Writes.{cell_place}
+use Rattle.style_cascade.specs.devices.Tables.{cell_place}
 use Rattle.style_cascade.proofs.PlaceLemmas.{property_place-small, state_place-is, state_place-small}
 use Rattle.style_cascade.proofs.tables.row_place.Goals as goal
 

@@ -2,7 +2,7 @@ use Rattle.std.proofs.Common.{ℕ, List, Option, ap, ◌∙◌}
 use Rattle.std.specs.Borrow.{Bor}
 use Rattle.std.specs.Prelude.{option_copied}
 use Rattle.style_reader.specs.Declarations.{is_semicolon}
-use Rattle.style_reader.specs.Views.{pieces_from}
+use Rattle.style_reader.specs.devices.Views.{pieces_from}
 use Rattle.style_reader.proofs.DeclarationLemmas.{declarations-last}
 use Rattle.style_reader.proofs.declarations.declarations_in.Goals as goal
 

@@ -1,4 +1,4 @@
-use Rattle.style_reader.specs.Views.{is_code}
+use Rattle.style_reader.specs.devices.Views.{is_code}
 use Rattle.style_reader.proofs.PieceLemmas.{pieces_from-some, slice_split-none}
 use Rattle.style_reader.proofs.pieces.first_piece.Goals as goal
 

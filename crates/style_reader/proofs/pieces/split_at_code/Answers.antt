@@ -1,4 +1,4 @@
-use Rattle.style_reader.specs.Views.{is_code}
+use Rattle.style_reader.specs.devices.Views.{is_code}
 use Rattle.style_reader.proofs.PieceLemmas.{IsParted-found, position-none}
 use Rattle.style_reader.proofs.pieces.split_at_code.Goals as goal
 

@@ -1,7 +1,7 @@
 use Rattle.std.proofs.Common.{◌++◌, arith}
 use Rattle.std.proofs.lemmas.Grind.{common_steps}
 use Rattle.style_reader.specs.Readings.{rules_in, sheet_of}
-use Rattle.style_reader.specs.Views.{rules_by_part}
+use Rattle.style_reader.specs.devices.Views.{rules_by_part}
 use Rattle.style_reader.proofs.SheetLemmas.{rules-all, rules-more}
 use Rattle.style_reader.proofs.rules.push_rules.Goals as goal
 

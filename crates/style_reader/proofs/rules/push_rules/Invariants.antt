@@ -1,6 +1,6 @@
 use Rattle.std.proofs.Common.{◌≡◌, ◌++◌, length}
 use Rattle.style_reader.specs.Readings.{rules_in, sheet_of}
-use Rattle.style_reader.specs.Views.{KeepsFront}
+use Rattle.style_reader.specs.devices.Views.{KeepsFront}
 use Rattle.style_reader.proofs.rules.push_rules.Given as goal
 
 abbrev pub invariant-parts : goal.invariant-parts

@@ -1,7 +1,7 @@
 use Rattle.std.proofs.Common.{◌≡◌, Option, sym, subst}
 use Rattle.std.specs.Prelude.{IfOk, option_map}
 use Rattle.style_reader.specs.Readings.{Asked}
-use Rattle.style_reader.specs.Views.{seen_asked}
+use Rattle.style_reader.specs.devices.Views.{seen_asked}
 use Rattle.style_reader.proofs.SelectorLemmas.{asked-marked, asked-alone}
 use Rattle.style_reader.proofs.selectors.asked_of.Goals as goal
 

@@ -3,7 +3,7 @@ use Rattle.std.specs.Borrow.{Bor}
 use Rattle.std.specs.Prelude.{option_copied}
 use Rattle.style_reader.specs.Readings.{selector_of}
 use Rattle.style_reader.specs.Rules.{is_comma}
-use Rattle.style_reader.specs.Views.{pieces_from}
+use Rattle.style_reader.specs.devices.Views.{pieces_from}
 use Rattle.style_reader.proofs.SelectorLemmas.{selectors-bad, selectors-last}
 use Rattle.style_reader.proofs.selectors.selectors_of.Goals as goal
 

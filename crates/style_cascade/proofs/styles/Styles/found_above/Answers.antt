@@ -7,7 +7,7 @@ use Rattle.dom_tree.specs.NodeNumbers.{number_of}
 use Rattle.dom_tree.specs.Walks.{path_of}
 use Rattle.dom_tree.specs.declared.node_ids.NodeId.{NodeId}
 use Rattle.style_cascade.specs.Cascade.{own_value}
-use Rattle.style_cascade.specs.Keeping.{kept_value}
+use Rattle.style_cascade.specs.devices.Kept.{kept_value}
 use Rattle.style_cascade.specs.declared.states.State.{State}
 use Rattle.style_cascade.proofs.KeptLemmas.{climb-counted-end, climb-counted-none, climb-counted-some, climb-none, climb-some, element-within, kept-own}
 use Rattle.style_cascade.specs.States.{present_state}
@@ -25,7 +25,7 @@ returns-in-Some-own-clause-value c =
     subst (λ (o : Option ℕ). path_of c.args.tree.now c.in-Some.up.0 ≡ c.in-Some.up.0 ∷ option_map_or (path_of c.args.tree.now) o []) (sym c.parent-next-in-Some.ensures.parent) c.parent-next-in-Some.ensures.path in
     let kept = kept-own c.args.tree.now (present_state c.args.focus.now) c.args.self.now c.in-Some.up.0 (present_state c.args.focus.now c.in-Some.up.0) c.args.property c.requires.right (element-within c.args.tree.now c.in-Some.up.0 element) in
     let own : own_value c.args.tree.now c.args.self.now.sources c.in-Some.up.0 (present_state c.args.focus.now c.in-Some.up.0) c.args.property ≡ Some c.in-Some-own.value =
-    sym ((c.in-Some-own.ensures {u = tt}).value ∙ ap (λ (state : State). kept_value c.args.self.now c.in-Some.up.0 state c.args.property) c.state_of.ensures ∙ kept) in
+    sym ((c.in-Some-own.ensures {u = tt}).value ∙ ap (λ (state : State). kept_value c.args.self.now.kept c.in-Some.up.0 state c.args.property) c.state_of.ensures ∙ kept) in
     climb-some c.args.tree.now c.args.self.now.sources c.args.property (present_state c.args.focus.now) c.up.next c.in-Some.up (number_of c.parent-next-in-Some.result) _ c.in-Some-own.value c.in-Some.is c.up.invariant.value path own
 
 pub returns-in-Some-own-clause-worked : goal.returns-in-Some-own-clause-worked
@@ -35,7 +35,7 @@ returns-in-Some-own-clause-worked c =
     subst (λ (o : Option ℕ). path_of c.args.tree.now c.in-Some.up.0 ≡ c.in-Some.up.0 ∷ option_map_or (path_of c.args.tree.now) o []) (sym c.parent-next-in-Some.ensures.parent) c.parent-next-in-Some.ensures.path in
     let kept = kept-own c.args.tree.now (present_state c.args.focus.now) c.args.self.now c.in-Some.up.0 (present_state c.args.focus.now c.in-Some.up.0) c.args.property c.requires.right (element-within c.args.tree.now c.in-Some.up.0 element) in
     let own : own_value c.args.tree.now c.args.self.now.sources c.in-Some.up.0 (present_state c.args.focus.now c.in-Some.up.0) c.args.property ≡ Some c.in-Some-own.value =
-    sym ((c.in-Some-own.ensures {u = tt}).value ∙ ap (λ (state : State). kept_value c.args.self.now c.in-Some.up.0 state c.args.property) c.state_of.ensures ∙ kept) in
+    sym ((c.in-Some-own.ensures {u = tt}).value ∙ ap (λ (state : State). kept_value c.args.self.now.kept c.in-Some.up.0 state c.args.property) c.state_of.ensures ∙ kept) in
     climb-counted-some c.args.tree.now c.args.self.now.sources c.args.property (present_state c.args.focus.now) c.up.next c.in-Some.up (number_of c.parent-next-in-Some.result) c.up.worked c.saturating_add-worked.result _ c.in-Some-own.value c.in-Some.is path c.saturating_add-worked.ensures c.up.invariant.worked own
 
 pub up-preserved : goal.up-preserved
@@ -45,7 +45,7 @@ up-preserved c =
     subst (λ (o : Option ℕ). path_of c.args.tree.now c.in-Some.up.0 ≡ c.in-Some.up.0 ∷ option_map_or (path_of c.args.tree.now) o []) (sym c.parent-next-in-Some.ensures.parent) c.parent-next-in-Some.ensures.path in
     let kept = kept-own c.args.tree.now (present_state c.args.focus.now) c.args.self.now c.in-Some.up.0 (present_state c.args.focus.now c.in-Some.up.0) c.args.property c.requires.right (element-within c.args.tree.now c.in-Some.up.0 element) in
     let own : own_value c.args.tree.now c.args.self.now.sources c.in-Some.up.0 (present_state c.args.focus.now c.in-Some.up.0) c.args.property ≡ None =
-    sym ((c.in_default-own.ensures {u = tt}).value ∙ ap (λ (state : State). kept_value c.args.self.now c.in-Some.up.0 state c.args.property) c.state_of.ensures ∙ kept) in
+    sym ((c.in_default-own.ensures {u = tt}).value ∙ ap (λ (state : State). kept_value c.args.self.now.kept c.in-Some.up.0 state c.args.property) c.state_of.ensures ∙ kept) in
     record {
       room = omega (arith, c.saturating_add-worked.ensures);
       element = IfSome_then c.parent-next-in-Some.result c.parent-next-in-Some.ensures.before (λ up h. h.1);

@@ -1,10 +1,10 @@
-use Rattle.std.proofs.Common.{Option, length, ap, sym, ◌∙◌, subst}
+use Rattle.std.proofs.Common.{Option, ap, sym, ◌∙◌, subst}
 use Rattle.std.specs.Prelude.{IsTrue, unwrap_or}
 use Rattle.style_reader.specs.Properties.{initial_of}
 use Rattle.style_reader.specs.Values.{fits}
 use Rattle.style_reader.specs.declared.properties.StyleValue.{StyleValue}
 use Rattle.style_cascade.proofs.FittingLemmas.{initial-fits, unwrap-fits}
-use Rattle.style_cascade.proofs.KeptLemmas.{right-put}
+use Rattle.style_cascade.proofs.KeptLemmas.{right-kept}
 use Rattle.style_cascade.specs.Keeping.{StylesState}
 use Rattle.style_cascade.specs.States.{present_state}
 use Rattle.style_cascade.specs.Cascade.{style_value, values_asked}
@@ -27,4 +27,4 @@ unfolding values_asked
 returns-clause-worked c = c.found-answer.ensures.worked
 
 pub returns-clause-right : goal.returns-clause-right
-returns-clause-right c = right-put c.args.tree.now (present_state c.args.focus.now) c.args.self.now _ (ap (λ (s : StylesState). s.kept) c.self.view_is) (ap (λ (s : StylesState). s.sources.rules) c.self.view_is) (ap (λ (s : StylesState). length s.sources.writes) c.self.view_is) c.requires.right
+returns-clause-right c = right-kept c.args.tree.now (present_state c.args.focus.now) c.args.self.now _ (ap (λ (s : StylesState). s.kept) c.self.view_is) (ap (λ (s : StylesState). s.sources) c.self.view_is) c.requires.right

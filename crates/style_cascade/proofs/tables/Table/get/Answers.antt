@@ -1,6 +1,6 @@
 use Rattle.std.proofs.Common.{◌≡◌, List, Option, ap, sym, ◌∙◌}
 use Rattle.style_reader.specs.declared.properties.StyleValue.{StyleValue}
-use Rattle.style_cascade.specs.Writes.{cell_of}
+use Rattle.style_cascade.specs.devices.Tables.{cell_of}
 use Rattle.style_cascade.proofs.PlaceLemmas.{cell_of-past, cell_of-some, fitting-some}
 use Rattle.style_cascade.proofs.tables.Table.get.Goals as goal
 

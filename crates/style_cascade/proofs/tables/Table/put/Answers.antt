@@ -1,6 +1,6 @@
 use Rattle.std.proofs.Common.{subst, sym, ap, arith, length, ℕ}
 use Rattle.std.specs.Prelude.{slice_set}
-use Rattle.style_cascade.specs.Writes.{AreFitting}
+use Rattle.style_cascade.specs.devices.Tables.{AreFitting}
 use Rattle.style_cascade.proofs.PlaceLemmas.{AreFitting-put}
 use Rattle.style_cascade.proofs.tables.Table.put.Goals as goal
 

@@ -7,11 +7,11 @@ use Rattle.bml_reader.specs.References.{read_references}
 use Rattle.bml_reader.specs.Markup.{Markup, NamesDiffer}
 use Rattle.bml_reader.specs.Markup.Markup.{StartTag, EndTag, Run, Cdata, Remark, Doctype}
 use Rattle.bml_reader.specs.Grammar.{is_left_out}
-use Rattle.bml_reader.specs.MarkupKinds.{is_misc}
+use Rattle.bml_reader.specs.devices.MarkupKinds.{is_misc}
 use Rattle.bml_reader.specs.Faults.{HasFault, ReadsWell, most_levels}
-use Rattle.bml_reader.specs.Machine.{State, NodesSoFar, few_nodes_in}
+use Rattle.bml_reader.specs.devices.Machine.{State, NodesSoFar, few_nodes_in}
 use Rattle.bml_reader.specs.Readings.{has_other_root}
-use Rattle.bml_reader.specs.Nodes.{nodes_with_element, nodes_with_text, nodes_outside}
+use Rattle.bml_reader.specs.devices.Nodes.{nodes_with_element, nodes_with_text, nodes_outside}
 use Rattle.bml_reader.specs.declared.faults.DocFault.{DocFault}
 use Rattle.bml_reader.specs.declared.faults.DocFault.TheVariants.{Malformed, WrongRoot, TooDeep, TooManyNodes, NoMemory}
 use Rattle.bml_reader.specs.declared.phases.Phase.{Phase}

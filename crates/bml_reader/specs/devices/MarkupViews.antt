@@ -4,8 +4,8 @@ use Rattle.std.specs.Borrow.{Bor}
 use Rattle.bml_bytes.specs.Codes.{codes}
 use Rattle.bml_reader.specs.Markup.{Markup}
 use Rattle.bml_reader.specs.Markup.Markup.{StartTag, EndTag, Run, Cdata, Remark, Doctype}
-use Rattle.bml_reader.specs.Lexing.{Found, found}
-use Rattle.bml_reader.specs.AttributeViews.{attributes_in_map}
+use Rattle.bml_reader.specs.devices.Lexing.{Found, found}
+use Rattle.bml_reader.specs.devices.AttributeViews.{attributes_in_map}
 use Rattle.bml_reader.specs.declared.markup.Markup.{Markup as MarkupCode}
 use Rattle.bml_reader.specs.declared.markup.Markup.TheVariants.{StartTag as StartTagMarkup, EndTag as EndTagMarkup, Run as RunMarkup, Cdata as CdataMarkup, Remark as RemarkMarkup, Doctype as DoctypeMarkup}
 

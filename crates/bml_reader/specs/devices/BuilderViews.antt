@@ -4,8 +4,8 @@ use Rattle.dom_tree.specs.Items.{Attribute, Item, Content}
 use Rattle.dom_tree.specs.Items.Content.{Element, Text}
 use Rattle.dom_tree.specs.Walks.{KeepsPlaces}
 use Rattle.dom_tree.specs.declared.node_ids.NodeId.{NodeId}
-use Rattle.bml_reader.specs.Machine.{NodesSoFar}
-use Rattle.bml_reader.specs.Nodes.{AreOpen, numbers_in}
+use Rattle.bml_reader.specs.devices.Machine.{NodesSoFar}
+use Rattle.bml_reader.specs.devices.Nodes.{AreOpen, numbers_in}
 
 abbrev pub items_or_none : Option (List Item) → List Item
 items_or_none None = []

@@ -2,7 +2,7 @@
 use Rattle.std.specs.Prelude.{ℕ, Bool, List}
 use Rattle.std.specs.Borrow.{Bor}
 use Rattle.bml_reader.specs.Bytes.{is_white, is_name_byte, is_text_byte, is_value_byte, is_doctype_byte, is_digit, is_hex_digit}
-use Rattle.bml_reader.specs.Lexing.{Found, found, Written}
+use Rattle.bml_reader.specs.devices.Lexing.{Found, found, Written}
 use Rattle.bml_reader.specs.declared.bytes.ByteClass.{ByteClass}
 use Rattle.bml_reader.specs.declared.bytes.ByteClass.TheVariants.{White, NameByte, TextByte, ValueByte, DoctypeByte, Digit, HexDigit}
 

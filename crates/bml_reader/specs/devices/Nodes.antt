@@ -5,7 +5,7 @@ use Rattle.dom_tree.specs.Items.{Attribute, Item, IsElement}
 use Rattle.dom_tree.specs.Items.Content.{Element, Text}
 use Rattle.dom_tree.specs.Walks.{path_of, IsOpen}
 use Rattle.dom_tree.specs.declared.node_ids.NodeId.{NodeId}
-use Rattle.bml_reader.specs.Machine.{NodesSoFar, few_nodes}
+use Rattle.bml_reader.specs.devices.Machine.{NodesSoFar, few_nodes}
 
 abbrev pub top_of : List ℕ → Option ℕ
 top_of [] = None

@@ -2,8 +2,8 @@
 use Rattle.std.specs.Prelude.{ℕ, Bool, List}
 use Rattle.std.specs.Borrow.{Bor}
 use Rattle.dom_tree.specs.Items.{Attribute}
-use Rattle.bml_reader.specs.Lexing.{Found, found, Inner}
-use Rattle.bml_reader.specs.AttributeViews.{attributes_in_map}
+use Rattle.bml_reader.specs.devices.Lexing.{Found, found, Inner}
+use Rattle.bml_reader.specs.devices.AttributeViews.{attributes_in_map}
 use Rattle.bml_reader.specs.declared.tags.Inside.{Inside}
 
 abbrev pub inner_of : Inside → Inner
