@@ -6,11 +6,10 @@ use Rattle.std.proofs.lemmas.Slice.Zip.{AllZip-long}
 use Rattle.std.specs.List.{AllZip}
 use Rattle.std.specs.Io.{StartsWith}
 use Rattle.std.specs.Option.{option_map_or}
-use Rattle.dom_tree.specs.Items.{IsElement, Item}
+use Rattle.dom_tree.specs.Items.{IsElement}
 use Rattle.dom_tree.specs.NodeNumbers.{number_of}
 use Rattle.dom_tree.specs.declared.node_ids.NodeId.{NodeId}
-use Rattle.style_cascade.specs.Cascade.{Sources}
-use Rattle.style_cascade.specs.declared.states.Focus.{Focus}
+use Rattle.style_cascade.specs.StyledTrees.{StyledTree}
 use Rattle.es_values.specs.declared.values.Value.{Value}
 use Rattle.es_values.specs.Objects.{ObjectState}
 use Rattle.es_reader.specs.Programs.{Tells, ToldProgram}
@@ -18,17 +17,17 @@ use Rattle.es_eval.specs.declared.outcomes.Outcome.{Outcome}
 use Rattle.es_eval.specs.Endings.{EndsWith}
 use Rattle.es_eval.specs.declared.outcomes.Outcome.TheVariants.{Normal as AtEnd}
 use Rattle.es_eval.specs.Evaluation.{program_run, run_at, world}
-use Rattle.es_eval.specs.Syntax.{Program}
+use Rattle.es_shapes.specs.Syntax.{Program}
 use Rattle.es_eval.specs.Worlds.Run.{Over}
 use Rattle.es_reader.specs.Statements.{Item as ProgramItem}
-use Rattle.es_eval.specs.Sources.{program_of}
+use Rattle.es_shapes.specs.Sources.{program_of}
 use Rattle.es_eval.specs.Worlds.{World, Run}
 use Rattle.event_queue.specs.declared.events.Event.{Event}
 use Rattle.document_load.specs.Scripts.{HandlerState, unnamed_places}
 use Rattle.dom_objects.specs.declared.current_events.CurrentEvent.{CurrentEvent}
 use Rattle.document_stages.specs.Acting.{Acting, key_posts}
 use Rattle.acting_documents.specs.Handling.{key_effect}
-use Rattle.acting_documents.specs.Documents.{Document, body_of, passes, styled_now}
+use Rattle.acting_documents.specs.Documents.{Document, body_of, passes}
 use Rattle.acting_documents.specs.Doings.{Does, HasDone}
 use Rattle.acting_documents.specs.Kept.{IsDocument, KeptDocument}
 use Rattle.acting_documents.specs.Beginnings.{run_scripts, script_places}
@@ -37,34 +36,29 @@ use Rattle.document_stages.specs.Stages.{HasCalled, HasRead, HasWritten, StageSt
 use Rattle.acting_documents.specs.StopLines.{stop_lines}
 use Rattle.focus_keys.specs.KeyTables.{passes_list}
 use Rattle.focus_keys.specs.Targets.{normal_value}
-use Rattle.focus_keys.specs.Views.{styled_by}
 use Rattle.style_reader.specs.declared.properties.Property.TheVariants.{UsedKeyList}
 use Rattle.acting_documents.proofs.BodyLemmas.{body-element}
 use Rattle.acting_documents.proofs.EndedLemmas.{ended-body, ends_as, key_posts-items}
 
 -- ---- part by part
 
-kept_parts : (items items' : List Item) (sources sources' : Sources) (focus focus' : Focus) (queue queue' : List Event) (programs : List ToldProgram) (handlers handlers' : List HandlerState) (globals globals' : List (List ℕ × Value)) (heap heap' : List ObjectState) (body body' : Option ℕ) (worked : ℕ)
-    → items ≡ items' → sources ≡ sources' → focus ≡ focus' → queue ≡ queue' → handlers ≡ handlers' → globals ≡ globals' → heap ≡ heap' → body ≡ body'
-    → (let x : KeptDocument = record { items = items; sources = sources; focus = focus; queue = queue; programs = programs; handlers = handlers; globals = globals; heap = heap; body = body; worked = worked } in x)
-    ≡ record { items = items'; sources = sources'; focus = focus'; queue = queue'; programs = programs; handlers = handlers'; globals = globals'; heap = heap'; body = body'; worked = worked }
-kept_parts items items' sources sources' focus focus' queue queue' programs handlers handlers' globals globals' heap heap' body body' worked a b c d e f g h = cc
+kept_parts : (tree tree' : StyledTree) (queue queue' : List Event) (programs : List ToldProgram) (handlers handlers' : List HandlerState) (globals globals' : List (List ℕ × Value)) (heap heap' : List ObjectState) (body body' : Option ℕ) (worked : ℕ)
+    → tree ≡ tree' → queue ≡ queue' → handlers ≡ handlers' → globals ≡ globals' → heap ≡ heap' → body ≡ body'
+    → (let x : KeptDocument = record { tree = tree; queue = queue; programs = programs; handlers = handlers; globals = globals; heap = heap; body = body; worked = worked } in x)
+    ≡ record { tree = tree'; queue = queue'; programs = programs; handlers = handlers'; globals = globals'; heap = heap'; body = body'; worked = worked }
+kept_parts tree tree' queue queue' programs handlers handlers' globals globals' heap heap' body body' worked a b c d e f = cc
 
 pub record Parts (kept : KeptDocument) (d : Document) : Type 0 where
-  pub items : kept.items ≡ d.items
-  pub sources : kept.sources ≡ d.sources
-  pub focus : kept.focus ≡ d.focus
+  pub tree : kept.tree ≡ d.tree
   pub queue : kept.queue ≡ d.queue
   pub handlers : kept.handlers ≡ d.handlers
   pub globals : kept.globals ≡ d.globals
   pub heap : kept.heap ≡ d.heap
-  pub body : kept.body ≡ body_of d.items
+  pub body : kept.body ≡ body_of d.tree.items
 
 pub parts_of_kept : (kept : KeptDocument) (d : Document) → IsDocument kept d → Parts kept d
 parts_of_kept kept d k = record {
-  items = ap (λ (x : KeptDocument). x.items) k.others;
-  sources = ap (λ (x : KeptDocument). x.sources) k.others;
-  focus = ap (λ (x : KeptDocument). x.focus) k.others;
+  tree = ap (λ (x : KeptDocument). x.tree) k.others;
   queue = ap (λ (x : KeptDocument). x.queue) k.others;
   handlers = ap (λ (x : KeptDocument). x.handlers) k.others;
   globals = ap (λ (x : KeptDocument). x.globals) k.others;
@@ -75,7 +69,7 @@ parts_of_kept kept d k = record {
 pub kept_of_parts : (kept : KeptDocument) (d : Document) → AllZip Tells d.programs kept.programs → Parts kept d → IsDocument kept d
 kept_of_parts kept d z p = record {
   programs = z;
-  others = kept_parts kept.items d.items kept.sources d.sources kept.focus d.focus kept.queue d.queue kept.programs kept.handlers d.handlers kept.globals d.globals kept.heap d.heap kept.body (body_of d.items) kept.worked p.items p.sources p.focus p.queue p.handlers p.globals p.heap p.body;
+  others = kept_parts kept.tree d.tree kept.queue d.queue kept.programs kept.handlers d.handlers kept.globals d.globals kept.heap d.heap kept.body (body_of d.tree.items) kept.worked p.tree p.queue p.handlers p.globals p.heap p.body;
 }
 
 -- ---- one behind the other
@@ -111,19 +105,17 @@ does_as more effect old new before after same x = record {
 -- ---- what is acted on
 
 abbrev pub acting_of : KeptDocument → CurrentEvent → Acting
-acting_of old event = record { items = old.items; sources = old.sources; focus = old.focus; queue = old.queue; event = event; text = [] }
+acting_of old event = record { tree = old.tree; queue = old.queue; event = event; text = [] }
 
 acting_is : (old : KeptDocument) (event : CurrentEvent) (d : Document) → Parts old d → acting_of old event ≡ acting_in event d
-acting_is old event d p = same old.items d.items old.sources d.sources old.focus d.focus old.queue d.queue p.items p.sources p.focus p.queue
+acting_is old event d p = same old.tree d.tree old.queue d.queue p.tree p.queue
   where
-    same : (i i' : List Item) (s s' : Sources) (f f' : Focus) (q q' : List Event) → i ≡ i' → s ≡ s' → f ≡ f' → q ≡ q' → (let x : Acting = record { items = i; sources = s; focus = f; queue = q; event = event; text = [] } in x) ≡ record { items = i'; sources = s'; focus = f'; queue = q'; event = event; text = [] }
-    same i i' s s' f f' q q' x y z w = cc
+    same : (t t' : StyledTree) (q q' : List Event) → t ≡ t' → q ≡ q' → (let x : Acting = record { tree = t; queue = q; event = event; text = [] } in x) ≡ record { tree = t'; queue = q'; event = event; text = [] }
+    same t t' q q' x y = cc
 
 -- what is kept now is what was acted on, and what was kept before
 pub record Leaves (old new : KeptDocument) (last : Acting) : Type 0 where
-  pub items : new.items ≡ last.items
-  pub sources : new.sources ≡ last.sources
-  pub focus : new.focus ≡ last.focus
+  pub tree : new.tree ≡ last.tree
   pub queue : new.queue ≡ last.queue
   pub programs : new.programs ≡ old.programs
   pub handlers : new.handlers ≡ old.handlers
@@ -132,9 +124,7 @@ pub record Leaves (old new : KeptDocument) (last : Acting) : Type 0 where
 -- what contracts see of a document that is kept in parts
 abbrev pub kept_in : StageState → List ToldProgram → List HandlerState → List (List ℕ × Value) → List ObjectState → Option NodeId → KeptDocument
 kept_in stage programs handlers globals heap body = record {
-  items = stage.acting.items;
-  sources = stage.acting.sources;
-  focus = stage.acting.focus;
+  tree = stage.acting.tree;
   queue = stage.acting.queue;
   programs = programs;
   handlers = handlers;
@@ -148,9 +138,7 @@ pub leaves_in : (first given : StageState) (last : Acting) (programs : List Told
     → given.acting ≡ record last { text = [] }
     → Leaves (kept_in first programs handlers globals heap body) (kept_in given programs handlers globals' heap' body) last
 leaves_in first given last programs handlers globals globals' heap heap' body e = record {
-  items = ap (λ (a : Acting). a.items) e;
-  sources = ap (λ (a : Acting). a.sources) e;
-  focus = ap (λ (a : Acting). a.focus) e;
+  tree = ap (λ (a : Acting). a.tree) e;
   queue = ap (λ (a : Acting). a.queue) e;
   programs = refl;
   handlers = refl;
@@ -158,7 +146,7 @@ leaves_in first given last programs handlers globals globals' heap heap' body e 
 }
 
 pub does_done : (change : Acting → Acting) (old new : KeptDocument) (first last : Acting) (before after : List ℕ)
-    → first ≡ acting_of old no_event → last ≡ change first → ((a : Acting) → (change a).items ≡ a.items)
+    → first ≡ acting_of old no_event → last ≡ change first → ((a : Acting) → (change a).tree.items ≡ a.tree.items)
     → Leaves old new last → new.globals ≡ old.globals → new.heap ≡ old.heap
     → after ≡ before ++ last.text → Does (done change) old new before after
 does_done change old new first last before after is becomes keeps left globals heap printed = record {
@@ -168,9 +156,7 @@ does_done change old new first last before after is becomes keeps left globals h
       let e = becomes ∙ ap change (is ∙ acting_is old no_event d p) in
       record {
         is = kept_of_parts new (with_acting (change (acting_in no_event d)) d) (subst (λ (t : List ToldProgram). AllZip Tells d.programs t) (sym left.programs) k.programs) (record {
-          items = left.items ∙ ap (λ (a : Acting). a.items) e;
-          sources = left.sources ∙ ap (λ (a : Acting). a.sources) e;
-          focus = left.focus ∙ ap (λ (a : Acting). a.focus) e;
+          tree = left.tree ∙ ap (λ (a : Acting). a.tree) e;
           queue = left.queue ∙ ap (λ (a : Acting). a.queue) e;
           handlers = left.handlers ∙ p.handlers;
           globals = globals ∙ p.globals;
@@ -196,12 +182,10 @@ run_done : (name : List ℕ) (event : CurrentEvent) (run : Run) (old new : KeptD
     → w.globals ≡ new.globals → w.heap ≡ new.heap → Leaves old new last
     → HasDone new (last.text ++ stop_lines outcome name) (effect_of_end name d (ended run (acting_in event d)))
 run_done name event run old new d w outcome last z p e globals heap left =
-    let same = ap (λ (x : End). body_of x.acting.items) e in
+    let same = ap (λ (x : End). body_of x.acting.tree.items) e in
     subst (λ (x : End). HasDone new (last.text ++ stop_lines outcome name) (effect_of_end name d x)) (sym e) (record {
       is = kept_of_parts new (with_world w (with_acting last d)) (subst (λ (t : List ToldProgram). AllZip Tells d.programs t) (sym left.programs) z) (record {
-        items = left.items;
-        sources = left.sources;
-        focus = left.focus;
+        tree = left.tree;
         queue = left.queue;
         handlers = left.handlers ∙ p.handlers;
         globals = sym globals;
@@ -286,7 +270,7 @@ pub does_in : (change : Acting → Acting) (old : KeptDocument) (stage first las
     → kept_in stage programs handlers globals heap body ≡ old
     → first.acting ≡ record stage.acting { event = no_event; text = [] }
     → last.acting ≡ change first.acting
-    → ((a : Acting) → (change a).items ≡ a.items)
+    → ((a : Acting) → (change a).tree.items ≡ a.tree.items)
     → given.acting ≡ record last.acting { text = [] }
     → after ≡ before ++ last.acting.text
     → Does (done change) old (kept_in given programs handlers globals heap body) before after
@@ -299,7 +283,7 @@ pub gives : {T E : Type 0} (r : Result T E) (change : Acting → Acting) (old : 
     → kept_in stage programs handlers globals heap body ≡ old
     → first.acting ≡ record stage.acting { event = no_event; text = [] }
     → last.acting ≡ change first.acting
-    → ((a : Acting) → (change a).items ≡ a.items)
+    → ((a : Acting) → (change a).tree.items ≡ a.tree.items)
     → OnOk r (given.acting ≡ record last.acting { text = [] })
     → OnOk r (after ≡ before ++ last.acting.text)
     → OnOk r (Does (done change) old (kept_in given programs handlers globals heap body) before after)
@@ -328,7 +312,7 @@ does_scripts places old new before after is x =
 
 -- there is no document whose body is no element
 pub does_no_element : (effect : Document → Effect) (kept old : KeptDocument) (node : NodeId) (is_element : Bool) (before : List ℕ)
-    → kept ≡ old → kept.body ≡ Some node.0 → (IsTrue is_element ↔ IsElement kept.items node.0) → is_element ≡ false
+    → kept ≡ old → kept.body ≡ Some node.0 → (IsTrue is_element ↔ IsElement kept.tree.items node.0) → is_element ≡ false
     → Does effect old old before before
 does_no_element effect kept old node is_element before is body element fails =
     subst (λ (k : KeptDocument). Does effect k k before before) is (record {
@@ -339,22 +323,16 @@ does_no_element effect kept old node is_element before is body element fails =
   where
     none : (d : Document) → Parts kept d → ⊥
     none d p =
-        let here : IsElement kept.items node.0 = subst (λ (items : List Item). IsElement items node.0) (sym p.items) (body-element d.items node (sym body ∙ p.body)) in
+        let here : IsElement kept.tree.items node.0 = subst (λ (tree : StyledTree). IsElement tree.items node.0) (sym p.tree) (body-element d.tree.items node (sym body ∙ p.body)) in
         let both : true ≡ false = sym (element.1 here) ∙ fails in
         cc
 
 pub passes_by : (kept : KeptDocument) (d : Document) (node : NodeId) (key : ℕ) → kept.body ≡ Some node.0 → Parts kept d
-    → passes key d ≡ passes_list (normal_value (styled_by kept.items kept.sources kept.focus) node.0 UsedKeyList) key
+    → passes key d ≡ passes_list (normal_value kept.tree node.0 UsedKeyList) key
 unfolding passes
 passes_by kept d node key body p =
-    ap (λ (b : Option ℕ). option_map_or (λ n. passes_list (normal_value (styled_now d) n UsedKeyList) key) b false) (sym p.body ∙ body)
-    ∙ same kept.items d.items kept.sources d.sources kept.focus d.focus p.items p.sources p.focus
-  where
-    same : (i i' : List Item) (s s' : Sources) (f f' : Focus) → i ≡ i' → s ≡ s' → f ≡ f' → passes_list (normal_value (styled_by i' s' f') node.0 UsedKeyList) key ≡ passes_list (normal_value (styled_by i s f) node.0 UsedKeyList) key
-    same i i' s s' f f' x y z =
-        ap (λ (j : List Item). passes_list (normal_value (styled_by j s' f') node.0 UsedKeyList) key) (sym x)
-        ∙ (ap (λ (j : Sources). passes_list (normal_value (styled_by i j f') node.0 UsedKeyList) key) (sym y)
-        ∙ ap (λ (j : Focus). passes_list (normal_value (styled_by i s j) node.0 UsedKeyList) key) (sym z))
+    ap (λ (b : Option ℕ). option_map_or (λ n. passes_list (normal_value d.tree n UsedKeyList) key) b false) (sym p.body ∙ body)
+    ∙ ap (λ (tree : StyledTree). passes_list (normal_value tree node.0 UsedKeyList) key) (sym p.tree)
 
 pub key_if : (key : ℕ) (down : Bool) (d : Document) (b : Bool) → passes key d ≡ b → key_effect key down d ≡ (if b then done (key_posts down key) d else nothing_done d)
 unfolding key_effect
@@ -372,9 +350,7 @@ does_still effect old stage asked programs handlers globals heap body before is 
       printed = sym (append-nil before);
       does = λ d k. let p = parts_of_kept (kept_in stage programs handlers globals heap body) d k in record {
         is = kept_of_parts (kept_in asked programs handlers globals heap body) d k.programs (record {
-          items = ap (λ (a : Acting). a.items) same ∙ p.items;
-          sources = ap (λ (a : Acting). a.sources) same ∙ p.sources;
-          focus = ap (λ (a : Acting). a.focus) same ∙ p.focus;
+          tree = ap (λ (a : Acting). a.tree) same ∙ p.tree;
           queue = ap (λ (a : Acting). a.queue) same ∙ p.queue;
           handlers = p.handlers;
           globals = p.globals;

@@ -4,11 +4,9 @@ use Rattle.std.specs.Prelude.{codes, if◌then◌else◌, is_some}
 use Rattle.bml_bytes.specs.Words.{is_same}
 use Rattle.dom_tree.specs.Items.{Item, tag_of}
 use Rattle.dom_tree.specs.NodeNumbers.{number_of}
-use Rattle.style_cascade.specs.States.{is_node}
 use Rattle.focus_keys.specs.Defaults.{Action}
 use Rattle.focus_keys.specs.Defaults.Action.{NoAction, Moves, Activates, Accesses}
 use Rattle.focus_keys.specs.Targets.{can_have_focus}
-use Rattle.focus_keys.specs.Views.{styled_by}
 use Rattle.es_values.specs.declared.hosts.HostAnswer.{HostAnswer}
 use Rattle.es_values.specs.declared.values.HostRef.{HostRef}
 use Rattle.es_values.specs.declared.values.HostRef.TheVariants as host
@@ -21,7 +19,7 @@ use Rattle.es_eval.specs.Worlds.{World, Run}
 use Rattle.es_eval.specs.Worlds.Run.{Over, Reads, Writes, Calls}
 use Rattle.event_queue.specs.declared.events.Event.TheVariants as events
 use Rattle.dom_objects.specs.Writes.{change_of}
-use Rattle.document_stages.specs.Acting.{Acting, Answered, acted, begun, called, element_call, focus_on, focused, key_posts, left_by, moved_to, no_focus, posted, posted_for, read_by, written}
+use Rattle.document_stages.specs.Acting.{Acting, Answered, acted, begun, called, element_call, focus_on, focused, focused_node, has_focus, key_posts, left_by, moved_to, no_focus, posted, posted_for, read_by, with_focus, written}
 use Rattle.acting_documents.specs.Documents.{body_of}
 use Rattle.acting_documents.specs.Runs.{End, ended}
 use Rattle.document_stages.specs.Stages.{HasCalled, HasRead, HasWritten, StageState}
@@ -29,71 +27,71 @@ use Rattle.acting_documents.proofs.BodyLemmas.{body-changed}
 
 -- ---- calls leave the nodes as they are
 
-moved_to-items : (node : ℕ) (a : Acting) → (moved_to node a).items ≡ a.items
+moved_to-items : (node : ℕ) (a : Acting) → (moved_to node a).tree.items ≡ a.tree.items
 unfolding moved_to
-moved_to-items node a = go (is_node node a.focus.focus) (number_of a.focus.focus)
+moved_to-items node a = go (has_focus node a) (focused_node a)
   where
-    go : (has : Bool) (before : Option ℕ) → (if has then a else posted (events.Focus node) (posted_for events.Blur before (record a { focus = focus_on node }))).items ≡ a.items
+    go : (has : Bool) (before : Option ℕ) → (if has then a else posted (events.Focus node) (posted_for events.Blur before (with_focus (focus_on node) a))).tree.items ≡ a.tree.items
     go true before = refl
     go false None = refl
     go false (Some other) = refl
 
-left_by-items : (node : ℕ) (a : Acting) → (left_by node a).items ≡ a.items
+left_by-items : (node : ℕ) (a : Acting) → (left_by node a).tree.items ≡ a.tree.items
 unfolding left_by
-left_by-items node a = go (is_node node a.focus.focus)
+left_by-items node a = go (has_focus node a)
   where
-    go : (has : Bool) → (if has then posted (events.Blur node) (record a { focus = no_focus }) else a).items ≡ a.items
+    go : (has : Bool) → (if has then posted (events.Blur node) (with_focus no_focus a) else a).tree.items ≡ a.tree.items
     go true = refl
     go false = refl
 
-chosen : (b : Bool) (x y : Answered) (items : List Item) → x.acting.items ≡ items → y.acting.items ≡ items → (if b then x else y).acting.items ≡ items
+chosen : (b : Bool) (x y : Answered) (items : List Item) → x.acting.tree.items ≡ items → y.acting.tree.items ≡ items → (if b then x else y).acting.tree.items ≡ items
 chosen true x y items e f = e
 chosen false x y items e f = f
 
-focused-items : (node : ℕ) (a : Acting) → (focused node a).items ≡ a.items
-focused-items node a = go (can_have_focus (styled_by a.items a.sources a.focus) node)
+focused-items : (node : ℕ) (a : Acting) → (focused node a).tree.items ≡ a.tree.items
+focused-items node a = go (can_have_focus a.tree node)
   where
-    go : (can : Bool) → (if can then moved_to node a else a).items ≡ a.items
+    go : (can : Bool) → (if can then moved_to node a else a).tree.items ≡ a.tree.items
     go true = moved_to-items node a
     go false = refl
 
-element_call-items : (a : Acting) (node : ℕ) (name : List ℕ) → (element_call a node name).acting.items ≡ a.items
+element_call-items : (a : Acting) (node : ℕ) (name : List ℕ) → (element_call a node name).acting.tree.items ≡ a.tree.items
 element_call-items a node name =
-    chosen (is_same name (codes "focus")) _ _ a.items (focused-items node a)
-    (chosen (is_same name (codes "blur")) _ _ a.items (left_by-items node a) refl)
+    chosen (is_same name (codes "focus")) _ _ a.tree.items (focused-items node a)
+    (chosen (is_same name (codes "blur")) _ _ a.tree.items (left_by-items node a) refl)
 
-called-items : (a : Acting) (base : HostRef) (name : List ℕ) (arguments : List Value) (heap : List ObjectState) → (called a base name arguments heap).acting.items ≡ a.items
+called-items : (a : Acting) (base : HostRef) (name : List ℕ) (arguments : List Value) (heap : List ObjectState) → (called a base name arguments heap).acting.tree.items ≡ a.tree.items
 unfolding called
-called-items a host.Document name arguments heap = chosen (is_same name (codes "getElementById")) _ _ a.items refl refl
-called-items a (host.Node node) name arguments heap = chosen (is_some (tag_of a.items node)) _ _ a.items (element_call-items a node name) refl
+called-items a host.Document name arguments heap = chosen (is_same name (codes "getElementById")) _ _ a.tree.items refl refl
+called-items a (host.Node node) name arguments heap = chosen (is_some (tag_of a.tree.items node)) _ _ a.tree.items (element_call-items a node name) refl
 called-items a host.Browser name arguments heap = refl
 called-items a _ name arguments heap = refl
 
 -- ---- so do default actions, keys and the first focus
 
-pub acted-items : (action : Action) (a : Acting) → (acted action a).items ≡ a.items
+pub acted-items : (action : Action) (a : Acting) → (acted action a).tree.items ≡ a.tree.items
 acted-items NoAction a = refl
 acted-items (Moves node) a = moved_to-items node a
 acted-items (Activates node) a = refl
 acted-items (Accesses node) a = moved_to-items node a
 
-pub key_posts-items : (down : Bool) (key : ℕ) (a : Acting) → (key_posts down key a).items ≡ a.items
+pub key_posts-items : (down : Bool) (key : ℕ) (a : Acting) → (key_posts down key a).tree.items ≡ a.tree.items
 key_posts-items true key a = refl
 key_posts-items false key a = refl
 
-pub begun-items : (node : Option ℕ) (a : Acting) → (begun node a).items ≡ a.items
+pub begun-items : (node : Option ℕ) (a : Acting) → (begun node a).tree.items ≡ a.tree.items
 begun-items None a = refl
 begun-items (Some node) a = refl
 
 -- ---- so runs leave the body where it is
 
-pub ended-body : (run : Run) (a : Acting) → body_of (ended run a).acting.items ≡ body_of a.items
+pub ended-body : (run : Run) (a : Acting) → body_of (ended run a).acting.tree.items ≡ body_of a.tree.items
 unfolding ended
 ended-body (Over outcome w) a = refl
 ended-body (Reads base name go) a = ended-body (go (read_by a base name)) a
 ended-body (Writes base name value heap go) a =
     ended-body go (written a base name (text_of heap value))
-    ∙ body-changed (change_of a.items base name (text_of heap value)) a.items
+    ∙ body-changed (change_of a.tree.items base name (text_of heap value)) a.tree.items
 ended-body (Calls base name arguments heap go) a =
     ended-body (go (called a base name arguments heap).answer heap) (called a base name arguments heap).acting
     ∙ ap body_of (called-items a base name arguments heap)

@@ -1,10 +1,15 @@
 -- The index of the handlers of a document.
-use Rattle.std.proofs.Common.{◌≡◌, ◌∙◌, ℕ, ◌+◌, Bool, true, false, cond, ◌&&◌, List, [], ◌∷◌, ◌++◌, refl, sym, ap, ap₂}
+use Rattle.std.proofs.Common.{◌≡◌, ◌∙◌, ℕ, ◌+◌, Bool, true, false, cond, ◌&&◌, List, [], ◌∷◌, ◌++◌, refl, rules, sym, ap, ap₂}
 use Rattle.std.specs.Prelude.{nat_eq, find, is_some, option_map, Option, Some, None}
 use Rattle.std.specs.Map.{lookup}
 use Rattle.std.proofs.lemmas.Bool.{eq-eqb, eqb-true, eqb-false, ne_eqb}
 use Rattle.bml_bytes.specs.Words.{is_same}
+use denote.Enum.Bare.{sameb, same_true}
+use Rattle.document_load.specs.HandlerKinds.{handler_name}
 use Rattle.document_load.specs.Scripts.{HandlerState}
+use Rattle.document_load.specs.contracts.handler_kinds.HandlerKind.{the_type as the_kinds}
+use Rattle.document_load.specs.declared.handler_kinds.HandlerKind.{HandlerKind}
+use Rattle.document_load.specs.declared.handler_kinds.HandlerKind.TheVariants as kinds
 use Rattle.acting_documents.specs.Documents.{handler_in, is_handler}
 use Rattle.acting_documents.specs.Handlers.{Adds, IsIndexOf, is_key}
 use Rattle.acting_documents.specs.declared.handlers.HandlerKey.{HandlerKey}
@@ -26,13 +31,29 @@ eqb_sym a b = by_test (nat_eq a b) refl
     by_test true e = e ∙ sym (eq-eqb b a (sym (eqb-true a b e)))
     by_test false e = e ∙ sym (ne_eqb b a (λ same. eqb-false a b e (sym same)))
 
-same-is : (a b : List ℕ) → is_same a b ≡ true → a ≡ b
-same-is [] [] e = refl
-same-is [] (y ∷ b) e = absurd (cc e)
-same-is (x ∷ a) [] e = absurd (cc e)
-same-is (x ∷ a) (y ∷ b) e = ap₂ (λ (z : ℕ) (l : List ℕ). z ∷ l) (eqb-true x y (and_first (nat_eq x y) (is_same a b) e)) (same-is a b (and_second (nat_eq x y) (is_same a b) e))
+-- handlers of one attribute are of one kind
+same-kind : (one other : HandlerKind) → sameb the_kinds one other ≡ is_same (handler_name one) (handler_name other)
+same-kind kinds.Load kinds.Load = refl
+same-kind kinds.Load _ = refl
+same-kind kinds.Unload kinds.Unload = refl
+same-kind kinds.Unload _ = refl
+same-kind kinds.KeyDown kinds.KeyDown = refl
+same-kind kinds.KeyDown _ = refl
+same-kind kinds.KeyUp kinds.KeyUp = refl
+same-kind kinds.KeyUp _ = refl
+same-kind kinds.Click kinds.Click = refl
+same-kind kinds.Click _ = refl
+same-kind kinds.Focus kinds.Focus = refl
+same-kind kinds.Focus _ = refl
+same-kind kinds.Blur kinds.Blur = refl
+same-kind kinds.Blur _ = refl
+same-kind kinds.Occur kinds.Occur = refl
+same-kind kinds.Occur _ = refl
 
--- ---- the first of an attribute
+kind-is : (one other : HandlerKind) → is_same (handler_name one) (handler_name other) ≡ true → one ≡ other
+kind-is one other e = same_true the_kinds (search rules) one other (same-kind one other ∙ e)
+
+-- ---- the first of a kind
 
 abbrev or_other : {A : Type 0} → Option A → Option A → Option A
 or_other None other = other
@@ -61,10 +82,10 @@ program_of-last test (x ∷ handlers) handler =
     ∙ by_test (test x) x.program (program_of (find test handlers)) (program_of (find test (handlers ++ handler ∷ []))) (cond (test handler) (Some handler.program) None) (program_of-last test handlers handler)
     ∙ ap (λ (o : Option ℕ). or_other o (cond (test handler) (Some handler.program) None)) (sym (program_of-cond (test x) x (find test handlers)))
 
-handler_in-last : (handlers : List HandlerState) (handler : HandlerState) (node : ℕ) (name : List ℕ)
-    → handler_in (handlers ++ handler ∷ []) node name ≡ or_other (handler_in handlers node name) (cond (is_handler node name handler) (Some handler.program) None)
+handler_in-last : (handlers : List HandlerState) (handler : HandlerState) (node : ℕ) (kind : HandlerKind)
+    → handler_in (handlers ++ handler ∷ []) node kind ≡ or_other (handler_in handlers node kind) (cond (is_handler node kind handler) (Some handler.program) None)
 unfolding handler_in
-handler_in-last handlers handler node name = program_of-last (is_handler node name) handlers handler
+handler_in-last handlers handler node kind = program_of-last (is_handler node kind) handlers handler
 
 -- ---- the index
 
@@ -74,35 +95,36 @@ is_absent test (Some x) tells told = absurd (cc (tells, told))
 
 pub index-none : (places : List (HandlerKey × ℕ)) → places ≡ [] → IsIndexOf places []
 unfolding handler_in
-index-none places none node name = ap (lookup (is_key node name)) none
+index-none places none node kind = ap (lookup (is_key node kind)) none
 
-same_test : (key : HandlerKey) (handler : HandlerState) (node : ℕ) (name : List ℕ) → key.node.0 ≡ handler.node → key.name ≡ handler.name → is_key node name key ≡ is_handler node name handler
-same_test key handler node name node_is name_is =
-    ap (λ (n : ℕ). nat_eq node n && is_same name key.name) node_is
-    ∙ ap (λ (x : List ℕ). nat_eq node handler.node && is_same name x) name_is
-    ∙ ap (λ (t : Bool). t && is_same name handler.name) (eqb_sym node handler.node)
+same_test : (key : HandlerKey) (handler : HandlerState) (node : ℕ) (kind : HandlerKind) → key.node.0 ≡ handler.node → key.kind ≡ handler.kind → is_key node kind key ≡ is_handler node kind handler
+same_test key handler node kind node_is kind_is =
+    ap (λ (n : ℕ). nat_eq node n && sameb the_kinds kind key.kind) node_is
+    ∙ ap (λ (k : HandlerKind). nat_eq node handler.node && sameb the_kinds kind k) kind_is
+    ∙ ap (λ (t : Bool). t && sameb the_kinds kind handler.kind) (eqb_sym node handler.node)
+    ∙ ap (λ (t : Bool). nat_eq handler.node node && t) (same-kind kind handler.kind)
 
--- an attribute that wasn't there
-pub index-more : (places more : List (HandlerKey × ℕ)) (key : HandlerKey) (handler : HandlerState) → key.node.0 ≡ handler.node → key.name ≡ handler.name → more ≡ places ++ (key, handler.program) ∷ [] → Adds handler places more
-index-more places more key handler node_is name_is more_is handlers is node name =
-    ap (lookup (is_key node name)) more_is
-    ∙ lookup-last (is_key node name) places (key, handler.program)
-    ∙ ap (λ (o : Option ℕ). or_other o (cond (is_key node name key) (Some handler.program) None)) (is node name)
-    ∙ ap (λ (t : Bool). or_other (handler_in handlers node name) (cond t (Some handler.program) None)) (same_test key handler node name node_is name_is)
-    ∙ sym (handler_in-last handlers handler node name)
+-- a kind that wasn't there
+pub index-more : (places more : List (HandlerKey × ℕ)) (key : HandlerKey) (handler : HandlerState) → key.node.0 ≡ handler.node → key.kind ≡ handler.kind → more ≡ places ++ (key, handler.program) ∷ [] → Adds handler places more
+index-more places more key handler node_is kind_is more_is handlers is node kind =
+    ap (lookup (is_key node kind)) more_is
+    ∙ lookup-last (is_key node kind) places (key, handler.program)
+    ∙ ap (λ (o : Option ℕ). or_other o (cond (is_key node kind key) (Some handler.program) None)) (is node kind)
+    ∙ ap (λ (t : Bool). or_other (handler_in handlers node kind) (cond t (Some handler.program) None)) (same_test key handler node kind node_is kind_is)
+    ∙ sym (handler_in-last handlers handler node kind)
 
 -- one that was there keeps its first handler
-pub index-same : (places : List (HandlerKey × ℕ)) (key : HandlerKey) (handler : HandlerState) → key.node.0 ≡ handler.node → key.name ≡ handler.name → is_some (lookup (is_key key.node.0 key.name) places) ≡ true → Adds handler places places
-index-same places key handler node_is name_is known handlers is node name =
-    is node name ∙ sym (handler_in-last handlers handler node name ∙ stays (is_handler node name handler) refl (handler_in handlers node name) refl)
+pub index-same : (places : List (HandlerKey × ℕ)) (key : HandlerKey) (handler : HandlerState) → key.node.0 ≡ handler.node → key.kind ≡ handler.kind → is_some (lookup (is_key key.node.0 key.kind) places) ≡ true → Adds handler places places
+index-same places key handler node_is kind_is known handlers is node kind =
+    is node kind ∙ sym (handler_in-last handlers handler node kind ∙ stays (is_handler node kind handler) refl (handler_in handlers node kind) refl)
   where
-    stays : (test : Bool) → is_handler node name handler ≡ test → (o : Option ℕ) → handler_in handlers node name ≡ o → or_other o (cond test (Some handler.program) None) ≡ o
+    stays : (test : Bool) → is_handler node kind handler ≡ test → (o : Option ℕ) → handler_in handlers node kind ≡ o → or_other o (cond test (Some handler.program) None) ≡ o
     stays test e (Some x) none = refl
     stays false e None none = refl
     stays true e None none =
-        let node_same : key.node.0 ≡ node = node_is ∙ eqb-true handler.node node (and_first (nat_eq handler.node node) (is_same name handler.name) e) in
-        let name_same : key.name ≡ name = name_is ∙ sym (same-is name handler.name (and_second (nat_eq handler.node node) (is_same name handler.name) e)) in
-        let there : is_some (lookup (is_key node name) places) ≡ true =
-        ap₂ (λ (n : ℕ) (x : List ℕ). is_some (lookup (is_key n x) places)) (sym node_same) (sym name_same) ∙ known in
-        let absent : is_some (lookup (is_key node name) places) ≡ false = ap is_some (is node name ∙ none) in
+        let node_same : key.node.0 ≡ node = node_is ∙ eqb-true handler.node node (and_first (nat_eq handler.node node) (is_same (handler_name kind) (handler_name handler.kind)) e) in
+        let kind_same : key.kind ≡ kind = kind_is ∙ sym (kind-is kind handler.kind (and_second (nat_eq handler.node node) (is_same (handler_name kind) (handler_name handler.kind)) e)) in
+        let there : is_some (lookup (is_key node kind) places) ≡ true =
+        ap₂ (λ (n : ℕ) (k : HandlerKind). is_some (lookup (is_key n k) places)) (sym node_same) (sym kind_same) ∙ known in
+        let absent : is_some (lookup (is_key node kind) places) ≡ false = ap is_some (is node kind ∙ none) in
         absurd (cc (there, absent))

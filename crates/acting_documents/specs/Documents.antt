@@ -4,27 +4,26 @@ use Rattle.std.specs.Prelude.{ℕ, ◌==◌, ◌&&◌, Bool, false, List, Option
 use Rattle.std.specs.Option.{option_map_or}
 use Rattle.bml_bytes.specs.Words.{is_same}
 use Rattle.dom_tree.specs.Items.{Item, tag_in}
-use Rattle.dom_tree.specs.NodeNumbers.{number_of}
 use Rattle.dom_tree.specs.Walks.{first, places}
 use Rattle.style_reader.specs.declared.properties.Property.TheVariants.{UsedKeyList}
-use Rattle.style_cascade.specs.Cascade.{Sources}
-use Rattle.style_cascade.specs.declared.states.Focus.{Focus}
+use Rattle.style_reader.specs.declared.rules.Rule.{Rule}
+use Rattle.style_cascade.specs.Cascade.{unwritten}
+use Rattle.style_cascade.specs.StyledTrees.{StyledTree}
 use Rattle.focus_keys.specs.KeyTables.{passes_list}
-use Rattle.focus_keys.specs.Targets.{Styled, normal_value}
-use Rattle.focus_keys.specs.Views.{styled_by}
-use Rattle.display_list.specs.Show.{display_lines}
-use Rattle.display_list.specs.Shown.{shown_by}
+use Rattle.focus_keys.specs.Targets.{normal_value}
 use Rattle.es_values.specs.declared.values.Value.{Value}
 use Rattle.es_values.specs.Objects.{ObjectState}
 use Rattle.es_reader.specs.Statements.{Item as ProgramItem}
 use Rattle.event_queue.specs.declared.events.Event.{Event}
+use Rattle.document_load.specs.HandlerKinds.{handler_name}
 use Rattle.document_load.specs.Scripts.{HandlerState}
+use Rattle.document_load.specs.declared.handler_kinds.HandlerKind.{HandlerKind}
+use Rattle.document_stages.specs.Acting.{no_focus}
+use Rattle.document_stages.specs.Displays.{tree_lines}
 
 pub record Document : Type 0 where
   -- the nodes, what their styles come from, and which of them have the focus and are active
-  pub items : List Item
-  pub sources : Sources
-  pub focus : Focus
+  pub tree : StyledTree
   -- the events that wait for their dispatch, the one that waits longest in front
   pub queue : List Event
   -- the programs of the scripts in document order, and which of them are handlers
@@ -34,9 +33,10 @@ pub record Document : Type 0 where
   pub globals : List (List ℕ × Value)
   pub heap : List ObjectState
 
--- the elements with their styles, as the focus stands
-abbrev pub styled_now : Document → Styled
-styled_now d = styled_by d.items d.sources d.focus
+-- the nodes before scripts run: what styles come from is their rules, and no element has the focus
+abbrev pub first_tree : List Item → List Rule → StyledTree
+first_tree items rules =
+    record { items = items; sources = unwritten rules; focus = no_focus }
 
 -- the node is an element `body`; tags compare by case
 abbrev pub is_body : Item → Bool
@@ -47,20 +47,21 @@ unfoldable pub body_of : List Item → Option ℕ
 body_of items = first (places is_body items)
 
 -- the handler is the value of that attribute of the node
-abbrev pub is_handler : ℕ → List ℕ → HandlerState → Bool
-is_handler node name handler = (handler.node == node) && is_same name handler.name
+abbrev pub is_handler : ℕ → HandlerKind → HandlerState → Bool
+is_handler node kind handler =
+    (handler.node == node) && is_same (handler_name kind) (handler_name handler.kind)
 
 -- the place of its program among the document's, where the node has such a handler
-unfoldable pub handler_in : List HandlerState → ℕ → List ℕ → Option ℕ
-handler_in handlers node name =
-    option_map (λ handler. handler.program) (find (is_handler node name) handlers)
+unfoldable pub handler_in : List HandlerState → ℕ → HandlerKind → Option ℕ
+handler_in handlers node kind =
+    option_map (λ handler. handler.program) (find (is_handler node kind) handlers)
 
 -- a key passes where the used-key-list of the body in the normal state has its group
 unfoldable pub passes : ℕ → Document → Bool
 passes key d =
-    option_map_or (λ body. passes_list (normal_value (styled_now d) body UsedKeyList) key)
-    (body_of d.items) false
+    option_map_or (λ body. passes_list (normal_value d.tree body UsedKeyList) key)
+    (body_of d.tree.items) false
 
 -- the lines of its display list, as it is now: the boxes, texts and pictures, and the focus
 abbrev pub document_lines : Document → List ℕ
-document_lines d = display_lines (shown_by d.items d.sources d.focus) (number_of d.focus.focus)
+document_lines d = tree_lines d.tree

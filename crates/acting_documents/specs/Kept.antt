@@ -3,26 +3,22 @@ use Rattle.std.specs.Prelude.{◌≡◌, ◌<◌, ◌^◌, ℕ, List, [], All, O
 use Rattle.std.specs.List.{AllZip}
 use Rattle.dom_tree.specs.Items.{Item}
 use Rattle.style_reader.specs.declared.rules.Rule.{Rule}
-use Rattle.style_cascade.specs.Cascade.{Sources, unwritten}
-use Rattle.style_cascade.specs.declared.states.Focus.{Focus}
+use Rattle.style_cascade.specs.StyledTrees.{StyledTree}
 use Rattle.es_values.specs.declared.values.Value.{Value}
 use Rattle.es_values.specs.Objects.{ObjectState}
 use Rattle.es_reader.specs.Programs.{Tells, ToldProgram}
-use Rattle.es_eval.specs.Codes.{declared_by}
-use Rattle.es_eval.specs.Machines.{IsNamedLive}
+use Rattle.es_shapes.specs.Codes.{declared_by}
+use Rattle.es_eval.specs.Worlds.{IsNamedLive}
 use Rattle.event_queue.specs.declared.events.Event.{Event}
 use Rattle.document_load.specs.Scripts.{HandlerState, unnamed_places}
-use Rattle.document_stages.specs.Acting.{no_focus}
 use Rattle.document_stages.specs.Stages.{StageState}
-use Rattle.acting_documents.specs.Documents.{Document, body_of}
+use Rattle.acting_documents.specs.Documents.{Document, body_of, first_tree}
 use Rattle.acting_documents.specs.Runs.{no_event}
 
 -- the document with what is told of its programs, which node is its body, and how many values its styles
 -- worked out
 pub record KeptDocument : Type 0 where
-  pub items : List Item
-  pub sources : Sources
-  pub focus : Focus
+  pub tree : StyledTree
   pub queue : List Event
   pub programs : List ToldProgram
   pub handlers : List HandlerState
@@ -34,15 +30,13 @@ pub record KeptDocument : Type 0 where
 abbrev pub kept_as : List ToldProgram → ℕ → Document → KeptDocument
 kept_as programs worked d =
     record {
-      items = d.items;
-      sources = d.sources;
-      focus = d.focus;
+      tree = d.tree;
       queue = d.queue;
       programs = programs;
       handlers = d.handlers;
       globals = d.globals;
       heap = d.heap;
-      body = body_of d.items;
+      body = body_of d.tree.items;
       worked = worked;
     }
 
@@ -56,9 +50,7 @@ abbrev pub staged_first : List Item → List Rule → StageState
 staged_first items rules =
     record {
       acting = record {
-        items = items;
-        sources = unwritten items rules;
-        focus = no_focus;
+        tree = first_tree items rules;
         queue = [];
         event = no_event;
         text = [];
@@ -70,9 +62,7 @@ staged_first items rules =
 abbrev pub kept_first : List Item → List Rule → List ToldProgram → List HandlerState → KeptDocument
 kept_first items rules programs handlers =
     record {
-      items = items;
-      sources = unwritten items rules;
-      focus = no_focus;
+      tree = first_tree items rules;
       queue = [];
       programs = programs;
       handlers = handlers;

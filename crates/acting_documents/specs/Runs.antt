@@ -4,7 +4,7 @@ use Rattle.std.specs.Prelude.{ℕ, List, [], ◌++◌, None, map}
 use Rattle.es_values.specs.Conversions.{text_of}
 use Rattle.es_eval.specs.declared.outcomes.Outcome.{Outcome}
 use Rattle.es_eval.specs.Evaluation.{run_at}
-use Rattle.es_eval.specs.Sources.{program_of}
+use Rattle.es_shapes.specs.Sources.{program_of}
 use Rattle.es_eval.specs.Worlds.{World, Run}
 use Rattle.es_eval.specs.Worlds.Run.{Over, Reads, Writes, Calls}
 use Rattle.dom_objects.specs.declared.current_events.CurrentEvent.{CurrentEvent}
@@ -44,19 +44,11 @@ and_then more e =
 -- the document's parts for the handler of an event, behind which nothing is printed yet
 abbrev pub acting_in : CurrentEvent → Document → Acting
 acting_in event d =
-    record {
-      items = d.items;
-      sources = d.sources;
-      focus = d.focus;
-      queue = d.queue;
-      event = event;
-      text = [];
-    }
+    record { tree = d.tree; queue = d.queue; event = event; text = [] }
 
 -- the document with what was left of these parts
 abbrev pub with_acting : Acting → Document → Document
-with_acting a d =
-    record d { items = a.items; sources = a.sources; focus = a.focus; queue = a.queue }
+with_acting a d = record d { tree = a.tree; queue = a.queue }
 
 abbrev pub with_world : World → Document → Document
 with_world w d = record d { globals = w.globals; heap = w.heap }

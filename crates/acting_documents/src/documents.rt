@@ -1,9 +1,10 @@
 //! A document that acts.
 
 ghost use Rattle.std.specs.Io.{StartsWith};
-ghost use Rattle.std.specs.Prelude.{◌≡◌, ◌++◌, [], map, length, IfOk, OnOk};
+ghost use Rattle.std.specs.Prelude.{◌≡◌, ◌<◌, ◌^◌, ◌++◌, [], map, length, IfOk, OnOk};
 ghost use Rattle.document_load.specs.Scripts.{HavePlaces, unnamed_places};
 ghost use Rattle.document_load.specs.ScriptViews.{told_handler};
+ghost use Rattle.es_shapes.specs.Codes.{declared_by};
 ghost use Rattle.event_queue.specs.Queues.{first_of};
 ghost use Rattle.dom_tree.specs.NodeNumbers.{number_of};
 ghost use Rattle.acting_documents.specs.Handling.{without_first};
@@ -26,6 +27,7 @@ use es_eval::{Globals, are_few_functions, run};
 use es_reader::Program;
 use es_values::Heap;
 use event_queue::Event;
+use focus_keys::Key;
 use std::alloc::Global;
 use std::marker::Model;
 use style_cascade::Styles;
@@ -55,9 +57,7 @@ impl Model for ActingDocument {
     ghost Value = { KeptDocument };
 
     ghost view = { λ d. record {
-      items = d.stage.acting.items;
-      sources = d.stage.acting.sources;
-      focus = d.stage.acting.focus;
+      tree = d.stage.acting.tree;
       queue = d.stage.acting.queue;
       programs = d.programs.items;
       handlers = d.handlers;
@@ -82,6 +82,22 @@ impl ActingDocument {
             ≡ kept_first document.tree document.rules document.programs.items
             (map told_handler document.handlers.items)) }
     {
+        if are_few_functions(&document.programs) {
+            ActingDocument::of(alloc, document)
+        } else {
+            Err(NoMemory)
+        }
+    }
+
+    // The same, where its programs declare few functions.
+    fn of(alloc: Global, document: Document) -> Result<ActingDocument, NoMemory>
+        requires places { HavePlaces document.scripts.items (length document.programs.items)
+            (map told_handler document.handlers.items) }
+        requires few { length (declared_by document.programs.items) < 2 ^ 48 }
+        ensures { IfOk result (λ acting. acting
+            ≡ kept_first document.tree document.rules document.programs.items
+            (map told_handler document.handlers.items)) }
+    {
         let Document {
             tree,
             rules,
@@ -90,9 +106,6 @@ impl ActingDocument {
             handlers,
             ..
         } = document;
-        if !are_few_functions(&programs) {
-            return Err(NoMemory);
-        }
         let body = body_of(&tree);
         let (stage, handlers, globals) = parts_of(alloc, tree, rules, handlers)?;
         Ok(ActingDocument {
@@ -127,8 +140,17 @@ impl ActingDocument {
         ensures grows { StartsWith out.new.items out.old.items }
     {
         let places = self.script_places()?;
+        self.run_places(places.as_slice(), out)
+    }
+
+    // Runs the programs at these places, one behind the other.
+    fn run_places(&mut self, places: &[u32], out: &mut Vec<u8>) -> Result<(), NoMemory>
+        ensures does { OnOk result (Does (spec_run_scripts places.now)
+            self.old self.new out.old.items out.new.items) }
+        ensures grows { StartsWith out.new.items out.old.items }
+    {
         'scripts: for place in places {
-            self.run_program("script", NO_EVENT, place as usize, out)?;
+            self.run_program("script", NO_EVENT, *place as usize, out)?;
         }
         Ok(())
     }
@@ -155,9 +177,26 @@ impl ActingDocument {
             self.old self.new out.old.items out.new.items) }
         ensures grows { StartsWith out.new.items out.old.items }
     {
-        if place >= self.programs.len() {
-            return Ok(());
+        if place < self.programs.len() {
+            self.run_there(name, event, place, out)
+        } else {
+            Ok(())
         }
+    }
+
+    // The same, where there is one.
+    fn run_there(
+        &mut self,
+        name: &'static str,
+        event: CurrentEvent,
+        place: usize,
+        out: &mut Vec<u8>,
+    ) -> Result<(), NoMemory>
+        requires { place < length self.old.programs }
+        ensures does { OnOk result (Does (spec_run_program name.now event place)
+            self.old self.new out.old.items out.new.items) }
+        ensures grows { StartsWith out.new.items out.old.items }
+    {
         self.stage.prepare(event);
         let outcome = run(
             self.programs.as_slice(),
@@ -204,11 +243,11 @@ impl ActingDocument {
         }
     }
 
-    // Ends the active state, where the key that is released is key 18 (enter).
+    // Ends the active state, where enter is released.
     fn release(&mut self, key: u8)
         ensures { Changes (released key) self.old self.new }
     {
-        if key == 18 {
+        if key == Key::Enter.number() {
             self.stage.deactivate();
         }
     }
@@ -246,8 +285,7 @@ impl ActingDocument {
             self.old self.new out.old.items out.new.items) }
         ensures grows { StartsWith out.new.items out.old.items }
     {
-        let place = self.handlers.program_of(node, event)?;
-        let Some(place) = place else {
+        let Some(place) = self.handlers.program_of(node, event) else {
             return Ok(());
         };
         let current = CurrentEvent {
@@ -320,9 +358,33 @@ fn parts_of(
     ensures globals { IfOk result (λ made. made.2 ≡ []) }
 {
     let stage = stage_of(alloc, tree, rules)?;
-    let handlers = Handlers::new(alloc, handlers)?;
+    with_handlers(alloc, stage, handlers)
+}
+
+// What is acted on, with these handlers, and globals.
+fn with_handlers(
+    alloc: Global,
+    stage: Stage,
+    handlers: Vec<Handler>,
+) -> Result<(Stage, Handlers, Globals), NoMemory>
+    ensures stage { IfOk result (λ made. made.0 ≡ stage) }
+    ensures handlers { IfOk result (λ made. made.1 ≡ map told_handler handlers.items) }
+    ensures globals { IfOk result (λ made. made.2 ≡ []) }
+{
+    match handlers_of(alloc, handlers) {
+        Ok((handlers, globals)) => Ok((stage, handlers, globals)),
+        Err(NoMemory) => Err(NoMemory),
+    }
+}
+
+// The handlers of a document, and its globals before scripts run.
+fn handlers_of(alloc: Global, handlers: Vec<Handler>) -> Result<(Handlers, Globals), NoMemory>
+    ensures handlers { IfOk result (λ made. made.0 ≡ map told_handler handlers.items) }
+    ensures globals { IfOk result (λ made. made.1 ≡ []) }
+{
     let globals = Globals::new(alloc)?;
-    Ok((stage, handlers, globals))
+    let handlers = Handlers::new(alloc, handlers)?;
+    Ok((handlers, globals))
 }
 
 // What a document that was read acts on.

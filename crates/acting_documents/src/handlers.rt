@@ -1,33 +1,31 @@
 //! The handlers of a document.
 
-ghost use Rattle.std.specs.Prelude.{◌≡◌, IfOk, OnOk, map};
+ghost use Rattle.std.specs.Prelude.{◌≡◌, IfOk, OnOk, map, option_and_then};
 ghost use Rattle.document_load.specs.ScriptViews.{told_handler};
 ghost use Rattle.acting_documents.specs.Documents.{handler_in};
-ghost use Rattle.acting_documents.specs.Handling.{attribute_of};
+ghost use Rattle.acting_documents.specs.Handling.{kind_of as spec_kind_of};
 ghost use Rattle.acting_documents.specs.Handlers.{Adds, IsIndexOf};
 
-use crate::attributes::AttributeNames;
-use bml_bytes::{NoMemory, Text};
-use document_load::Handler;
+use bml_bytes::NoMemory;
+use document_load::{Handler, HandlerKind};
 use dom_tree::NodeId;
 use event_queue::Event;
 use indexmap::IndexMap;
 use std::alloc::Global;
 use std::marker::Model;
 
-// An attribute of a node, by its name.
-#[derive(Drop, PartialEq, Eq, Hash)]
+// A kind of handlers, and the node that has one.
+#[derive(Clone, Copy, PartialEq, Eq, Hash)]
 struct HandlerKey {
     node: NodeId,
-    name: Text,
+    kind: HandlerKind,
 }
 
-/// The handlers of a document, with the places of their programs by node and attribute. Contracts
-/// see the list of the handlers.
+/// The handlers of a document, with the places of their programs by node and kind. Contracts see
+/// the list of the handlers.
 #[derive(Drop)]
 pub struct Handlers {
     handlers: Vec<Handler>,
-    names: AttributeNames,
     places: IndexMap<HandlerKey, u32>,
 }
 
@@ -50,52 +48,55 @@ impl Handlers {
     pub fn new(alloc: Global, handlers: Vec<Handler>) -> Result<Handlers, NoMemory>
         ensures { IfOk result (λ made. made ≡ map told_handler handlers.items) }
     {
-        let (names, places) = index_of(alloc, handlers.as_slice())?;
-        Ok(Handlers {
-            handlers,
-            names,
-            places,
-        })
+        let places = index_of(alloc, handlers.as_slice())?;
+        Ok(Handlers { handlers, places })
     }
 
     /// The place of the program of a node's handler of an event, and None where the node has none.
     /// It costs one look-up by hash.
-    pub fn program_of(&self, node: NodeId, event: Event) -> Result<Option<u32>, NoMemory>
-        ensures { IfOk result
-            (λ place. place ≡ handler_in self.now node.0 (attribute_of event)) }
+    pub fn program_of(&self, node: NodeId, event: Event) -> Option<u32>
+        ensures { result ≡ option_and_then (handler_in self.now node.0) (spec_kind_of event) }
     {
-        let key = HandlerKey {
-            node,
-            name: self.names.of(event).share()?,
-        };
-        Ok(self.places.get(&key).copied())
+        let kind = kind_of(event)?;
+        self.places.get(&HandlerKey { node, kind }).copied()
     }
 }
 
-// The names of the attributes of handlers, and the places of the programs of these, by node and
-// name.
-fn index_of(
-    alloc: Global,
-    handlers: &[Handler],
-) -> Result<(AttributeNames, IndexMap<HandlerKey, u32>), NoMemory>
-    ensures { IfOk result (λ made. IsIndexOf made.1.entries (map told_handler handlers.now)) }
+// The kind of the handlers of an event; there is none for `default`.
+fn kind_of(event: Event) -> Option<HandlerKind>
+    ensures { result ≡ spec_kind_of event }
+{
+    match event {
+        Event::Load => Some(HandlerKind::Load),
+        Event::Unload => Some(HandlerKind::Unload),
+        Event::Focus(_) => Some(HandlerKind::Focus),
+        Event::Blur(_) => Some(HandlerKind::Blur),
+        Event::Click(_) => Some(HandlerKind::Click),
+        Event::KeyDown(_) => Some(HandlerKind::KeyDown),
+        Event::KeyUp(_) => Some(HandlerKind::KeyUp),
+        Event::Default(_) => None,
+    }
+}
+
+// The places of the programs of handlers, by node and kind.
+fn index_of(alloc: Global, handlers: &[Handler]) -> Result<IndexMap<HandlerKey, u32>, NoMemory>
+    ensures { IfOk result (λ places. IsIndexOf places.entries (map told_handler handlers.now)) }
 {
     let mut places = IndexMap::new(alloc);
     'handlers: for handler in handlers {
         add_place(&mut places, handler)?;
     }
-    let names = AttributeNames::new(alloc)?;
-    Ok((names, places))
+    Ok(places)
 }
 
-// Adds the place of a handler's program, where its attribute has none yet.
+// Adds the place of a handler's program, where its node has none of its kind yet.
 fn add_place(places: &mut IndexMap<HandlerKey, u32>, handler: &Handler) -> Result<(), NoMemory>
     ensures { OnOk result
         (Adds (told_handler handler.now) places.old.entries places.new.entries) }
 {
     let key = HandlerKey {
         node: handler.node,
-        name: handler.name.share()?,
+        kind: handler.kind,
     };
     if !places.contains_key(&key) {
         places.insert(key, handler.program)?;

@@ -8,7 +8,6 @@
 //! `specs/Doings.antt`).
 #![tactic(auto)]
 
-mod attributes;
 mod documents;
 mod handlers;
 mod stop_lines;

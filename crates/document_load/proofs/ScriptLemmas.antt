@@ -17,6 +17,7 @@ use Rattle.es_reader.specs.Statements.{Item as ProgramItem}
 use Rattle.document_load.specs.StyleTexts.{given_for, own_text}
 use Rattle.document_load.specs.Scripts.{AreScripts, HandlerState, HavePlaces, Source, bad_numbers, is_named, script_places_by, script_places_from, unnamed_places, handler_source, handler_with, handlers_by, handlers_from, programs_by, script_sources, script_source, sources_at, sources_by}
 use Rattle.document_load.specs.ScriptViews.{told_handler}
+use Rattle.document_load.specs.declared.handler_kinds.HandlerKind.{HandlerKind}
 use Rattle.document_load.specs.ScriptSteps.{Adds, HasRead, IsSaidOf, element_place, handler_at, handlers_at, script_at}
 use Rattle.document_load.specs.declared.scripts.ScriptReader.{ScriptReader}
 use Rattle.document_load.proofs.NeedLemmas.{places_from-append}
@@ -102,7 +103,7 @@ AreScripts-same read sources programs others handlers more bad worse e f g a = r
 
 -- ---- places
 
-element_by : (place : ℕ) (o : Option (List ℕ)) → element_place place o ≡ (if is_none o then place ∷ [] else [])
+element_by : (place : ℕ) (o : Option HandlerKind) → element_place place o ≡ (if is_none o then place ∷ [] else [])
 element_by place None = refl
 element_by place (Some name) = refl
 
@@ -137,7 +138,7 @@ script_places-bad : (read : Reader) (sources : List Source) (source : Source) (e
 script_places-bad read sources source elements e are = are ∙ sym (append-nil (script_places_by read sources)) ∙ sym (script_places-more read sources source None e)
 
 -- a handler of the next program names none of those before it
-named-behind : (handlers : List HandlerState) (own : Option (List ℕ)) (node place count : ℕ) → place < count → is_named (handlers ++ option_to_list (handler_with count (record { node = node; handler = own; text = [] }))) place ≡ is_named handlers place
+named-behind : (handlers : List HandlerState) (own : Option HandlerKind) (node place count : ℕ) → place < count → is_named (handlers ++ option_to_list (handler_with count (record { node = node; handler = own; text = [] }))) place ≡ is_named handlers place
 named-behind [] None node place count low = refl
 named-behind [] (Some name) node place count low =
     let apart : nat_eq count place ≡ false = ne_eqb count place (omega arith) in
@@ -156,7 +157,7 @@ not_named (handler ∷ handlers) count low =
     ap (λ (b : Bool). b || is_named handlers count) apart ∙ not_named handlers count (All-tail (IsBelow count) handler handlers low)
 
 -- a handler of the next program names it
-named-own : (handlers : List HandlerState) (name : List ℕ) (node count : ℕ) → is_named (handlers ++ option_to_list (handler_with count (record { node = node; handler = Some name; text = [] }))) count ≡ true
+named-own : (handlers : List HandlerState) (name : HandlerKind) (node count : ℕ) → is_named (handlers ++ option_to_list (handler_with count (record { node = node; handler = Some name; text = [] }))) count ≡ true
 named-own [] name node count = let same : nat_eq count count ≡ true = eq-eqb count count refl in ap (λ (b : Bool). b || false) same
 named-own (handler ∷ handlers) name node count = ap (λ (b : Bool). nat_eq handler.program count || b) (named-own handlers name node count) ∙ or-true (nat_eq handler.program count)
   where
@@ -169,7 +170,7 @@ filter-below p q start zero same = refl
 filter-below p q start (suc count) same =
     ap₂ (λ (b : Bool) (l : List ℕ). cond b (start ∷ l) l) (same start (omega arith)) (filter-below p q (start + 1) count (λ k low. same k (omega arith)))
 
-unnamed-more : (count : ℕ) (handlers : List HandlerState) (own : Option (List ℕ)) (node : ℕ) → All (λ (handler : HandlerState). handler.program < count) handlers
+unnamed-more : (count : ℕ) (handlers : List HandlerState) (own : Option HandlerKind) (node : ℕ) → All (λ (handler : HandlerState). handler.program < count) handlers
     → unnamed_places count handlers ++ element_place count own ≡ unnamed_places (count + 1) (handlers ++ option_to_list (handler_with count (record { node = node; handler = own; text = [] })))
 unnamed-more count handlers own node low =
     let more = handlers ++ option_to_list (handler_with count (record { node = node; handler = own; text = [] })) in
@@ -178,14 +179,14 @@ unnamed-more count handlers own node low =
     ∙ sym (filter-append (λ place. not (is_named more place)) (range_with_len 0 count) (count ∷ []))
     ∙ ap (filter (λ place. not (is_named more place))) (sym (range_next count))
   where
-    last : (own : Option (List ℕ)) → element_place count own ≡ filter (λ place. not (is_named (handlers ++ option_to_list (handler_with count (record { node = node; handler = own; text = [] }))) place)) (count ∷ [])
+    last : (own : Option HandlerKind) → element_place count own ≡ filter (λ place. not (is_named (handlers ++ option_to_list (handler_with count (record { node = node; handler = own; text = [] }))) place)) (count ∷ [])
     last None = sym (ap (λ (b : Bool). cond (not b) (count ∷ []) []) (ap (λ (l : List HandlerState). is_named l count) (append-nil handlers) ∙ not_named handlers count low))
     last (Some name) = sym (ap (λ (b : Bool). cond (not b) (count ∷ []) []) (named-own handlers name node count))
 
-within-more : (count : ℕ) (handlers : List HandlerState) (own : Option (List ℕ)) (node : ℕ) → All (λ (handler : HandlerState). handler.program < count) handlers → All (λ (handler : HandlerState). handler.program < count + 1) (handlers ++ option_to_list (handler_with count (record { node = node; handler = own; text = [] })))
+within-more : (count : ℕ) (handlers : List HandlerState) (own : Option HandlerKind) (node : ℕ) → All (λ (handler : HandlerState). handler.program < count) handlers → All (λ (handler : HandlerState). handler.program < count + 1) (handlers ++ option_to_list (handler_with count (record { node = node; handler = own; text = [] })))
 within-more count handlers own node low = All-append (IsBelow (count + 1)) handlers _ (All-weaker (IsBelow count) (IsBelow (count + 1)) (λ handler below. omega (arith, below)) handlers low) (last own)
   where
-    last : (own : Option (List ℕ)) → All (IsBelow (count + 1)) (option_to_list (handler_with count (record { node = node; handler = own; text = [] })))
+    last : (own : Option HandlerKind) → All (IsBelow (count + 1)) (option_to_list (handler_with count (record { node = node; handler = own; text = [] })))
     last None = All-nil (IsBelow (count + 1))
     last (Some name) = All-cons (IsBelow (count + 1)) _ [] (omega arith) (All-nil (IsBelow (count + 1)))
 

@@ -1,6 +1,7 @@
 pub mod Needs
 pub mod Drafts
 pub mod StyleTexts
+pub mod HandlerKinds
 pub mod Scripts
 pub mod ScriptViews
 pub mod ScriptSteps

@@ -9,6 +9,7 @@ use Rattle.es_reader.specs.Statements.{Item as ProgramItem}
 use Rattle.document_load.specs.StyleTexts.{own_text}
 use Rattle.document_load.specs.Scripts.{AreScripts, HavePlaces, Source, handler_source, script_places_by, script_source}
 use Rattle.document_load.specs.ScriptViews.{told_handler}
+use Rattle.document_load.specs.declared.handler_kinds.HandlerKind.{HandlerKind}
 use Rattle.document_load.specs.declared.scripts.ScriptReader.{ScriptReader}
 
 -- each right reader says this of the text
@@ -51,6 +52,6 @@ abbrev pub handlers_at : List Item → ℕ → List Source
 handlers_at items node = filter_map (handler_source node) (attributes_of items node)
 
 -- the place of a program, where it isn't that of a handler
-abbrev pub element_place : ℕ → Option (List ℕ) → List ℕ
+abbrev pub element_place : ℕ → Option HandlerKind → List ℕ
 element_place place None = place ∷ []
-element_place place (Some name) = []
+element_place place (Some kind) = []

@@ -4,4 +4,4 @@ use Rattle.document_load.specs.declared.scripts.Handler.{Handler}
 
 abbrev pub told_handler : Handler → HandlerState
 told_handler handler =
-    record { node = handler.node.0; name = handler.name; program = handler.program }
+    record { node = handler.node.0; kind = handler.kind; program = handler.program }

@@ -13,24 +13,16 @@ use Rattle.es_reader.specs.Programs.{ToldProgram, Tells}
 use Rattle.es_reader.specs.Readers.{Reader}
 use Rattle.es_reader.specs.Statements.{Item as ProgramItem}
 use Rattle.document_load.specs.Drafts.{DraftState, draft_of, with_gifts}
+use Rattle.document_load.specs.HandlerKinds.{kind_named}
 use Rattle.document_load.specs.StyleTexts.{given_for, own_text}
+use Rattle.document_load.specs.declared.handler_kinds.HandlerKind.{HandlerKind}
 
 -- ---- sources
 
--- the attributes whose values are scripts
-abbrev pub handler_names : List (List ℕ)
-handler_names =
-    codes "onload" ∷ codes "onunload" ∷ codes "onkeydown" ∷ codes "onkeyup" ∷ codes "onclick"
-    ∷ codes "onfocus" ∷ codes "onblur" ∷ codes "onoccur" ∷ []
-
--- names compare by case
-abbrev pub is_handler_name : List ℕ → Bool
-is_handler_name name = list_any (is_same name) handler_names
-
--- a source: the node that has it; the attribute's name, where it is the value of one; its text
+-- a source: the node that has it; its kind, where it is a handler; its text
 pub record Source : Type 0 where
   pub node : ℕ
-  pub handler : Option (List ℕ)
+  pub handler : Option HandlerKind
   pub text : List ℕ
 
 -- The text of a `script` element: where it has `src`, what was given for the need that this names,
@@ -46,9 +38,8 @@ script_source node tag own gift attributes =
 
 abbrev pub handler_source : ℕ → Attribute → Option Source
 handler_source node attribute =
-    if is_handler_name attribute.name
-    then Some (record { node = node; handler = Some attribute.name; text = attribute.value })
-    else None
+    option_map (λ kind. record { node = node; handler = Some kind; text = attribute.value })
+    (kind_named attribute.name)
 
 -- the sources of an element: its script, where it is one, and then its handlers in the order written
 abbrev pub sources_by : ℕ → List ℕ → List ℕ → Content → List Source
@@ -80,15 +71,15 @@ programs_by read sources = filter_map (λ source. read source.text) sources
 abbrev pub bad_numbers : Reader → List Source → List ℕ
 bad_numbers read sources = map suc (places (λ source. is_none (read source.text)) sources)
 
--- a handler: its element, the name of its attribute, and the place of its program among the programs
+-- a handler: its element, its kind, and the place of its program among the programs
 pub record HandlerState : Type 0 where
   pub node : ℕ
-  pub name : List ℕ
+  pub kind : HandlerKind
   pub program : ℕ
 
 abbrev pub handler_with : ℕ → Source → Option HandlerState
 handler_with program source =
-    option_map (λ name. record { node = source.node; name = name; program = program }) source.handler
+    option_map (λ kind. record { node = source.node; kind = kind; program = program }) source.handler
 
 -- those among good sources, whose programs have the places from this one on
 abbrev pub handlers_from : ℕ → List Source → List HandlerState

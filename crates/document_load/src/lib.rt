@@ -12,6 +12,7 @@
 #![tactic(auto)]
 
 mod drafts;
+mod handler_kinds;
 mod laws;
 mod needs;
 mod node_texts;
@@ -19,5 +20,6 @@ mod scripts;
 mod style_texts;
 
 pub use crate::drafts::{Document, Draft, read_draft};
+pub use crate::handler_kinds::HandlerKind;
 pub use crate::laws::{law_of_gifts, law_of_needs};
 pub use crate::scripts::Handler;

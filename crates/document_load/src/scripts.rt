@@ -5,23 +5,24 @@ ghost use Rattle.std.specs.Option.{unwrap_or};
 ghost use Rattle.dom_tree.specs.Items.{attributes_of};
 ghost use Rattle.es_reader.specs.Readers.{Reader, IsReader};
 ghost use Rattle.document_load.specs.StyleTexts.{own_text as spec_own_text};
-ghost use Rattle.document_load.specs.Scripts.{AreScripts, HavePlaces, script_places_by, is_handler_name as spec_is_handler_name, script_sources, script_text as spec_script_text, sources_at};
+ghost use Rattle.document_load.specs.Scripts.{AreScripts, HavePlaces, script_places_by, script_sources, script_text as spec_script_text, sources_at};
 ghost use Rattle.document_load.specs.ScriptViews.{told_handler};
 ghost use Rattle.document_load.specs.ScriptSteps.{Adds, HasRead, IsSaidOf, element_place, handler_at, handlers_at, script_at};
 ghost use Rattle.document_load.specs.GiftViews.{AscendsFrom};
 
+use crate::handler_kinds::HandlerKind;
 use crate::node_texts::{gift_at, own_text, shared_text};
 use bml_bytes::{NoMemory, Text};
 use dom_tree::{NodeId, Tree};
 use es_reader::{Program, SyntaxFault, law_of_readers, read_program};
 use std::alloc::Global;
 
-/// A handler: the element that has it, the name of its attribute, and the place of its program
-/// among the document's programs.
-#[derive(Debug, Drop)]
+/// A handler: the element that has it, its kind, and the place of its program among the document's
+/// programs.
+#[derive(Clone, Copy, Debug)]
 pub struct Handler {
     pub node: NodeId,
-    pub name: Text,
+    pub kind: HandlerKind,
     pub program: u32,
 }
 
@@ -145,18 +146,22 @@ impl ScriptReader {
         let Some((name, value)) = tree.attribute_at(node, place) else {
             return Ok(());
         };
-        if is_handler_name(name) {
-            self.push(node, Some(name), value)?;
+        if let Some(kind) = HandlerKind::named(name) {
+            self.push(node, Some(kind), value)?;
         }
         Ok(())
     }
 
-    // Reads one source more: a text that a node has, as the value of the attribute of this name,
-    // where there is one.
-    fn push(&mut self, node: NodeId, handler: Option<&Text>, text: &Text) -> Result<(), NoMemory>
+    // Reads one source more: a text that a node has, as a handler where it has a kind.
+    fn push(
+        &mut self,
+        node: NodeId,
+        handler: Option<HandlerKind>,
+        text: &Text,
+    ) -> Result<(), NoMemory>
         ensures { OnOk result (Adds (record {
           node = node.0;
-          handler = option_copied handler.entry;
+          handler = handler;
           text = text.now;
         } ∷ []) self.old self.new) }
     {
@@ -173,21 +178,21 @@ impl ScriptReader {
 }
 
 impl Scripts {
-    // One program more: that of a handler, where this has a name, or of a script element.
+    // One program more: that of a handler, where it has a kind, or of a script element.
     fn push_program(
         &mut self,
         node: NodeId,
-        handler: Option<&Text>,
+        handler: Option<HandlerKind>,
         program: Program,
     ) -> Result<(), NoMemory>
         ensures programs { OnOk result
             (self.new.programs.items ≡ self.old.programs.items ++ program ∷ []) }
         ensures elements { OnOk result (self.new.elements.items ≡ self.old.elements.items
-            ++ element_place (length self.old.programs.items) (option_copied handler.entry)) }
+            ++ element_place (length self.old.programs.items) handler) }
         ensures handlers { OnOk result (map told_handler self.new.handlers.items
-            ≡ map told_handler self.old.handlers.items ++ option_to_list (option_map (λ name.
-            record { node = node.0; name = name; program = length self.old.programs.items })
-            (option_copied handler.entry))) }
+            ≡ map told_handler self.old.handlers.items ++ option_to_list (option_map (λ kind.
+            record { node = node.0; kind = kind; program = length self.old.programs.items })
+            handler)) }
         ensures bad { OnOk result (self.new.bad.items ≡ self.old.bad.items) }
     {
         self.push_place(node, handler)?;
@@ -196,28 +201,25 @@ impl Scripts {
     }
 
     // The place of the next program, as that of a handler or of a script element.
-    fn push_place(&mut self, node: NodeId, handler: Option<&Text>) -> Result<(), NoMemory>
+    fn push_place(&mut self, node: NodeId, handler: Option<HandlerKind>) -> Result<(), NoMemory>
         ensures programs { self.new.programs ≡ self.old.programs }
         ensures elements { OnOk result (self.new.elements.items ≡ self.old.elements.items
-            ++ element_place (length self.old.programs.items) (option_copied handler.entry)) }
+            ++ element_place (length self.old.programs.items) handler) }
         ensures handlers { OnOk result (map told_handler self.new.handlers.items
-            ≡ map told_handler self.old.handlers.items ++ option_to_list (option_map (λ name.
-            record { node = node.0; name = name; program = length self.old.programs.items })
-            (option_copied handler.entry))) }
+            ≡ map told_handler self.old.handlers.items ++ option_to_list (option_map (λ kind.
+            record { node = node.0; kind = kind; program = length self.old.programs.items })
+            handler)) }
         ensures bad { self.new.bad ≡ self.old.bad }
     {
         let Ok(program) = u32::try_from(self.programs.len()) else {
             return Err(NoMemory);
         };
         match handler {
-            Some(name) => {
-                let name = name.share()?;
-                self.handlers.push(Handler {
-                    node,
-                    name,
-                    program,
-                })?;
-            }
+            Some(kind) => self.handlers.push(Handler {
+                node,
+                kind,
+                program,
+            })?,
             None => self.elements.push(program)?,
         }
         Ok(())
@@ -254,18 +256,4 @@ fn script_text(
         Some(_) => shared_text(alloc, gift),
         None => own_text(alloc, tree, node),
     }
-}
-
-// Whether the values of attributes of this name are scripts.
-fn is_handler_name(name: &Text) -> bool
-    ensures { result ≡ spec_is_handler_name name.now }
-{
-    name.is_word("onload")
-        || name.is_word("onunload")
-        || name.is_word("onkeydown")
-        || name.is_word("onkeyup")
-        || name.is_word("onclick")
-        || name.is_word("onfocus")
-        || name.is_word("onblur")
-        || name.is_word("onoccur")
 }

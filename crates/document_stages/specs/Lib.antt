@@ -1,3 +1,4 @@
 pub mod EventLines
 pub mod Acting
+pub mod Displays
 pub mod Stages

@@ -2,8 +2,8 @@
 use Rattle.std.specs.Prelude.{◌≡◌, ℕ, List, IfSome, Option}
 use Rattle.dom_tree.specs.Items.{IsElement, Item}
 use Rattle.dom_tree.specs.declared.node_ids.NodeId.{NodeId}
-use Rattle.style_cascade.specs.Keeping.{IsRight, StylesState}
-use Rattle.style_cascade.specs.States.{present_state}
+use Rattle.style_cascade.specs.Keeping.{StylesState}
+use Rattle.style_cascade.specs.StyledTrees.{AreStylesOf}
 use Rattle.style_cascade.specs.declared.states.Focus.{Focus}
 use Rattle.es_values.specs.Conversions.{text_of}
 use Rattle.es_values.specs.Objects.{ObjectState}
@@ -23,7 +23,7 @@ IsElementOf items node = IfSome node (λ n. IsElement items n.0)
 
 -- the styles are those of the tree and the focus, and elements have the focus and are active
 pub record IsStaged (items : List Item) (focus : Focus) (styles : StylesState) : Type 0 where
-  pub right : IsRight items (present_state focus) styles
+  pub right : AreStylesOf items focus styles
   pub focus_is : IsElementOf items focus.focus
   pub active_is : IsElementOf items focus.active
 

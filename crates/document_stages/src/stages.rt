@@ -5,17 +5,16 @@ ghost use Rattle.std.specs.Prelude.{◌≡◌, ◌++◌, ℕ, [], false, None, d
 ghost use Rattle.dom_tree.specs.Items.{IsElement};
 ghost use Rattle.dom_tree.specs.NodeNumbers.{number_of};
 ghost use Rattle.style_cascade.specs.Keeping.{IsRight};
-ghost use Rattle.style_cascade.specs.States.{is_node, present_state};
+ghost use Rattle.style_cascade.specs.States.{is_node};
+ghost use Rattle.style_cascade.specs.StyledTrees.{AreStylesOf, styled_tree};
 ghost use Rattle.style_cascade.specs.declared.states.State.{State};
 ghost use Rattle.focus_keys.specs.Defaults.{action_of};
 ghost use Rattle.focus_keys.specs.KeyTables.{passes_list};
 ghost use Rattle.focus_keys.specs.Targets.{normal_value};
 ghost use Rattle.style_reader.specs.declared.properties.Property.TheVariants as property;
-ghost use Rattle.display_list.specs.Show.{display_lines};
-ghost use Rattle.display_list.specs.Shown.{shown_by};
-ghost use Rattle.focus_keys.specs.Views.{styled_by};
 ghost use Rattle.event_queue.specs.Queues.{first_of};
-ghost use Rattle.document_stages.specs.Acting.{activated, acted, begun, first_focus, focused, key_posts, left_by, moved_to, no_focus, posted};
+ghost use Rattle.document_stages.specs.Acting.{activated, acted, begun, first_focus, focused, has_focus as spec_has_focus, key_posts, left_by, moved_to, no_focus, posted, with_focus};
+ghost use Rattle.document_stages.specs.Displays.{tree_lines};
 ghost use Rattle.document_stages.specs.Stages.{IsElementOf};
 
 mod hosts;
@@ -59,15 +58,14 @@ pub struct Stage {
 }
 
 impl Model for Stage {
+    ghost use Rattle.style_cascade.specs.StyledTrees.{styled_tree};
     ghost use Rattle.document_stages.specs.Stages.{IsStaged, StageState};
 
     ghost Value = { StageState };
 
     ghost view = { λ s. record {
       acting = record {
-        items = s.tree;
-        sources = s.styles.sources;
-        focus = s.focus;
+        tree = styled_tree s.tree s.styles s.focus;
         queue = s.queue;
         event = s.event;
         text = s.text.items;
@@ -84,9 +82,7 @@ impl Stage {
         requires { (states : ℕ → State) → IsRight tree states styles }
         ensures { result ≡ record {
           acting = record {
-            items = tree;
-            sources = styles.sources;
-            focus = no_focus;
+            tree = styled_tree tree styles no_focus;
             queue = [];
             event = record { event = None; target = 0 };
             text = [];
@@ -120,7 +116,7 @@ impl Stage {
     /// element is active behind it. A move to the element that has the focus does nothing.
     #[tactic(auto, unfolding(crate::specs::Acting::moved_to))]
     pub fn move_focus(&mut self, node: NodeId) -> Result<(), NoMemory>
-        requires element { IsElement self.old.acting.items node.0 }
+        requires element { IsElement self.old.acting.tree.items node.0 }
         ensures moved { OnOk result (self.new.acting ≡ moved_to node.0 self.old.acting) }
         ensures worked { self.new.worked ≡ self.old.worked }
     {
@@ -140,7 +136,7 @@ impl Stage {
 
     /// Moves the focus to an element where it can have it.
     pub fn focus_on(&mut self, node: NodeId) -> Result<(), NoMemory>
-        requires element { IsElement self.old.acting.items node.0 }
+        requires element { IsElement self.old.acting.tree.items node.0 }
         ensures focused { OnOk result (self.new.acting ≡ focused node.0 self.old.acting) }
     {
         if is_focusable(&self.tree, &mut self.styles, &self.focus, node) {
@@ -164,9 +160,9 @@ impl Stage {
 
     /// Gives elements the focus and the active state, or none, and posts nothing.
     pub fn set_focus(&mut self, focus: Focus)
-        requires focus { IsElementOf self.old.acting.items focus.focus }
-        requires active { IsElementOf self.old.acting.items focus.active }
-        ensures acting { self.new.acting ≡ record self.old.acting { focus = focus } }
+        requires focus { IsElementOf self.old.acting.tree.items focus.focus }
+        requires active { IsElementOf self.old.acting.tree.items focus.active }
+        ensures acting { self.new.acting ≡ with_focus focus self.old.acting }
         ensures worked { self.new.worked ≡ self.old.worked }
     {
         follow_focus(&self.tree, &mut self.styles, &self.focus, &focus);
@@ -175,7 +171,7 @@ impl Stage {
 
     // Whether this node has the focus.
     fn has_focus(&self, node: NodeId) -> bool
-        ensures { result ≡ is_node node.0 self.now.acting.focus.focus }
+        ensures { result ≡ spec_has_focus node.0 self.now.acting }
     {
         match self.focus.focus {
             Some(focus) => focus.0 == node.0,
@@ -218,16 +214,15 @@ impl Stage {
 
     /// The element that has the focus.
     pub fn focused(&self) -> Option<NodeId>
-        ensures { result ≡ self.now.acting.focus.focus }
+        ensures { result ≡ self.now.acting.tree.focus.focus }
     {
         self.focus.focus
     }
 
     /// No element is active any more.
     pub fn deactivate(&mut self)
-        ensures acting { self.new.acting ≡ record self.old.acting {
-          focus = record { focus = self.old.acting.focus.focus; active = None };
-        } }
+        ensures acting { self.new.acting
+            ≡ with_focus (record self.old.acting.tree.focus { active = None }) self.old.acting }
         ensures worked { self.new.worked ≡ self.old.worked }
     {
         self.set_focus(Focus {
@@ -239,9 +234,8 @@ impl Stage {
     /// Makes the default action of a key: the focus moves, or it becomes active and is clicked, or
     /// an element is given it and clicked.
     pub fn act_by_default(&mut self, key: u8) -> Result<(), NoMemory>
-        ensures acted { OnOk result (self.new.acting ≡ acted
-            (action_of (styled_by self.old.acting.items self.old.acting.sources
-            self.old.acting.focus) key (number_of self.old.acting.focus.focus)) self.old.acting) }
+        ensures acted { OnOk result (self.new.acting
+            ≡ acted (action_of self.old.acting.tree key) self.old.acting) }
     {
         match default_of(key, &self.tree, &mut self.styles, &self.focus) {
             KeyDefault::Nothing => Ok(()),
@@ -256,7 +250,7 @@ impl Stage {
 
     // The element is active, and is clicked.
     fn activate(&mut self, node: NodeId) -> Result<(), NoMemory>
-        requires element { IsElement self.old.acting.items node.0 }
+        requires element { IsElement self.old.acting.tree.items node.0 }
         ensures activated { OnOk result (self.new.acting ≡ activated node.0 self.old.acting) }
         ensures worked { self.new.worked ≡ self.old.worked }
     {
@@ -290,7 +284,7 @@ impl Stage {
     // The element that gets the focus where none has it.
     fn first_focus(&mut self) -> Option<NodeId>
         ensures target { number_of result ≡ first_focus self.old.acting }
-        ensures within { IsElementOf self.old.acting.items result }
+        ensures within { IsElementOf self.old.acting.tree.items result }
         ensures acting { self.new.acting ≡ self.old.acting }
     {
         if self.focus.focus.is_some() {
@@ -301,9 +295,9 @@ impl Stage {
 
     /// Whether the used-key-list of the body lets a key pass.
     pub fn passes(&mut self, body: NodeId, key: u8) -> bool
-        requires element { IsElement self.old.acting.items body.0 }
-        ensures passes { result ≡ passes_list (normal_value (styled_by self.old.acting.items
-            self.old.acting.sources self.old.acting.focus) body.0 property.UsedKeyList) key }
+        requires element { IsElement self.old.acting.tree.items body.0 }
+        ensures passes { result ≡ passes_list
+            (normal_value self.old.acting.tree body.0 property.UsedKeyList) key }
         ensures acting { self.new.acting ≡ self.old.acting }
     {
         let list = self.styles.get(
@@ -332,9 +326,8 @@ impl Stage {
 
     /// Appends the display list: the boxes, texts and pictures, and the focus.
     pub fn show(&mut self, out: &mut Vec<u8>) -> Result<(), NoMemory>
-        ensures shown { OnOk result (out.new.items ≡ out.old.items ++ display_lines
-            (shown_by self.old.acting.items self.old.acting.sources self.old.acting.focus)
-            (number_of self.old.acting.focus.focus)) }
+        ensures shown { OnOk result
+            (out.new.items ≡ out.old.items ++ tree_lines self.old.acting.tree) }
         ensures acting { self.new.acting ≡ self.old.acting }
         ensures grows { StartsWith out.new.items out.old.items }
     {
@@ -352,12 +345,12 @@ impl Stage {
 // The styles follow a change of the focus and of the active element: each element whose state may
 // have changed is told.
 fn follow_focus(tree: &Tree, styles: &mut Styles, before: &Focus, after: &Focus)
-    requires right { IsRight tree.now (present_state before.now) styles.old }
+    requires right { AreStylesOf tree.now before.now styles.old }
     requires old_focus { IsElementOf tree.now before.now.focus }
     requires old_active { IsElementOf tree.now before.now.active }
     requires new_focus { IsElementOf tree.now after.now.focus }
     requires new_active { IsElementOf tree.now after.now.active }
-    ensures right { IsRight tree.now (present_state after.now) styles.new }
+    ensures right { AreStylesOf tree.now after.now styles.new }
     ensures sources { styles.new.sources ≡ styles.old.sources }
     ensures worked { styles.new.worked ≡ styles.old.worked }
 {

@@ -3,7 +3,7 @@
 //!
 //! They stand here since a crate with tests is proved twice, and these libraries are proved once.
 //! What documents are and do is shown by runs of the program, which cost no proof: by the rows of
-//! `tools/document_rows.py`, `tools/style_rows.py` and `tools/node_rows.py`, and by `tables/`.
+//! `tools/rows/document_rows.py`, `tools/rows/style_rows.py` and `tools/rows/node_rows.py`, and by `tables/`.
 #![tactic(auto)]
 
 #[cfg(test)]

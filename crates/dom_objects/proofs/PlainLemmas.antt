@@ -1,6 +1,6 @@
 -- What is read is neither an object nor a function.
 use Rattle.std.proofs.Common.{◌≡◌, ℕ, Bool, true, false, cond, List, [], ◌∷◌, ◌++◌, Option, Some, None, refl}
-use Rattle.std.specs.Prelude.{◌&&◌, is_some, unwrap_or, if◌then◌else◌, codes}
+use Rattle.std.specs.Prelude.{◌&&◌, is_some, unwrap_or, if◌then◌else◌}
 use Rattle.std.specs.List.{list_all}
 use Rattle.std.specs.Option.{option_map_or}
 use Rattle.std.proofs.lemmas.Bool.{and_parts}
@@ -8,6 +8,8 @@ use Rattle.bml_bytes.specs.Words.{is_same}
 use Rattle.dom_tree.specs.Items.{Item, parent_of, tag_of, text_of}
 use Rattle.dom_tree.specs.NodeNumbers.{number_of}
 use Rattle.dom_tree.specs.Walks.{after, before, children_of, first, last, siblings_of}
+use Rattle.style_cascade.specs.StyledTrees.{StyledTree}
+use Rattle.style_cascade.specs.declared.states.Focus.{Focus}
 use Rattle.style_cascade.specs.declared.states.State.{State}
 use Rattle.style_reader.specs.declared.properties.Property.{Property}
 use Rattle.es_values.specs.Values.{is_plain}
@@ -15,9 +17,11 @@ use Rattle.es_values.specs.declared.values.HostRef.{HostRef}
 use Rattle.es_values.specs.declared.values.HostRef.TheVariants.{Document, Browser, Ureg, Greg, Event, Node, Style}
 use Rattle.es_values.specs.declared.values.Value.TheVariants.{Undefined, Null, Host}
 use Rattle.event_queue.specs.declared.events.Event.{Event as TheEvent}
-use Rattle.event_queue.specs.declared.events.Event.TheVariants.{Load, Unload, Focus, Blur, Click, KeyDown, KeyUp, Default}
+use Rattle.event_queue.specs.declared.events.Event.TheVariants as events
 use Rattle.dom_objects.specs.Parts.{Parts, state_of_number}
-use Rattle.dom_objects.specs.Reads.{Rows, attribute_value, document_rows, element_rows, event_rows, is_input_tag, is_object_tag, key_rows, node_rows, node_value, own_rows, property_named, read_in, read_value, row_of, style_read, style_text, text_rows, walk_rows}
+use Rattle.dom_objects.specs.declared.current_events.CurrentEvent.{CurrentEvent}
+use Rattle.dom_objects.specs.Reads.{ElementRow, ElementTable, Rows, document_rows, element_rows, element_table, element_value, event_rows, key_rows, node_rows, node_value, own_rows, own_table, property_named, read_in, read_value, row_of, table_rows, style_read, style_text, text_rows, walk_rows}
+use Rattle.dom_objects.specs.Reads.ElementRow.{Tag, Attribute, StyleFor}
 
 abbrev are_plain : Rows → Bool
 are_plain rows = list_all (λ row. is_plain row.1) rows
@@ -43,58 +47,71 @@ plain-walks items node more h =
     with_node (parent_of items node) _ (with_node (first (children_of items node)) _ (with_node (last (children_of items node)) _
     (with_node (before (siblings_of items node) node) _ (with_node (after (siblings_of items node) node) _ h))))
 
-plain-own : (items : List Item) (node : ℕ) (tag : List ℕ) → are_plain (own_rows items node tag) ≡ true
-plain-own items node tag = by (is_object_tag tag) (is_input_tag tag)
+plain-table : (items : List Item) (node : ℕ) (tag : List ℕ) (table : ElementTable) → are_plain (table_rows items node tag table) ≡ true
+plain-table items node tag [] = refl
+plain-table items node tag (row ∷ table) = by row.1 (are_plain (table_rows items node tag table)) (plain-table items node tag table)
   where
-    by : (object input : Bool) → are_plain (if object then ((codes "data", attribute_value items node (codes "data")) ∷ (codes "type", attribute_value items node (codes "type")) ∷ []) else if input then ((codes "value", attribute_value items node (codes "value")) ∷ []) else []) ≡ true
-    by true input = refl
-    by false true = refl
-    by false false = refl
+    by : (r : ElementRow) (rest : Bool) → rest ≡ true → (is_plain (element_value items node tag r) && rest) ≡ true
+    by Tag rest h = h
+    by (Attribute name) rest h = h
+    by (StyleFor state) rest h = h
+
+plain-both : (one other : Rows) → are_plain one ≡ true → are_plain other ≡ true → are_plain (one ++ other) ≡ true
+plain-both [] other h k = k
+plain-both (row ∷ one) other h k =
+    let parts = and_parts (is_plain row.1) (are_plain one) h in
+    by (is_plain row.1) parts.0 (plain-both one other parts.1 k)
+  where
+    by : (b : Bool) → b ≡ true → are_plain (one ++ other) ≡ true → (b && are_plain (one ++ other)) ≡ true
+    by true e rest = rest
+    by false e rest = absurd (cc e)
 
 plain-nodes : (items : List Item) (node : ℕ) → are_plain (node_rows items node) ≡ true
 unfolding node_rows
 plain-nodes items node = by (tag_of items node) (text_of items node)
   where
     by : (tag text : Option (List ℕ)) → are_plain (option_map_or (λ t. walk_rows items node ++ (element_rows items node t ++ own_rows items node t)) tag (option_map_or (λ t. walk_rows items node ++ text_rows t) text [])) ≡ true
-    by (Some tag) text = plain-walks items node (element_rows items node tag ++ own_rows items node tag) (plain-own items node tag)
+    by (Some tag) text =
+        plain-walks items node (element_rows items node tag ++ own_rows items node tag)
+        (plain-both (element_rows items node tag) (own_rows items node tag) (plain-table items node tag element_table) (plain-table items node tag (own_table tag)))
     by None (Some text) = plain-walks items node (text_rows text) refl
     by None None = refl
 
 -- ---- the document and the current event
 
-plain-document : (parts : Parts) → are_plain (document_rows parts) ≡ true
-plain-document parts = by parts.event.event (number_of parts.focus.focus)
+plain-document : (focus : Focus) (current : CurrentEvent) → are_plain (document_rows focus current) ≡ true
+plain-document focus current = by current.event (number_of focus.focus)
   where
-    by : (event : Option TheEvent) (focus : Option ℕ) → (is_plain (option_map_or (λ e. Host Event) event Null) && (is_plain (node_value focus) && true)) ≡ true
+    by : (event : Option TheEvent) (node : Option ℕ) → (is_plain (option_map_or (λ e. Host Event) event Null) && (is_plain (node_value node) && true)) ≡ true
     by None None = refl
     by None (Some node) = refl
     by (Some event) None = refl
     by (Some event) (Some node) = refl
 
 plain-keys : (event : TheEvent) → are_plain (key_rows event) ≡ true
-plain-keys Load = refl
-plain-keys Unload = refl
-plain-keys (Focus node) = refl
-plain-keys (Blur node) = refl
-plain-keys (Click node) = refl
-plain-keys (KeyDown key) = refl
-plain-keys (KeyUp key) = refl
-plain-keys (Default key) = refl
+plain-keys events.Load = refl
+plain-keys events.Unload = refl
+plain-keys (events.Focus node) = refl
+plain-keys (events.Blur node) = refl
+plain-keys (events.Click node) = refl
+plain-keys (events.KeyDown key) = refl
+plain-keys (events.KeyUp key) = refl
+plain-keys (events.Default key) = refl
 
-plain-events : (parts : Parts) → are_plain (event_rows parts) ≡ true
-plain-events parts = by parts.event.event
+plain-events : (current : CurrentEvent) → are_plain (event_rows current) ≡ true
+plain-events current = by current.event
   where
-    by : (event : Option TheEvent) → are_plain (event_rows (record parts { event = record parts.event { event = event } })) ≡ true
+    by : (event : Option TheEvent) → are_plain (event_rows (record current { event = event })) ≡ true
     by None = refl
     by (Some event) = plain-keys event
 
 -- ---- styles
 
-plain-styles : (parts : Parts) (node number : ℕ) (name : List ℕ) → is_plain (style_read parts node number name) ≡ true
+plain-styles : (tree : StyledTree) (node number : ℕ) (name : List ℕ) → is_plain (style_read tree node number name) ≡ true
 unfolding style_read
-plain-styles parts node number name = by (if is_some (tag_of parts.items node) then state_of_number number else None) (property_named name)
+plain-styles tree node number name = by (if is_some (tag_of tree.items node) then state_of_number number else None) (property_named name)
   where
-    by : (state : Option State) (property : Option Property) → is_plain (option_map_or (λ s. option_map_or (style_text parts node s) property Undefined) state Undefined) ≡ true
+    by : (state : Option State) (property : Option Property) → is_plain (option_map_or (λ s. option_map_or (style_text tree node s) property Undefined) state Undefined) ≡ true
     by None property = refl
     by (Some state) None = refl
     by (Some state) (Some property) = refl
@@ -103,10 +120,10 @@ plain-styles parts node number name = by (if is_some (tag_of parts.items node) t
 
 pub plain-value : (parts : Parts) (base : HostRef) (name : List ℕ) → is_plain (read_value parts base name) ≡ true
 unfolding read_value
-plain-value parts Document name = plain-read (document_rows parts) (plain-document parts) name
+plain-value parts Document name = plain-read (document_rows parts.tree.focus parts.event) (plain-document parts.tree.focus parts.event) name
 plain-value parts Browser name = refl
 plain-value parts Ureg name = refl
 plain-value parts Greg name = refl
-plain-value parts Event name = plain-read (event_rows parts) (plain-events parts) name
-plain-value parts (Node node) name = plain-read (node_rows parts.items node) (plain-nodes parts.items node) name
-plain-value parts (Style node number) name = plain-styles parts node number name
+plain-value parts Event name = plain-read (event_rows parts.event) (plain-events parts.event) name
+plain-value parts (Node node) name = plain-read (node_rows parts.tree.items node) (plain-nodes parts.tree.items node) name
+plain-value parts (Style node number) name = plain-styles parts.tree node number name

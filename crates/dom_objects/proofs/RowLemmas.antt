@@ -9,7 +9,8 @@ use Rattle.style_cascade.specs.declared.states.State.{State}
 use Rattle.style_reader.specs.declared.properties.Property.{Property}
 use Rattle.es_values.specs.declared.values.Value.{Value}
 use Rattle.es_values.specs.declared.values.Value.TheVariants.{Undefined}
-use Rattle.dom_objects.specs.Parts.{Parts, state_of_number}
+use Rattle.style_cascade.specs.StyledTrees.{StyledTree}
+use Rattle.dom_objects.specs.Parts.{state_of_number}
 use Rattle.dom_objects.specs.Reads.{Rows, element_rows, node_rows, own_rows, property_named, row_of, style_read, style_text, text_rows, walk_rows}
 
 -- ---- lists of rows behind one another
@@ -51,9 +52,9 @@ node_rows-outside items node h =
 
 -- ---- styles
 
-pub style_read-is : (parts : Parts) (node number : ℕ) (name : List ℕ) (state : State) (property : Property) → is_some (tag_of parts.items node) ≡ true → state_of_number number ≡ Some state → property_named name ≡ Some property → style_read parts node number name ≡ style_text parts node state property
+pub style_read-is : (tree : StyledTree) (node number : ℕ) (name : List ℕ) (state : State) (property : Property) → is_some (tag_of tree.items node) ≡ true → state_of_number number ≡ Some state → property_named name ≡ Some property → style_read tree node number name ≡ style_text tree node state property
 unfolding style_read
-style_read-is parts node number name state property element of_number named =
-    ap (λ (b : Bool). option_map_or (λ s. option_map_or (style_text parts node s) (property_named name) Undefined) (cond b (state_of_number number) None) Undefined) element
-    ∙ ap (λ (s : Option State). option_map_or (λ s. option_map_or (style_text parts node s) (property_named name) Undefined) s Undefined) of_number
-    ∙ ap (λ (p : Option Property). option_map_or (style_text parts node state) p Undefined) named
+style_read-is tree node number name state property element of_number named =
+    ap (λ (b : Bool). option_map_or (λ s. option_map_or (style_text tree node s) (property_named name) Undefined) (cond b (state_of_number number) None) Undefined) element
+    ∙ ap (λ (s : Option State). option_map_or (λ s. option_map_or (style_text tree node s) (property_named name) Undefined) s Undefined) of_number
+    ∙ ap (λ (p : Option Property). option_map_or (style_text tree node state) p Undefined) named

@@ -11,9 +11,10 @@ use Rattle.dom_tree.specs.Walks.{after, before, children_of, first, last, siblin
 use Rattle.style_reader.specs.Properties.{all_properties, script_name_of}
 use Rattle.style_reader.specs.Values.{printed}
 use Rattle.style_reader.specs.declared.properties.Property.{Property}
-use Rattle.style_cascade.specs.Cascade.{style_value}
-use Rattle.style_cascade.specs.States.{present_state}
+use Rattle.style_cascade.specs.StyledTrees.{StyledTree, styled_value}
+use Rattle.style_cascade.specs.declared.states.Focus.{Focus}
 use Rattle.style_cascade.specs.declared.states.State.{State}
+use Rattle.style_cascade.specs.declared.states.State.TheVariants as states
 use Rattle.es_values.specs.Numbers.{number_of_count}
 use Rattle.es_values.specs.declared.numbers.Num.TheVariants.{Whole}
 use Rattle.es_values.specs.declared.values.HostRef.{HostRef}
@@ -23,7 +24,8 @@ use Rattle.es_values.specs.declared.values.Value.TheVariants.{Undefined, Null, N
 use Rattle.event_queue.specs.Events.{name_of}
 use Rattle.event_queue.specs.declared.events.Event.{Event as TheEvent}
 use Rattle.event_queue.specs.declared.events.Event.TheVariants.{KeyDown, KeyUp, Default}
-use Rattle.dom_objects.specs.Parts.{Parts, state_of_number}
+use Rattle.dom_objects.specs.Parts.{Parts, state_number, state_of_number}
+use Rattle.dom_objects.specs.declared.current_events.CurrentEvent.{CurrentEvent}
 
 -- names with the values that they read as
 abbrev pub Rows : Type 0
@@ -56,20 +58,29 @@ abbrev pub text_rows : List ℕ → Rows
 text_rows text =
     (codes "data", Str text) ∷ (codes "length", Number (number_of_count (length text))) ∷ []
 
--- an attribute, which reads as the empty text where it is absent
-abbrev pub attribute_value : List Item → ℕ → List ℕ → Value
-attribute_value items node name = Str (unwrap_or (value_of items node name) [])
+-- the style of an element for a state
+abbrev pub style_of : ℕ → State → Value
+style_of node state = Host (Style node (state_number state))
 
--- an element
-abbrev pub element_rows : List Item → ℕ → List ℕ → Rows
-element_rows items node tag =
-    (codes "tagName", Str tag)
-    ∷ (codes "id", attribute_value items node (codes "id"))
-    ∷ (codes "className", attribute_value items node (codes "class"))
-    ∷ (codes "accessKey", attribute_value items node (codes "accesskey"))
-    ∷ (codes "normalStyle", Host (Style node 0))
-    ∷ (codes "focusStyle", Host (Style node 1))
-    ∷ (codes "activeStyle", Host (Style node 2)) ∷ []
+-- what an element has under a name: its tag, an attribute, or its style for a state
+pub data ElementRow : Type 0 where
+  Tag : ElementRow
+  Attribute : (name : List ℕ) → ElementRow
+  StyleFor : (state : State) → ElementRow
+
+abbrev pub ElementTable : Type 0
+ElementTable = List (List ℕ × ElementRow)
+
+-- what each element has
+abbrev pub element_table : ElementTable
+element_table =
+    (codes "tagName", Tag)
+    ∷ (codes "id", Attribute (codes "id"))
+    ∷ (codes "className", Attribute (codes "class"))
+    ∷ (codes "accessKey", Attribute (codes "accesskey"))
+    ∷ (codes "normalStyle", StyleFor states.Normal)
+    ∷ (codes "focusStyle", StyleFor states.Focus)
+    ∷ (codes "activeStyle", StyleFor states.Active) ∷ []
 
 -- what only an object and only an input have; their tags compare by case
 abbrev pub is_object_tag : List ℕ → Bool
@@ -78,14 +89,34 @@ is_object_tag tag = is_same tag (codes "object")
 abbrev pub is_input_tag : List ℕ → Bool
 is_input_tag tag = is_same tag (codes "input")
 
-abbrev pub own_rows : List Item → ℕ → List ℕ → Rows
-own_rows items node tag =
+abbrev pub own_table : List ℕ → ElementTable
+own_table tag =
     if is_object_tag tag
-    then (codes "data", attribute_value items node (codes "data"))
-    ∷ (codes "type", attribute_value items node (codes "type")) ∷ []
+    then (codes "data", Attribute (codes "data")) ∷ (codes "type", Attribute (codes "type")) ∷ []
     else if is_input_tag tag
-    then (codes "value", attribute_value items node (codes "value")) ∷ []
+    then (codes "value", Attribute (codes "value")) ∷ []
     else []
+
+-- an attribute reads as the empty text where it is absent
+abbrev pub attribute_value : List Item → ℕ → List ℕ → Value
+attribute_value items node name = Str (unwrap_or (value_of items node name) [])
+
+abbrev pub element_value : List Item → ℕ → List ℕ → ElementRow → Value
+element_value items node tag Tag = Str tag
+element_value items node tag (Attribute name) = attribute_value items node name
+element_value items node tag (StyleFor state) = style_of node state
+
+-- the rows of an element by a table
+abbrev pub table_rows : List Item → ℕ → List ℕ → ElementTable → Rows
+table_rows items node tag [] = []
+table_rows items node tag (row ∷ table) =
+    (row.0, element_value items node tag row.1) ∷ table_rows items node tag table
+
+abbrev pub element_rows : List Item → ℕ → List ℕ → Rows
+element_rows items node tag = table_rows items node tag element_table
+
+abbrev pub own_rows : List Item → ℕ → List ℕ → Rows
+own_rows items node tag = table_rows items node tag (own_table tag)
 
 -- what the node is: an element, a text, or no node of the document, of which nothing can be read
 unfoldable pub node_rows : List Item → ℕ → Rows
@@ -97,10 +128,10 @@ node_rows items node =
 
 -- ---- the document and the current event
 
-abbrev pub document_rows : Parts → Rows
-document_rows parts =
-    (codes "currentEvent", option_map_or (λ event. Host Event) parts.event.event Null)
-    ∷ (codes "currentFocus", node_value (number_of parts.focus.focus)) ∷ []
+abbrev pub document_rows : Focus → CurrentEvent → Rows
+document_rows focus current =
+    (codes "currentEvent", option_map_or (λ event. Host Event) current.event Null)
+    ∷ (codes "currentFocus", node_value (number_of focus.focus)) ∷ []
 
 -- the number of a key, which only events of keys have
 abbrev pub key_rows : TheEvent → Rows
@@ -109,12 +140,12 @@ key_rows (KeyUp key) = (codes "keyCode", Number (Whole (pos key))) ∷ []
 key_rows (Default key) = (codes "keyCode", Number (Whole (pos key))) ∷ []
 key_rows other = []
 
-abbrev pub event_rows : Parts → Rows
-event_rows parts =
+abbrev pub event_rows : CurrentEvent → Rows
+event_rows current =
     option_map_or
     (λ event. (codes "type", Str (name_of event))
-    ∷ (codes "target", Host (Node parts.event.target)) ∷ key_rows event)
-    parts.event.event []
+    ∷ (codes "target", Host (Node current.target)) ∷ key_rows event)
+    current.event []
 
 -- ---- styles
 
@@ -123,24 +154,23 @@ abbrev pub property_named : List ℕ → Option Property
 property_named name = find (λ property. is_same name (script_name_of property)) all_properties
 
 -- the value that an element has for a property in a state, as a text
-abbrev pub style_text : Parts → ℕ → State → Property → Value
-style_text parts node state property =
-    Str (printed property
-    (style_value parts.items parts.sources (present_state parts.focus) node state property))
+abbrev pub style_text : StyledTree → ℕ → State → Property → Value
+style_text tree node state property =
+    Str (printed property (styled_value tree node state property))
 
-unfoldable pub style_read : Parts → ℕ → ℕ → List ℕ → Value
-style_read parts node number name =
+unfoldable pub style_read : StyledTree → ℕ → ℕ → List ℕ → Value
+style_read tree node number name =
     option_map_or
-    (λ state. option_map_or (style_text parts node state) (property_named name) Undefined)
-    (if is_some (tag_of parts.items node) then state_of_number number else None) Undefined
+    (λ state. option_map_or (style_text tree node state) (property_named name) Undefined)
+    (if is_some (tag_of tree.items node) then state_of_number number else None) Undefined
 
 -- ---- all references; the browser and its registers aren't read here
 
 unfoldable pub read_value : Parts → HostRef → List ℕ → Value
-read_value parts Document name = read_in (document_rows parts) name
-read_value parts Event name = read_in (event_rows parts) name
-read_value parts (Node node) name = read_in (node_rows parts.items node) name
-read_value parts (Style node number) name = style_read parts node number name
+read_value parts Document name = read_in (document_rows parts.tree.focus parts.event) name
+read_value parts Event name = read_in (event_rows parts.event) name
+read_value parts (Node node) name = read_in (node_rows parts.tree.items node) name
+read_value parts (Style node number) name = style_read parts.tree node number name
 read_value parts other name = Undefined
 
 -- only styles are asked for what isn't kept of a document as it is

@@ -9,6 +9,7 @@ use Rattle.style_reader.specs.Values.{value_of}
 use Rattle.style_reader.specs.declared.properties.Property.{Property}
 use Rattle.style_reader.specs.declared.properties.StyleValue.{StyleValue}
 use Rattle.style_cascade.specs.Cascade.{Sources, with_write}
+use Rattle.style_cascade.specs.StyledTrees.{StyledTree}
 use Rattle.style_cascade.specs.declared.states.State.{State}
 use Rattle.es_values.specs.declared.values.HostRef.{HostRef}
 use Rattle.es_values.specs.declared.values.HostRef.TheVariants.{Node, Style}
@@ -72,6 +73,14 @@ abbrev pub changed_sources : Change → Sources → Sources
 changed_sources (ChangesStyle node state property value) sources =
     with_write node state property value sources
 changed_sources other sources = sources
+
+-- the focus stays
+abbrev pub changed_tree : Change → StyledTree → StyledTree
+changed_tree change tree =
+    record tree {
+      items = changed_items change tree.items;
+      sources = changed_sources change tree.sources;
+    }
 
 -- only this change is one of what styles come from
 abbrev pub is_of_style : Change → Bool

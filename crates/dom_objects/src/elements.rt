@@ -1,14 +1,16 @@
 //! What is read of elements and of texts.
 
-ghost use Rattle.std.specs.Prelude.{◌≡◌, ◌<◌, ℕ, List, All, IfOk, is_some, length};
+ghost use Rattle.std.specs.Prelude.{◌≡◌, ◌<◌, ℕ, List, All, IfOk, Some, is_some, length};
 ghost use Rattle.dom_tree.specs.Items.{Item, tag_of};
 ghost use Rattle.dom_objects.specs.Reads.{attribute_value as spec_attribute_value, element_rows, is_input_tag as spec_is_input_tag, is_object_tag as spec_is_object_tag, own_rows, row_of, text_rows};
 
+use crate::styles::style_of;
 use crate::texts::ascii_text;
 use bml_bytes::{NoMemory, Text};
 use dom_tree::{NodeId, Tree};
-use es_values::{HostRef, Num, Value};
+use es_values::{Num, Value};
 use std::alloc::Global;
+use style_cascade::State;
 
 /// Whether the tree has a node of this number, and it is an element.
 pub fn is_element(tree: &Tree, node: NodeId) -> bool
@@ -37,7 +39,7 @@ pub fn text_value(text: &Text, name: &Text) -> Result<Option<Value>, NoMemory>
     ensures { IfOk result (λ value. value ≡ row_of name.now (text_rows text.now)) }
 {
     if name.is_word("data") {
-        Ok(Some(Value::Str(text.share()?)))
+        text_row(text)
     } else if name.is_word("length") {
         Ok(Some(Value::Number(Num::of_count(text.len()))))
     } else {
@@ -59,19 +61,19 @@ pub fn element_value(
         (λ value. value ≡ row_of name.now (element_rows tree.now node.0 tag.now)) }
 {
     if name.is_word("tagName") {
-        Ok(Some(Value::Str(tag.share()?)))
+        text_row(tag)
     } else if name.is_word("id") {
-        Ok(Some(attribute_value(alloc, tree, node, name)?))
+        attribute_row(alloc, tree, node, b"id")
     } else if name.is_word("className") {
-        Ok(Some(attribute_called(alloc, tree, node, b"class")?))
+        attribute_row(alloc, tree, node, b"class")
     } else if name.is_word("accessKey") {
-        Ok(Some(attribute_called(alloc, tree, node, b"accesskey")?))
+        attribute_row(alloc, tree, node, b"accesskey")
     } else if name.is_word("normalStyle") {
-        Ok(Some(Value::Host(HostRef::Style(node.0, 0))))
+        Ok(Some(style_of(node, State::Normal)))
     } else if name.is_word("focusStyle") {
-        Ok(Some(Value::Host(HostRef::Style(node.0, 1))))
+        Ok(Some(style_of(node, State::Focus)))
     } else if name.is_word("activeStyle") {
-        Ok(Some(Value::Host(HostRef::Style(node.0, 2))))
+        Ok(Some(style_of(node, State::Active)))
     } else {
         Ok(None)
     }
@@ -108,19 +110,28 @@ fn is_own_name(tag: &Text, name: &Text) -> bool
     }
 }
 
-// The value of an attribute whose name is ASCII.
-fn attribute_called(
+// A row that gives a text.
+fn text_row(text: &Text) -> Result<Option<Value>, NoMemory>
+    ensures { IfOk result (λ value. value ≡ Some (Value.Str text.now)) }
+{
+    Ok(Some(Value::Str(text.share()?)))
+}
+
+// A row that gives an attribute whose name is ASCII.
+fn attribute_row(
     alloc: Global,
     tree: &Tree,
     node: NodeId,
     name: &[u8],
-) -> Result<Value, NoMemory>
+) -> Result<Option<Value>, NoMemory>
     requires node { node.0 < length tree.now }
     requires ascii { All (λ byte. byte < 128) name.now }
-    ensures { IfOk result (λ value. value ≡ spec_attribute_value tree.now node.0 name.now) }
+    ensures { IfOk result
+        (λ value. value ≡ Some (spec_attribute_value tree.now node.0 name.now)) }
 {
     let name = ascii_text(alloc, name)?;
-    attribute_value(alloc, tree, node, &name)
+    let value = attribute_value(alloc, tree, node, &name)?;
+    Ok(Some(value))
 }
 
 // The value of an attribute, which is the empty text where the element lacks it.

@@ -1,9 +1,6 @@
 //! What is read of the document and of the current event.
 
-ghost use Rattle.std.specs.Prelude.{◌≡◌, List, IfOk};
-ghost use Rattle.dom_tree.specs.Items.{Item};
-ghost use Rattle.style_cascade.specs.Cascade.{Sources};
-ghost use Rattle.style_cascade.specs.declared.states.Focus.{Focus as TheFocus};
+ghost use Rattle.std.specs.Prelude.{◌≡◌, IfOk};
 ghost use Rattle.dom_objects.specs.Reads.{document_rows, event_rows, key_rows, read_in};
 
 use crate::current_events::CurrentEvent;
@@ -18,12 +15,7 @@ use style_cascade::Focus;
 /// What a name of the document gives: the current event, the element that has the focus, or Null
 /// where there is none; Undefined under each other name.
 pub fn document_value(focus: &Focus, event: &CurrentEvent, name: &Text) -> Value
-    ensures { (items : List Item) (sources : Sources) → result ≡ read_in (document_rows (record {
-      items = items;
-      sources = sources;
-      focus = focus.now;
-      event = event.now;
-    })) name.now }
+    ensures { result ≡ read_in (document_rows focus.now event.now) name.now }
 {
     if name.is_word("currentEvent") {
         match event.event {
@@ -40,13 +32,7 @@ pub fn document_value(focus: &Focus, event: &CurrentEvent, name: &Text) -> Value
 /// What a name of the current event gives: its type, the node that it goes to, and the number of
 /// the key of an event of keys. It is Undefined under each other name, and where there is no event.
 pub fn event_value(alloc: Global, event: &CurrentEvent, name: &Text) -> Result<Value, NoMemory>
-    ensures { IfOk result (λ value. (items : List Item) (sources : Sources) (focus : TheFocus)
-        → value ≡ read_in (event_rows (record {
-          items = items;
-          sources = sources;
-          focus = focus;
-          event = event.now;
-        })) name.now) }
+    ensures { IfOk result (λ value. value ≡ read_in (event_rows event.now) name.now) }
 {
     let Some(current) = event.event else {
         return Ok(Value::Undefined);

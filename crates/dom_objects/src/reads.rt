@@ -2,8 +2,7 @@
 
 ghost use Rattle.std.specs.Prelude.{◌≡◌, ◌<◌, ◌++◌, false, true, length, IfOk};
 ghost use Rattle.es_values.specs.Values.{is_plain};
-ghost use Rattle.style_cascade.specs.Keeping.{IsRight};
-ghost use Rattle.style_cascade.specs.States.{present_state};
+ghost use Rattle.style_cascade.specs.StyledTrees.{AreStylesOf, styled_tree};
 ghost use Rattle.dom_objects.specs.Reads.{element_rows, is_style, node_rows, own_rows, read_in, read_value, row_of, text_rows, walk_rows};
 
 use crate::current_events::CurrentEvent;
@@ -32,17 +31,15 @@ pub fn get_node(
     base: HostRef,
     name: &Text,
 ) -> Result<Value, NoMemory>
-    requires right { IsRight tree.now (present_state focus.now) styles.old }
+    requires right { AreStylesOf tree.now focus.now styles.old }
     ensures value { IfOk result (λ value. value ≡ read_value (record {
-      items = tree.now;
-      sources = styles.old.sources;
-      focus = focus.now;
+      tree = styled_tree tree.now styles.old focus.now;
       event = event.now;
     }) base name.now) }
     ensures plain { IfOk result (λ value. is_plain value ≡ true) }
     ensures sources { styles.new.sources ≡ styles.old.sources }
     ensures unasked { is_style base ≡ false → styles.new ≡ styles.old }
-    ensures right_still { IsRight tree.now (present_state focus.now) styles.new }
+    ensures right_still { AreStylesOf tree.now focus.now styles.new }
 {
     match base {
         HostRef::Document => Ok(document_value(focus, event, name)),

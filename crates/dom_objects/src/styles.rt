@@ -2,17 +2,15 @@
 
 ghost use Rattle.std.specs.Prelude.{◌≡◌, IfOk};
 ghost use Rattle.dom_tree.specs.Items.{IsElement};
-ghost use Rattle.style_cascade.specs.Keeping.{IsRight};
-ghost use Rattle.style_cascade.specs.States.{present_state};
-ghost use Rattle.dom_objects.specs.declared.current_events.CurrentEvent.{CurrentEvent};
-ghost use Rattle.dom_objects.specs.Parts.{state_of_number as spec_state_of_number};
-ghost use Rattle.dom_objects.specs.Reads.{property_named as spec_property_named, style_read, style_text as spec_style_text};
+ghost use Rattle.style_cascade.specs.StyledTrees.{AreStylesOf, styled_tree};
+ghost use Rattle.dom_objects.specs.Parts.{state_number, state_of_number as spec_state_of_number};
+ghost use Rattle.dom_objects.specs.Reads.{property_named as spec_property_named, style_of as spec_style_of, style_read, style_text as spec_style_text};
 
 use crate::elements::is_element;
 use crate::texts::ascii_text;
 use bml_bytes::{NoMemory, Text, law_of_decimals};
 use dom_tree::{NodeId, Tree};
-use es_values::Value;
+use es_values::{HostRef, Value};
 use std::alloc::Global;
 use style_cascade::{Focus, State, Styles};
 use style_reader::{Property, push_value};
@@ -29,15 +27,11 @@ pub fn style_value(
     number: u8,
     name: &Text,
 ) -> Result<Value, NoMemory>
-    requires right { IsRight tree.now (present_state focus.now) styles.old }
-    ensures value { IfOk result (λ value. (event : CurrentEvent) → value ≡ style_read (record {
-      items = tree.now;
-      sources = styles.old.sources;
-      focus = focus.now;
-      event = event;
-    }) node.0 number name.now) }
+    requires right { AreStylesOf tree.now focus.now styles.old }
+    ensures value { IfOk result (λ value. value ≡ style_read
+        (styled_tree tree.now styles.old focus.now) node.0 number name.now) }
     ensures sources { styles.new.sources ≡ styles.old.sources }
-    ensures right_still { IsRight tree.now (present_state focus.now) styles.new }
+    ensures right_still { AreStylesOf tree.now focus.now styles.new }
 {
     if !is_element(tree, node) {
         return Ok(Value::Undefined);
@@ -50,15 +44,31 @@ pub fn style_value(
     }
 }
 
-/// The state whose style has this number.
+/// The style of an element for a state.
+pub fn style_of(node: NodeId, state: State) -> Value
+    ensures { result ≡ spec_style_of node.0 state }
+{
+    Value::Host(HostRef::Style(node.0, number_of_state(state)))
+}
+
+/// The state of a number in a reference to a style.
 pub fn state_of_number(number: u8) -> Option<State>
     ensures { result ≡ spec_state_of_number number }
 {
-    match number {
-        0 => Some(State::Normal),
-        1 => Some(State::Focus),
-        2 => Some(State::Active),
-        _ => None,
+    [State::Normal, State::Focus, State::Active]
+        .iter()
+        .copied()
+        .find(|state| number_of_state(*state) == number)
+}
+
+// The number of a state in a reference to a style.
+fn number_of_state(state: State) -> u8
+    ensures { result ≡ state_number state }
+{
+    match state {
+        State::Normal => 0,
+        State::Focus => 1,
+        State::Active => 2,
     }
 }
 
@@ -83,16 +93,11 @@ fn style_text(
     property: Property,
 ) -> Result<Value, NoMemory>
     requires element { IsElement tree.now node.0 }
-    requires right { IsRight tree.now (present_state focus.now) styles.old }
-    ensures value { IfOk result
-        (λ value. (event : CurrentEvent) → value ≡ spec_style_text (record {
-          items = tree.now;
-          sources = styles.old.sources;
-          focus = focus.now;
-          event = event;
-        }) node.0 state property) }
+    requires right { AreStylesOf tree.now focus.now styles.old }
+    ensures value { IfOk result (λ value. value ≡ spec_style_text
+        (styled_tree tree.now styles.old focus.now) node.0 state property) }
     ensures sources { styles.new.sources ≡ styles.old.sources }
-    ensures right_still { IsRight tree.now (present_state focus.now) styles.new }
+    ensures right_still { AreStylesOf tree.now focus.now styles.new }
 {
     let value = styles.get(tree, node, state, focus, property);
     law_of_decimals();

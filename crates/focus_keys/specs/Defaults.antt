@@ -1,13 +1,17 @@
 -- What a key does by default, where an element has the focus (after the default actions of BML,
 -- ARIB STD-B24 volume 2, in this project's own profile).
-use Rattle.std.specs.Prelude.{ℕ, ◌==◌, if◌then◌else◌, Option, Some, None}
+use Rattle.std.specs.Prelude.{ℕ, List, Option, None, codes}
 use Rattle.std.specs.Option.{option_map_or}
+use Rattle.dom_tree.specs.NodeNumbers.{number_of}
 use Rattle.style_reader.specs.declared.properties.Property.{Property}
 use Rattle.style_reader.specs.declared.properties.Property.TheVariants.{NavUp, NavDown, NavLeft, NavRight}
 use Rattle.style_reader.specs.declared.properties.StyleValue.{StyleValue}
 use Rattle.style_reader.specs.declared.properties.StyleValue.TheVariants.{Whole}
-use Rattle.focus_keys.specs.KeyTables.{letter_of}
-use Rattle.focus_keys.specs.Targets.{Styled, access_target_of, nav_target_of, normal_value}
+use Rattle.style_cascade.specs.StyledTrees.{StyledTree}
+use Rattle.focus_keys.specs.KeyTables.{key_of}
+use Rattle.focus_keys.specs.declared.keys.Key.{Key}
+use Rattle.focus_keys.specs.declared.keys.Key.TheVariants.{Up, Down, Left, Right, Enter, Blue, Red, Green, Yellow}
+use Rattle.focus_keys.specs.Targets.{access_target_of, nav_target_of, normal_value}
 
 -- nothing; the focus moves to an element; the focus becomes active and is clicked; an element is
 -- given the focus and clicked. Elements are named by their numbers.
@@ -17,36 +21,35 @@ pub data Action : Type 0 where
   Activates : (node : ℕ) → Action
   Accesses : (node : ℕ) → Action
 
--- the property in which an arrow looks: 1 up, 2 down, 3 left, 4 right
-abbrev pub arrow_of : ℕ → Option Property
-arrow_of key =
-    if key == 1 then Some NavUp
-    else if key == 2 then Some NavDown
-    else if key == 3 then Some NavLeft
-    else if key == 4 then Some NavRight
-    else None
-
 -- the element that a value names by its nav-index, and none for `none`
-abbrev pub target_of_value : Styled → StyleValue → Option ℕ
-target_of_value styled (Whole number) = nav_target_of styled number
-target_of_value styled other = None
+abbrev pub target_of_value : StyledTree → StyleValue → Option ℕ
+target_of_value tree (Whole number) = nav_target_of tree number
+target_of_value tree other = None
 
 -- an arrow moves the focus to the element that the focus names for it in the normal state
-abbrev pub move_from : Styled → ℕ → Property → Action
-move_from styled focus property =
-    option_map_or Moves (target_of_value styled (normal_value styled focus property)) NoAction
+abbrev pub move_from : StyledTree → ℕ → Property → Action
+move_from tree focus property =
+    option_map_or Moves (target_of_value tree (normal_value tree focus property)) NoAction
 
 -- a colour key gives the focus to the first element with its letter
-abbrev pub access_by : Styled → ℕ → Action
-access_by styled letter = option_map_or Accesses (access_target_of styled letter) NoAction
+abbrev pub access_by : StyledTree → List ℕ → Action
+access_by tree letter = option_map_or Accesses (access_target_of tree letter) NoAction
 
--- key 18 (enter) activates the focus
-unfoldable pub action_at : Styled → ℕ → ℕ → Action
-action_at styled key focus =
-    if key == 18 then Activates focus
-    else option_map_or (move_from styled focus)
-    (arrow_of key) (option_map_or (access_by styled) (letter_of key) NoAction)
+-- what a key does where this element has the focus
+unfoldable pub action_at : StyledTree → ℕ → Key → Action
+action_at tree focus Up = move_from tree focus NavUp
+action_at tree focus Down = move_from tree focus NavDown
+action_at tree focus Left = move_from tree focus NavLeft
+action_at tree focus Right = move_from tree focus NavRight
+action_at tree focus Enter = Activates focus
+action_at tree focus Blue = access_by tree (codes "B")
+action_at tree focus Red = access_by tree (codes "R")
+action_at tree focus Green = access_by tree (codes "G")
+action_at tree focus Yellow = access_by tree (codes "Y")
+action_at tree focus other = NoAction
 
--- where no element has the focus nothing is done
-unfoldable pub action_of : Styled → ℕ → Option ℕ → Action
-action_of styled key focus = option_map_or (action_at styled key) focus NoAction
+-- what the key of this number does; where no element has the focus nothing is done
+unfoldable pub action_of : StyledTree → ℕ → Action
+action_of tree number =
+    option_map_or (λ focus. option_map_or (action_at tree focus) (key_of number) NoAction)
+    (number_of tree.focus.focus) NoAction

@@ -1,9 +1,11 @@
--- The keys of a remote control by their numbers, and their groups (after the key codes and the
+-- The keys of a remote control, with their numbers and groups (after the key codes and the
 -- used-key-list of BML, ARIB STD-B24 volume 2; the choice of keys is this project's own).
-use Rattle.std.specs.Prelude.{ℕ, ◌==◌, ◌||◌, ◌&&◌, Bool, false, nat_le, if◌then◌else◌, Option, Some, None, bit_and}
+use Rattle.std.specs.Prelude.{ℕ, ◌==◌, Bool, false, List, [], ◌∷◌, Option, bit_and, find}
 use Rattle.std.specs.Option.{option_map_or}
 use Rattle.style_reader.specs.declared.properties.StyleValue.{StyleValue}
 use Rattle.style_reader.specs.declared.properties.StyleValue.TheVariants.{Whole, NoValue, Visible, Hidden, Keys}
+use Rattle.focus_keys.specs.declared.keys.Key.{Key}
+use Rattle.focus_keys.specs.declared.keys.Key.TheVariants.{Up, Down, Left, Right, Digit0, Digit1, Digit2, Digit3, Digit4, Digit5, Digit6, Digit7, Digit8, Digit9, Enter, Back, Data, Blue, Red, Green, Yellow}
 
 -- the bits of the groups
 abbrev pub basic : ℕ
@@ -15,43 +17,60 @@ data_button = 2
 abbrev pub numeric_tuning : ℕ
 numeric_tuning = 4
 
--- the arrows up, down, left and right; enter; back
-abbrev pub is_basic : ℕ → Bool
-is_basic key = nat_le 1 key && nat_le key 4 || (key == 18 || key == 19)
+-- what is said of a key: its number and its group
+pub record KeyRow : Type 0 where
+  pub number : ℕ
+  pub group : ℕ
 
--- the digits 0 to 9
-abbrev pub is_digit_key : ℕ → Bool
-is_digit_key key = nat_le 5 key && nat_le key 14
+abbrev pub row : ℕ → ℕ → KeyRow
+row number group = record { number = number; group = group }
 
--- data; blue, red, green and yellow
-abbrev pub is_data_key : ℕ → Bool
-is_data_key key = nat_le 20 key && nat_le key 24
+abbrev pub row_of : Key → KeyRow
+row_of Up = row 1 basic
+row_of Down = row 2 basic
+row_of Left = row 3 basic
+row_of Right = row 4 basic
+row_of Digit0 = row 5 numeric_tuning
+row_of Digit1 = row 6 numeric_tuning
+row_of Digit2 = row 7 numeric_tuning
+row_of Digit3 = row 8 numeric_tuning
+row_of Digit4 = row 9 numeric_tuning
+row_of Digit5 = row 10 numeric_tuning
+row_of Digit6 = row 11 numeric_tuning
+row_of Digit7 = row 12 numeric_tuning
+row_of Digit8 = row 13 numeric_tuning
+row_of Digit9 = row 14 numeric_tuning
+row_of Enter = row 18 basic
+row_of Back = row 19 basic
+row_of Data = row 20 data_button
+row_of Blue = row 21 data_button
+row_of Red = row 22 data_button
+row_of Green = row 23 data_button
+row_of Yellow = row 24 data_button
 
--- the group of a key, and none of a number that is no key
-abbrev pub group_of_key : ℕ → Option ℕ
-group_of_key key =
-    if is_basic key then Some basic
-    else if is_digit_key key then Some numeric_tuning
-    else if is_data_key key then Some data_button
-    else None
+abbrev pub key_number : Key → ℕ
+key_number key = (row_of key).number
 
--- the bits of a group are among those
-abbrev pub has_group : ℕ → ℕ → Bool
-has_group bits group = bit_and bits group == group
+abbrev pub key_group : Key → ℕ
+key_group key = (row_of key).group
+
+abbrev pub all_keys : List Key
+all_keys =
+    Up ∷ Down ∷ Left ∷ Right ∷ Digit0 ∷ Digit1 ∷ Digit2 ∷ Digit3 ∷ Digit4 ∷ Digit5 ∷ Digit6 ∷ Digit7
+    ∷ Digit8 ∷ Digit9 ∷ Enter ∷ Back ∷ Data ∷ Blue ∷ Red ∷ Green ∷ Yellow ∷ []
+
+-- the key of a number, and none of a number that is no key
+unfoldable pub key_of : ℕ → Option Key
+key_of number = find (λ key. key_number key == number) all_keys
+
+-- the bits of a key's group are among those
+abbrev pub has_group : ℕ → Key → Bool
+has_group bits key = bit_and bits (key_group key) == key_group key
 
 -- The number is that of a key whose group a used-key-list has. `none` has no group.
 abbrev pub passes_list : StyleValue → ℕ → Bool
-passes_list (Whole _) key = false
-passes_list NoValue key = false
-passes_list Visible key = false
-passes_list Hidden key = false
-passes_list (Keys bits) key = option_map_or (has_group bits) (group_of_key key) false
-
--- the letter that the colour key of this number looks for: B, R, G and Y
-abbrev pub letter_of : ℕ → Option ℕ
-letter_of key =
-    if key == 21 then Some 66
-    else if key == 22 then Some 82
-    else if key == 23 then Some 71
-    else if key == 24 then Some 89
-    else None
+passes_list (Whole _) number = false
+passes_list NoValue number = false
+passes_list Visible number = false
+passes_list Hidden number = false
+passes_list (Keys bits) number = option_map_or (has_group bits) (key_of number) false

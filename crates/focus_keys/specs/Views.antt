@@ -4,37 +4,26 @@ use Rattle.std.specs.Option.{option_map_or}
 use Rattle.dom_tree.specs.Items.{Item, tag_of}
 use Rattle.dom_tree.specs.declared.node_ids.NodeId.{NodeId}
 use Rattle.style_reader.specs.declared.properties.Property.TheVariants.{NavIndex}
-use Rattle.style_cascade.specs.Cascade.{Sources}
-use Rattle.style_cascade.specs.States.{present_state}
-use Rattle.style_cascade.specs.declared.states.Focus.{Focus}
+use Rattle.style_cascade.specs.StyledTrees.{StyledTree}
 use Rattle.focus_keys.specs.Defaults.{Action}
 use Rattle.focus_keys.specs.Defaults.Action.{NoAction, Moves, Activates, Accesses}
-use Rattle.focus_keys.specs.Targets.{Styled, can_have_focus, has_access_key, is_focus_tag, is_number, normal_value}
+use Rattle.focus_keys.specs.Targets.{can_have_focus, has_access_key, is_focus_tag, is_number, normal_value}
 use Rattle.focus_keys.specs.declared.defaults.KeyDefault.{KeyDefault}
 use Rattle.focus_keys.specs.declared.defaults.KeyDefault.TheVariants.{Nothing, Move, Activate, Access}
 use Rattle.focus_keys.specs.declared.groups.KeyGroups.{KeyGroups}
-
--- the document of these nodes, whose styles come from these sources, with this focus
-abbrev pub styled_by : List Item → Sources → Focus → Styled
-styled_by items sources focus =
-    record {
-      items = items;
-      sources = sources;
-      present = present_state focus;
-    }
 
 -- the tests of a node, as the definitions of the targets have them
 
 abbrev pub has_focus_tag : List Item → ℕ → Bool
 has_focus_tag items node = option_map_or is_focus_tag (tag_of items node) false
 
-abbrev pub is_nav_target : Styled → ℤ → ℕ → Bool
-is_nav_target styled number node =
-    can_have_focus styled node && is_number number (normal_value styled node NavIndex)
+abbrev pub is_nav_target : StyledTree → ℤ → ℕ → Bool
+is_nav_target tree number node =
+    can_have_focus tree node && is_number number (normal_value tree node NavIndex)
 
-abbrev pub is_access_target : Styled → ℕ → ℕ → Bool
-is_access_target styled letter node =
-    can_have_focus styled node && has_access_key styled.items letter node
+abbrev pub is_access_target : StyledTree → List ℕ → ℕ → Bool
+is_access_target tree letter node =
+    can_have_focus tree node && has_access_key tree.items letter node
 
 -- the bits of some groups of keys
 abbrev pub bits_of : KeyGroups → ℕ

@@ -1,13 +1,12 @@
 //! What a key does by default.
 
-ghost use Rattle.std.specs.Prelude.{◌≡◌, IfSome};
+ghost use Rattle.std.specs.Prelude.{◌≡◌, ◌∷◌, [], IfSome};
 ghost use Rattle.dom_tree.specs.Items.{IsElement};
-ghost use Rattle.dom_tree.specs.NodeNumbers.{number_of};
-ghost use Rattle.style_cascade.specs.Keeping.{IsRight};
-ghost use Rattle.style_cascade.specs.States.{present_state};
-ghost use Rattle.focus_keys.specs.Defaults.{access_by as spec_access_by, action_of, move_from as spec_move_from};
-ghost use Rattle.focus_keys.specs.Views.{named_node, seen_default, styled_by};
+ghost use Rattle.style_cascade.specs.StyledTrees.{AreStylesOf, styled_tree};
+ghost use Rattle.focus_keys.specs.Defaults.{access_by as spec_access_by, action_at, action_of, move_from as spec_move_from};
+ghost use Rattle.focus_keys.specs.Views.{named_node, seen_default};
 
+use crate::keys::Key;
 use crate::targets::{access_target, nav_target, normal_value};
 use dom_tree::{NodeId, Tree};
 use style_cascade::{Focus, Styles};
@@ -29,32 +28,46 @@ pub enum KeyDefault {
 /// volume 2): an arrow moves the focus to the element that the focus names by its nav-up, nav-down,
 /// nav-left or nav-right in the normal state, enter activates the focus, and a colour key looks for
 /// its letter. Other numbers do nothing, and where nothing has the focus no key does.
-#[tactic(auto, unfolding(crate::specs::Defaults::action_at, crate::specs::Defaults::action_of))]
+#[tactic(auto, unfolding(crate::specs::Defaults::action_of))]
 pub fn default_of(code: u8, tree: &Tree, styles: &mut Styles, focus: &Focus) -> KeyDefault
-    requires right { IsRight tree.now (present_state focus.now) styles.old }
+    requires right { AreStylesOf tree.now focus.now styles.old }
     requires focus { IfSome focus.now.focus (λ node. IsElement tree.now node.0) }
     ensures action { seen_default result
-        ≡ action_of (styled_by tree.now styles.old.sources focus.now) code
-        (number_of focus.now.focus) }
+        ≡ action_of (styled_tree tree.now styles.old focus.now) code }
     ensures within { IfSome (named_node result) (λ node. IsElement tree.now node.0) }
     ensures sources { styles.new.sources ≡ styles.old.sources }
-    ensures right_still { IsRight tree.now (present_state focus.now) styles.new }
+    ensures right_still { AreStylesOf tree.now focus.now styles.new }
 {
     let Some(node) = focus.focus else {
         return KeyDefault::Nothing;
     };
-    match code {
-        1 => move_from(tree, styles, focus, node, Property::NavUp),
-        2 => move_from(tree, styles, focus, node, Property::NavDown),
-        3 => move_from(tree, styles, focus, node, Property::NavLeft),
-        4 => move_from(tree, styles, focus, node, Property::NavRight),
-        // enter
-        18 => KeyDefault::Activate(node),
-        // blue, red, green and yellow
-        21 => access_by(tree, styles, focus, b'B'),
-        22 => access_by(tree, styles, focus, b'R'),
-        23 => access_by(tree, styles, focus, b'G'),
-        24 => access_by(tree, styles, focus, b'Y'),
+    match Key::of_number(code) {
+        Some(key) => default_at(node, key, tree, styles, focus),
+        None => KeyDefault::Nothing,
+    }
+}
+
+// What a key does where this element has the focus.
+#[tactic(auto, unfolding(crate::specs::Defaults::action_at))]
+fn default_at(node: NodeId, key: Key, tree: &Tree, styles: &mut Styles, focus: &Focus) -> KeyDefault
+    requires right { AreStylesOf tree.now focus.now styles.old }
+    requires element { IsElement tree.now node.0 }
+    ensures action { seen_default result
+        ≡ action_at (styled_tree tree.now styles.old focus.now) node.0 key }
+    ensures within { IfSome (named_node result) (λ node. IsElement tree.now node.0) }
+    ensures sources { styles.new.sources ≡ styles.old.sources }
+    ensures right_still { AreStylesOf tree.now focus.now styles.new }
+{
+    match key {
+        Key::Up => move_from(tree, styles, focus, node, Property::NavUp),
+        Key::Down => move_from(tree, styles, focus, node, Property::NavDown),
+        Key::Left => move_from(tree, styles, focus, node, Property::NavLeft),
+        Key::Right => move_from(tree, styles, focus, node, Property::NavRight),
+        Key::Enter => KeyDefault::Activate(node),
+        Key::Blue => access_by(tree, styles, focus, b'B'),
+        Key::Red => access_by(tree, styles, focus, b'R'),
+        Key::Green => access_by(tree, styles, focus, b'G'),
+        Key::Yellow => access_by(tree, styles, focus, b'Y'),
         _ => KeyDefault::Nothing,
     }
 }
@@ -67,13 +80,13 @@ fn move_from(
     node: NodeId,
     property: Property,
 ) -> KeyDefault
-    requires right { IsRight tree.now (present_state focus.now) styles.old }
+    requires right { AreStylesOf tree.now focus.now styles.old }
     requires element { IsElement tree.now node.0 }
     ensures action { seen_default result
-        ≡ spec_move_from (styled_by tree.now styles.old.sources focus.now) node.0 property }
+        ≡ spec_move_from (styled_tree tree.now styles.old focus.now) node.0 property }
     ensures within { IfSome (named_node result) (λ node. IsElement tree.now node.0) }
     ensures sources { styles.new.sources ≡ styles.old.sources }
-    ensures right_still { IsRight tree.now (present_state focus.now) styles.new }
+    ensures right_still { AreStylesOf tree.now focus.now styles.new }
 {
     let StyleValue::Whole(number) = normal_value(tree, styles, focus, node, property) else {
         return KeyDefault::Nothing;
@@ -86,12 +99,12 @@ fn move_from(
 
 // What a colour key does that looks for this letter.
 fn access_by(tree: &Tree, styles: &mut Styles, focus: &Focus, letter: u8) -> KeyDefault
-    requires right { IsRight tree.now (present_state focus.now) styles.old }
+    requires right { AreStylesOf tree.now focus.now styles.old }
     ensures action { seen_default result
-        ≡ spec_access_by (styled_by tree.now styles.old.sources focus.now) letter }
+        ≡ spec_access_by (styled_tree tree.now styles.old focus.now) (letter ∷ []) }
     ensures within { IfSome (named_node result) (λ node. IsElement tree.now node.0) }
     ensures sources { styles.new.sources ≡ styles.old.sources }
-    ensures right_still { IsRight tree.now (present_state focus.now) styles.new }
+    ensures right_still { AreStylesOf tree.now focus.now styles.new }
 {
     match access_target(tree, styles, focus, letter) {
         Some(target) => KeyDefault::Access(target),

@@ -1,9 +1,10 @@
 //! The groups of the keys.
 
 ghost use Rattle.std.specs.Prelude.{◌≡◌, ◌∷◌, [], ⊤, codes, option_map};
-ghost use Rattle.focus_keys.specs.KeyTables.{basic, data_button, group_of_key, numeric_tuning, passes_list};
+ghost use Rattle.focus_keys.specs.KeyTables.{basic, data_button, key_group, key_of, numeric_tuning, passes_list};
 ghost use Rattle.focus_keys.specs.Views.{bits_of};
 
+use crate::keys::Key;
 use bitflags::{Flag, Flags, bitflag_items};
 use style_reader::StyleValue;
 
@@ -44,16 +45,11 @@ impl Flags for KeyGroups {
 
 /// The group of the key of this number, one of the three; None exactly where the number is no key.
 pub fn group_of(code: u8) -> Option<KeyGroups>
-    ensures { option_map bits_of result ≡ group_of_key code }
+    ensures { option_map bits_of result ≡ option_map key_group (key_of code) }
 {
-    match code {
-        // up, down, left and right, enter, back
-        1..=4 | 18 | 19 => Some(KeyGroups::BASIC),
-        // the digits
-        5..=14 => Some(KeyGroups::NUMERIC_TUNING),
-        // data, blue, red, green and yellow
-        20..=24 => Some(KeyGroups::DATA_BUTTON),
-        _ => None,
+    match Key::of_number(code) {
+        Some(key) => Some(key.group()),
+        None => None,
     }
 }
 
@@ -65,8 +61,8 @@ pub fn passes(list: StyleValue, code: u8) -> bool
     let StyleValue::Keys(bits) = list else {
         return false;
     };
-    match group_of(code) {
-        Some(group) => KeyGroups::from_bits_retain(bits).contains(group),
+    match Key::of_number(code) {
+        Some(key) => KeyGroups::from_bits_retain(bits).contains(key.group()),
         None => false,
     }
 }

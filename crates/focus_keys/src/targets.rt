@@ -5,10 +5,9 @@ ghost use Rattle.std.specs.Bool.{OnTrue};
 ghost use Rattle.bml_bytes.specs.Words.{is_same};
 ghost use Rattle.dom_tree.specs.Items.{IsElement};
 ghost use Rattle.dom_tree.specs.NodeNumbers.{number_of};
-ghost use Rattle.style_cascade.specs.Keeping.{IsRight};
-ghost use Rattle.style_cascade.specs.States.{present_state};
+ghost use Rattle.style_cascade.specs.StyledTrees.{AreStylesOf, styled_tree};
 ghost use Rattle.focus_keys.specs.Targets.{access_target_of, can_have_focus, has_access_key as spec_has_access_key, is_visible_value, nav_target_of, normal_value as spec_normal_value};
-ghost use Rattle.focus_keys.specs.Views.{has_focus_tag as spec_has_focus_tag, is_access_target as spec_is_access_target, is_nav_target as spec_is_nav_target, styled_by};
+ghost use Rattle.focus_keys.specs.Views.{has_focus_tag as spec_has_focus_tag, is_access_target as spec_is_access_target, is_nav_target as spec_is_nav_target};
 
 use crate::tags::is_focus_tag;
 use bml_bytes::Text;
@@ -20,13 +19,13 @@ use style_reader::{Property, StyleValue};
 /// `object` whose nav-index is a number and that is visible, both in the normal state.
 #[tactic(auto, unfolding(crate::specs::Targets::can_have_focus))]
 pub fn is_focusable(tree: &Tree, styles: &mut Styles, focus: &Focus, node: NodeId) -> bool
-    requires right { IsRight tree.now (present_state focus.now) styles.old }
+    requires right { AreStylesOf tree.now focus.now styles.old }
     requires node { node.0 < length tree.now }
     ensures focusable { result
-        ≡ can_have_focus (styled_by tree.now styles.old.sources focus.now) node.0 }
+        ≡ can_have_focus (styled_tree tree.now styles.old focus.now) node.0 }
     ensures element { OnTrue result (IsElement tree.now node.0) }
     ensures sources { styles.new.sources ≡ styles.old.sources }
-    ensures right_still { IsRight tree.now (present_state focus.now) styles.new }
+    ensures right_still { AreStylesOf tree.now focus.now styles.new }
 {
     if !has_focus_tag(tree, node) {
         return false;
@@ -41,12 +40,12 @@ pub fn is_focusable(tree: &Tree, styles: &mut Styles, focus: &Focus, node: NodeI
 /// The first element in document order that can have the focus and has this nav-index; None
 /// exactly where there is none.
 pub fn nav_target(tree: &Tree, styles: &mut Styles, focus: &Focus, number: i32) -> Option<NodeId>
-    requires right { IsRight tree.now (present_state focus.now) styles.old }
+    requires right { AreStylesOf tree.now focus.now styles.old }
     ensures target { number_of result
-        ≡ nav_target_of (styled_by tree.now styles.old.sources focus.now) number }
+        ≡ nav_target_of (styled_tree tree.now styles.old focus.now) number }
     ensures within { IfSome result (λ node. IsElement tree.now node.0) }
     ensures sources { styles.new.sources ≡ styles.old.sources }
-    ensures right_still { IsRight tree.now (present_state focus.now) styles.new }
+    ensures right_still { AreStylesOf tree.now focus.now styles.new }
 {
     'nodes: for place in 0..tree.node_count() {
         let node = NodeId(place);
@@ -60,12 +59,12 @@ pub fn nav_target(tree: &Tree, styles: &mut Styles, focus: &Focus, number: i32) 
 /// The first element in document order that can have the focus and whose accesskey is this letter
 /// alone; None exactly where there is none.
 pub fn access_target(tree: &Tree, styles: &mut Styles, focus: &Focus, letter: u8) -> Option<NodeId>
-    requires right { IsRight tree.now (present_state focus.now) styles.old }
+    requires right { AreStylesOf tree.now focus.now styles.old }
     ensures target { number_of result
-        ≡ access_target_of (styled_by tree.now styles.old.sources focus.now) letter }
+        ≡ access_target_of (styled_tree tree.now styles.old focus.now) (letter ∷ []) }
     ensures within { IfSome result (λ node. IsElement tree.now node.0) }
     ensures sources { styles.new.sources ≡ styles.old.sources }
-    ensures right_still { IsRight tree.now (present_state focus.now) styles.new }
+    ensures right_still { AreStylesOf tree.now focus.now styles.new }
 {
     'nodes: for number in 0..tree.node_count() {
         let node = NodeId(number);
@@ -85,11 +84,11 @@ pub fn normal_value(
     property: Property,
 ) -> StyleValue
     requires element { IsElement tree.now node.0 }
-    requires right { IsRight tree.now (present_state focus.now) styles.old }
+    requires right { AreStylesOf tree.now focus.now styles.old }
     ensures value { result ≡ spec_normal_value
-        (styled_by tree.now styles.old.sources focus.now) node.0 property }
+        (styled_tree tree.now styles.old focus.now) node.0 property }
     ensures sources { styles.new.sources ≡ styles.old.sources }
-    ensures right_still { IsRight tree.now (present_state focus.now) styles.new }
+    ensures right_still { AreStylesOf tree.now focus.now styles.new }
 {
     styles.get(tree, node, State::Normal, focus, property)
 }
@@ -98,12 +97,12 @@ pub fn normal_value(
 #[tactic(auto, unfolding(crate::specs::Targets::can_have_focus))]
 fn is_nav_target(tree: &Tree, styles: &mut Styles, focus: &Focus, node: NodeId, number: i32) -> bool
     requires node { node.0 < length tree.now }
-    requires right { IsRight tree.now (present_state focus.now) styles.old }
+    requires right { AreStylesOf tree.now focus.now styles.old }
     ensures target { result ≡ spec_is_nav_target
-        (styled_by tree.now styles.old.sources focus.now) number node.0 }
+        (styled_tree tree.now styles.old focus.now) number node.0 }
     ensures element { OnTrue result (IsElement tree.now node.0) }
     ensures sources { styles.new.sources ≡ styles.old.sources }
-    ensures right_still { IsRight tree.now (present_state focus.now) styles.new }
+    ensures right_still { AreStylesOf tree.now focus.now styles.new }
 {
     if !has_focus_tag(tree, node) {
         return false;
@@ -123,12 +122,12 @@ fn is_access_target(
     letter: u8,
 ) -> bool
     requires node { node.0 < length tree.now }
-    requires right { IsRight tree.now (present_state focus.now) styles.old }
+    requires right { AreStylesOf tree.now focus.now styles.old }
     ensures target { result ≡ spec_is_access_target
-        (styled_by tree.now styles.old.sources focus.now) letter node.0 }
+        (styled_tree tree.now styles.old focus.now) (letter ∷ []) node.0 }
     ensures element { OnTrue result (IsElement tree.now node.0) }
     ensures sources { styles.new.sources ≡ styles.old.sources }
-    ensures right_still { IsRight tree.now (present_state focus.now) styles.new }
+    ensures right_still { AreStylesOf tree.now focus.now styles.new }
 {
     if !has_access_key(tree, node, letter) {
         return false;
@@ -151,11 +150,11 @@ fn has_focus_tag(tree: &Tree, node: NodeId) -> bool
 // Whether an element is visible in the normal state.
 fn is_visible(tree: &Tree, styles: &mut Styles, focus: &Focus, node: NodeId) -> bool
     requires element { IsElement tree.now node.0 }
-    requires right { IsRight tree.now (present_state focus.now) styles.old }
+    requires right { AreStylesOf tree.now focus.now styles.old }
     ensures visible { result ≡ is_visible_value (spec_normal_value
-        (styled_by tree.now styles.old.sources focus.now) node.0 Property.Visibility) }
+        (styled_tree tree.now styles.old focus.now) node.0 Property.Visibility) }
     ensures sources { styles.new.sources ≡ styles.old.sources }
-    ensures right_still { IsRight tree.now (present_state focus.now) styles.new }
+    ensures right_still { AreStylesOf tree.now focus.now styles.new }
 {
     let value = normal_value(tree, styles, focus, node, Property::Visibility);
     matches!(value, StyleValue::Visible)
@@ -164,7 +163,7 @@ fn is_visible(tree: &Tree, styles: &mut Styles, focus: &Focus, node: NodeId) -> 
 // Whether the accesskey of a node is this letter alone. A text has none.
 fn has_access_key(tree: &Tree, node: NodeId, letter: u8) -> bool
     requires { node.0 < length tree.now }
-    ensures { result ≡ spec_has_access_key tree.now letter node.0 }
+    ensures { result ≡ spec_has_access_key tree.now (letter ∷ []) node.0 }
 {
     'attributes: for place in 0..tree.attribute_count(node) {
         if let Some((name, value)) = tree.attribute_at(node, place) {

@@ -80,10 +80,7 @@ impl Stage {
         if !name.is_word("getElementById") {
             return Ok(HostAnswer::NotCallable);
         }
-        let id = match args.first() {
-            Some(id) => heap.to_text(id)?,
-            None => heap.to_text(&Value::Undefined)?,
-        };
+        let id = first_text(args, heap)?;
         Ok(HostAnswer::Value(match self.tree.by_id(&id) {
             Some(node) => Value::Host(HostRef::Node(node.0)),
             None => Value::Null,
@@ -113,8 +110,19 @@ impl Stage {
 
     /// Whether there is a node of this number, and it is an element.
     pub fn is_element(&self, node: NodeId) -> bool
-        ensures { IsTrue result ↔ IsElement self.now.acting.items node.0 }
+        ensures { IsTrue result ↔ IsElement self.now.acting.tree.items node.0 }
     {
         self.tree.contains(node) && self.tree.tag(node).is_some()
+    }
+}
+
+// The first argument as a text; an absent one is Undefined.
+fn first_text(args: &[Value], heap: &Heap) -> Result<Text, NoMemory>
+    requires { All (IsLive heap.now) args.now }
+    ensures { IfOk result (λ text. text ≡ text_of heap.now (first_argument args.now)) }
+{
+    match args.first() {
+        Some(first) => heap.to_text(first),
+        None => heap.to_text(&Value::Undefined),
     }
 }

@@ -1,30 +1,10 @@
-use Rattle.std.proofs.Common.{◌≤◌, List, length, sym, subst, arith}
-use Rattle.std.proofs.lemmas.Result.{on_ok_weaker}
-use Rattle.std.specs.List.{AllZip}
-use Rattle.es_reader.specs.Programs.{Tells, ToldProgram}
-use Rattle.acting_documents.specs.Doings.{Does}
+use Rattle.std.proofs.Common.{◌≤◌, length, subst, arith}
 use Rattle.acting_documents.specs.Kept.{KeptDocument}
-use Rattle.acting_documents.specs.Runs.{run_program as spec_run_program}
-use Rattle.acting_documents.proofs.DoingLemmas.{does_run, does_no_run, kept_in, leaves_in, steps-are}
+use Rattle.acting_documents.proofs.DoingLemmas.{does_no_run}
 use Rattle.acting_documents.proofs.documents.ActingDocument.run_program.Goals as goal
 
-pub returns-then-place-len-clause-does : goal.returns-then-place-len-clause-does
-returns-then-place-len-clause-does c =
+pub returns-else-place-len-clause-does : goal.returns-else-place-len-clause-does
+returns-else-place-len-clause-does c =
     let h : length c.self.inside.programs.items ≤ c.args.place = omega arith in
     does_no_run c.args.name.now c.args.event c.args.place c.args.self.now c.args.out.now.items
     (subst (λ (k : KeptDocument). length k.programs ≤ c.args.place) c.self.view_is h)
-
-pub returns-clause-does : goal.returns-clause-does
-returns-clause-does c =
-    let d = c.self.inside in
-    let old = kept_in d.stage d.programs.items d.handlers d.globals d.heap d.body in
-    let new = kept_in c.give_text.new.self d.programs.items d.handlers c.run.new.globals c.run.new.heap d.body in
-    let after = c.push_stop_line.new.out.items in
-    let effect = spec_run_program c.args.name.now c.args.event c.args.place in
-    on_ok_weaker {Q = Does effect c.args.self.now new c.args.out.now.items after} c.push_stop_line.result (λ told.
-    subst (λ (k : KeptDocument). Does effect k new c.args.out.now.items after) c.self.view_is
-    (does_run c.args.name.now c.args.event c.args.place 100000 old new c.prepare.new.self c.run.new.host c.in_ok-outcome.outcome c.args.out.now.items c.give_text.new.out.items after
-    c.prepare.ensures.acting (λ sources told. c.in_ok-outcome.ensures.ends sources (subst (λ (programs : List ToldProgram). AllZip Tells sources programs) (sym c.as_slice.ensures.value) told)) steps-are
-    (leaves_in d.stage c.give_text.new.self c.run.new.host.acting d.programs.items d.handlers d.globals c.run.new.globals d.heap c.run.new.heap d.body c.in_ok-give_text.ensures.acting)
-    c.in_ok-give_text.ensures.given told))
-    c.push_stop_line.ensures.ok

@@ -1,5 +1,4 @@
 use Rattle.std.proofs.Common.{◌≡◌, ◌+◌, ◌∷◌, ◌++◌, [], map, Some, None, ◌∙◌, ap, subst}
-use Rattle.std.specs.Option.{option_copied}
 use Rattle.document_load.specs.Scripts.{Source}
 use Rattle.document_load.specs.ScriptViews.{told_handler}
 use Rattle.document_load.specs.ScriptSteps.{IsSaidOf}
@@ -10,7 +9,7 @@ use Rattle.document_load.proofs.scripts.ScriptReader.push.Goals.{in-Some-2+in_ok
 
 pub returns : goal.returns
 returns c sources h =
-    let source : Source = record { node = c.args.node.0; handler = option_copied c.args.handler; text = c.args.text.now } in
+    let source : Source = record { node = c.args.node.0; handler = c.args.handler; text = c.args.text.now } in
     let old = c.args.self.now in
     let new : ScriptReader = record { alloc = c.match-branch-2.self.alloc; scripts = c.match-branch-2.self.scripts; count = c.in-Some.number } in
     let counted : new.count ≡ old.count + 1 = c.in-Some.ensures.1 in

@@ -1,0 +1,24 @@
+use Rattle.std.proofs.Common.{List, ℕ, ◌+◌, sym, subst, take, arith}
+use Rattle.std.proofs.lemmas.List.{take_all, take_more}
+use Rattle.acting_documents.specs.Doings.{Does}
+use Rattle.acting_documents.specs.Beginnings.{run_scripts as spec_run_scripts}
+use Rattle.acting_documents.proofs.DoingLemmas.{does_grows, does_scripts-more}
+use Rattle.acting_documents.proofs.documents.ActingDocument.run_places.Goals as goal
+
+pub scripts-preserved : goal.scripts-preserved
+scripts-preserved c =
+    let places = c.args.places.now in
+    let index = c.scripts.place-index in
+    let old = c.args.self.now in
+    let new = c.run_program.new.self in
+    let before = c.args.out.now.items in
+    let after = c.run_program.new.out.items in
+    let does : Does (spec_run_scripts (take (index + 1) places)) old new before after =
+    subst (λ (all : List ℕ). Does (spec_run_scripts all) old new before after) (sym (take_more places index _ (omega arith)))
+    (does_scripts-more (take index places) _ old c.scripts.self new before c.scripts.out.items after c.scripts.invariant.0 c.in_ok-run_program.ensures.does) in
+    (does, does_grows (spec_run_scripts (take (index + 1) places)) old new before after does)
+
+pub returns-clause-does : goal.returns-clause-does
+returns-clause-does c =
+    subst (λ (all : List ℕ). Does (spec_run_scripts all) c.args.self.now c.scripts.self c.args.out.now.items c.scripts.out.items)
+    (take_all c.scripts.place-index c.args.places.now (omega arith)) c.scripts.invariant.0

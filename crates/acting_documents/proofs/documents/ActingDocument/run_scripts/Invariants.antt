@@ -1,7 +1,0 @@
-use Rattle.std.specs.Io.{StartsWith}
-use Rattle.acting_documents.specs.Doings.{Does}
-use Rattle.acting_documents.specs.Beginnings.{run_scripts as spec_run_scripts}
-use Rattle.acting_documents.proofs.documents.ActingDocument.run_scripts.Given as goal
-
-abbrev pub invariant-scripts : goal.invariant-scripts
-invariant-scripts l = (Does (spec_run_scripts l.yielded) l.fn.self l.self l.fn.out.items l.out.items) × (StartsWith l.out.items l.fn.out.items)
