@@ -4,7 +4,6 @@ use Rattle.std.specs.Prelude.{ℕ, Bool, true, false, if◌then◌else◌, List,
 use Rattle.std.specs.List.{list_all}
 use Rattle.bml_bytes.specs.Codes.{codes}
 use Rattle.dom_tree.specs.Items.{Item}
-use Rattle.style_cascade.specs.Cascade.{unwritten}
 use Rattle.bml_reader.specs.declared.faults.DocFault.{DocFault}
 use Rattle.bml_reader.specs.Readings.{reading_of}
 use Rattle.multipart_entities.specs.declared.paths.Path.{Path}
@@ -16,8 +15,7 @@ use Rattle.document_load.specs.Drafts.{DraftState, draft_of, with_gifts}
 use Rattle.document_load.specs.Needs.{needs_of}
 use Rattle.document_load.specs.Scripts.{bad_numbers, handlers_by, programs_by, sources_of}
 use Rattle.document_load.specs.StyleTexts.{document_rules}
-use Rattle.document_stages.specs.Acting.{no_focus}
-use Rattle.acting_documents.specs.Documents.{Document}
+use Rattle.acting_documents.specs.Documents.{Document, first_tree}
 use Rattle.acting_documents.specs.Beginnings.{load_effect}
 use Rattle.page.specs.Lines.{load_lines, refuse_line}
 use Rattle.page.specs.State.{State, Step, Wanted}
@@ -75,9 +73,7 @@ wanted_path NoDocument stored = None
 abbrev pub opened : Reader → DraftState → Document
 opened read draft =
     record {
-      items = draft.items;
-      sources = unwritten draft.items (document_rules draft);
-      focus = no_focus;
+      tree = first_tree draft.items (document_rules draft);
       queue = [];
       programs = programs_by read (sources_of draft);
       handlers = handlers_by read (sources_of draft);

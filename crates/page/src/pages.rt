@@ -88,6 +88,8 @@ impl Page {
         ensures told { OnOk result
             (out.new.items ≡ out.old.items ++ line_of_change component change.now) }
         ensures behind { OnOk result (self.new ≡ behind_change component change.now self.old) }
+        ensures clock { self.new.clock ≡ self.old.clock }
+        ensures area { self.new.area ≡ self.old.area }
         ensures grows { StartsWith out.new.items out.old.items }
         ensures spent { OnErr result (IsSpent self.new) }
         ensures after_spent { IsSpent self.old → IsErr result }
@@ -136,6 +138,7 @@ impl Page {
         ensures moved { OnOk result (Makes (λ s. record { state = with_clock moment s; text = [] })
             self.old self.new out.old.items out.new.items) }
         ensures clock { OnOk result (self.new.clock ≡ moment) }
+        ensures kept { OnErr result (self.new.clock ≡ self.old.clock) }
         ensures area { self.new.area ≡ self.old.area }
         ensures silent { out.new ≡ out.old }
         ensures unspent { OnOk result (self.new.spent ≡ false) }

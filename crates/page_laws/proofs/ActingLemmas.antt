@@ -13,7 +13,6 @@ use Rattle.style_cascade.specs.declared.states.Focus.{Focus}
 use Rattle.focus_keys.specs.Defaults.{Action}
 use Rattle.focus_keys.specs.Defaults.Action.{NoAction, Moves, Activates, Accesses}
 use Rattle.focus_keys.specs.Targets.{can_have_focus, nav_target_of}
-use Rattle.focus_keys.specs.Views.{styled_by}
 use Rattle.es_values.specs.declared.hosts.HostAnswer.{HostAnswer}
 use Rattle.es_values.specs.declared.hosts.HostAnswer.TheVariants.{Value as Answer, Ended, NotCallable}
 use Rattle.es_values.specs.declared.values.HostRef.{HostRef}
@@ -28,7 +27,7 @@ use Rattle.event_queue.specs.declared.events.Event.TheVariants as events
 use Rattle.dom_objects.specs.Writes.{Change, change_of, changed_items}
 use Rattle.dom_objects.specs.Writes.Change.{NoChange, ChangesText, ChangesAttribute, ChangesStyle}
 use Rattle.dom_objects.specs.declared.current_events.CurrentEvent.{CurrentEvent}
-use Rattle.document_stages.specs.Acting.{Acting, Answered, acted, activated, begun, called, document_call, element_call, first_argument, first_focus, focus_on, focused, gives, key_posts, left_by, moved_to, no_focus, node_id, not_callable, parts_of, posted, posted_for, read_by, written}
+use Rattle.document_stages.specs.Acting.{Acting, Answered, acted, activated, begun, called, document_call, element_call, first_argument, first_focus, focus_on, focused, gives, key_posts, left_by, moved_to, no_focus, node_id, not_callable, parts_of, posted, posted_for, read_by, with_focus, written}
 use Rattle.page_laws.specs.Soundness.{has_element, has_node, is_good, is_good_event, is_good_place, names_well}
 use Rattle.page_laws.proofs.ItemLemmas.{changed-tree}
 use Rattle.page_laws.proofs.QueueLemmas.{posted-all, posted-room}
@@ -62,8 +61,8 @@ pub record IsGoodQueue (items : List Item) (queue : List Event) : Type 0 where
 
 -- What is acted on is sound, by the nodes as they were at first.
 pub record IsSoundActing (items : List Item) (a : Acting) : Type 0 where
-  pub nodes : AreAsFirst items a.items
-  pub focus : IsGoodFocus items a.focus
+  pub nodes : AreAsFirst items a.tree.items
+  pub focus : IsGoodFocus items a.tree.focus
   pub queue : IsGoodQueue items a.queue
   pub target : has_target items a.event ≡ true
 
@@ -144,10 +143,6 @@ module _ (laws : TreeLaws) (items : List Item) where
     target = s.target;
   }
 
-  -- with another focus
-  abbrev with_focus : Focus → Acting → Acting
-  with_focus focus a = record a { focus = focus }
-
   focus-sound : (focus : Focus) (a : Acting) → IsGoodFocus items focus → IsSoundActing items a
       → IsSoundActing items (with_focus focus a)
   focus-sound focus a h s =
@@ -166,15 +161,15 @@ module _ (laws : TreeLaws) (items : List Item) where
   pub moved-sound : (node : ℕ) (a : Acting) → has_element items node ≡ true
       → IsSoundActing items a → IsSoundActing items (moved_to node a)
   unfolding moved_to
-  moved-sound node a h s = by (is_node node a.focus.focus)
+  moved-sound node a h s = by (is_node node a.tree.focus.focus)
     where
       by : (has : Bool) → IsSoundActing items (if has then a
           else posted (events.Focus node)
-          (posted_for events.Blur (number_of a.focus.focus) (with_focus (focus_on node) a)))
+          (posted_for events.Blur (number_of a.tree.focus.focus) (with_focus (focus_on node) a)))
       by true = s
       by false =
           posted-sound (events.Focus node) _ h
-          (blur-sound (number_of a.focus.focus) (with_focus (focus_on node) a) s.focus.has
+          (blur-sound (number_of a.tree.focus.focus) (with_focus (focus_on node) a) s.focus.has
           (focus-sound (focus_on node) a (on-good node h) s))
 
   has-element : (node : ℕ) (focus : Option NodeId) → is_node node focus ≡ true
@@ -186,13 +181,13 @@ module _ (laws : TreeLaws) (items : List Item) where
   left-sound : (node : ℕ) (a : Acting) → IsSoundActing items a
       → IsSoundActing items (left_by node a)
   unfolding left_by
-  left-sound node a s = by (is_node node a.focus.focus) refl
+  left-sound node a s = by (is_node node a.tree.focus.focus) refl
     where
-      by : (has : Bool) → is_node node a.focus.focus ≡ has → IsSoundActing items
+      by : (has : Bool) → is_node node a.tree.focus.focus ≡ has → IsSoundActing items
           (if has then posted (events.Blur node) (with_focus no_focus a) else a)
       by true e =
           posted-sound (events.Blur node) (with_focus no_focus a)
-          (has-element node a.focus.focus e s.focus.has)
+          (has-element node a.tree.focus.focus e s.focus.has)
           (focus-sound no_focus a (record { has = refl; active = refl }) s)
       by false e = s
 
@@ -200,7 +195,7 @@ module _ (laws : TreeLaws) (items : List Item) where
       → IsSoundActing items a → IsSoundActing items (activated node a)
   activated-sound node a h s =
       posted-sound (events.Click node) _ h
-      (focus-sound (record { focus = a.focus.focus; active = Some (node_id node) }) a
+      (focus-sound (record a.tree.focus { active = Some (node_id node) }) a
       (record { has = s.focus.has; active = h }) s)
 
   pub acted-sound : (action : Action) (a : Acting) → IsGoodAction items action
@@ -221,14 +216,14 @@ module _ (laws : TreeLaws) (items : List Item) where
 
   first-good : (a : Acting) → IsSoundActing items a
       → is_good_place items (first_focus a) ≡ true
-  first-good a s = by (is_some a.focus.focus)
+  first-good a s = by (is_some a.tree.focus.focus)
     where
       by : (has : Bool) → is_good_place items (if has then None
-          else nav_target_of (styled_by a.items a.sources a.focus) (pos 0)) ≡ true
+          else nav_target_of a.tree (pos 0)) ≡ true
       by true = refl
       by false =
-          sym (place-same items a.items s.nodes _)
-          ∙ nav-element (styled_by a.items a.sources a.focus) (pos 0)
+          sym (place-same items a.tree.items s.nodes _)
+          ∙ nav-element a.tree (pos 0)
 
   begun-by : (node : Option ℕ) (a : Acting) → is_good_place items node ≡ true
       → IsSoundActing items a → IsSoundActing items (begun node a)
@@ -246,10 +241,10 @@ module _ (laws : TreeLaws) (items : List Item) where
   pub read-given : (a : Acting) → IsSoundActing items a → (base : HostRef) (name : List ℕ)
       → IsGiven items (read_by a base name)
   read-given a s base name =
-      sym (given-same items a.items s.nodes (read_by a base name))
-      ∙ value-given (parts_of a) (hang a.items s.nodes.tree)
-      (place-same items a.items s.nodes (number_of a.focus.focus) ∙ s.focus.has)
-      (target-same items a.items s.nodes a.event ∙ s.target) base name
+      sym (given-same items a.tree.items s.nodes (read_by a base name))
+      ∙ value-given (parts_of a) (hang a.tree.items s.nodes.tree)
+      (place-same items a.tree.items s.nodes (number_of a.tree.focus.focus) ∙ s.focus.has)
+      (target-same items a.tree.items s.nodes a.event ∙ s.target) base name
 
   changed-nodes : (f : Item → Item) (place : ℕ)
       → ((now : List Item) → KeepsPlaces now (changed_at f place now)) → (now : List Item)
@@ -273,7 +268,7 @@ module _ (laws : TreeLaws) (items : List Item) where
   pub written-sound : (a : Acting) → IsSoundActing items a → (base : HostRef)
       (name text : List ℕ) → IsSoundActing items (written a base name text)
   written-sound a s base name text = record {
-    nodes = written-nodes (change_of a.items base name text) a.items s.nodes;
+    nodes = written-nodes (change_of a.tree.items base name text) a.tree.items s.nodes;
     focus = s.focus;
     queue = s.queue;
     target = s.target;
@@ -297,20 +292,20 @@ module _ (laws : TreeLaws) (items : List Item) where
       → IsSoundAnswer items (document_call a name id)
   document-sound a s name id =
       chosen-sound (is_same name (codes "getElementById")) _ _
-      (gives-sound _ a (sym (given-same items a.items s.nodes _) ∙ id-given a.items id) s)
+      (gives-sound _ a (sym (given-same items a.tree.items s.nodes _) ∙ id-given a.tree.items id) s)
       (none-sound a s)
 
   focused-sound : (node : ℕ) (a : Acting) → IsSoundActing items a
       → IsSoundActing items (focused node a)
   focused-sound node a s =
-      by (can_have_focus (styled_by a.items a.sources a.focus) node) refl
+      by (can_have_focus a.tree node) refl
     where
-      by : (can : Bool) → can_have_focus (styled_by a.items a.sources a.focus) node ≡ can
+      by : (can : Bool) → can_have_focus a.tree node ≡ can
           → IsSoundActing items (if can then moved_to node a else a)
       by true e =
           moved-sound node a
-          (sym (element-same items a.items s.nodes node)
-          ∙ focus-element (styled_by a.items a.sources a.focus) node e) s
+          (sym (element-same items a.tree.items s.nodes node)
+          ∙ focus-element a.tree node e) s
       by false e = s
 
   element-sound : (a : Acting) → IsSoundActing items a → (node : ℕ) (name : List ℕ)
@@ -328,7 +323,7 @@ module _ (laws : TreeLaws) (items : List Item) where
   called-sound a s ref.Document name arguments heap =
       document-sound a s name (text_of heap (first_argument arguments))
   called-sound a s (ref.Node node) name arguments heap =
-      chosen-sound (is_some (tag_of a.items node)) _ _ (element-sound a s node name)
+      chosen-sound (is_some (tag_of a.tree.items node)) _ _ (element-sound a s node name)
       (none-sound a s)
   called-sound a s ref.Browser name arguments heap = gives-sound _ a refl s
   called-sound a s _ name arguments heap = none-sound a s

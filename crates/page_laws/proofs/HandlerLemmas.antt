@@ -11,7 +11,9 @@ use Rattle.es_reader.specs.Readers.{Reader}
 use Rattle.es_reader.specs.Statements.{Item as ProgramItem}
 use Rattle.document_load.specs.Drafts.{DraftState}
 use Rattle.document_load.specs.StyleTexts.{given_for, own_text}
-use Rattle.document_load.specs.Scripts.{Source, handler_source, handler_with, handlers_by, handlers_from, is_handler_name, programs_by, script_source, script_sources, script_text, sources_at, sources_by, sources_of}
+use Rattle.document_load.specs.HandlerKinds.{kind_named}
+use Rattle.document_load.specs.declared.handler_kinds.HandlerKind.{HandlerKind}
+use Rattle.document_load.specs.Scripts.{Source, handler_source, handler_with, handlers_by, handlers_from, programs_by, script_source, script_sources, script_text, sources_at, sources_by, sources_of}
 use Rattle.page_laws.specs.Soundness.{IsGoodHandler, has_element}
 
 -- ---- sources
@@ -44,18 +46,20 @@ module _ (items : List Item) where
       → AreOfElements items (filter_map (handler_source node) attributes)
   handlers-of-element node [] h = All-nil IsOfElement
   handlers-of-element node (attribute ∷ attributes) h =
-      by (is_handler_name attribute.name) (handlers-of-element node attributes h)
+      by (kind_named attribute.name) (handlers-of-element node attributes h)
     where
-      by : (t : Bool) → AreOfElements items (filter_map (handler_source node) attributes)
+      by : (kind : Option HandlerKind)
+          → AreOfElements items (filter_map (handler_source node) attributes)
           → AreOfElements items (cons_option
-          (if t then Some (record {
+          (option_map (λ kind. record {
             node = node;
-            handler = Some attribute.name;
+            handler = Some kind;
             text = attribute.value;
-          }) else None)
+          }) kind)
           (filter_map (handler_source node) attributes))
-      by true more = All-cons IsOfElement _ (filter_map (handler_source node) attributes) h more
-      by false more = more
+      by (Some kind) more =
+          All-cons IsOfElement _ (filter_map (handler_source node) attributes) h more
+      by None more = more
 
   sources-of-element : (node : ℕ) (own gift : List ℕ) (content : Content)
       → (is_some (tag_in content) ≡ true → has_element items node ≡ true)
@@ -105,10 +109,10 @@ handlers-good items count place (source ∷ sources) all few =
     (handlers-good items count (suc place) sources
     (All-tail (λ s. has_element items s.node ≡ true) source sources all) (omega arith))
   where
-    by : (name : Option (List ℕ)) → All (IsGoodHandler items count) (option_to_list (option_map
-        (λ name. record { node = source.node; name = name; program = place }) name))
+    by : (kind : Option HandlerKind) → All (IsGoodHandler items count) (option_to_list (option_map
+        (λ kind. record { node = source.node; kind = kind; program = place }) kind))
     by None = All-nil (IsGoodHandler items count)
-    by (Some name) =
+    by (Some kind) =
         All-cons (IsGoodHandler items count) _ [] (record {
           node = All-head (λ s. has_element items s.node ≡ true) source sources all;
           program = omega arith;

@@ -9,3 +9,4 @@ pub mod HandlerLemmas
 pub mod DocumentLemmas
 pub mod PageLemmas
 pub mod ReceiverLemmas
+pub mod TurnLemmas

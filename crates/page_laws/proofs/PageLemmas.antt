@@ -98,7 +98,7 @@ module _ (laws : Laws) where
     focus = s.focus;
     active = s.active;
     room = omega (arith, length-drop 1 d.queue, s.room);
-    events = All-drop (λ event. is_good_event d.items event ≡ true) 1 d.queue s.events;
+    events = All-drop (λ event. is_good_event d.tree.items event ≡ true) 1 d.queue s.events;
     handlers = s.handlers;
     globals = s.globals;
     properties = s.properties;
@@ -109,9 +109,9 @@ module _ (laws : Laws) where
   event-sound : (s : State) (d : Document) → IsSoundDocument d → MaySound (event_in s d)
   event-sound s d h =
       by (first_of d.queue)
-      (first-good (λ event. is_good_event d.items event ≡ true) d.queue h.events)
+      (first-good (λ event. is_good_event d.tree.items event ≡ true) d.queue h.events)
     where
-      by : (event : Option Event) → IfSome event (λ e. is_good_event d.items e ≡ true)
+      by : (event : Option Event) → IfSome event (λ e. is_good_event d.tree.items e ≡ true)
           → MaySound (option_map (λ event. step_of s (handled event (without_first d))) event)
       by None good = tt
       by (Some event) good =

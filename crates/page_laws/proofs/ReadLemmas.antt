@@ -5,13 +5,15 @@ use Rattle.std.specs.List.{AllByRecursion}
 use Rattle.std.specs.Map.{lookup}
 use Rattle.std.specs.Option.{option_map_or}
 use Rattle.std.proofs.lemmas.Bool.{lt-ltb}
-use Rattle.std.proofs.lemmas.List.Elements.{All-append, All-from_recursion, All-nil}
+use Rattle.std.proofs.lemmas.List.Elements.{All-append, All-cons, All-from_recursion, All-nil}
 use Rattle.std.proofs.lemmas.Map.Entries.{All-lookup}
 use Rattle.bml_bytes.specs.Words.{is_same}
 use Rattle.dom_tree.specs.Items.{Item, has_id, parent_of, tag_of, text_of}
 use Rattle.dom_tree.specs.NodeNumbers.{number_of}
 use Rattle.dom_tree.specs.Walks.{after, before, children_of, first, hangs_in, last, node_of_id, places, siblings_of}
 use Rattle.style_reader.specs.declared.properties.Property.{Property}
+use Rattle.style_cascade.specs.StyledTrees.{StyledTree}
+use Rattle.style_cascade.specs.declared.states.Focus.{Focus}
 use Rattle.style_cascade.specs.declared.states.State.{State}
 use Rattle.es_values.specs.declared.values.HostRef.{HostRef}
 use Rattle.es_values.specs.declared.values.HostRef.TheVariants as ref
@@ -22,7 +24,8 @@ use Rattle.event_queue.specs.declared.events.Event.{Event}
 use Rattle.event_queue.specs.declared.events.Event.TheVariants as events
 use Rattle.event_queue.specs.Events.{name_of}
 use Rattle.dom_objects.specs.Parts.{Parts, state_of_number}
-use Rattle.dom_objects.specs.Reads.{Rows, attribute_value, document_rows, element_rows, event_rows, key_rows, node_rows, node_value, own_rows, is_input_tag, is_object_tag, property_named, read_in, read_value, style_read, style_text, text_rows, walk_rows}
+use Rattle.dom_objects.specs.Reads.{ElementRow, ElementTable, Rows, document_rows, element_rows, element_table, element_value, event_rows, key_rows, node_rows, node_value, own_rows, own_table, property_named, read_in, read_value, table_rows, style_read, style_text, text_rows, walk_rows}
+use Rattle.dom_objects.specs.Reads.ElementRow.{Tag, Attribute, StyleFor}
 use Rattle.dom_objects.specs.declared.current_events.CurrentEvent.{CurrentEvent}
 use Rattle.page_laws.specs.Soundness.{has_element, has_node, is_good, is_good_place, names_well}
 use Rattle.page_laws.proofs.WalkLemmas.{IsBelow, after-below, before-below, first-below, last-below, places-below}
@@ -132,28 +135,19 @@ walks-give items hang node =
       ),
     )
 
--- the value of an attribute is a text
-own-give : (items : List Item) (node : ℕ) (tag : List ℕ)
-    → RowsGive items (own_rows items node tag)
-own-give items node tag =
-    each-gives items (own_rows items node tag) (by (is_object_tag tag) (is_input_tag tag))
-  where
-    by : (object input : Bool) → EachGives items
-        (if object
-        then (codes "data", attribute_value items node (codes "data"))
-        ∷ (codes "type", attribute_value items node (codes "type")) ∷ []
-        else if input
-        then (codes "value", attribute_value items node (codes "value")) ∷ []
-        else [])
-    by true input = (refl, (refl, tt))
-    by false true = (refl, tt)
-    by false false = tt
+-- a tag and the value of an attribute are texts
+row-given : (items : List Item) (node : ℕ) (tag : List ℕ) → has_element items node ≡ true
+    → (row : ElementRow) → IsGiven items (element_value items node tag row)
+row-given items node tag there Tag = refl
+row-given items node tag there (Attribute name) = refl
+row-given items node tag there (StyleFor state) = there
 
-elements-give : (items : List Item) (node : ℕ) (tag : List ℕ) → has_element items node ≡ true
-    → RowsGive items (element_rows items node tag)
-elements-give items node tag there =
-    each-gives items (element_rows items node tag)
-    (refl, (refl, (refl, (refl, (there, (there, (there, tt)))))))
+tables-give : (items : List Item) (node : ℕ) (tag : List ℕ) → has_element items node ≡ true
+    → (table : ElementTable) → RowsGive items (table_rows items node tag table)
+tables-give items node tag there [] = All-nil (λ (row : List ℕ × Value). IsGiven items row.1)
+tables-give items node tag there (row ∷ table) =
+    All-cons (λ (row : List ℕ × Value). IsGiven items row.1) _ (table_rows items node tag table)
+    (row-given items node tag there row.1) (tables-give items node tag there table)
 
 texts-give : (items : List Item) (text : List ℕ) → RowsGive items (text_rows text)
 texts-give items text = each-gives items (text_rows text) (refl, (refl, tt))
@@ -172,7 +166,8 @@ node_rows-give items hang node = by (tag_of items node) refl (text_of items node
         All-append (λ row. IsGiven items row.1) (walk_rows items node)
         (element_rows items node tag ++ own_rows items node tag) (walks-give items hang node)
         (All-append (λ row. IsGiven items row.1) (element_rows items node tag)
-        (own_rows items node tag) (elements-give items node tag there) (own-give items node tag))
+        (own_rows items node tag) (tables-give items node tag there element_table)
+        (tables-give items node tag there (own_table tag)))
     by None e (Some text) =
         All-append (λ row. IsGiven items row.1) (walk_rows items node) (text_rows text)
         (walks-give items hang node) (texts-give items text)
@@ -190,26 +185,25 @@ keys-give items _ = tt
 abbrev pub has_target : List Item → CurrentEvent → Bool
 has_target items current = option_map_or (λ event. has_node items current.target) current.event true
 
-events-give : (items : List Item) (parts : Parts) → has_target items parts.event ≡ true
-    → EachGives items (event_rows parts)
-events-give items parts h = by parts.event.event h
+events-give : (items : List Item) (current : CurrentEvent) → has_target items current ≡ true
+    → EachGives items (event_rows current)
+events-give items current h = by current.event h
   where
     by : (event : Option Event)
-        → option_map_or (λ event. has_node items parts.event.target) event true ≡ true
+        → option_map_or (λ event. has_node items current.target) event true ≡ true
         → EachGives items (option_map_or
         (λ event. (codes "type", Str (name_of event))
-        ∷ (codes "target", Host (ref.Node parts.event.target)) ∷ key_rows event) event [])
+        ∷ (codes "target", Host (ref.Node current.target)) ∷ key_rows event) event [])
     by None h = tt
     by (Some event) h = (refl, (h, keys-give items event))
 
-document-gives : (items : List Item) (parts : Parts)
-    → is_good_place items (number_of parts.focus.focus) ≡ true
-    → EachGives items (document_rows parts)
-document-gives items parts h = (
-  by parts.event.event,
+document-gives : (items : List Item) (focus : Focus) (current : CurrentEvent)
+    → is_good_place items (number_of focus.focus) ≡ true
+    → EachGives items (document_rows focus current)
+document-gives items focus current h = (
+  by current.event,
   (
-    node-given items (number_of parts.focus.focus)
-        (place-below items (number_of parts.focus.focus) h),
+    node-given items (number_of focus.focus) (place-below items (number_of focus.focus) h),
     tt,
   ),
 )
@@ -218,15 +212,15 @@ document-gives items parts h = (
     by None = refl
     by (Some event) = refl
 
-style-given : (items : List Item) (parts : Parts) (node number : ℕ) (name : List ℕ)
-    → IsGiven items (style_read parts node number name)
+style-given : (items : List Item) (tree : StyledTree) (node number : ℕ) (name : List ℕ)
+    → IsGiven items (style_read tree node number name)
 unfolding style_read
-style-given items parts node number name =
-    by (if is_some (tag_of parts.items node) then state_of_number number else None)
+style-given items tree node number name =
+    by (if is_some (tag_of tree.items node) then state_of_number number else None)
     (property_named name)
   where
     by : (state : Option State) (property : Option Property) → IsGiven items (option_map_or
-        (λ state. option_map_or (style_text parts node state) property Undefined) state Undefined)
+        (λ state. option_map_or (style_text tree node state) property Undefined) state Undefined)
     by None property = refl
     by (Some state) None = refl
     by (Some state) (Some property) = refl
@@ -234,21 +228,25 @@ style-given items parts node number name =
 -- ---- all references
 
 -- what is read of a document whose focus and whose current event name what is there
-pub value-given : (parts : Parts) → HangBefore parts.items
-    → is_good_place parts.items (number_of parts.focus.focus) ≡ true
-    → has_target parts.items parts.event ≡ true → (base : HostRef) (name : List ℕ)
-    → IsGiven parts.items (read_value parts base name)
+pub value-given : (parts : Parts) → HangBefore parts.tree.items
+    → is_good_place parts.tree.items (number_of parts.tree.focus.focus) ≡ true
+    → has_target parts.tree.items parts.event ≡ true → (base : HostRef) (name : List ℕ)
+    → IsGiven parts.tree.items (read_value parts base name)
 unfolding read_value
 value-given parts hang focus event ref.Document name =
-    read-given parts.items (document_rows parts)
-    (each-gives parts.items (document_rows parts) (document-gives parts.items parts focus)) name
+    let items = parts.tree.items in
+    let rows = document_rows parts.tree.focus parts.event in
+    read-given items rows
+    (each-gives items rows (document-gives items parts.tree.focus parts.event focus)) name
 value-given parts hang focus event ref.Event name =
-    read-given parts.items (event_rows parts)
-    (each-gives parts.items (event_rows parts) (events-give parts.items parts event)) name
+    let items = parts.tree.items in
+    let rows = event_rows parts.event in
+    read-given items rows (each-gives items rows (events-give items parts.event event)) name
 value-given parts hang focus event (ref.Node node) name =
-    read-given parts.items (node_rows parts.items node) (node_rows-give parts.items hang node) name
+    let items = parts.tree.items in
+    read-given items (node_rows items node) (node_rows-give items hang node) name
 value-given parts hang focus event (ref.Style node number) name =
-    style-given parts.items parts node number name
+    style-given parts.tree.items parts.tree node number name
 value-given parts hang focus event _ name = refl
 
 -- the node of an id, if there is one

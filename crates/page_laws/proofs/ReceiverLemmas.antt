@@ -8,9 +8,10 @@ use Rattle.module_store.specs.Store.{Stored, changes_by, gone_by}
 use Rattle.page.specs.Dispatches as dispatches
 use Rattle.page.specs.Inputs.{changes_step, key_step}
 use Rattle.page.specs.State as page
-use Rattle.receiver_core.specs.Outputs.{intact_sections, state_after, state_behind, state_behind_turns, with_packet}
-use Rattle.receiver_core.specs.State.{Input, State, services, wants}
-use Rattle.receiver_core.specs.State.Input.{Packet, Key, Release, Tick, Random, Show}
+use Rattle.receiver_core.specs.Outputs.{Input, intact_sections, state_after, state_behind}
+use Rattle.receiver_core.specs.Outputs.{state_behind_turns, with_packet}
+use Rattle.receiver_core.specs.Outputs.Input.{Packet, Key, Release}
+use Rattle.receiver_core.specs.State.{State, services, wants}
 use Rattle.receiver_core.specs.Turns.{key_turn, page_turn, step_of_section, step_of_table, step_of_tag, turn, with_handled}
 use Rattle.page_laws.specs.Soundness.{IsSound}
 
@@ -82,9 +83,7 @@ module _ (laws : PageLaws) where
       turns-sound (pid_of packet) (intact_sections packet s) (with_packet packet s) h
   after-sound (Key key) s h = key-sound key true s h
   after-sound (Release key) s h = key-sound key false s h
-  after-sound (Tick count) s h = h
-  after-sound (Random word) s h = h
-  after-sound Show s h = h
+  after-sound _ s h = h
 
   pub behind-sound : (inputs : List Input) (s : State) → IsSound s.page
       → IsSound (state_behind s inputs).page

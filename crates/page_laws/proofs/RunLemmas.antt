@@ -15,7 +15,7 @@ use Rattle.es_values.specs.Objects.{ObjectState}
 use Rattle.es_values.specs.Values.{is_function}
 use Rattle.es_eval.specs.Evaluation.{run_at}
 use Rattle.script_laws.specs.Soundness.{function_limit}
-use Rattle.es_eval.specs.Syntax.{Program}
+use Rattle.es_shapes.specs.Syntax.{Program}
 use Rattle.es_eval.specs.Worlds.{Run}
 use Rattle.es_eval.specs.Worlds.Run.{Over, Reads, Writes, Calls}
 use Rattle.script_laws.specs.Passing.{PassesOwn, is_named}

@@ -12,7 +12,7 @@ use Rattle.es_values.specs.declared.values.Value.TheVariants.{Function, Host}
 use Rattle.es_values.specs.Heaps.{IsLive}
 use Rattle.es_values.specs.Heaps as heaps
 use Rattle.script_laws.specs.Soundness.{function_limit}
-use Rattle.es_eval.specs.Sources.{program_of}
+use Rattle.es_shapes.specs.Sources.{program_of}
 use Rattle.event_queue.specs.Queues.{most_events}
 use Rattle.event_queue.specs.declared.events.Event.{Event}
 use Rattle.event_queue.specs.declared.events.Event.TheVariants as events
@@ -65,18 +65,18 @@ abbrev pub limit_of : Document → ℕ
 limit_of d = function_limit (map program_of d.programs)
 
 abbrev pub is_good_in : Document → Value → Bool
-is_good_in d = is_good d.items (limit_of d)
+is_good_in d = is_good d.tree.items (limit_of d)
 
 pub record IsSoundDocument (d : Document) : Type 0 where
-  pub tree : IsTree d.items
+  pub tree : IsTree d.tree.items
   -- what has the focus, and what is active
-  pub focus : is_good_place d.items (number_of d.focus.focus) ≡ true
-  pub active : is_good_place d.items (number_of d.focus.active) ≡ true
+  pub focus : is_good_place d.tree.items (number_of d.tree.focus.focus) ≡ true
+  pub active : is_good_place d.tree.items (number_of d.tree.focus.active) ≡ true
   -- the events that wait
   pub room : length d.queue ≤ most_events
-  pub events : All (λ event. is_good_event d.items event ≡ true) d.queue
+  pub events : All (λ event. is_good_event d.tree.items event ≡ true) d.queue
   -- the handlers
-  pub handlers : All (IsGoodHandler d.items (length d.programs)) d.handlers
+  pub handlers : All (IsGoodHandler d.tree.items (length d.programs)) d.handlers
   -- the variables and the objects of the scripts
   pub globals : All (λ global. is_good_in d global.1 ≡ true) d.globals
   pub properties : HeapPasses (is_good_in d) d.heap

@@ -9,9 +9,10 @@ ghost use Rattle.page.specs.Dispatches.{turn};
 ghost use Rattle.page.specs.Inputs.{changes_step, key_step, with_clock, with_random};
 ghost use Rattle.page.specs.State.{State, opening};
 ghost use Rattle.psi_tables.specs.declared.services.Selection.{Selection};
-ghost use Rattle.receiver_core.specs.Outputs.{state_behind};
+ghost use Rattle.receiver_core.specs.Outputs.{Input, state_behind};
 ghost use Rattle.receiver_core.specs.State as receiver;
 ghost use Rattle.page_laws.specs.Soundness.{IsSound};
+ghost use Rattle.page_laws.specs.Turns.{Turned};
 
 use bml_reader::law_of_readings;
 use dom_tree::{
@@ -42,8 +43,13 @@ pub fn law_of_soundness()
 /// Whatever came to a receiver, its page is sound.
 pub fn law_of_sound_receivers()
     ensures behind { (read : Reader) (selection : Selection) (area : List ℕ)
-        (inputs : List receiver.Input)
+        (inputs : List Input)
         → IsSound (state_behind (receiver.opening read selection area) inputs).page }
 {
     law_of_soundness();
 }
+
+/// A turn makes dispatches until there is none to make, or until it has made 256.
+pub fn law_of_turns()
+    ensures { (stored : Stored) (s : State) → Turned stored s (turn stored s).state }
+{}

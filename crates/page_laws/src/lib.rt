@@ -3,9 +3,9 @@
 //! A page is sound where what it keeps names what is there: nodes of its document, objects of its
 //! heap, functions of its programs (`specs/Soundness.antt`). [`law_of_soundness`] says that it is
 //! so at first, and stays so, and [`law_of_sound_receivers`] that the page of a receiver is sound
-//! whatever came to it.
+//! whatever came to it. [`law_of_turns`] says how far a turn goes (`specs/Turns.antt`).
 #![tactic(auto)]
 
 mod laws;
 
-pub use crate::laws::{law_of_sound_receivers, law_of_soundness};
+pub use crate::laws::{law_of_sound_receivers, law_of_soundness, law_of_turns};
