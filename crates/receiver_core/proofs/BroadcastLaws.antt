@@ -19,7 +19,8 @@ use Rattle.module_store.specs.Lines.{line_of_change}
 use Rattle.page.specs.Standing.{PageState, behind_all}
 use Rattle.page.specs.Standing as pages
 use Rattle.page.specs.State as paging
-use Rattle.receiver_core.specs.Broadcasts.{BroadcastState, HasMade, Makes, StandsFor}
+use Rattle.receiver_core.specs.Broadcasts.{BroadcastState, HasMade, Makes, MakesOutcome, StandsFor}
+use Rattle.receiver_core.specs.Outputs.{Piece, with_piece, without_piece}
 use Rattle.receiver_core.specs.State.{State, opening, services, wants}
 use Rattle.receiver_core.specs.Turns.{Step, key_turn, of_page, page_turn, step_of_component, step_of_section, step_of_table, step_of_tag, turn, with_changes, with_handled, with_turn}
 use Rattle.receiver_core.proofs.MapLaws.{IsSameMap, none_gone, pids_of_map, pids_of_section, stands_still}
@@ -71,6 +72,35 @@ page_made step old page before after made = record {
   makes = λ s stands.
       let its = made.makes s.store s.page stands.page in
       record { stands = stands_with old page s (step s.page).state stands its.stands; text_is = its.text_is };
+}
+
+-- ---- inputs that are handed in whole
+
+-- a step, whose text is a piece
+pub outcome_with : (step : State → Step) (old new : BroadcastState) (before after : List ℕ)
+    → Makes step old new before after → MakesOutcome (λ s. with_piece (step s)) old new before after
+outcome_with step old new before after made = record {
+  pieces = piece made.text new.page.area ∷ [];
+  printed = made.printed ∙ ap (λ (l : List ℕ). before ++ l) (sym (append-nil made.text));
+  gives = λ s stands.
+      let has = made.makes s stands in
+      record {
+        stands = has.stands;
+        pieces_are = ap₂ (λ (text area : List ℕ). piece text area ∷ []) has.text_is has.stands.page.area;
+      };
+}
+  where
+    piece : List ℕ → List ℕ → Piece
+    piece text area = record { text = text; area = area }
+
+-- another state, and no piece
+pub outcome_without : (state : State → State) (old new : BroadcastState) (before after : List ℕ) → after ≡ before
+    → ((s : State) → StandsFor old s → StandsFor new (state s))
+    → MakesOutcome (λ s. without_piece (state s)) old new before after
+outcome_without state old new before after same stands = record {
+  pieces = [];
+  printed = same ∙ sym (append-nil before);
+  gives = λ s stood. record { stands = stands s stood; pieces_are = refl };
 }
 
 pub time_passed : (old : BroadcastState) (page : PageState) (count : ℕ) (before after : List ℕ) (moment : ℕ) → moment ≡ old.page.clock + count

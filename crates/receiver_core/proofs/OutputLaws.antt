@@ -3,8 +3,8 @@ use Rattle.std.proofs.Common.{◌≡◌, ℕ, List, [], ◌∷◌, ◌++◌, ref
 use Rattle.psi_tables.specs.declared.services.Selection.{Selection}
 use Rattle.es_reader.specs.Readers.{Reader}
 use Rattle.receiver_core.specs.Fronts.{IsFront}
-use Rattle.receiver_core.specs.Outputs.{Piece, outputs, pieces_from, pieces_of, state_after, state_behind}
-use Rattle.receiver_core.specs.State.{Input, State, opening}
+use Rattle.receiver_core.specs.Outputs.{Input, Piece, outputs, pieces_from, pieces_of, state_after, state_behind}
+use Rattle.receiver_core.specs.State.{State, opening}
 
 pieces_from-append : (s : State) (xs ys : List Input) → pieces_from s (xs ++ ys) ≡ pieces_from s xs ++ pieces_from (state_behind s xs) ys
 pieces_from-append s [] ys = refl

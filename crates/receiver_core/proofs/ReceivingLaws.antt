@@ -11,15 +11,17 @@ use Rattle.section_demultiplexer.specs.Demultiplexing.{DemultiplexerState, Gives
 use Rattle.section_demultiplexer.specs.Demultiplexing as demultiplexing
 use Rattle.section_demultiplexer.specs.Laws.{SameLists}
 use Rattle.es_reader.specs.Readers.{Reader}
-use Rattle.receiver_core.specs.Broadcasts.{BroadcastState, HasMade, Makes}
+use Rattle.receiver_core.specs.Broadcasts.{BroadcastState, HasMade, MakesOutcome}
 use Rattle.receiver_core.specs.Broadcasts as broadcasts
-use Rattle.page.specs.Inputs.{display_of, with_clock, with_random}
+use Rattle.receiver_core.specs.declared.broadcast.Input.{Input as HandedIn}
+use Rattle.receiver_core.specs.declared.broadcast.Input.TheVariants as handed
 use Rattle.receiver_core.specs.Fronts.{IsFront}
-use Rattle.receiver_core.specs.Outputs.{Piece, outputs, piece_of, pieces_of, pieces_of_turns, sections_by, state_after, state_behind, state_behind_turns, with_packet}
-use Rattle.receiver_core.specs.Receiving.{Answers, Gives, IsIdle, IsOver, MakesTurn, PassesDamaged, Prints, PrintsDisplay, ReceiverState, StandsFor, Takes, key_input}
-use Rattle.receiver_core.specs.State.{Input, State, opening, services}
-use Rattle.receiver_core.specs.State.Input.{Packet, Random, Show, Tick}
-use Rattle.receiver_core.specs.Turns.{Step, key_turn, turn}
+use Rattle.receiver_core.specs.Outputs.{Input, Piece, input_of, outcome_of, outputs, piece_of, pieces_of, pieces_of_turns, sections_by}
+use Rattle.receiver_core.specs.Outputs.{state_after, state_behind, state_behind_turns, with_packet}
+use Rattle.receiver_core.specs.Receiving.{Answers, Gives, IsIdle, IsOver, MakesTurn, PassesDamaged, ReceiverState, StandsFor, Takes}
+use Rattle.receiver_core.specs.State.{State, opening, services}
+use Rattle.receiver_core.specs.Outputs.Input.{Packet}
+use Rattle.receiver_core.specs.Turns.{turn}
 use Rattle.receiver_core.specs.State as state_of
 use Rattle.receiver_core.proofs.OutputLaws.{behind_one_more, no_outputs, outputs_one_more}
 use Rattle.receiver_core.proofs.BroadcastLaws.{key_packets, services_are, turn_packets}
@@ -83,101 +85,59 @@ stands_first read selection area d b none assembled stands = record {
   kept = record { broadcast = stands; sections = λ pid. []; assembled = assembled };
 }
 
--- ---- inputs of one piece
+-- ---- an input that is handed in whole
 
--- a step is what an input comes to
-pub record ComesTo (input : Input) (step : State → Step) : Type 0 where
-  pub pieces : (s : State) → pieces_of input s ≡ piece_of (step s) ∷ []
-  pub left : (s : State) → state_after input s ≡ (step s).state
-  pub packets : (s : State) → (step s).state.packets ≡ s.packets
+-- it leaves the packets
+pub keeps_packets : (input : HandedIn) (s : State) → (state_after (input_of input) s).packets ≡ s.packets
+keeps_packets (handed.Key key) s = key_packets key true s
+keeps_packets (handed.Release key) s = key_packets key false s
+keeps_packets _ s = refl
 
-pub answers : (input : Input) (step : State → Step) (d : DemultiplexerState) (b c : BroadcastState) (spent still : Bool) (text : List ℕ) → ComesTo input step → still ≡ false → (spent ≡ false → d.waiting ≡ [])
-    → ((s : State) → broadcasts.StandsFor b s → HasMade c text (step s)) → Answers input text (seen d b spent) (seen d c still)
-answers input step d b c spent still text is unspent idle makes read selection area inputs given s =
-    let state = seen d b spent in
-    let none = idle s.unspent in
-    let t = step s.now in
-    let made = makes s.now s.kept.broadcast in
-    record {
-      now = t.state;
-      left = next_state read selection area state inputs given s input none ∙ is.left s.now ∙ sym (no_turns d.pid d.waiting t.state none);
-      pieces =
-          next_pieces read selection area state inputs given s input none
-          ∙ ap (λ (l : List Piece). given ++ l) (is.pieces s.now)
-          ∙ ap₂ (λ (l m : List ℕ). given ++ record { text = l; area = m } ∷ []) (sym made.text_is) (sym made.stands.page.area)
-          ∙ sym (append-nil (given ++ record { text = text; area = c.page.area } ∷ []))
-          ∙ ap (λ (l : List Piece). (given ++ record { text = text; area = c.page.area } ∷ []) ++ l) (sym (no_pieces d.pid d.waiting t.state none));
-      services_are = services_are c t.state made.stands;
-      clock_is = made.stands.page.clock;
-      area_is = made.stands.page.area;
-      unspent = unspent;
-      kept = record {
-        broadcast = made.stands;
-        sections = s.kept.sections;
-        assembled = subst (λ (packets : ℕ → List (List ℕ)). demultiplexing.StandsFor d packets s.kept.sections) (sym (is.packets s.now)) s.kept.assembled;
-      };
-    }
-
--- a key
-key_comes_to : (key : ℕ) (down : Bool) → ComesTo (key_input key down) (key_turn key down)
-key_comes_to key true = record { pieces = λ s. refl; left = λ s. refl; packets = key_packets key true }
-key_comes_to key false = record { pieces = λ s. refl; left = λ s. refl; packets = key_packets key false }
-
-pub prints_key : (key : ℕ) (down : Bool) (d : DemultiplexerState) (b c : BroadcastState) (spent still : Bool) (before after : List ℕ) → still ≡ false → (spent ≡ false → d.waiting ≡ [])
-    → Makes (key_turn key down) b c before after → Prints (key_input key down) (seen d b spent) (seen d c still) before after
-prints_key key down d b c spent still before after unspent idle made = record {
-  text = made.text;
+-- what the broadcast makes of it is the receiver's answer
+pub answers : (input : HandedIn) (d : DemultiplexerState) (b c : BroadcastState) (spent still : Bool)
+    (before after : List ℕ) → still ≡ false → MakesOutcome (outcome_of (input_of input)) b c before after
+    → Answers (input_of input) (seen d b spent) (seen d c still) before after
+answers handed_in d b c spent still before after unspent made = record {
+  pieces = made.pieces;
   printed = made.printed;
-  gives = answers (key_input key down) (key_turn key down) d b c spent still made.text (key_comes_to key down) unspent idle made.makes;
+  pieces_are = λ read selection area inputs given s. (made.gives s.now s.kept.broadcast).pieces_are;
+  taken = λ idle read selection area inputs given s.
+      let input = input_of handed_in in
+      let state = seen d b spent in
+      let none = idle s.unspent in
+      let now = state_after input s.now in
+      let has = made.gives s.now s.kept.broadcast in
+      record {
+        now = now;
+        left = next_state read selection area state inputs given s input none ∙ sym (no_turns d.pid d.waiting now none);
+        pieces =
+            next_pieces read selection area state inputs given s input none
+            ∙ ap (λ (l : List Piece). given ++ l) (sym has.pieces_are)
+            ∙ sym (append-nil (given ++ made.pieces))
+            ∙ ap (λ (l : List Piece). (given ++ made.pieces) ++ l) (sym (no_pieces d.pid d.waiting now none));
+        services_are = services_are c now has.stands;
+        clock_is = has.stands.page.clock;
+        area_is = has.stands.page.area;
+        unspent = unspent;
+        kept = record {
+          broadcast = has.stands;
+          sections = s.kept.sections;
+          assembled =
+              subst (λ (packets : ℕ → List (List ℕ)). demultiplexing.StandsFor d packets s.kept.sections)
+              (sym (keeps_packets handed_in s.now)) s.kept.assembled;
+        };
+      };
 }
 
--- a wish to see the display
-abbrev displayed : State → Step
-displayed s = record { state = s; text = display_of s.page }
-
-show_comes_to : ComesTo Show displayed
-show_comes_to = record { pieces = λ s. refl; left = λ s. refl; packets = λ s. refl }
-
-pub prints_display : (d : DemultiplexerState) (b c : BroadcastState) (spent still : Bool) (before after : List ℕ) → still ≡ false → Makes (λ s. record { state = s; text = display_of s.page }) b c before after
-    → PrintsDisplay (seen d b spent) (seen d c still) before after
-prints_display d b c spent still before after unspent made = record {
-  text = made.text;
-  printed = made.printed;
-  display = λ read selection area inputs given s. (made.makes s.now s.kept.broadcast).text_is;
-  shows = λ idle. answers Show displayed d b c spent still made.text show_comes_to unspent idle made.makes;
-}
-
--- ---- inputs that print nothing
-
-pub takes_silent : (input : Input) (step : State → State) (d : DemultiplexerState) (b c : BroadcastState) (spent still : Bool) → ((s : State) → pieces_of input s ≡ []) → ((s : State) → state_after input s ≡ step s)
-    → ((s : State) → (step s).packets ≡ s.packets) → still ≡ false → (spent ≡ false → d.waiting ≡ []) → ((s : State) → broadcasts.StandsFor b s → broadcasts.StandsFor c (step s)) → Takes input (seen d b spent) (seen d c still)
-takes_silent input step d b c spent still silent left packets unspent idle makes read selection area inputs given s =
-    let state = seen d b spent in
-    let none = idle s.unspent in
-    let now = step s.now in
-    let stands = makes s.now s.kept.broadcast in
-    record {
-      now = now;
-      left = next_state read selection area state inputs given s input none ∙ left s.now ∙ sym (no_turns d.pid d.waiting now none);
-      pieces = next_pieces read selection area state inputs given s input none ∙ ap (λ (l : List Piece). given ++ l) (silent s.now ∙ sym (no_pieces d.pid d.waiting now none));
-      services_are = services_are c now stands;
-      clock_is = stands.page.clock;
-      area_is = stands.page.area;
-      unspent = unspent;
-      kept = record {
-        broadcast = stands;
-        sections = s.kept.sections;
-        assembled = subst (λ (p : ℕ → List (List ℕ)). demultiplexing.StandsFor d p s.kept.sections) (sym (packets s.now)) s.kept.assembled;
-      };
-    }
-
-pub takes_time : (count : ℕ) (d : DemultiplexerState) (b c : BroadcastState) (spent still : Bool) → still ≡ false → (spent ≡ false → d.waiting ≡ [])
-    → ((s : State) → broadcasts.StandsFor b s → broadcasts.StandsFor c (record s { page = with_clock (s.page.clock + count) s.page })) → Takes (Tick count) (seen d b spent) (seen d c still)
-takes_time count d b c spent still = takes_silent (Tick count) (λ s. record s { page = with_clock (s.page.clock + count) s.page }) d b c spent still (λ s. refl) (λ s. refl) (λ s. refl)
-
-pub takes_random : (word : ℕ) (d : DemultiplexerState) (b c : BroadcastState) (spent still : Bool) → still ≡ false → (spent ≡ false → d.waiting ≡ [])
-    → ((s : State) → broadcasts.StandsFor b s → broadcasts.StandsFor c (record s { page = with_random word s.page })) → Takes (Random word) (seen d b spent) (seen d c still)
-takes_random word d b c spent still = takes_silent (Random word) (λ s. record s { page = with_random word s.page }) d b c spent still (λ s. refl) (λ s. refl) (λ s. refl)
+-- one that gives no piece
+pub takes_silent : (input : Input) (old new : ReceiverState) (before after : List ℕ)
+    → ((s : State) → pieces_of input s ≡ []) → IsIdle old → Answers input old new before after
+    → Takes input old new
+takes_silent input old new before after none idle made read selection area inputs given s =
+    subst (λ (l : List Piece). StandsFor read selection area new (inputs ++ input ∷ []) l)
+    (ap (λ (l : List Piece). given ++ l) (made.pieces_are read selection area inputs given s ∙ none s.now)
+    ∙ append-nil given)
+    (made.taken idle read selection area inputs given s)
 
 -- ---- a packet
 

@@ -1,5 +1,6 @@
 -- A device of the proofs: what is kept of a broadcast, and for which state it stands.
 use Rattle.std.specs.Prelude.{◌≡◌, ℕ, List, ◌++◌}
+use Rattle.std.specs.List.{concat}
 use Rattle.psi_tables.specs.Components.{pid_in}
 use Rattle.psi_tables.specs.Service.{ServicesState}
 use Rattle.psi_tables.specs.Service as services_of
@@ -8,6 +9,7 @@ use Rattle.module_store.specs.Standing as store
 use Rattle.module_store.specs.Store.{pid_of}
 use Rattle.page.specs.Standing.{PageState}
 use Rattle.page.specs.Standing as page
+use Rattle.receiver_core.specs.Outputs.{Outcome, Piece, texts_of}
 use Rattle.receiver_core.specs.State.{State}
 use Rattle.receiver_core.specs.Turns.{Step}
 
@@ -36,3 +38,16 @@ pub record Makes (step : State → Step) (old new : BroadcastState) (before afte
   pub text : List ℕ
   pub printed : after ≡ before ++ text
   pub makes : (s : State) → StandsFor old s → HasMade new text (step s)
+
+-- what is kept stands for the state that is left, and these are the pieces of the outcome
+pub record HasOutcome (state : BroadcastState) (pieces : List Piece) (outcome : Outcome)
+    : Type 0 where
+  pub stands : StandsFor state outcome.state
+  pub pieces_are : pieces ≡ outcome.pieces
+
+-- Texts of pieces were printed, and whatever state what was kept stands for, this came of it.
+pub record MakesOutcome (outcome : State → Outcome) (old new : BroadcastState) (before after : List ℕ)
+    : Type 0 where
+  pub pieces : List Piece
+  pub printed : after ≡ before ++ concat (texts_of pieces)
+  pub gives : (s : State) → StandsFor old s → HasOutcome new pieces (outcome s)

@@ -1,5 +1,5 @@
--- What a receiver prints for what comes to it: a list of pieces, one for each turn and one for each
--- display list that is asked for. (This project's own.)
+-- What comes to a receiver, and what it prints for that: a list of pieces, one for each turn and one
+-- for each display list that is asked for. (This project's own.)
 use Rattle.std.specs.Prelude.{ℕ, ◌+◌, ◌==◌, true, false, ◌&&◌, if◌then◌else◌, List, [], ◌∷◌, ◌++◌, filter, map}
 use Rattle.ts_packets.specs.Packet.{pid_of}
 use Rattle.ts_sections.specs.Sections.{completed_by}
@@ -7,9 +7,36 @@ use Rattle.ts_sections.specs.Intact.{is_intact}
 use Rattle.psi_tables.specs.declared.services.Selection.{Selection}
 use Rattle.es_reader.specs.Readers.{Reader}
 use Rattle.page.specs.Inputs.{display_of, with_clock, with_random}
-use Rattle.receiver_core.specs.State.{Input, State, opening, wants}
-use Rattle.receiver_core.specs.State.Input.{Packet, Key, Release, Tick, Random, Show}
+use Rattle.receiver_core.specs.State.{State, opening, wants}
 use Rattle.receiver_core.specs.Turns.{Step, key_turn, turn}
+use Rattle.receiver_core.specs.declared.broadcast.Input.{Input as HandedIn}
+use Rattle.receiver_core.specs.declared.broadcast.Input.TheVariants as handed
+
+pub data Input : Type 0 where
+  -- the next packet of the stream, of whatever PID
+  Packet : List ℕ → Input
+  -- a key is pressed, or released
+  Key : ℕ → Input
+  Release : ℕ → Input
+  -- so many milliseconds pass
+  Tick : ℕ → Input
+  -- a random word
+  Random : ℕ → Input
+  -- the wish to see what is displayed
+  Show : Input
+
+-- the input that a call hands in whole; packets are handed in by themselves
+abbrev pub input_of : HandedIn → Input
+input_of (handed.Key key) = Key key
+input_of (handed.Release key) = Release key
+input_of (handed.Tick count) = Tick count
+input_of (handed.Random word) = Random word
+input_of handed.Show = Show
+
+-- how many milliseconds an input lets pass
+abbrev pub milliseconds_of : Input → ℕ
+milliseconds_of (Tick count) = count
+milliseconds_of _ = 0
 
 -- a text, and the persistent area behind it
 pub record Piece : Type 0 where
@@ -56,25 +83,37 @@ sections_by packet s =
 abbrev pub intact_sections : List ℕ → State → List (List ℕ)
 intact_sections packet s = filter is_intact (sections_by packet s)
 
--- What one input prints, and what it leaves: a packet the turns of the intact sections that it completes, and
--- a key one turn. Nothing is printed where time passes, as nothing is due, nor for a random word.
+-- what an input leaves, and the pieces that it gives
+pub record Outcome : Type 0 where
+  pub state : State
+  pub pieces : List Piece
+
+abbrev pub with_piece : Step → Outcome
+with_piece step = record { state = step.state; pieces = piece_of step ∷ [] }
+
+abbrev pub without_piece : State → Outcome
+without_piece s = record { state = s; pieces = [] }
+
+-- A packet makes the turns of the intact sections that it completes, and a key makes one turn.
+-- Nothing is printed where time passes, as nothing is due, nor for a random word.
+abbrev pub outcome_of : Input → State → Outcome
+outcome_of (Packet packet) s = record {
+  state = state_behind_turns (pid_of packet) (intact_sections packet s) (with_packet packet s);
+  pieces = pieces_of_turns (pid_of packet) (intact_sections packet s) (with_packet packet s);
+}
+outcome_of (Key key) s = with_piece (key_turn key true s)
+outcome_of (Release key) s = with_piece (key_turn key false s)
+outcome_of (Tick count) s =
+    without_piece (record s { page = with_clock (s.page.clock + count) s.page })
+outcome_of (Random word) s = without_piece (record s { page = with_random word s.page })
+outcome_of Show s = with_piece (record { state = s; text = display_of s.page })
+
+-- what one input prints, and what it leaves
 abbrev pub pieces_of : Input → State → List Piece
-pieces_of (Packet packet) s =
-    pieces_of_turns (pid_of packet) (intact_sections packet s) (with_packet packet s)
-pieces_of (Key key) s = piece_of (key_turn key true s) ∷ []
-pieces_of (Release key) s = piece_of (key_turn key false s) ∷ []
-pieces_of (Tick count) s = []
-pieces_of (Random word) s = []
-pieces_of Show s = record { text = display_of s.page; area = s.page.area } ∷ []
+pieces_of input s = (outcome_of input s).pieces
 
 abbrev pub state_after : Input → State → State
-state_after (Packet packet) s =
-    state_behind_turns (pid_of packet) (intact_sections packet s) (with_packet packet s)
-state_after (Key key) s = (key_turn key true s).state
-state_after (Release key) s = (key_turn key false s).state
-state_after (Tick count) s = record s { page = with_clock (s.page.clock + count) s.page }
-state_after (Random word) s = record s { page = with_random word s.page }
-state_after Show s = s
+state_after input s = (outcome_of input s).state
 
 -- ---- all inputs
 

@@ -1,15 +1,17 @@
 -- What a receiver stands for: what came to it so far, and the pieces that it gave for that. (This
 -- project's own.)
-use Rattle.std.specs.Prelude.{◌≡◌, ℕ, Bool, true, false, if◌then◌else◌, List, [], ◌∷◌, ◌++◌, length, filter}
+use Rattle.std.specs.Prelude.{◌≡◌, ℕ, Bool, true, false, if◌then◌else◌, List, [], ◌∷◌, ◌++◌}
+use Rattle.std.specs.Prelude.{filter, length}
+use Rattle.std.specs.List.{concat}
 use Rattle.ts_sections.specs.Intact.{is_intact}
 use Rattle.psi_tables.specs.declared.services.Selection.{Selection}
 use Rattle.psi_tables.specs.Service.{ServicesState, wants}
 use Rattle.es_reader.specs.Readers.{Reader}
 use Rattle.receiver_core.specs.Keeping.{KeptState, Keeps}
-use Rattle.page.specs.Inputs.{display_of}
-use Rattle.receiver_core.specs.Outputs.{Piece, outputs, pieces_of_turns, state_behind, state_behind_turns}
-use Rattle.receiver_core.specs.State.{Input, State, opening, services}
-use Rattle.receiver_core.specs.State.Input.{Key, Release, Show}
+use Rattle.receiver_core.specs.Outputs.{Input, Piece, outputs, pieces_of, pieces_of_turns}
+use Rattle.receiver_core.specs.Outputs.{state_behind, state_behind_turns, texts_of}
+use Rattle.receiver_core.specs.Outputs.Input.{Tick, Random}
+use Rattle.receiver_core.specs.State.{State, opening, services}
 
 pub record ReceiverState : Type 0 where
   -- the service that is asked for, the one that is played, and its component map
@@ -57,6 +59,12 @@ sections_left state = length state.waiting
 
 -- ---- calls
 
+-- A call that may find no memory leaves the receiver spent exactly where it failed, and it fails
+-- where the receiver was spent.
+pub record Spends (failed : Bool) (old new : ReceiverState) : Type 0 where
+  pub spent : new.spent ≡ failed
+  pub after_spent : IsSpent old → failed ≡ true
+
 -- a fact of each state for which the receiver stands
 abbrev pub ForState : ReceiverState → (State → Type 0) → Type 0
 ForState state Fact =
@@ -86,19 +94,6 @@ Gives text old new =
     → StandsFor read selection area new inputs
     (given ++ record { text = text; area = new.area } ∷ [])
 
--- a key that is pressed, or one that is released
-abbrev pub key_input : ℕ → Bool → Input
-key_input key true = Key key
-key_input key false = Release key
-
--- it took one input, and gave this text for that
-abbrev pub Answers : Input → List ℕ → ReceiverState → ReceiverState → Type 0
-Answers input text old new =
-    (read : Reader) (selection : Selection) (area : List ℕ) (inputs : List Input)
-    (given : List Piece) → StandsFor read selection area old inputs given
-    → StandsFor read selection area new (inputs ++ input ∷ [])
-    (given ++ record { text = text; area = new.area } ∷ [])
-
 -- No section was waiting: nothing is printed, and nothing done.
 pub record IsOver (old new : ReceiverState) (before after : List ℕ) : Type 0 where
   pub none : old.waiting ≡ []
@@ -126,17 +121,19 @@ pub record MakesTurn (old new : ReceiverState) (before after : List ℕ) : Type 
   pub printed : after ≡ before ++ text
   pub gives : Gives text old new
 
--- The one piece of an input is printed.
-pub record Prints (input : Input) (old new : ReceiverState) (before after : List ℕ)
+-- An input gave pieces, whose texts are printed: those of the state that the turns so far left. Where
+-- no turn was still to come, the receiver took the input, and gave these for it.
+pub record Answers (input : Input) (old new : ReceiverState) (before after : List ℕ)
     : Type 0 where
-  pub text : List ℕ
-  pub printed : after ≡ before ++ text
-  pub gives : Answers input text old new
+  pub pieces : List Piece
+  pub printed : after ≡ before ++ concat (texts_of pieces)
+  pub pieces_are : ForState old (λ now. pieces ≡ pieces_of input now)
+  pub taken : IsIdle old → (read : Reader) (selection : Selection) (area : List ℕ)
+      (inputs : List Input) (given : List Piece) → StandsFor read selection area old inputs given
+      → StandsFor read selection area new (inputs ++ input ∷ []) (given ++ pieces)
 
--- The display list is printed, of the state that the turns so far left. Where no turn is still to
--- come, this is what the wish to see it prints.
-pub record PrintsDisplay (old new : ReceiverState) (before after : List ℕ) : Type 0 where
-  pub text : List ℕ
-  pub printed : after ≡ before ++ text
-  pub display : ForState old (λ now. text ≡ display_of now.page)
-  pub shows : IsIdle old → Answers Show text old new
+-- nothing is printed for it: for time, as nothing is due, and for a random word
+abbrev pub IsSilent : Input → Type 0
+IsSilent (Tick count) = Unit {0}
+IsSilent (Random word) = Unit {0}
+IsSilent _ = ⊥

@@ -1,4 +1,4 @@
--- What comes to a receiver, and what it has made of it at a moment. (This project's own.)
+-- What a receiver has made at a moment of what came to it. (This project's own.)
 use Rattle.std.specs.Prelude.{ℕ, Bool, List, []}
 use Rattle.psi_tables.specs.declared.services.Selection.{Selection}
 use Rattle.psi_tables.specs.History.{Handled, service_of, map_of}
@@ -8,19 +8,6 @@ use Rattle.module_store.specs.Store.{Stored}
 use Rattle.module_store.specs.Store as store
 use Rattle.es_reader.specs.Readers.{Reader}
 use Rattle.page.specs.State as page
-
-pub data Input : Type 0 where
-  -- the next packet of the stream, of whatever PID
-  Packet : List ℕ → Input
-  -- a key is pressed, or released
-  Key : ℕ → Input
-  Release : ℕ → Input
-  -- so many milliseconds pass
-  Tick : ℕ → Input
-  -- a random word
-  Random : ℕ → Input
-  -- the wish to see what is displayed
-  Show : Input
 
 pub record State : Type 0 where
   -- which service is asked for, which doesn't change

@@ -1,16 +1,19 @@
-//! The broadcast that is received: its tables, its modules, and its page.
+//! The broadcast that is received, with its tables, its modules and its page; and what comes to it
+//! beside sections.
 
 ghost use Rattle.std.specs.Prelude.{◌≡◌, ◌≤◌, ◌<◌, ◌+◌, ◌^◌, ◌++◌, ℕ, List, false, length, map, IfOk, OnOk};
 ghost use Rattle.std.specs.Io.{StartsWith};
 ghost use Rattle.std.specs.List.{flat_map};
 ghost use Rattle.psi_tables.specs.Service.{reads_table};
 ghost use Rattle.es_reader.specs.Readers.{Reader, IsReader};
-ghost use Rattle.page.specs.Inputs.{display_of, key_step, with_clock, with_random};
 ghost use Rattle.module_store.specs.Lines.{line_of_change};
 ghost use Rattle.page.specs.Standing.{behind_all};
-ghost use Rattle.receiver_core.specs.Broadcasts.{Makes, StandsFor};
-ghost use Rattle.receiver_core.specs.State.{State, opening};
-ghost use Rattle.receiver_core.specs.Turns.{key_turn, of_page, page_turn, step_of_component, step_of_section, step_of_table, turn, with_handled};
+ghost use Rattle.receiver_core.specs.Broadcasts.{Makes, MakesOutcome, StandsFor};
+ghost use Rattle.receiver_core.specs.Outputs.{input_of, milliseconds_of, outcome_of};
+ghost use Rattle.receiver_core.specs.Receiving.{IsSilent};
+ghost use Rattle.receiver_core.specs.State.{opening};
+ghost use Rattle.receiver_core.specs.Turns.{key_turn, page_turn, step_of_component};
+ghost use Rattle.receiver_core.specs.Turns.{step_of_section, step_of_table, turn, with_handled};
 
 use bml_bytes::{AreaBytes, NoMemory, law_of_fronts};
 use module_store::{Change, Store};
@@ -19,7 +22,22 @@ use psi_tables::{Selection, Services, law_of_component_map, law_of_unread_sectio
 use std::alloc::Global;
 use std::marker::Model;
 
-/// Makes the turns of intact sections and of keys.
+/// An input that is handed in whole: each but packets, whose sections have their turns one by one.
+#[derive(Clone, Copy, Debug, PartialEq, Eq)]
+pub enum Input {
+    /// A key is pressed: 1 to 14 or 18 to 24.
+    Key(u8),
+    /// A key is released: 1 to 14 or 18 to 24.
+    Release(u8),
+    /// So many milliseconds pass.
+    Tick(u32),
+    /// A random word, which waits behind those that are left.
+    Random(u32),
+    /// The wish to see what is displayed.
+    Show,
+}
+
+/// Makes the turns of intact sections, and takes the other inputs.
 #[derive(Drop)]
 pub struct Broadcast {
     services: Services,
@@ -84,52 +102,44 @@ impl Broadcast {
         self.page_turn(out)
     }
 
-    /// Makes the turn of a key that is pressed (`down`) or released, and appends what it prints.
-    #[tactic(auto, unfolding(crate::specs::Turns::key_turn))]
-    pub fn key(&mut self, code: u8, down: bool, out: &mut Vec<u8>) -> Result<(), NoMemory>
-        ensures makes { OnOk result
-            (Makes (key_turn code down) self.old self.new out.old.items out.new.items) }
+    /// Takes an input that is handed in whole, and appends what it prints. After `NoMemory` nothing
+    /// is said of it, and what was appended stops anywhere.
+    pub fn input(&mut self, input: Input, out: &mut Vec<u8>) -> Result<(), NoMemory>
+        requires { 0 < milliseconds_of (input_of input)
+            → self.old.page.clock + milliseconds_of (input_of input) < 2 ^ 62 }
+        ensures makes { OnOk result (MakesOutcome (outcome_of (input_of input))
+            self.old self.new out.old.items out.new.items) }
         ensures services { self.new.services ≡ self.old.services }
-        ensures clock { self.new.page.clock ≡ self.old.page.clock }
+        ensures clock { OnOk result
+            (self.new.page.clock ≡ self.old.page.clock + milliseconds_of (input_of input)) }
+        ensures area { self.new.page.area ≡ self.old.page.area }
+        ensures silent { IsSilent (input_of input) → out.new ≡ out.old }
         ensures grows { StartsWith out.new.items out.old.items }
     {
-        self.post_key(code, down, out)?;
-        self.page_turn(out)
+        match input {
+            Input::Key(code) => self.key_turn(code, true, out),
+            Input::Release(code) => self.key_turn(code, false, out),
+            Input::Tick(count) => {
+                let moment = self.page.clock() + u64::from(count);
+                self.page.post_due(moment, out)
+            }
+            Input::Random(word) => self.page.add_random(word),
+            Input::Show => self.page.show(out),
+        }
     }
 
-    /// Lets so many milliseconds pass, in which nothing is due.
-    pub fn pass_time(&mut self, count: u32, out: &mut Vec<u8>) -> Result<(), NoMemory>
-        requires { self.old.page.clock + count < 2 ^ 62 }
-        ensures makes { OnOk result ((s : State) → StandsFor self.old s → StandsFor self.new
-            (record s { page = with_clock (s.page.clock + count) s.page })) }
-        ensures services { self.new.services ≡ self.old.services }
-        ensures clock { OnOk result (self.new.page.clock ≡ self.old.page.clock + count) }
-        ensures silent { out.new ≡ out.old }
-    {
-        let moment = self.page.clock() + u64::from(count);
-        self.page.post_due(moment, out)
-    }
-
-    /// Appends a word to the random words that are left.
-    pub fn add_random(&mut self, word: u32) -> Result<(), NoMemory>
-        ensures makes { OnOk result ((s : State) → StandsFor self.old s → StandsFor self.new
-            (record s { page = with_random word s.page })) }
-        ensures services { self.new.services ≡ self.old.services }
-        ensures clock { self.new.page.clock ≡ self.old.page.clock }
-    {
-        self.page.add_random(word)
-    }
-
-    /// Appends the display list.
-    pub fn show(&mut self, out: &mut Vec<u8>) -> Result<(), NoMemory>
-        ensures makes { OnOk result (Makes (λ s. record { state = s; text = display_of s.page })
-            self.old self.new out.old.items out.new.items) }
+    // Makes the turn of a key that is pressed (`down`) or released.
+    #[tactic(auto, unfolding(crate::specs::Turns::key_turn))]
+    fn key_turn(&mut self, code: u8, down: bool, out: &mut Vec<u8>) -> Result<(), NoMemory>
+        ensures makes { OnOk result
+            (Makes (key_turn code down) self.old self.new out.old.items out.new.items) }
         ensures services { self.new.services ≡ self.old.services }
         ensures clock { self.new.page.clock ≡ self.old.page.clock }
         ensures area { self.new.page.area ≡ self.old.page.area }
         ensures grows { StartsWith out.new.items out.old.items }
     {
-        self.page.show(out)
+        self.page.post_key(code, down, out)?;
+        self.page_turn(out)
     }
 
     // Makes the turn of the page.
@@ -142,18 +152,6 @@ impl Broadcast {
         ensures grows { StartsWith out.new.items out.old.items }
     {
         self.page.turn(&mut self.store, out)
-    }
-
-    // Posts what a key does.
-    fn post_key(&mut self, code: u8, down: bool, out: &mut Vec<u8>) -> Result<(), NoMemory>
-        ensures makes { OnOk result (Makes (λ s. of_page s (key_step code down s.page))
-            self.old self.new out.old.items out.new.items) }
-        ensures services { self.new.services ≡ self.old.services }
-        ensures clock { self.new.page.clock ≡ self.old.page.clock }
-        ensures area { self.new.page.area ≡ self.old.page.area }
-        ensures grows { StartsWith out.new.items out.old.items }
-    {
-        self.page.post_key(code, down, out)
     }
 
     // Takes a section as a table, or as one of the component on its PID.

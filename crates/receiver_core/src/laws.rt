@@ -4,9 +4,9 @@ ghost use Rattle.std.specs.Prelude.{◌≡◌, List, ℕ, [], ◌++◌, true, le
 ghost use Rattle.psi_tables.specs.declared.services.Selection.{Selection};
 ghost use Rattle.es_reader.specs.Readers.{Reader};
 ghost use Rattle.receiver_core.specs.Fronts.{IsFront};
-ghost use Rattle.receiver_core.specs.Outputs.{Piece, outputs, pieces_of_turns};
+ghost use Rattle.receiver_core.specs.Outputs.{Input, Piece, outputs, pieces_of_turns};
 ghost use Rattle.receiver_core.specs.Receiving.{IsIdle, ReceiverState, StandsFor};
-ghost use Rattle.receiver_core.specs.State.{Input, State, wants};
+ghost use Rattle.receiver_core.specs.State.{State, wants};
 ghost use Rattle.receiver_core.specs.Turns.{turn};
 
 use psi_tables::law_of_unread_sections;

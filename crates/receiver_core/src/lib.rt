@@ -15,5 +15,6 @@ mod broadcast;
 mod laws;
 mod receiver;
 
+pub use crate::broadcast::Input;
 pub use crate::laws::{law_of_outputs, law_of_receivers, law_of_wanted_sections};
 pub use crate::receiver::Receiver;

@@ -1,15 +1,15 @@
 //! The receiver: from what comes to it to what it prints.
 
-ghost use Rattle.std.specs.Prelude.{◌≡◌, ◌⊎◌, ℕ, ◌+◌, ◌^◌, ◌<◌, [], List, true, false, IfOk, OnOk, OnErr};
-ghost use Rattle.std.specs.Prelude.{IsErr, Ok};
+ghost use Rattle.std.specs.Prelude.{◌≡◌, ◌⊎◌, ℕ, ◌+◌, ◌^◌, ◌<◌, [], List, true, false, IfOk, OnOk};
+ghost use Rattle.std.specs.Prelude.{Ok, is_err};
 ghost use Rattle.std.specs.Io.{StartsWith};
 ghost use Rattle.ts_packets.specs.Packet.{pid_of};
 ghost use Rattle.psi_tables.specs.Service.{wants as wants_by};
 ghost use Rattle.es_reader.specs.Readers.{Reader, IsReader};
 ghost use Rattle.receiver_core.specs.Outputs.{sections_by};
-ghost use Rattle.receiver_core.specs.State.Input.{Packet as APacket};
+ghost use Rattle.receiver_core.specs.Outputs.Input.{Packet as APacket};
 
-use crate::broadcast::Broadcast;
+use crate::broadcast::{Broadcast, Input};
 use bml_bytes::{AreaBytes, NoMemory};
 use psi_tables::{Selection, law_of_wanted_pids};
 use section_demultiplexer::{Demultiplexer, law_of_room, law_of_same_lists};
@@ -26,6 +26,7 @@ use ts_sections::is_intact;
 /// call has answered `NoMemory` the receiver is spent: each later one that can answer it does.
 #[derive(Drop)]
 pub struct Receiver {
+    alloc: Global,
     demultiplexer: Demultiplexer,
     broadcast: Broadcast,
     spent: bool,
@@ -52,10 +53,11 @@ impl Model for Receiver {
 }
 
 impl Receiver {
-    ghost use Rattle.receiver_core.specs.Receiving.{ForState, IsIdle, IsOver, IsSpent, MakesTurn};
-    ghost use Rattle.receiver_core.specs.State.Input.{Key, Random, Release, Tick};
-    ghost use Rattle.receiver_core.specs.Receiving.{PassesDamaged, Prints, PrintsDisplay, StandsFor, Takes};
-    ghost use Rattle.receiver_core.specs.Receiving.{key_input, sections_left};
+    ghost use Rattle.receiver_core.specs.Receiving.{Answers, ForState, IsIdle, IsOver, IsSilent};
+    ghost use Rattle.receiver_core.specs.Receiving.{MakesTurn, PassesDamaged, Spends, StandsFor};
+    ghost use Rattle.receiver_core.specs.Receiving.{Takes, sections_left};
+    ghost use Rattle.receiver_core.specs.Outputs.{input_of, milliseconds_of};
+    ghost use Rattle.receiver_core.specs.Outputs.Input.{Key, Random, Release, Show, Tick};
 
     /// A receiver of the service or the data that is asked for, with this persistent area, to which
     /// nothing came.
@@ -68,6 +70,7 @@ impl Receiver {
         ensures area { IfOk result (λ receiver. receiver.area ≡ area) }
     {
         Ok(Receiver {
+            alloc,
             demultiplexer: Demultiplexer::new(alloc)?,
             broadcast: Broadcast::new(alloc, selection, area)?,
             spent: false,
@@ -132,9 +135,7 @@ impl Receiver {
         ensures begins { StartsWith out.new.items out.old.items }
         ensures clock { OnOk result (self.new.clock ≡ self.old.clock) }
         ensures area { OnOk result (self.new.area ≡ self.old.area) }
-        ensures unspent { OnOk result (self.new.spent ≡ false) }
-        ensures spent { OnErr result (IsSpent self.new) }
-        ensures after_spent { IsSpent self.old → IsErr result }
+        ensures spends { Spends (is_err result) self.old self.new }
     {
         law_of_same_lists();
         if self.spent {
@@ -158,35 +159,59 @@ impl Receiver {
         }
     }
 
+    /// Takes an input that is handed in whole, and appends what it prints. All but the wish to see
+    /// the display ask that no turn is still to come.
+    pub fn input(&mut self, input: Input, out: &mut Vec<u8>) -> Result<(), NoMemory>
+        requires within { 0 < milliseconds_of (input_of input)
+            → self.old.clock + milliseconds_of (input_of input) < 2 ^ 62 }
+        ensures answers { OnOk result
+            (Answers (input_of input) self.old self.new out.old.items out.new.items) }
+        ensures waiting { self.new.waiting ≡ self.old.waiting }
+        ensures idle { IsIdle self.old → IsIdle self.new }
+        ensures clock { OnOk result
+            (self.new.clock ≡ self.old.clock + milliseconds_of (input_of input)) }
+        ensures area { OnOk result (self.new.area ≡ self.old.area) }
+        ensures silent { IsSilent (input_of input) → out.new ≡ out.old }
+        ensures begins { StartsWith out.new.items out.old.items }
+        ensures spends { Spends (is_err result) self.old self.new }
+    {
+        if self.spent {
+            return Err(NoMemory);
+        }
+        match self.broadcast.input(input, out) {
+            Ok(()) => Ok(()),
+            Err(error) => {
+                self.spent = true;
+                Err(error)
+            }
+        }
+    }
+
     /// Makes the turn of a key that is pressed, by its number, and appends what it prints: what the
     /// key posts, where the document's body lets it pass, and the dispatches.
     pub fn key(&mut self, code: u8, out: &mut Vec<u8>) -> Result<(), NoMemory>
         requires idle { IsIdle self.old }
-        ensures printed { OnOk result
-            (Prints (Key code) self.old self.new out.old.items out.new.items) }
+        ensures answers { OnOk result
+            (Answers (Key code) self.old self.new out.old.items out.new.items) }
         ensures idle { IsIdle self.new }
         ensures clock { OnOk result (self.new.clock ≡ self.old.clock) }
         ensures begins { StartsWith out.new.items out.old.items }
-        ensures unspent { OnOk result (self.new.spent ≡ false) }
-        ensures spent { OnErr result (IsSpent self.new) }
-        ensures after_spent { IsSpent self.old → IsErr result }
+        ensures spends { Spends (is_err result) self.old self.new }
     {
-        self.key_turn(code, true, out)
+        self.input(Input::Key(code), out)
     }
 
     /// Makes the turn of a key that is released, by its number, and appends what it prints.
     pub fn release(&mut self, code: u8, out: &mut Vec<u8>) -> Result<(), NoMemory>
         requires idle { IsIdle self.old }
-        ensures printed { OnOk result
-            (Prints (Release code) self.old self.new out.old.items out.new.items) }
+        ensures answers { OnOk result
+            (Answers (Release code) self.old self.new out.old.items out.new.items) }
         ensures idle { IsIdle self.new }
         ensures clock { OnOk result (self.new.clock ≡ self.old.clock) }
         ensures begins { StartsWith out.new.items out.old.items }
-        ensures unspent { OnOk result (self.new.spent ≡ false) }
-        ensures spent { OnErr result (IsSpent self.new) }
-        ensures after_spent { IsSpent self.old → IsErr result }
+        ensures spends { Spends (is_err result) self.old self.new }
     {
-        self.key_turn(code, false, out)
+        self.input(Input::Release(code), out)
     }
 
     /// Lets time pass: it goes to the next moment within `left` milliseconds at which something is
@@ -200,20 +225,10 @@ impl Receiver {
         ensures clock { OnOk result (self.new.clock ≡ self.old.clock + left) }
         ensures idle { IsIdle self.new }
         ensures silent { out.new ≡ out.old }
-        ensures unspent { OnOk result (self.new.spent ≡ false) }
-        ensures spent { OnErr result (IsSpent self.new) }
-        ensures after_spent { IsSpent self.old → IsErr result }
+        ensures spends { Spends (is_err result) self.old self.new }
     {
-        if self.spent {
-            return Err(NoMemory);
-        }
-        match self.broadcast.pass_time(left, out) {
-            Ok(()) => Ok(0),
-            Err(error) => {
-                self.spent = true;
-                Err(error)
-            }
-        }
+        self.input(Input::Tick(left), out)?;
+        Ok(0)
     }
 
     /// Takes a random word, which waits behind those that are left.
@@ -222,46 +237,25 @@ impl Receiver {
         ensures taken { OnOk result (Takes (Random word) self.old self.new) }
         ensures idle { IsIdle self.new }
         ensures clock { OnOk result (self.new.clock ≡ self.old.clock) }
-        ensures unspent { OnOk result (self.new.spent ≡ false) }
-        ensures spent { OnErr result (IsSpent self.new) }
-        ensures after_spent { IsSpent self.old → IsErr result }
+        ensures spends { Spends (is_err result) self.old self.new }
     {
-        if self.spent {
-            return Err(NoMemory);
-        }
-        match self.broadcast.add_random(word) {
-            Ok(()) => Ok(()),
-            Err(error) => {
-                self.spent = true;
-                Err(error)
-            }
-        }
+        let mut silence = Vec::new(self.alloc);
+        self.input(Input::Random(word), &mut silence)
     }
 
     /// Appends the display list: `show` with the time, and the boxes, texts and pictures of the
     /// document, where there is one, and its focus.
     pub fn show(&mut self, out: &mut Vec<u8>) -> Result<(), NoMemory>
-        ensures shown { OnOk result
-            (PrintsDisplay self.old self.new out.old.items out.new.items) }
+        ensures answers { OnOk result
+            (Answers Show self.old self.new out.old.items out.new.items) }
         ensures waiting { self.new.waiting ≡ self.old.waiting }
         ensures idle { IsIdle self.old → IsIdle self.new }
         ensures clock { OnOk result (self.new.clock ≡ self.old.clock) }
         ensures begins { StartsWith out.new.items out.old.items }
         ensures area { OnOk result (self.new.area ≡ self.old.area) }
-        ensures unspent { OnOk result (self.new.spent ≡ false) }
-        ensures spent { OnErr result (IsSpent self.new) }
-        ensures after_spent { IsSpent self.old → IsErr result }
+        ensures spends { Spends (is_err result) self.old self.new }
     {
-        if self.spent {
-            return Err(NoMemory);
-        }
-        match self.broadcast.show(out) {
-            Ok(()) => Ok(()),
-            Err(error) => {
-                self.spent = true;
-                Err(error)
-            }
-        }
+        self.input(Input::Show, out)
     }
 
     /// The persistent area.
@@ -269,29 +263,5 @@ impl Receiver {
         ensures { result.now ≡ self.now.area }
     {
         self.broadcast.area()
-    }
-
-    // Makes the turn of a key.
-    fn key_turn(&mut self, code: u8, down: bool, out: &mut Vec<u8>) -> Result<(), NoMemory>
-        requires idle { IsIdle self.old }
-        ensures printed { OnOk result
-            (Prints (key_input code down) self.old self.new out.old.items out.new.items) }
-        ensures idle { IsIdle self.new }
-        ensures clock { OnOk result (self.new.clock ≡ self.old.clock) }
-        ensures begins { StartsWith out.new.items out.old.items }
-        ensures unspent { OnOk result (self.new.spent ≡ false) }
-        ensures spent { OnErr result (IsSpent self.new) }
-        ensures after_spent { IsSpent self.old → IsErr result }
-    {
-        if self.spent {
-            return Err(NoMemory);
-        }
-        match self.broadcast.key(code, down, out) {
-            Ok(()) => Ok(()),
-            Err(error) => {
-                self.spent = true;
-                Err(error)
-            }
-        }
     }
 }

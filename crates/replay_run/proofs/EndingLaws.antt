@@ -12,9 +12,8 @@ use Rattle.psi_tables.specs.declared.services.Selection.{Selection}
 use Rattle.es_reader.specs.Readers.{Reader, IsReader}
 use Rattle.receiver_core.specs.Fronts.{IsFront, front_of_self, front_of_append, front_of_front}
 use Rattle.receiver_core.specs.Fronts.{front_of_concat, front_of_map}
-use Rattle.receiver_core.specs.Outputs.{Piece, outputs, texts_of}
+use Rattle.receiver_core.specs.Outputs.{Input, Piece, outputs, texts_of}
 use Rattle.receiver_core.specs.Receiving.{ReceiverState, StandsFor, IsIdle}
-use Rattle.receiver_core.specs.State.{Input}
 use Rattle.replay_run.specs.declared.record.RecordItem.{RecordItem}
 use Rattle.replay_run.specs.declared.status.Status.{Status}
 use Rattle.replay_run.specs.declared.status.Status.TheVariants.{Done, Usage, BadRecord, OpenFault}

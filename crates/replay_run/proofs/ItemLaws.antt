@@ -8,9 +8,10 @@ use Rattle.std.proofs.lemmas.Option.{cond_some, none-some, same_Some, option_and
 use Rattle.std.specs.Cmp.Lexicographic.{bytes_decides}
 use Rattle.bml_bytes.specs.Numerals.{decimal_field}
 use Rattle.bml_bytes.specs.Words.{is_same}
+use Rattle.receiver_core.specs.declared.broadcast.Input.TheVariants.{Key, Release, Tick, Random}
+use Rattle.receiver_core.specs.declared.broadcast.Input.TheVariants.{Show}
 use Rattle.replay_run.specs.declared.record.RecordItem.{RecordItem}
-use Rattle.replay_run.specs.declared.record.RecordItem.TheVariants.{All, Packets, Key, Release}
-use Rattle.replay_run.specs.declared.record.RecordItem.TheVariants.{Tick, Random, Show}
+use Rattle.replay_run.specs.declared.record.RecordItem.TheVariants.{All, Packets, Input}
 use Rattle.replay_run.specs.declared.record.Line.{Line}
 use Rattle.replay_run.specs.declared.record.Line.TheVariants.{Item as Read, Nothing, Bad}
 use Rattle.replay_run.specs.Record.{fields, is_key, tick_limit, item_where, numbered_item}
@@ -39,18 +40,19 @@ written All words w = ap line_with w
 written (Packets count) words w =
     number_written (codes "packets") count (Packets count) words w.0 refl
     (item_at (nat_le 1 count) (Packets count) (le-leb 1 count (omega (arith, w.1))))
-written (Key key) words w =
-    number_written (codes "key") key (Key key) words w.0 refl (item_at (is_key key) (Key key) w.1)
-written (Release key) words w =
-    number_written (codes "release") key (Release key) words w.0 refl
-    (item_at (is_key key) (Release key) w.1)
-written (Tick count) words w =
-    number_written (codes "tick") count (Tick count) words w.0 refl
-    (item_at (nat_le 1 count && nat_le count tick_limit) (Tick count)
+written (Input (Key key)) words w =
+    number_written (codes "key") key (Input (Key key)) words w.0 refl
+    (item_at (is_key key) (Input (Key key)) w.1)
+written (Input (Release key)) words w =
+    number_written (codes "release") key (Input (Release key)) words w.0 refl
+    (item_at (is_key key) (Input (Release key)) w.1)
+written (Input (Tick count)) words w =
+    number_written (codes "tick") count (Input (Tick count)) words w.0 refl
+    (item_at (nat_le 1 count && nat_le count tick_limit) (Input (Tick count))
     (and_from _ _ (le-leb 1 count (omega (arith, w.1))) (le-leb count tick_limit w.2)))
-written (Random word) words w =
-    number_written (codes "random") word (Random word) words w refl refl
-written Show words w = ap line_with w
+written (Input (Random word)) words w =
+    number_written (codes "random") word (Input (Random word)) words w refl refl
+written (Input Show) words w = ap line_with w
 
 comment_written : (name : List ℕ) (more : List (List ℕ)) → line_with ((35 ∷ name) ∷ more) ≡ Nothing
 comment_written name more = refl
@@ -92,7 +94,7 @@ plain_words name item e =
       | inl c ↦ same_written _ All item (same_Some All item c.1)
           (ap (λ word. word ∷ []) ((bytes_decides name (codes "all")).0 c.0))
       | inr e ↦ elim (choice (is_same name (codes "show")) _ _ item e) [
-        | inl c ↦ same_written _ Show item (same_Some Show item c.1)
+        | inl c ↦ same_written _ (Input Show) item (same_Some (Input Show) item c.1)
             (ap (λ word. word ∷ []) ((bytes_decides name (codes "show")).0 c.0))
         | inr none ↦ absurd (none-some item none)
       ]
@@ -112,27 +114,27 @@ packets_words words count item has e =
     same_written words (Packets count) item p.1 (has, omega (arith, leb-true 1 count p.0))
 
 key_words : (words : List (List ℕ)) (key : ℕ) (item : RecordItem)
-    → HasNumber (codes "key") key words → item_where (is_key key) (Key key) ≡ Some item
+    → HasNumber (codes "key") key words → item_where (is_key key) (Input (Key key)) ≡ Some item
     → IsWritten item words
 key_words words key item has e =
-    let p = cond_some (is_key key) (Key key) item e in
-    same_written words (Key key) item p.1 (has, p.0)
+    let p = cond_some (is_key key) (Input (Key key)) item e in
+    same_written words (Input (Key key)) item p.1 (has, p.0)
 
 release_words : (words : List (List ℕ)) (key : ℕ) (item : RecordItem)
-    → HasNumber (codes "release") key words → item_where (is_key key) (Release key) ≡ Some item
-    → IsWritten item words
+    → HasNumber (codes "release") key words
+    → item_where (is_key key) (Input (Release key)) ≡ Some item → IsWritten item words
 release_words words key item has e =
-    let p = cond_some (is_key key) (Release key) item e in
-    same_written words (Release key) item p.1 (has, p.0)
+    let p = cond_some (is_key key) (Input (Release key)) item e in
+    same_written words (Input (Release key)) item p.1 (has, p.0)
 
 tick_words : (words : List (List ℕ)) (count : ℕ) (item : RecordItem)
     → HasNumber (codes "tick") count words
-    → item_where (nat_le 1 count && nat_le count tick_limit) (Tick count) ≡ Some item
+    → item_where (nat_le 1 count && nat_le count tick_limit) (Input (Tick count)) ≡ Some item
     → IsWritten item words
 tick_words words count item has e =
-    let p = cond_some (nat_le 1 count && nat_le count tick_limit) (Tick count) item e in
+    let p = cond_some (nat_le 1 count && nat_le count tick_limit) (Input (Tick count)) item e in
     let bounds = and_parts (nat_le 1 count) (nat_le count tick_limit) p.0 in
-    same_written words (Tick count) item p.1
+    same_written words (Input (Tick count)) item p.1
     (has, omega (arith, leb-true 1 count bounds.0), leb-true count tick_limit bounds.1)
 
 number_words : (name number : List ℕ) (count : ℕ) (item : RecordItem)
@@ -149,8 +151,8 @@ number_words name number count item is_number e =
           | inr e ↦ elim (choice (is_same name (codes "tick")) _ _ item e) [
             | inl c ↦ tick_words _ count item (has (codes "tick") c.0) c.1
             | inr e ↦ elim (choice (is_same name (codes "random")) _ _ item e) [
-              | inl c ↦ same_written _ (Random count) item (same_Some (Random count) item c.1)
-                  (has (codes "random") c.0)
+              | inl c ↦ same_written _ (Input (Random count)) item
+                  (same_Some (Input (Random count)) item c.1) (has (codes "random") c.0)
               | inr none ↦ absurd (none-some item none)
             ]
           ]

@@ -7,10 +7,9 @@ use Rattle.std.specs.Io.KnownBytes.{Appends}
 use Rattle.ts_packets.specs.Cutter.{CutterState, Gives}
 use Rattle.ts_packets.specs.Packets.{packets_of}
 use Rattle.es_reader.specs.Readers.{IsReader}
-use Rattle.receiver_core.specs.Outputs.{Piece}
+use Rattle.receiver_core.specs.Outputs.{Input, Piece}
 use Rattle.receiver_core.specs.Receiving.{ReceiverState, StandsFor}
-use Rattle.receiver_core.specs.State.{Input}
-use Rattle.receiver_core.specs.State.Input.{Packet}
+use Rattle.receiver_core.specs.Outputs.Input.{Packet}
 use Rattle.replay_run.specs.declared.record.RecordItem.{RecordItem}
 use Rattle.replay_run.specs.Midway.{item_of_count}
 use Rattle.replay_run.specs.Play.{inputs_of_item, packets_behind, inputs_of, packets_left}

@@ -9,9 +9,8 @@ use Rattle.bml_ports.specs.Counters.{Counts}
 use Rattle.bml_ports.specs.Worlds.{WorldState, PortState, port_of}
 use Rattle.ts_packets.specs.Packets.{packets_of, packets_after}
 use Rattle.receiver_core.specs.Fronts.{IsFront, front_of_self, front_of_front}
-use Rattle.receiver_core.specs.Outputs.{Piece}
+use Rattle.receiver_core.specs.Outputs.{Input, Piece}
 use Rattle.receiver_core.specs.Receiving.{ReceiverState, StandsFor}
-use Rattle.receiver_core.specs.State.{Input}
 use Rattle.replay_run.specs.declared.record.RecordItem.{RecordItem}
 use Rattle.replay_run.specs.declared.status.Status.{Status}
 use Rattle.replay_run.specs.declared.status.Status.TheVariants.{ReadFault, WriteFault, TooLong}

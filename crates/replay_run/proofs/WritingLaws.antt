@@ -8,9 +8,8 @@ use Rattle.std.proofs.lemmas.List.{map-append}
 use Rattle.std.proofs.lemmas.List.Folds.{concat-append}
 use Rattle.psi_tables.specs.declared.services.Selection.{Selection}
 use Rattle.es_reader.specs.Readers.{Reader}
-use Rattle.receiver_core.specs.Outputs.{Piece, texts_of}
+use Rattle.receiver_core.specs.Outputs.{Input, Piece, texts_of}
 use Rattle.receiver_core.specs.Receiving.{ReceiverState, StandsFor, PassesDamaged, MakesTurn}
-use Rattle.receiver_core.specs.State.{Input}
 use Rattle.replay_run.specs.Output.{bytes_of}
 use Rattle.replay_run.specs.Writing.{WritesOn}
 

@@ -5,8 +5,8 @@ use Rattle.std.specs.Prelude.{ℕ, List, [], ◌∷◌, ◌++◌, replicate, Opt
 use Rattle.ts_packets.specs.Packets.{packets_of}
 use Rattle.psi_tables.specs.declared.services.Selection.{Selection}
 use Rattle.es_reader.specs.Readers.{Reader}
-use Rattle.receiver_core.specs.Outputs.{Piece, outputs, state_behind}
-use Rattle.receiver_core.specs.State.{Input, opening}
+use Rattle.receiver_core.specs.Outputs.{Input, Piece, outputs, state_behind}
+use Rattle.receiver_core.specs.State.{opening}
 use Rattle.replay_run.specs.declared.status.Status.{Status}
 use Rattle.replay_run.specs.declared.status.Status.TheVariants.{Done, Usage, BadRecord}
 use Rattle.replay_run.specs.Lines.{end_line}

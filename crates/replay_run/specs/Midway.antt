@@ -1,21 +1,23 @@
 -- A device of the proofs: what the steps of a replay do to where it stands.
-use Rattle.std.specs.Prelude.{◌≡◌, ℕ, ◌+◌, ◌-◌, ◌*◌, Bool, true, false, IsTrue, length, List, ◌++◌}
+use Rattle.std.specs.Prelude.{◌≡◌, ℕ, ◌+◌, ◌-◌, ◌*◌, ◌≤◌, Bool, true, false, IsTrue, length, List}
+use Rattle.std.specs.Prelude.{◌++◌}
 use Rattle.std.specs.Prelude.{Option, Some, None}
 use Rattle.ts_packets.specs.Cutter.{CutterState}
 use Rattle.bml_ports.specs.Worlds.{WorldState}
+use Rattle.psi_tables.specs.declared.services.Selection.{Selection}
 use Rattle.es_reader.specs.Readers.{IsReader}
 use Rattle.receiver_core.specs.Fronts.{IsFront}
-use Rattle.receiver_core.specs.Outputs.{Piece}
-use Rattle.receiver_core.specs.Receiving.{ReceiverState, StandsFor}
-use Rattle.receiver_core.specs.State.{Input}
+use Rattle.receiver_core.specs.Outputs.{Input, Piece}
+use Rattle.receiver_core.specs.Receiving.{IsIdle, ReceiverState, StandsFor}
 use Rattle.replay_run.specs.declared.player.Player.{Player}
 use Rattle.replay_run.specs.declared.record.RecordItem.{RecordItem}
 use Rattle.replay_run.specs.declared.record.RecordItem.TheVariants.{All, Packets}
 use Rattle.replay_run.specs.declared.status.Status.{Status}
 use Rattle.replay_run.specs.Files.{File, file, stream_limit}
+use Rattle.replay_run.specs.Meaning.{empty_area}
 use Rattle.replay_run.specs.Outside.{Outside}
 use Rattle.replay_run.specs.Play.{inputs_of_item, packets_behind}
-use Rattle.replay_run.specs.Progress.{Replay, Moment, IsMidway}
+use Rattle.replay_run.specs.Progress.{Replay, Moment, IsMidway, StartsReplay}
 use Rattle.replay_run.specs.Stopping.{LeavesPackets}
 
 -- what a player holds, and what the outside tells
@@ -32,6 +34,15 @@ moment player told = record {
 -- until the cutter knows of the stream's end, the stream may be read
 abbrev pub IsReadable : CutterState → WorldState → Type 0
 IsReadable cutter world = cutter.ended ≡ false → IsTrue world.stream.readable
+
+-- a player to which nothing came
+pub record StartsPlayer (selection : Selection) (player : Player) : Type 0 where
+  pub start : (told : Outside) → StartsReplay selection empty_area told (moment player told)
+  pub idle : IsIdle player.receiver
+  pub clock : player.receiver.clock ≡ 0
+  pub within : player.bytes ≤ stream_limit
+  pub readable : (world : WorldState) → IsTrue world.stream.readable
+      → IsReadable player.cutter world
 
 -- a number that each step of the loop over packets makes smaller: bytes that may still come, held
 -- bytes, and the end

@@ -6,9 +6,8 @@ use Rattle.ts_packets.specs.Cutter.{CutterState}
 use Rattle.ts_packets.specs.Packets.{packets_of}
 use Rattle.psi_tables.specs.declared.services.Selection.{Selection}
 use Rattle.es_reader.specs.Readers.{Reader, IsReader}
-use Rattle.receiver_core.specs.Outputs.{Piece}
+use Rattle.receiver_core.specs.Outputs.{Input, Piece}
 use Rattle.receiver_core.specs.Receiving.{ReceiverState, StandsFor}
-use Rattle.receiver_core.specs.State.{Input}
 use Rattle.replay_run.specs.declared.record.RecordItem.{RecordItem}
 use Rattle.replay_run.specs.Output.{bytes_of}
 use Rattle.replay_run.specs.Outside.{Outside}

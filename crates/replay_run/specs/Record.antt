@@ -8,9 +8,10 @@ use Rattle.std.specs.List.{slice_split}
 use Rattle.std.specs.Str.Lines.{lines}
 use Rattle.bml_bytes.specs.Numerals.{decimal_field}
 use Rattle.bml_bytes.specs.Words.{is_same}
+use Rattle.receiver_core.specs.declared.broadcast.Input.TheVariants.{Key, Release, Tick, Random}
+use Rattle.receiver_core.specs.declared.broadcast.Input.TheVariants.{Show}
 use Rattle.replay_run.specs.declared.record.RecordItem.{RecordItem}
-use Rattle.replay_run.specs.declared.record.RecordItem.TheVariants.{All, Packets, Key, Release}
-use Rattle.replay_run.specs.declared.record.RecordItem.TheVariants.{Tick, Random, Show}
+use Rattle.replay_run.specs.declared.record.RecordItem.TheVariants.{All, Packets, Input}
 use Rattle.replay_run.specs.declared.record.Line.{Line}
 use Rattle.replay_run.specs.declared.record.Line.TheVariants.{Item as Read, Nothing, Bad}
 
@@ -51,7 +52,7 @@ fields line = filter is_field (slice_split is_blank line)
 abbrev pub plain_item : List ℕ → Option RecordItem
 plain_item name =
     if is_same name (codes "all") then Some All
-    else if is_same name (codes "show") then Some Show
+    else if is_same name (codes "show") then Some (Input Show)
     else None
 
 -- the numbers of the keys: the arrows and the digits, and enter, back, data and the colours
@@ -66,16 +67,26 @@ tick_limit = 3600000
 abbrev pub item_where : Bool → RecordItem → Option RecordItem
 item_where test item = if test then Some item else None
 
--- at least one packet, a key that is pressed or released, at least one millisecond, a random word
+-- at least one millisecond, a random word
+abbrev pub numbered_value : List ℕ → ℕ → Option RecordItem
+numbered_value name number =
+    if is_same name (codes "tick")
+    then item_where (nat_le 1 number && nat_le number tick_limit) (Input (Tick number))
+    else if is_same name (codes "random") then Some (Input (Random number))
+    else None
+
+-- a key that is pressed or released, or one of these
+abbrev pub numbered_input : List ℕ → ℕ → Option RecordItem
+numbered_input name number =
+    if is_same name (codes "key") then item_where (is_key number) (Input (Key number))
+    else if is_same name (codes "release") then item_where (is_key number) (Input (Release number))
+    else numbered_value name number
+
+-- at least one packet, or an input
 abbrev pub numbered_item : List ℕ → ℕ → Option RecordItem
 numbered_item name number =
     if is_same name (codes "packets") then item_where (nat_le 1 number) (Packets number)
-    else if is_same name (codes "key") then item_where (is_key number) (Key number)
-    else if is_same name (codes "release") then item_where (is_key number) (Release number)
-    else if is_same name (codes "tick")
-    then item_where (nat_le 1 number && nat_le number tick_limit) (Tick number)
-    else if is_same name (codes "random") then Some (Random number)
-    else None
+    else numbered_input name number
 
 -- the item that the fields are: `all` or `show`, or `packets`, `key`, `release`, `tick` or `random`
 -- and a number
@@ -142,12 +153,12 @@ HasNumber name count words =
 abbrev pub IsWritten : RecordItem → List (List ℕ) → Type 0
 IsWritten All words = words ≡ codes "all" ∷ []
 IsWritten (Packets count) words = HasNumber (codes "packets") count words × (0 < count)
-IsWritten (Key key) words = HasNumber (codes "key") key words × IsTrue (is_key key)
-IsWritten (Release key) words = HasNumber (codes "release") key words × IsTrue (is_key key)
-IsWritten (Tick count) words =
+IsWritten (Input (Key key)) words = HasNumber (codes "key") key words × IsTrue (is_key key)
+IsWritten (Input (Release key)) words = HasNumber (codes "release") key words × IsTrue (is_key key)
+IsWritten (Input (Tick count)) words =
     HasNumber (codes "tick") count words × (0 < count) × (count ≤ tick_limit)
-IsWritten (Random word) words = HasNumber (codes "random") word words
-IsWritten Show words = words ≡ codes "show" ∷ []
+IsWritten (Input (Random word)) words = HasNumber (codes "random") word words
+IsWritten (Input Show) words = words ≡ codes "show" ∷ []
 
 -- the fields of a line that asks for nothing: there are none, or the first begins with `#`
 abbrev pub AsksNothing : List (List ℕ) → Type 0

@@ -1,5 +1,6 @@
 -- A device of the proofs: how far the record has been read. (What a run means is in `Meaning`.)
-use Rattle.std.specs.Prelude.{◌≡◌, ◌≢◌, ℕ, ◌+◌, ◌-◌, ◌*◌, ◌<◌, true, false, IsTrue, List, [], ◌++◌}
+use Rattle.std.specs.Prelude.{◌≡◌, ◌≢◌, ℕ, ◌+◌, ◌-◌, ◌*◌, ◌<◌, ◌≤◌, true, false, IsTrue, List, []}
+use Rattle.std.specs.Prelude.{◌++◌}
 use Rattle.std.specs.Prelude.{All, length, Option, Some}
 use Rattle.std.specs.List.{filter_map}
 use Rattle.bml_ports.specs.Counters.{Counter, FaultedSince}
@@ -51,6 +52,14 @@ pub record IsAt (notes : List ℕ) (now : RecordState) (items : List RecordItem)
 -- until the reader knows of the record's end, the record may be read
 abbrev pub IsReadable : ReaderState → WorldState → Type 0
 IsReadable reader world = reader.ended ≡ false → IsTrue world.notes.readable
+
+-- a record of which nothing was read
+pub record StartsItems (items : RecordItems) : Type 0 where
+  pub start : (world : WorldState) (notes : List ℕ) → world.notes.left ≡ Some notes
+      → IsAt notes (record_state items world) []
+  pub within : items.bytes ≤ record_limit
+  pub readable : (world : WorldState) → IsTrue world.notes.readable
+      → IsReadable items.reader world
 
 -- the items were all: no line is left, and none was bad
 pub record IsWhole (notes : File) (items : List RecordItem) : Type 0 where

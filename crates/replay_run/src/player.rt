@@ -14,7 +14,7 @@ use crate::status::Status;
 use bml_bytes::{AreaBytes, NoMemory};
 use bml_ports::{Port, Sink, World};
 use psi_tables::Selection;
-use receiver_core::Receiver;
+use receiver_core::{Input, Receiver};
 use std::alloc::Global;
 use ts_packets::{Ahead, Cutter};
 
@@ -42,22 +42,14 @@ pub struct Player {
 
 impl Player {
     ghost use Rattle.replay_run.specs.Midway.{moment, item_of_count, Goes, Stops, Handles};
-    ghost use Rattle.replay_run.specs.Midway.{StopsHandling, IsReadable, work_left};
-    ghost use Rattle.replay_run.specs.Meaning.{empty_area};
-    ghost use Rattle.replay_run.specs.Outside.{Outside, outside};
-    ghost use Rattle.replay_run.specs.Progress.{StartsReplay};
+    ghost use Rattle.replay_run.specs.Midway.{StopsHandling, IsReadable, StartsPlayer, work_left};
+    ghost use Rattle.replay_run.specs.Outside.{outside};
     ghost use Rattle.receiver_core.specs.Receiving.{IsIdle};
     ghost use Rattle.replay_run.specs.Stopping.{OnlyReads, StopsPackets, StopsTurns, StopsReading};
 
     /// A replay at the start of its stream, with an area of zeros.
     pub fn new(alloc: Global, selection: Selection) -> Result<Player, NoMemory>
-        ensures start { IfOk result (λ player. (told : Outside)
-            → StartsReplay selection empty_area told (moment player told)) }
-        ensures idle { IfOk result (λ player. IsIdle player.receiver) }
-        ensures clock { IfOk result (λ player. player.receiver.clock ≡ 0) }
-        ensures within { IfOk result (λ player. player.bytes ≤ stream_limit) }
-        ensures readable { IfOk result (λ player. (world : WorldState)
-            → IsTrue world.stream.readable → IsReadable player.cutter world) }
+        ensures { IfOk result (λ player. StartsPlayer selection player) }
     {
         Ok(Player {
             cutter: Cutter::new(),
@@ -110,11 +102,7 @@ impl Player {
         match item {
             RecordItem::All => self.take(None, world, out),
             RecordItem::Packets(count) => self.take(Some(count), world, out),
-            RecordItem::Key(code) => self.key(code, out),
-            RecordItem::Release(code) => self.release(code, out),
-            RecordItem::Tick(count) => self.tick(count),
-            RecordItem::Random(word) => self.random(word),
-            RecordItem::Show => self.show(out),
+            RecordItem::Input(input) => self.play_input(input, out),
         }
     }
 
@@ -167,115 +155,30 @@ impl Player {
         most.map(|count| self.packets + u64::from(count))
     }
 
-    // Presses a key, and writes what its turn prints.
-    fn key<S: Sink>(&mut self, code: u8, out: &mut S) -> Result<(), Status>
+    // Hands in an input that isn't a packet, and writes what it prints. All turns were made before.
+    fn play_input<S: Sink>(&mut self, input: Input, out: &mut S) -> Result<(), Status>
         requires idle { IsIdle self.old.receiver }
         requires within { self.old.bytes ≤ stream_limit }
+        requires clock { self.old.receiver.clock
+            + milliseconds_of (RecordItem.Input input) < 2 ^ 62 }
 
         ensures idle { OnOk result (IsIdle self.new.receiver) }
         ensures bytes { self.new.bytes ≡ self.old.bytes }
         ensures cutter { self.new.cutter ≡ self.old.cutter }
-        ensures clock { OnOk result (self.new.receiver.clock ≡ self.old.receiver.clock) }
+        ensures clock { OnOk result (self.new.receiver.clock
+            ≡ self.old.receiver.clock + milliseconds_of (RecordItem.Input input)) }
         ensures writes { (S.told out.old).writes.faults ≤ (S.told out.new).writes.faults }
         ensures cause { IfErr result (λ status. StopsTurns status
             (S.told out.old).writes (S.told out.new).writes) }
-        ensures handled { OnOk result ((world : WorldState) → Handles (RecordItem.Key code)
+        ensures handled { OnOk result ((world : WorldState) → Handles (RecordItem.Input input)
             (moment self.old (outside world (S.told out.old)))
             (moment self.new (outside world (S.told out.new)))) }
         ensures stopped { IfErr result
-            (λ status. (world : WorldState) → StopsHandling (RecordItem.Key code) status
+            (λ status. (world : WorldState) → StopsHandling (RecordItem.Input input) status
             (moment self.old (outside world (S.told out.old))) (outside world (S.told out.new))) }
     {
         self.piece.clear();
-        self.receiver.key(code, &mut self.piece)?;
-        write_piece(out, &self.piece)
-    }
-
-    // Releases a key, and writes what its turn prints.
-    fn release<S: Sink>(&mut self, code: u8, out: &mut S) -> Result<(), Status>
-        requires idle { IsIdle self.old.receiver }
-        requires within { self.old.bytes ≤ stream_limit }
-
-        ensures idle { OnOk result (IsIdle self.new.receiver) }
-        ensures bytes { self.new.bytes ≡ self.old.bytes }
-        ensures cutter { self.new.cutter ≡ self.old.cutter }
-        ensures clock { OnOk result (self.new.receiver.clock ≡ self.old.receiver.clock) }
-        ensures writes { (S.told out.old).writes.faults ≤ (S.told out.new).writes.faults }
-        ensures cause { IfErr result (λ status. StopsTurns status
-            (S.told out.old).writes (S.told out.new).writes) }
-        ensures handled { OnOk result ((world : WorldState) → Handles (RecordItem.Release code)
-            (moment self.old (outside world (S.told out.old)))
-            (moment self.new (outside world (S.told out.new)))) }
-        ensures stopped { IfErr result
-            (λ status. (world : WorldState) → StopsHandling (RecordItem.Release code) status
-            (moment self.old (outside world (S.told out.old))) (outside world (S.told out.new))) }
-    {
-        self.piece.clear();
-        self.receiver.release(code, &mut self.piece)?;
-        write_piece(out, &self.piece)
-    }
-
-    // Lets time pass, in which nothing is due.
-    fn tick(&mut self, count: u32) -> Result<(), Status>
-        requires idle { IsIdle self.old.receiver }
-        requires within { self.old.bytes ≤ stream_limit }
-        requires clock { self.old.receiver.clock + count < 2 ^ 62 }
-
-        ensures idle { OnOk result (IsIdle self.new.receiver) }
-        ensures bytes { self.new.bytes ≡ self.old.bytes }
-        ensures cutter { self.new.cutter ≡ self.old.cutter }
-        ensures clock { OnOk result (self.new.receiver.clock ≡ self.old.receiver.clock + count) }
-        ensures cause { IfErr result (λ status. status ≡ Status.NoMemory) }
-        ensures handled { OnOk result ((told : Outside) → Handles (RecordItem.Tick count)
-            (moment self.old told) (moment self.new told)) }
-        ensures stopped { IfErr result (λ status. (told : Outside)
-            → StopsHandling (RecordItem.Tick count) status (moment self.old told) told) }
-    {
-        self.piece.clear();
-        self.receiver.clock_step(count, &mut self.piece)?;
-        Ok(())
-    }
-
-    // Takes a random word.
-    fn random(&mut self, word: u32) -> Result<(), Status>
-        requires idle { IsIdle self.old.receiver }
-        requires within { self.old.bytes ≤ stream_limit }
-
-        ensures idle { OnOk result (IsIdle self.new.receiver) }
-        ensures bytes { self.new.bytes ≡ self.old.bytes }
-        ensures cutter { self.new.cutter ≡ self.old.cutter }
-        ensures clock { OnOk result (self.new.receiver.clock ≡ self.old.receiver.clock) }
-        ensures cause { IfErr result (λ status. status ≡ Status.NoMemory) }
-        ensures handled { OnOk result ((told : Outside) → Handles (RecordItem.Random word)
-            (moment self.old told) (moment self.new told)) }
-        ensures stopped { IfErr result (λ status. (told : Outside)
-            → StopsHandling (RecordItem.Random word) status (moment self.old told) told) }
-    {
-        self.receiver.random(word)?;
-        Ok(())
-    }
-
-    // Shows the display list. All turns were made before.
-    fn show<S: Sink>(&mut self, out: &mut S) -> Result<(), Status>
-        requires idle { IsIdle self.old.receiver }
-        requires within { self.old.bytes ≤ stream_limit }
-
-        ensures idle { OnOk result (IsIdle self.new.receiver) }
-        ensures clock { OnOk result (self.new.receiver.clock ≡ self.old.receiver.clock) }
-        ensures bytes { self.new.bytes ≡ self.old.bytes }
-        ensures cutter { self.new.cutter ≡ self.old.cutter }
-        ensures writes { (S.told out.old).writes.faults ≤ (S.told out.new).writes.faults }
-        ensures cause { IfErr result (λ status. StopsTurns status
-            (S.told out.old).writes (S.told out.new).writes) }
-        ensures handled { OnOk result ((world : WorldState) → Handles RecordItem.Show
-            (moment self.old (outside world (S.told out.old)))
-            (moment self.new (outside world (S.told out.new)))) }
-        ensures stopped { IfErr result
-            (λ status. (world : WorldState) → StopsHandling RecordItem.Show status
-            (moment self.old (outside world (S.told out.old))) (outside world (S.told out.new))) }
-    {
-        self.piece.clear();
-        self.receiver.show(&mut self.piece)?;
+        self.receiver.input(input, &mut self.piece)?;
         write_piece(out, &self.piece)
     }
 

@@ -10,11 +10,13 @@ ghost use Rattle.replay_run.specs.RecordReader.{IsUnfinished, IsOver, DropsFront
 ghost use Rattle.replay_run.specs.Record.{line_feed, is_blank as is_blank_of, fields};
 ghost use Rattle.replay_run.specs.Record.{is_comment as is_comment_of, is_key, item_of};
 ghost use Rattle.replay_run.specs.Record.{line_of as line_of_bytes, line_with};
-ghost use Rattle.replay_run.specs.Record.{numbered_item as numbered_item_of};
+ghost use Rattle.replay_run.specs.Record.{numbered_input as numbered_input_of};
+ghost use Rattle.replay_run.specs.Record.{numbered_item as numbered_item_of, numbered_value};
 ghost use Rattle.replay_run.specs.Record.{plain_item as plain_item_of};
 
 use arrayvec::ArrayVec;
 use bml_bytes::read_decimal;
+use receiver_core::Input;
 use std::marker::Model;
 
 /// The most bytes that a [`RecordReader`] holds.
@@ -36,16 +38,9 @@ pub enum RecordItem {
     All,
     /// Take so many packets, 1 to 4,294,967,295, or all that are left.
     Packets(u32),
-    /// Press a key: 1 to 14 or 18 to 24.
-    Key(u8),
-    /// Release a key: 1 to 14 or 18 to 24.
-    Release(u8),
-    /// Let so many milliseconds pass, 1 to 3,600,000.
-    Tick(u32),
-    /// Take a word for what scripts ask of chance.
-    Random(u32),
-    /// Print the display list.
-    Show,
+    /// Hand in another input: a key, 1 to 3,600,000 milliseconds, a random word, or the wish to see
+    /// the display list.
+    Input(Input),
 }
 
 /// A line of the record.
@@ -302,7 +297,7 @@ fn plain_item(name: &[u8]) -> Option<RecordItem>
     if name == all {
         Some(RecordItem::All)
     } else if name == show {
-        Some(RecordItem::Show)
+        Some(RecordItem::Input(Input::Show))
     } else {
         None
     }
@@ -321,20 +316,38 @@ fn item_by_number(name: &[u8], number: u32) -> Option<RecordItem>
     ensures { result ≡ numbered_item_of name.now number }
 {
     let packets: &[u8] = b"packets";
-    let key: &[u8] = b"key";
-    let release: &[u8] = b"release";
-    let tick: &[u8] = b"tick";
-    let random: &[u8] = b"random";
     if name == packets {
         (number >= 1).then_some(RecordItem::Packets(number))
-    } else if name == key {
-        key_of(number).map(RecordItem::Key)
+    } else {
+        input_by_number(name, number)
+    }
+}
+
+// The input of this name with a number.
+fn input_by_number(name: &[u8], number: u32) -> Option<RecordItem>
+    ensures { result ≡ numbered_input_of name.now number }
+{
+    let key: &[u8] = b"key";
+    let release: &[u8] = b"release";
+    if name == key {
+        key_of(number).map(|key| RecordItem::Input(Input::Key(key)))
     } else if name == release {
-        key_of(number).map(RecordItem::Release)
-    } else if name == tick {
-        (1 <= number && number <= TICK_LIMIT).then_some(RecordItem::Tick(number))
+        key_of(number).map(|key| RecordItem::Input(Input::Release(key)))
+    } else {
+        value_by_number(name, number)
+    }
+}
+
+// The input of this name whose number is no key.
+fn value_by_number(name: &[u8], number: u32) -> Option<RecordItem>
+    ensures { result ≡ numbered_value name.now number }
+{
+    let tick: &[u8] = b"tick";
+    let random: &[u8] = b"random";
+    if name == tick {
+        (1 <= number && number <= TICK_LIMIT).then_some(RecordItem::Input(Input::Tick(number)))
     } else if name == random {
-        Some(RecordItem::Random(number))
+        Some(RecordItem::Input(Input::Random(number)))
     } else {
         None
     }

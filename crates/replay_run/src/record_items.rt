@@ -32,18 +32,15 @@ impl RecordItems {
     ghost use Rattle.replay_run.specs.Play.{milliseconds_of};
     ghost use Rattle.replay_run.specs.Record.{tick_limit};
     ghost use Rattle.replay_run.specs.RecordProgress.{record_state, IsAt, IsReadable, IsWhole};
-    ghost use Rattle.replay_run.specs.RecordProgress.{StopsItems, LeavesItems, work_left};
+    ghost use Rattle.replay_run.specs.RecordProgress.{StartsItems, StopsItems, LeavesItems};
+    ghost use Rattle.replay_run.specs.RecordProgress.{work_left};
     ghost use Rattle.replay_run.specs.RecordReader.{longest_line};
     ghost use Rattle.replay_run.specs.Stopping.{OnlyReads};
     ghost use Rattle.replay_run.specs.declared.record.RecordItem.{RecordItem};
 
     /// A record of which nothing was read.
     pub fn new() -> RecordItems
-        ensures start { (world : WorldState) (notes : List ℕ) → world.notes.left ≡ Some notes
-            → IsAt notes (record_state result world) [] }
-        ensures within { result.bytes ≤ record_limit }
-        ensures readable { (world : WorldState)
-            → IsTrue world.notes.readable → IsReadable result.reader world }
+        ensures { StartsItems result }
     {
         RecordItems {
             reader: RecordReader::new(),

@@ -9,12 +9,9 @@ ghost use Rattle.replay_run.specs.Meaning.{empty_area};
 ghost use Rattle.replay_run.specs.Opening.{AsksAtMost, IsUnasked, LacksFile, LeavesRest};
 ghost use Rattle.replay_run.specs.Opening.{StopsAtOpening, bytes_under};
 ghost use Rattle.replay_run.specs.Order.{IsOpening, OnlyReadsBoth, OpensInOrder};
-ghost use Rattle.replay_run.specs.Files.{record_limit, stream_limit};
-ghost use Rattle.replay_run.specs.Midway.{IsReadable, moment};
-ghost use Rattle.replay_run.specs.Outside.{Outside, outside};
-ghost use Rattle.replay_run.specs.Progress.{StartsReplay};
-ghost use Rattle.replay_run.specs.RecordProgress as progress;
-ghost use Rattle.receiver_core.specs.Receiving.{IsIdle};
+ghost use Rattle.replay_run.specs.Midway.{StartsPlayer};
+ghost use Rattle.replay_run.specs.Outside.{outside};
+ghost use Rattle.replay_run.specs.RecordProgress.{StartsItems};
 ghost use Rattle.replay_run.specs.Replaying.{outcome_of, LacksName, OnlyOpens};
 ghost use Rattle.replay_run.specs.Replaying.{ReplayEnds, ReplayHasReason, RunEnds, RunHasReason};
 ghost use Rattle.replay_run.specs.Replaying.{StopsLine, StopsOpening, StopsReplay};
@@ -93,18 +90,8 @@ fn play_items<W: World, S: Sink>(
 ) -> Result<(), Status>
     requires stream { IsTrue (W.told world.old).stream.readable }
     requires notes { IsTrue (W.told world.old).notes.readable }
-    requires start { (told : Outside)
-        → StartsReplay selection empty_area told (moment player.old told) }
-    requires idle { IsIdle player.old.receiver }
-    requires clock { player.old.receiver.clock ≡ 0 }
-    requires within { player.old.bytes ≤ stream_limit }
-    requires readable { (world : WorldState)
-        → IsTrue world.stream.readable → IsReadable player.old.cutter world }
-    requires items_start { (world : WorldState) (notes : List ℕ) → world.notes.left ≡ Some notes
-        → progress.IsAt notes (progress.record_state items.old world) [] }
-    requires items_within { items.old.bytes ≤ record_limit }
-    requires items_readable { (world : WorldState)
-        → IsTrue world.notes.readable → progress.IsReadable items.old.reader world }
+    requires player { StartsPlayer selection player.old }
+    requires items { StartsItems items.old }
     ensures reads { OnlyReadsBoth (W.told world.old) (W.told world.new) }
     ensures cause { IfErr result (λ status. StopsReplay status
         (outside (W.told world.old) (S.told out.old))

@@ -24,4 +24,6 @@ mod messages;
 #[cfg(test)]
 mod pieces;
 #[cfg(test)]
+mod receivers;
+#[cfg(test)]
 mod runs;

@@ -16,20 +16,20 @@ use Rattle.replay_run.proofs.replay.play_items.Goals as goal
 
 pub items-init : goal.items-init
 items-init g c = record {
-  idle = c.requires.idle;
-  early = early_start _ _ c.requires.clock;
-  stream_within = c.requires.within;
-  stream_readable = c.requires.readable (g.W.World.told c.args.world.now)
+  idle = c.requires.player.idle;
+  early = early_start _ _ c.requires.player.clock;
+  stream_within = c.requires.player.within;
+  stream_readable = c.requires.player.readable (g.W.World.told c.args.world.now)
       c.requires.stream;
-  notes_within = c.requires.items_within;
-  notes_readable = c.requires.items_readable (g.W.World.told c.args.world.now) c.requires.notes;
+  notes_within = c.requires.items.within;
+  notes_readable = c.requires.items.readable (g.W.World.told c.args.world.now) c.requires.notes;
   reads = reads_none (g.W.World.told c.args.world.now);
   later = omega arith;
   goes = λ read stream notes l n. (
     [],
-    c.requires.start
+    c.requires.player.start
         (outside (g.W.World.told c.args.world.now) (g.S.Sink.told c.args.out.now)) read stream l,
-    c.requires.items_start (g.W.World.told c.args.world.now) notes n,
+    c.requires.items.start (g.W.World.told c.args.world.now) notes n,
   );
 }
 
