@@ -1,2 +1,4 @@
 pub mod Events
 pub mod Queues
+pub mod Timers
+pub mod devices
