@@ -1,5 +1,6 @@
 //! Tests of the libraries that bring modules: bytes and texts, ports in memory, packets, sections,
-//! tables, messages, carousels and entities. It has no code of its own.
+//! tables, messages, carousels and entities, and of those that write and draw them. It has no code
+//! of its own.
 //!
 //! What they answer is stated exactly by their contracts, so a test has values from outside, as bytes
 //! written out by hand, and calls with memory to spare. What whole runs show has no test here: the
@@ -15,6 +16,8 @@ mod carousels;
 #[cfg(test)]
 mod entities;
 #[cfg(test)]
+mod generated;
+#[cfg(test)]
 mod messages;
 #[cfg(test)]
 mod packets;
@@ -28,3 +31,5 @@ mod remainders;
 mod tables;
 #[cfg(test)]
 mod texts;
+#[cfg(test)]
+mod writers;

@@ -1,6 +1,6 @@
 -- The written entity reads as its parts.
 use Rattle.std.proofs.Common.{◌≡◌, ◌≢◌, ℕ, ◌+◌, ◌≤◌, Bool, true, false, cond, not, nat_eq, List, [], ◌∷◌, ◌++◌, length, drop, map, Some, Ok, Err, refl, ◌∙◌, ap, arith}
-use Rattle.std.specs.Prelude.{◌&&◌, filter, nat_lt, codes as ascii}
+use Rattle.std.specs.Prelude.{filter, nat_lt, codes as ascii}
 use Rattle.std.specs.List.{All, filter_map}
 use Rattle.std.specs.Result.{result_map_both}
 use Rattle.std.specs.Cmp.Lexicographic.{pointwise}

@@ -1,16 +1,15 @@
 -- What the tests say.
-use Rattle.std.proofs.Common.{◌≡◌, ◌≢◌, ℕ, ◌≤◌, ◌<◌, Bool, true, false, not, nat_eq, List, [], ◌∷◌, ◌++◌, length, map, Option, Some, None, Ok, refl, sym, ◌∙◌, ap, arith}
+use Rattle.std.proofs.Common.{◌≡◌, ◌≢◌, ℕ, ◌≤◌, ◌<◌, Bool, true, false, not, List, [], ◌∷◌, ◌++◌, length, map, Option, Some, None, Ok, refl, arith}
 use Rattle.std.specs.Prelude.{◌&&◌, ◌||◌, is_none, nat_le, codes as ascii}
 use Rattle.std.specs.List.{All, list_all, list_any}
-use Rattle.std.specs.Cmp.Lexicographic.{pointwise}
-use Rattle.std.proofs.lemmas.Bool.{and_parts, eq-eqb}
+use Rattle.std.proofs.lemmas.Bool.{and_parts}
 use Rattle.bml_bytes.specs.Words.{is_same}
 use Rattle.std.proofs.lemmas.Bool.Decides.{nat_tests}
 use Rattle.std.proofs.lemmas.List.Elements.{All-cons, All-head, All-nil, All-tail}
 use Rattle.std.proofs.lemmas.List.Sums.{AllPass-from_list_all}
 use Rattle.bml_bytes.specs.Codes.{bytes_of, code_bytes, codes}
 use Rattle.multipart_entities.specs.Lines.{behind_first, without_blanks}
-use Rattle.carousel_writer.specs.GoodParts.{are_good_parts, have_own_names, is_boundary, is_boundary_code, is_media, is_media_code, is_name, is_name_code, is_outside, is_own, is_part}
+use Rattle.carousel_writer.specs.GoodParts.{are_good_parts, have_own_names, is_boundary, is_boundary_code, is_good_list, is_media, is_media_code, is_name, is_name_code, is_outside, is_own, is_part}
 use Rattle.carousel_writer.proofs.EntityForms.{CanBeBoundary, CanBePart, HaveOwnNames, IsNameCode}
 use Rattle.carousel_writer.specs.Entities.{entity_bytes, file_seen, parts_read, media_read}
 use Rattle.carousel_writer.specs.declared.files.FilePart.{FilePart}
@@ -123,15 +122,15 @@ record Good (boundary : List ℕ) (parts : List FilePart) : Type 0 where
 good : EntityLaws → (boundary : List ℕ) (parts : List FilePart) → are_good_parts boundary parts ≡ true → Good boundary parts
 good laws boundary parts e =
     let word : List ℕ = ascii "--" ++ boundary in
-    let one = and_parts (is_boundary boundary) (nat_le 1 (length parts) && (nat_le (length parts) 512 && (list_all (is_part word) parts && have_own_names parts))) e in
-    let two = and_parts (nat_le 1 (length parts)) (nat_le (length parts) 512 && (list_all (is_part word) parts && have_own_names parts)) one.1 in
-    let three = and_parts (nat_le (length parts) 512) (list_all (is_part word) parts && have_own_names parts) two.1 in
-    let four = and_parts (list_all (is_part word) parts) (have_own_names parts) three.1 in
+    let all = and_parts (is_good_list boundary parts) (list_all (is_part word) parts) e in
+    let one = and_parts (is_boundary boundary) (nat_le 1 (length parts) && (nat_le (length parts) 512 && have_own_names parts)) all.0 in
+    let two = and_parts (nat_le 1 (length parts)) (nat_le (length parts) 512 && have_own_names parts) one.1 in
+    let three = and_parts (nat_le (length parts) 512) (have_own_names parts) two.1 in
     record {
       boundary_can = can-boundary boundary one.0;
-      parts_can = λ k d b. can-part laws boundary _ (AllPass-from_list_all (is_part word) parts four.0 k d b);
+      parts_can = λ k d b. can-part laws boundary _ (AllPass-from_list_all (is_part word) parts all.1 k d b);
       few = most (length parts) three.0;
-      names = own-names laws parts four.1;
+      names = own-names laws parts three.1;
     }
 
 pub read-again : EntityLaws → (boundary : List ℕ) (parts : List FilePart) → are_good_parts boundary parts ≡ true → parts_read (entity_bytes boundary parts) ≡ Ok (map file_seen parts)
@@ -141,6 +140,11 @@ pub media-again : EntityLaws → (boundary : List ℕ) (parts : List FilePart) �
     → media_read boundary (entity_bytes boundary parts) ≡ map (λ (part : FilePart). Some (without_blanks (bytes_of part.media))) parts
 media-again laws boundary parts e = let h = good laws boundary parts e in media-written laws boundary parts h.boundary_can h.parts_can
 
+pub good-list : (boundary : List ℕ) (parts : List FilePart) → are_good_parts boundary parts ≡ true → is_good_list boundary parts ≡ true
+good-list boundary parts e = (and_parts (is_good_list boundary parts) (list_all (is_part (ascii "--" ++ boundary)) parts) e).0
+
+pub list-boundary : (boundary : List ℕ) (parts : List FilePart) → is_good_list boundary parts ≡ true → is_boundary boundary ≡ true
+list-boundary boundary parts e = (and_parts (is_boundary boundary) (nat_le 1 (length parts) && (nat_le (length parts) 512 && have_own_names parts)) e).0
+
 pub boundary-can : (boundary : List ℕ) (parts : List FilePart) → are_good_parts boundary parts ≡ true → is_boundary boundary ≡ true
-boundary-can boundary parts e =
-    (and_parts (is_boundary boundary) (nat_le 1 (length parts) && (nat_le (length parts) 512 && (list_all (is_part (ascii "--" ++ boundary)) parts && have_own_names parts))) e).0
+boundary-can boundary parts e = list-boundary boundary parts (good-list boundary parts e)

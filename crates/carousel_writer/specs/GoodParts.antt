@@ -49,8 +49,11 @@ abbrev pub have_own_names : List FilePart → Bool
 have_own_names [] = true
 have_own_names (part ∷ parts) = not (list_any (λ other. is_same other.name part.name) parts) && have_own_names parts
 
+-- the boundary and the number of parts are allowed, and no two parts have one name
+abbrev pub is_good_list : List ℕ → List FilePart → Bool
+is_good_list boundary parts =
+    is_boundary boundary && (nat_le 1 (length parts) && (nat_le (length parts) most_body_parts && have_own_names parts))
+
+-- and so is each part
 abbrev pub are_good_parts : List ℕ → List FilePart → Bool
-are_good_parts boundary parts =
-    is_boundary boundary
-    && (nat_le 1 (length parts)
-    && (nat_le (length parts) most_body_parts && (list_all (is_part (ascii "--" ++ boundary)) parts && have_own_names parts)))
+are_good_parts boundary parts = is_good_list boundary parts && list_all (is_part (ascii "--" ++ boundary)) parts

@@ -1,3 +1,8 @@
+pub mod Packets
+pub mod Messages
+pub mod Streams
+pub mod GoodFiles
+pub mod Received
 pub mod Entities
 pub mod GoodParts
 pub mod devices

@@ -1,9 +1,9 @@
 //! Which parts can be written as an entity.
 
-ghost use Rattle.std.specs.Prelude.{◌≡◌, ◌++◌, true, IfOk, codes as ascii};
+ghost use Rattle.std.specs.Prelude.{◌≡◌, ◌++◌, true, IfOk, IsErr, codes as ascii};
 ghost use Rattle.std.specs.List.{list_all, list_any};
 ghost use Rattle.bml_bytes.specs.Words.{is_same};
-ghost use Rattle.carousel_writer.specs.GoodParts.{are_good_parts as spec_are_good_parts, have_own_names as spec_have_own_names, is_boundary as spec_is_boundary, is_boundary_code as spec_is_boundary_code, is_media as spec_is_media, is_media_code as spec_is_media_code, is_name as spec_is_name, is_name_code as spec_is_name_code, is_outside as spec_is_outside, is_own as spec_is_own, is_part as spec_is_part};
+ghost use Rattle.carousel_writer.specs.GoodParts.{are_good_parts as spec_are_good_parts, have_own_names as spec_have_own_names, is_good_list as spec_is_good_list, is_boundary as spec_is_boundary, is_boundary_code as spec_is_boundary_code, is_media as spec_is_media, is_media_code as spec_is_media_code, is_name as spec_is_name, is_name_code as spec_is_name_code, is_outside as spec_is_outside, is_own as spec_is_own, is_part as spec_is_part};
 
 use crate::files::FilePart;
 use bml_bytes::{NoMemory, Text};
@@ -15,16 +15,21 @@ const MOST_PARTS: usize = 512;
 
 /// Whether the parts can be written with that boundary.
 pub fn are_good_parts(alloc: Global, boundary: &Text, parts: &[FilePart]) -> Result<bool, NoMemory>
-    ensures { IfOk result (λ good. good ≡ spec_are_good_parts boundary.now parts.now) }
+    ensures good { IfOk result (λ good. good ≡ spec_are_good_parts boundary.now parts.now) }
+    ensures memory { IsErr result → spec_is_good_list boundary.now parts.now ≡ true }
 {
-    if !is_boundary(boundary) || parts.len() < 1 || parts.len() > MOST_PARTS {
+    if !is_good_list(boundary, parts) {
         return Ok(false);
     }
     let word = dashed(alloc, boundary)?;
-    if !are_parts(alloc, word.as_slice(), parts)? {
-        return Ok(false);
-    }
-    Ok(have_own_names(parts))
+    are_parts(alloc, word.as_slice(), parts)
+}
+
+/// Whether the boundary and the number of parts are allowed, and no two parts have one name. This takes no memory.
+fn is_good_list(boundary: &Text, parts: &[FilePart]) -> bool
+    ensures { result ≡ spec_is_good_list boundary.now parts.now }
+{
+    is_boundary(boundary) && 1 <= parts.len() && parts.len() <= MOST_PARTS && have_own_names(parts)
 }
 
 /// `--` and the boundary.
@@ -137,7 +142,7 @@ fn are_media_codes(codes: &[u16]) -> bool
 }
 
 /// Whether a text is the codes of its own bytes.
-fn is_own(alloc: Global, text: &Text) -> Result<bool, NoMemory>
+pub fn is_own(alloc: Global, text: &Text) -> Result<bool, NoMemory>
     ensures { IfOk result (λ own. own ≡ spec_is_own text.now) }
 {
     let mut bytes = Vec::new(alloc);

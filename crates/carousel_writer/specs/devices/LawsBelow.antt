@@ -1,10 +1,59 @@
 -- A device of the proofs: the laws of the crates below on which they stand, as one record. (This project's own.)
-use Rattle.std.specs.Prelude.{◌≡◌, ◌≢◌, ◌↔◌, ◌+◌, ℕ, true, false, List, [], ◌∷◌, ◌++◌, length, None, codes as ascii}
-use Rattle.std.specs.List.{All}
+use Rattle.std.specs.Prelude.{◌≡◌, ◌≢◌, ◌↔◌, ◌+◌, ◌*◌, ◌<◌, ◌≤◌, ◌==◌, ℕ, true, false, List, [], ◌∷◌, ◌++◌, length, Some, None, filter, is_some, option_map, replicate, codes as ascii}
+use Rattle.std.specs.List.{All, flat_map, list_any}
+use Rattle.std.specs.Int.{w32, to_be_bytes}
 use Rattle.bml_bytes.specs.Codes.{IsByteOrPair, bytes_of, codes}
+use Rattle.bml_bytes.specs.Numbers.{big_bytes}
 use Rattle.bml_bytes.specs.Words.{is_same}
 use Rattle.multipart_entities.specs.Boundaries.{delimiter_at, placed_delimiters}
 use Rattle.multipart_entities.specs.Lines.{behind_first, line_then, lines_of}
+use Rattle.ts_packets.specs.Packet.{IsPacket, is_readable}
+use Rattle.ts_packets.specs.Packets.{packets_of}
+use Rattle.ts_sections.specs.Crc.{remainder_of}
+use Rattle.ts_sections.specs.Sections.{pieces, pieces_of_run, sections, sections_of_piece}
+use Rattle.ts_sections.specs.Sending.{FollowEachOther, IsSection, marked_piece}
+use Rattle.table_fields.specs.Descriptors.{AreDescriptors, Descriptor, descriptors_in}
+use Rattle.dsmcc_messages.specs.declared.dii.Dii.{Dii}
+use Rattle.dsmcc_messages.specs.declared.entry.Entry.{Entry}
+use Rattle.carousel_blocks.specs.declared.standing.SkipCause.TheVariants.{Compressed, Large}
+use Rattle.carousel_blocks.specs.declared.standing.Standing.{Standing}
+use Rattle.carousel_blocks.specs.Message.{CarriesMessage, Indication, Message, message_of}
+use Rattle.carousel_blocks.specs.InForce.{block_count, in_force, is_compressed, standing_of}
+use Rattle.carousel_blocks.specs.Entries.{CountsAsEntry, IsLargeAt, skip_in}
+use Rattle.carousel_blocks.specs.Held.{bytes_held, counting_blocks, first_of, is_asked}
+use Rattle.carousel_blocks.specs.Order.{OnlyRepeats, data_of}
+use Rattle.carousel_blocks.specs.Places.{IsFirstBlock, IsHeld}
+
+-- a number in so many bytes has so many
+abbrev pub HaveCount : Type 0
+HaveCount = (count number : ℕ) → length (big_bytes count number) ≡ count
+
+-- what a DII's entries say
+pub record Limits : Type 0 where
+  pub count : HaveCount
+  pub descriptors : (bytes : List ℕ) (descriptors : List Descriptor) → AreDescriptors bytes descriptors ↔ (descriptors_in bytes ≡ Some descriptors)
+  pub block_counts : (block_size size count : ℕ) → 0 < block_size → (size ≤ count * block_size) ↔ (block_count block_size size ≤ count)
+  pub compressed : (dii : Dii) (place : ℕ) (entry : Entry) → CountsAsEntry dii place entry → (skip_in dii entry.id ≡ Some Compressed) ↔ (is_compressed entry ≡ true)
+  pub large : (dii : Dii) (place : ℕ) (entry : Entry) → CountsAsEntry dii place entry → (skip_in dii entry.id ≡ Some Large) ↔ IsLargeAt dii place entry
+
+-- and what is read of packets, sections and messages
+pub record Below : Type 0 where
+  pub limits : Limits
+  pub apart : (packets : List (List ℕ)) → All IsPacket packets → packets_of (flat_map (λ packet. packet) packets) ≡ packets
+  pub one_run : (packets : List (List ℕ)) → All (λ packet. is_readable packet ≡ true) packets → FollowEachOther packets → sections packets ≡ flat_map sections_of_piece (pieces_of_run packets)
+  pub marks : (list : List (List ℕ)) → pieces (flat_map marked_piece list) ≡ list
+  pub stuffing : (section : List ℕ) (count : ℕ) → IsSection section → sections_of_piece (section ++ replicate count 0xFF) ≡ section ∷ []
+  pub crc : (bytes : List ℕ) → remainder_of (bytes ++ to_be_bytes w32 (remainder_of bytes)) ≡ 0
+  pub messages : (section : List ℕ) (message : Message) → CarriesMessage section message ↔ (message_of section ≡ Some message)
+  pub entry : (dii : Dii) (place : ℕ) (entry : Entry) → CountsAsEntry dii place entry → option_map (λ standing. standing.entry) (standing_of (Some dii) entry.id) ≡ Some entry
+  pub absent : (dii : Dii) (number : ℕ) → is_some (standing_of (Some dii) number) ≡ list_any (λ entry. entry.id == number) dii.entries
+  pub download : (dii : Dii) (number : ℕ) (standing : Standing) → standing_of (Some dii) number ≡ Some standing → standing.download ≡ dii.download
+  pub block_size : (dii : Dii) (number : ℕ) (standing : Standing) → standing_of (Some dii) number ≡ Some standing → standing.block_size ≡ dii.block_size
+  pub stays_in_force : (dii : Dii) (messages : List Message) → OnlyRepeats dii.transaction messages → in_force (Indication dii ∷ messages) ≡ Some dii
+  pub counting : (dii : Dii) (messages : List Message) (number : ℕ) (standing : Standing) → OnlyRepeats dii.transaction messages → standing_of (Some dii) number ≡ Some standing
+      → counting_blocks None number (Indication dii ∷ messages) ≡ filter (is_asked standing) (data_of messages)
+  pub first : (messages : List Message) (number block_number : ℕ) (bytes : List ℕ) → (first_of (counting_blocks None number messages) block_number ≡ Some bytes) ↔ IsFirstBlock messages number block_number bytes
+  pub held : (messages : List Message) (number : ℕ) (bytes : List ℕ) → (bytes_held messages number ≡ Some bytes) ↔ IsHeld messages number bytes
 
 -- what is read of texts, lines and delimiter lines
 pub record EntityLaws : Type 0 where

@@ -1,0 +1,27 @@
+use Rattle.carousel_writer.proofs.RepeatLaws.{counting-repeats, in_force-repeats, standing-of}
+use Rattle.carousel_writer.proofs.laws.laws_below.Goals as goal
+
+pub returns : goal.returns
+returns c = record {
+  limits = record {
+    count = c.law_of_big_numbers.ensures.count;
+    descriptors = c.law_of_descriptors.ensures.some;
+    block_counts = c.law_of_block_counts.ensures;
+    compressed = c.law_of_entries.ensures.compressed;
+    large = c.law_of_entries.ensures.large;
+  };
+  apart = c.packets_laid_end_to_end.ensures;
+  one_run = c.packets_in_one_run.ensures;
+  marks = c.pieces_behind_their_marks.ensures;
+  stuffing = c.section_before_stuffing.ensures;
+  crc = c.crc_behind_its_message.ensures.own;
+  messages = c.law_of_messages.ensures;
+  entry = c.law_of_entries.ensures.entry;
+  absent = c.law_of_entries.ensures.absent;
+  download = λ dii number standing e. (standing-of dii number standing e).download;
+  block_size = λ dii number standing e. (standing-of dii number standing e).block_size;
+  stays_in_force = in_force-repeats;
+  counting = counting-repeats;
+  first = c.law_of_first_blocks.ensures;
+  held = c.law_of_held_modules.ensures;
+}

@@ -1,0 +1,101 @@
+//! Sections in packets of their own.
+
+ghost use Rattle.std.specs.Prelude.{◌≡◌, ◌<◌, ◌≤◌, ◌∷◌, ◌++◌, ◌+◌, ◌%◌, ◌/◌, [], length, OnOk, IfOk, true};
+ghost use Rattle.carousel_writer.specs.Packets.{cut_contents, packet_bytes, section_contents, stuffed};
+ghost use Rattle.carousel_writer.specs.devices.Appending.{Appends, AppendsSections};
+
+use bml_bytes::NoMemory;
+use std::alloc::Global;
+
+/// The bytes of a packet's payload.
+const PAYLOAD_LENGTH: usize = 184;
+
+/// Appends a section in packets of its own, the first of which has this counter, and tells the next one.
+pub fn push_section(
+    alloc: Global,
+    out: &mut Vec<u8>,
+    pid: u16,
+    counter: u8,
+    section: &[u8],
+) -> Result<u8, NoMemory>
+    requires pid { pid < 8192 }
+    requires counter { counter < 16 }
+    requires short { length section.now ≤ 4096 }
+    ensures sent { IfOk result (λ next.
+        AppendsSections out.old.items counter out.new.items next pid (section.now ∷ [])) }
+    ensures small { IfOk result (λ next. next < 16) }
+{
+    let next = push_contents(alloc, out, pid, counter, section)?;
+    Ok(next)
+}
+
+/// Appends the packets that carry a section.
+fn push_contents(
+    alloc: Global,
+    out: &mut Vec<u8>,
+    pid: u16,
+    counter: u8,
+    section: &[u8],
+) -> Result<u8, NoMemory>
+    requires pid { pid < 8192 }
+    requires counter { counter < 16 }
+    requires short { length section.now ≤ 4096 }
+    ensures { IfOk result (λ next.
+        Appends out.old.items out.new.items pid counter (section_contents section.now) next) }
+{
+    let payloads = payloads_of(alloc, section)?;
+    push_payloads(out, pid, counter, payloads.as_slice())
+}
+
+/// The section behind its pointer_field, with 0xFF behind it up to the end of its last packet.
+fn payloads_of(alloc: Global, section: &[u8]) -> Result<Vec<u8>, NoMemory>
+    requires short { length section.now ≤ 4096 }
+    ensures { IfOk result (λ payloads. payloads.items ≡ 0 ∷ stuffed section.now) }
+{
+    let mut payloads = Vec::new(alloc);
+    payloads.push(0)?;
+    payloads.extend_from_slice(section)?;
+    let count = (section.len() + PAYLOAD_LENGTH) / PAYLOAD_LENGTH;
+    payloads.resize(count * PAYLOAD_LENGTH, 0xFF)?;
+    Ok(payloads)
+}
+
+/// Appends packets with these payloads. A unit starts in the first.
+fn push_payloads(out: &mut Vec<u8>, pid: u16, counter: u8, payloads: &[u8]) -> Result<u8, NoMemory>
+    requires pid { pid < 8192 }
+    requires counter { counter < 16 }
+    requires whole { length payloads.now % 184 ≡ 0 }
+    ensures { IfOk result (λ next. Appends out.old.items out.new.items pid counter
+        (cut_contents true (length payloads.now / 184) payloads.now) next) }
+{
+    let mut next = counter;
+    let mut starts = true;
+    let mut rest = payloads;
+    'payloads: while let Some((payload, behind)) = rest.split_at_checked(PAYLOAD_LENGTH) {
+        push_packet(out, pid, next, starts, payload)?;
+        next = (next + 1) % 16;
+        starts = false;
+        rest = behind;
+    }
+    Ok(next)
+}
+
+/// Appends a packet.
+fn push_packet(
+    out: &mut Vec<u8>,
+    pid: u16,
+    counter: u8,
+    starts: bool,
+    payload: &[u8],
+) -> Result<(), NoMemory>
+    requires pid { pid < 8192 }
+    requires counter { counter < 16 }
+    ensures { OnOk result (out.new.items ≡ out.old.items
+        ++ packet_bytes pid counter (record { starts = starts; payload = payload.now })) }
+{
+    let start = if starts { 0x40 } else { 0x00 };
+    let [high, low] = pid.to_be_bytes();
+    out.extend_from_slice(&[0x47, start + high, low, 0x10 + counter])?;
+    out.extend_from_slice(payload)?;
+    Ok(())
+}

@@ -1,0 +1,5 @@
+pub mod Words
+pub mod Modules
+pub mod Menu
+pub mod GeneratedFiles
+pub mod devices
