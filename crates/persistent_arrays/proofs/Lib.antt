@@ -1,3 +1,11 @@
 pub mod NumeralLemmas
 pub mod SpellingLemmas
 pub mod NameLemmas
+pub mod PackingLemmas
+pub mod BitLemmas
+pub mod KeptLemmas
+pub mod FieldLemmas
+pub mod LayoutLemmas
+pub mod RunLemmas
+pub mod ArrayLemmas
+pub mod ValueLemmas

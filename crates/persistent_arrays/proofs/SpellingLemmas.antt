@@ -11,7 +11,7 @@ use Rattle.bml_bytes.specs.Numerals.{decimal_digits}
 use Rattle.persistent_arrays.specs.declared.kinds.FieldKind.{FieldKind}
 use Rattle.persistent_arrays.specs.declared.kinds.FieldKind.TheVariants.{Bit, Unsigned, Signed, Fixed, Varying}
 use Rattle.persistent_arrays.specs.Structures.{IsKind, IsStructure, Spells, spelling, with_commas}
-use Rattle.persistent_arrays.specs.devices.Spelling.{has_letters, is_number_size, kind_at, kind_with, numeral_at}
+use Rattle.persistent_arrays.specs.devices.Spelling.{has_letters, is_number_size, kind_at, kind_with, numeral_at, size_at}
 use Rattle.persistent_arrays.proofs.NumeralLemmas.{ends_number, digits-one, numeral-again, numeral-parts}
 
 -- the letter, the size and the unit of a spelled field
@@ -147,28 +147,34 @@ pub record IsSpelled (codes : List ℕ) (kind : FieldKind) (behind : List ℕ) :
   pub sizes : IsKind kind
   pub written : codes ≡ spelling kind ++ behind
 
+size_at-parts : (codes : List ℕ) (read : ℕ × List ℕ) → size_at codes ≡ Some read → codes ≡ 58 ∷ (decimal_digits read.0 ++ read.1)
+unfolding size_at
+size_at-parts codes read e =
+    let colon = bind_some (byte_at codes) _ read e in
+    let size = bind_some (numeral_at colon.0.1) _ read colon.2 in
+    let last = cond_some (nat_eq colon.0.0 58) size.0 read size.2 in
+    let number : colon.0.1 ≡ decimal_digits size.0.0 ++ size.0.1 = (numeral-parts colon.0.1 size.0 size.1).written in
+    byte_at-parts codes colon.0 colon.1 ∙ ap (λ (c : ℕ). c ∷ colon.0.1) (eqb-true colon.0.0 58 last.0) ∙ ap (λ (r : List ℕ). 58 ∷ r) number
+    ∙ ap (λ (r : ℕ × List ℕ). 58 ∷ (decimal_digits r.0 ++ r.1)) last.1
+
 pub kind_at-parts : (codes : List ℕ) (read : FieldKind × List ℕ) → kind_at codes ≡ Some read → IsSpelled codes read.0 read.1
 unfolding kind_at
 kind_at-parts codes read e =
     let letter = bind_some (byte_at codes) _ read e in
-    let colon = bind_some (byte_at letter.0.1) _ read letter.2 in
-    let size = bind_some (numeral_at colon.0.1) _ read colon.2 in
+    let size = bind_some (size_at letter.0.1) _ read letter.2 in
     let unit = bind_some (byte_at size.0.1) _ read size.2 in
     let kind = bind_some (kind_with letter.0.0 size.0.0 unit.0.0) _ read unit.2 in
     let made : FieldKind × List ℕ = (kind.0, unit.0.1) in
-    let last = cond_some (nat_eq colon.0.0 58) made read kind.2 in
     let is = kind_with-parts letter.0.0 size.0.0 unit.0.0 kind.0 kind.1 in
-    let number = numeral-parts colon.0.1 size.0 size.1 in
     let behind_size : size.0.1 ≡ unit.0.0 ∷ unit.0.1 = byte_at-parts size.0.1 unit.0 unit.1 in
-    let behind_colon : colon.0.1 ≡ decimal_digits size.0.0 ++ (unit.0.0 ∷ unit.0.1) = number.written ∙ ap (λ (r : List ℕ). decimal_digits size.0.0 ++ r) behind_size in
-    let behind_letter : letter.0.1 ≡ 58 ∷ (decimal_digits size.0.0 ++ (unit.0.0 ∷ unit.0.1)) = byte_at-parts letter.0.1 colon.0 colon.1 ∙ ap (λ (c : ℕ). c ∷ colon.0.1) (eqb-true colon.0.0 58 last.0) ∙ ap (λ (r : List ℕ). 58 ∷ r) behind_colon in
+    let behind_letter : letter.0.1 ≡ 58 ∷ (decimal_digits size.0.0 ++ (unit.0.0 ∷ unit.0.1)) = size_at-parts letter.0.1 size.0 size.1 ∙ ap (λ (r : List ℕ). 58 ∷ (decimal_digits size.0.0 ++ r)) behind_size in
     let whole : codes ≡ letter.0.0 ∷ 58 ∷ (decimal_digits size.0.0 ++ (unit.0.0 ∷ unit.0.1)) = byte_at-parts codes letter.0 letter.1 ∙ ap (λ (r : List ℕ). letter.0.0 ∷ r) behind_letter in
     let joined : spelling kind.0 ++ unit.0.1 ≡ letter.0.0 ∷ 58 ∷ (decimal_digits size.0.0 ++ (unit.0.0 ∷ unit.0.1)) =
     ap (λ (s : List ℕ). s ++ unit.0.1) is.parts ∙ ap (λ (r : List ℕ). letter.0.0 ∷ 58 ∷ r) (append_assoc (decimal_digits size.0.0) (unit.0.0 ∷ []) unit.0.1) in
-    subst (λ (r : FieldKind × List ℕ). IsSpelled codes r.0 r.1) last.1 (record { sizes = is.sizes; written = whole ∙ sym joined })
+    subst (λ (r : FieldKind × List ℕ). IsSpelled codes r.0 r.1) (same_Some made read kind.2) (record { sizes = is.sizes; written = whole ∙ sym joined })
 
 pub kind_at-again : (kind : FieldKind) (rest : List ℕ) → IsKind kind → kind_at (spelling kind ++ rest) ≡ Some (kind, rest)
-unfolding kind_at
+unfolding kind_at size_at
 kind_at-again kind rest is =
     let joined : spelling kind ++ rest ≡ letter_of kind ∷ 58 ∷ (decimal_digits (size_of kind) ++ (unit_of kind ∷ rest)) =
     ap (λ (s : List ℕ). s ++ rest) (spelling-parts kind) ∙ ap (λ (r : List ℕ). letter_of kind ∷ 58 ∷ r) (append_assoc (decimal_digits (size_of kind)) (unit_of kind ∷ []) rest) in

@@ -1,3 +1,8 @@
 pub mod Structures
 pub mod Names
+pub mod Arrays
+pub mod Fields
+pub mod Packing
+pub mod Reading
+pub mod Kept
 pub mod devices

@@ -1,2 +1,4 @@
 -- Devices of the proofs.
 pub mod Spelling
+pub mod Packers
+pub mod Unpackers

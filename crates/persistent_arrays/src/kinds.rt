@@ -1,7 +1,7 @@
 //! The kinds of fields, and how each is spelled.
 
 ghost use Rattle.std.specs.Prelude.{◌≡◌, ◌≤◌, ◌&&◌, ◌==◌, nat_le, option_map};
-ghost use Rattle.persistent_arrays.specs.devices.Spelling.{has_letters as letters_are, is_number_size as is_size_of_number, kind_at, kind_with as kind_of};
+ghost use Rattle.persistent_arrays.specs.devices.Spelling.{has_letters as letters_are, is_number_size as is_size_of_number, kind_at, kind_with as kind_of, size_at as size_in};
 
 use crate::spelling::{next_code, numeral_at};
 
@@ -26,14 +26,20 @@ pub(crate) fn read_kind(codes: &[u16]) -> Option<(FieldKind, &[u16])>
     ensures { option_map (λ found. (found.0, found.1.now)) result ≡ kind_at codes.now }
 {
     let (letter, behind) = next_code(codes)?;
-    let (colon, behind) = next_code(behind)?;
-    let (size, behind) = numeral_at(behind)?;
+    let (size, behind) = size_at(behind)?;
     let (unit, behind) = next_code(behind)?;
     let kind = kind_with(letter, size, unit)?;
-    if colon != u16::from(b':') {
-        return None;
-    }
     Some((kind, behind))
+}
+
+// The size behind a colon, and the codes behind it.
+#[tactic(auto, unfolding(crate::specs::devices::Spelling::size_at))]
+fn size_at(codes: &[u16]) -> Option<(u8, &[u16])>
+    ensures { option_map (λ found. (found.0, found.1.now)) result ≡ size_in codes.now }
+{
+    let (colon, behind) = next_code(codes)?;
+    let size = numeral_at(behind)?;
+    (colon == u16::from(b':')).then_some(size)
 }
 
 // The field that is spelled with this letter, size and unit.

@@ -1,10 +1,20 @@
 //! What the definitions of this crate say together. A law's contract is what it is for, and it does nothing when it
 //! runs.
 
-ghost use Rattle.std.specs.Prelude.{◌≡◌, ℕ, List};
+ghost use Rattle.std.specs.Prelude.{◌≡◌, ◌≢◌, ◌<◌, ◌≤◌, ◌-◌, ◌*◌, ◌^◌, ◌++◌, ◌-ℤ◌, ℕ, ℤ, pos, Bool, false, List, Some, length, replicate};
+ghost use Rattle.bml_bytes.specs.Codes.{bytes_of, codes};
+ghost use Rattle.persistent_arrays.specs.declared.fields.Field.{Field};
+ghost use Rattle.persistent_arrays.specs.declared.fields.Field.TheVariants.{Whole, Words};
 ghost use Rattle.persistent_arrays.specs.declared.kinds.FieldKind.{FieldKind};
+ghost use Rattle.persistent_arrays.specs.declared.kinds.FieldKind.TheVariants.{Unsigned, Signed, Varying};
+ghost use Rattle.persistent_arrays.specs.Arrays.{array_in, with_array};
+ghost use Rattle.persistent_arrays.specs.Kept.{kept_value, kept_values};
 ghost use Rattle.persistent_arrays.specs.Names.{Names};
-ghost use Rattle.persistent_arrays.specs.Structures.{Spells};
+ghost use Rattle.persistent_arrays.specs.Packing.{packed, packed_in_array, weighed};
+ghost use Rattle.persistent_arrays.specs.Reading.{bits_of, unpacked};
+ghost use Rattle.persistent_arrays.specs.Structures.{IsKind, Spells};
+
+use bml_bytes::{law_of_big_numbers, law_of_fields};
 
 /// A text spells at most one structure.
 pub fn law_of_structures()
@@ -15,4 +25,47 @@ pub fn law_of_structures()
 /// A text names at most one array.
 pub fn law_of_array_names()
     ensures { (name : List ℕ) (slot other : ℕ) → Names name slot → Names name other → slot ≡ other }
+{}
+
+/// What was packed is read again as it is kept: from the bytes, whatever stands behind them, and so from the array
+/// of an area that they were written to.
+pub fn law_of_kept_fields()
+    ensures bytes { (kinds : List FieldKind) (values : List Field) (bytes behind : List ℕ) →
+        packed kinds values ≡ Some bytes →
+        unpacked kinds (bytes ++ behind) ≡ Some (kept_values kinds values) }
+    ensures array { (kinds : List FieldKind) (values : List Field) (bytes area : List ℕ) (slot : ℕ)
+        → length area ≡ 1024 → slot < 16 → packed_in_array kinds values ≡ Some bytes
+        → unpacked kinds (array_in (with_array area slot bytes) slot)
+        ≡ Some (kept_values kinds values) }
+{
+    law_of_fields();
+    law_of_big_numbers();
+}
+
+/// A number that its field has room for is kept as it is, and so is a text that is read from its own bytes.
+pub fn law_of_kept_values()
+    ensures unsigned { (size number : ℕ) → IsKind (Unsigned size) →
+        number < 256 ^ size → number < 2 ^ 31 →
+        kept_value (Unsigned size) (Whole (pos number)) ≡ Whole (pos number) }
+    ensures signed { (size number : ℕ) → IsKind (Signed size) → number * 2 < 256 ^ size →
+        kept_value (Signed size) (Whole (pos number)) ≡ Whole (pos number) }
+    ensures negative { (size number : ℕ) → IsKind (Signed size) → number * 2 ≤ 256 ^ size →
+        kept_value (Signed size) (Whole (pos 0 -ℤ pos number)) ≡ Whole (pos 0 -ℤ pos number) }
+    ensures text { (text : List ℕ) → codes (bytes_of text) ≡ text →
+        kept_value Varying (Words text) ≡ Words text }
+{}
+
+/// What is written to an array leaves the area's size and each other array as they were.
+pub fn law_of_arrays()
+    ensures size { (area bytes : List ℕ) (slot : ℕ) → length area ≡ 1024 → slot < 16 →
+        length bytes ≤ 64 → length (with_array area slot bytes) ≡ 1024 }
+    ensures others { (area bytes : List ℕ) (slot other : ℕ) → length area ≡ 1024 → slot < 16 →
+        other < 16 → length bytes ≤ 64 → slot ≢ other →
+        array_in (with_array area slot bytes) other ≡ array_in area other }
+{}
+
+/// Up to eight bits that share a byte are its first bits from the top on, and no other of its bits is set.
+pub fn law_of_shared_bits()
+    ensures { (bits : List Bool) → length bits ≤ 8 →
+        bits_of (weighed 128 bits) ≡ bits ++ replicate (8 - length bits) false }
 {}

@@ -5,13 +5,23 @@
 //! `law_of_..` functions.
 #![tactic(auto)]
 
+mod arrays;
+mod fields;
 mod kinds;
 mod laws;
 mod names;
+mod packing;
+mod reading;
 mod spelling;
 mod structures;
 
+pub use crate::fields::Field;
 pub use crate::kinds::FieldKind;
-pub use crate::laws::{law_of_array_names, law_of_structures};
+pub use crate::laws::{
+    law_of_array_names, law_of_arrays, law_of_kept_fields, law_of_kept_values, law_of_shared_bits,
+    law_of_structures,
+};
 pub use crate::names::slot_of;
+pub use crate::packing::pack;
+pub use crate::reading::unpack;
 pub use crate::structures::Structure;

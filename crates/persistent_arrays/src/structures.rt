@@ -1,8 +1,8 @@
 //! Which fields a persistent array has.
 
-ghost use Rattle.std.specs.Prelude.{◌≡◌, List, slice_get, IfOk, MatchOption};
+ghost use Rattle.std.specs.Prelude.{◌≡◌, List, All, slice_get, IfOk, MatchOption};
 ghost use Rattle.persistent_arrays.specs.declared.kinds.FieldKind.{FieldKind};
-ghost use Rattle.persistent_arrays.specs.Structures.{Spells};
+ghost use Rattle.persistent_arrays.specs.Structures.{IsKind, Spells};
 
 use crate::kinds::{FieldKind, read_kind};
 use crate::spelling::next_code;
@@ -55,5 +55,13 @@ impl Structure {
         ensures { result ≡ slice_get self.now place }
     {
         self.kinds.as_slice().get(place).copied()
+    }
+
+    // All of its kinds.
+    pub(crate) fn kinds(&self) -> &[FieldKind]
+        ensures kinds { result.now ≡ self.now }
+        ensures sizes { All IsKind result.now }
+    {
+        self.kinds.as_slice()
     }
 }

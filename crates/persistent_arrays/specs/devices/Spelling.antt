@@ -34,15 +34,21 @@ kind_with letter size unit =
     else (if has_letters letter unit (byte "S") (byte "B") then (if nat_le 1 size && nat_le size 64 then Some (Fixed size) else None)
     else (if has_letters letter unit (byte "S") (byte "V") then (if size == 1 then Some Varying else None) else None))))
 
+-- a colon and a number of one or two digits, and what stands behind them
+unfoldable pub size_at : List ℕ → Option (ℕ × List ℕ)
+size_at codes = do
+  colon ← byte_at codes
+  size ← numeral_at colon.1
+  if colon.0 == byte ":" then Some size else None
+
 -- the field at the front of a text, and what stands behind it
 unfoldable pub kind_at : List ℕ → Option (FieldKind × List ℕ)
 kind_at codes = do
   letter ← byte_at codes
-  colon ← byte_at letter.1
-  size ← numeral_at colon.1
+  size ← size_at letter.1
   unit ← byte_at size.1
   kind ← kind_with letter.0 size.0 unit.0
-  if colon.0 == byte ":" then Some (kind, unit.1) else None
+  Some (kind, unit.1)
 
 -- the number of an array that some digits are
 abbrev pub number_of_array : List ℕ → Option ℕ

@@ -1,0 +1,14 @@
+//! Tests of `persistent_arrays`: bytes and values that were worked out by hand, which no clause says, and each public
+//! call with memory to spare. It has no code of its own.
+//!
+//! They stand here since a crate with tests is proved twice, and the library is proved once.
+#![tactic(auto)]
+
+#[cfg(test)]
+mod names;
+#[cfg(test)]
+mod packing;
+#[cfg(test)]
+mod reading;
+#[cfg(test)]
+mod written;
