@@ -1,8 +1,9 @@
 -- Which version counts: behind one more happening, and by places.
-use Rattle.std.proofs.Common.{◌≡◌, ℕ, zero, suc, ◌<◌, nat_eq, Bool, true, false, ◌&&◌, List, [], ◌∷◌, ◌++◌, slice_get, inl, inr, Option, Some, None, refl, sym, ap, ◌∙◌, arith}
+use Rattle.std.proofs.Common.{◌≡◌, ℕ, zero, suc, ◌<◌, nat_eq, Bool, true, false, not, ◌&&◌, List, [], ◌∷◌, ◌++◌, slice_get, inl, inr, Option, Some, None, refl, sym, ap, ◌∙◌, arith}
 use Rattle.std.specs.Prelude.{◌⊎◌}
 use Rattle.std.proofs.lemmas.Bool.{eqb-true, eq-eqb, and_parts, and_from}
-use Rattle.event_messages.specs.Firings.{Happening, IsLastFiring, last_version, version_after, version_behind}
+use Rattle.event_messages.specs.declared.messages.Message.{Message}
+use Rattle.event_messages.specs.Firings.{Happening, IsLastFiring, fires, firing_of, last_version, version_after, version_behind}
 use Rattle.event_messages.specs.Firings.Happening.{Fires, Forgets}
 
 -- ---- one happening more
@@ -195,3 +196,19 @@ no-firing item group id happenings none = by (last_version item group id happeni
     by : (read : Option ℕ) → last_version item group id happenings ≡ read → last_version item group id happenings ≡ None
     by None e = e
     by (Some version) e = absurd (counts version (found item group id None happenings version e))
+
+-- ---- which message fires
+
+pub fires-last : (item : ℕ) (message : Message) (happenings : List Happening) (place version : ℕ) → IsLastFiring item message.group message.id happenings place version
+    → fires item message happenings ≡ not (nat_eq version message.version)
+fires-last item message happenings place version is = rw (last-firing item message.group message.id happenings place version is) refl
+
+pub fires-first : (item : ℕ) (message : Message) (happenings : List Happening) → ((place version : ℕ) → ¬ IsLastFiring item message.group message.id happenings place version)
+    → fires item message happenings ≡ true
+fires-first item message happenings none = rw (no-firing item message.group message.id happenings none) refl
+
+pub fires-no-more : (item : ℕ) (message : Message) (happenings : List Happening) → fires item message (happenings ++ firing_of item message ∷ []) ≡ false
+fires-no-more item message happenings = rw (fired-last item message.group message.id message.version happenings, same message.version) refl
+
+pub fires-anew : (item : ℕ) (message : Message) (happenings : List Happening) → fires item message (happenings ++ Forgets item ∷ []) ≡ true
+fires-anew item message happenings = rw (forgotten-last item message.group message.id happenings) refl

@@ -98,6 +98,9 @@ ok_err a fault read e f = absurd cc
 pub same_ok : {A : Type 0} (a b : A) (read : Result A TableFault) → read ≡ Ok a → read ≡ Ok b → a ≡ b
 same_ok a b read e f = cc
 
+same_fault : (one other : TableFault) (read : Result (List Message) TableFault) → read ≡ Err one → read ≡ Err other → one ≡ other
+same_fault one other read e f = cc
+
 -- what a reader answers
 
 pub only : (read : Result (List Message) TableFault) (messages : List Message) (answer : Result (Vec Message Global) TableRefusal) → IsRead (λ (found : Vec Message Global). found.items) answer read → read ≡ Ok messages
@@ -111,3 +114,23 @@ is_short read answer is e = subst (λ (answer : Result (Vec Message Global) Tabl
 
 pub both : {A P : Type 0} (one other : TableFault) (read : Result A TableFault) → read ≡ Err one → read ≡ Err other → one ≢ other → P
 both one other read e f differ = absurd (differ (cc))
+
+-- a section of the table that has no messages is short
+pub section_short : (laws : FieldLaws) (law : DescriptorLaw) (section : List ℕ) → slice_index section 0 ≡ descriptor_table → ((messages : List Message) → ¬ HasMessages section messages) → messages_in section ≡ Err Short
+section_short laws law section is none = by (messages_in section) refl
+  where
+    by : (read : Result (List Message) TableFault) → messages_in section ≡ read → messages_in section ≡ Err Short
+    by (Ok messages) e = absurd (none messages (section_takes laws law section messages e))
+    by (Err Kind) e = absurd ((section_kind section).0 is e)
+    by (Err Short) e = e
+
+pub read_some : (section : List ℕ) (descriptors : List Descriptor) → slice_index section 0 ≡ descriptor_table → descriptors_in (body section) ≡ Some descriptors → messages_in section ≡ Ok (messages_of descriptors)
+unfolding messages_in
+read_some section descriptors is e = rw (eq-eqb _ _ is, e) refl
+
+-- a section that is short is answered so, as no memory is taken for it
+pub not_short : (read : Result (List Message) TableFault) (answer : Result (Vec Message Global) TableRefusal) → IsRead (λ (found : Vec Message Global). found.items) answer read
+    → (answer ≡ Err refusals.NoMemory → (messages : List Message) × (read ≡ Ok messages) × (messages ≢ [])) → read ≡ Err Short → answer ≡ Err (refusals.Fault Short)
+not_short read (Ok found) is memory e = ok_err found.items Short read is e
+not_short read (Err refusals.NoMemory) is memory e = let m = memory refl in ok_err m.0 Short read m.1 e
+not_short read (Err (refusals.Fault fault)) is memory e = rw (same_fault fault Short read is e) refl

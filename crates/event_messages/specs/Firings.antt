@@ -1,5 +1,5 @@
--- Which firing of an item counts for a message (after ARIB STD-B24, volume 2, EventMessageFired; that a message fires
--- once for each version, and what is forgotten, is this project's own rule).
+-- Which firing of an item counts for a message (after ARIB STD-B24, volume 2, EventMessageFired; that a message in the
+-- version that fired last doesn't fire again, and what is forgotten, is this project's own rule).
 use Rattle.std.specs.Prelude.{◌≡◌, ◌<◌, ◌==◌, ℕ, Bool, true, ◌&&◌, not, if◌then◌else◌, List, [], ◌∷◌, slice_get, Option, Some, None}
 use Rattle.event_messages.specs.declared.messages.Message.{Message}
 

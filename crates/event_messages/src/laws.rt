@@ -1,11 +1,11 @@
 //! What the definitions of this crate say together. A law's contract is what it is for, and it does nothing
 //! when it runs.
 
-ghost use Rattle.std.specs.Prelude.{◌≡◌, ◌≢◌, ◌↔◌, ◌++◌, ◌∷◌, ℕ, [], List, slice_get, slice_index, None, Some, Ok, Err};
+ghost use Rattle.std.specs.Prelude.{◌≡◌, ◌≢◌, ◌↔◌, ◌==◌, ◌++◌, ◌∷◌, ℕ, [], List, slice_get, slice_index, true, false, not, None, Some, Ok, Err};
 ghost use Rattle.event_messages.specs.declared.messages.Message.{Message};
 ghost use Rattle.event_messages.specs.Messages.{descriptor_table, HasMessages};
 ghost use Rattle.event_messages.specs.Reading.{messages_in};
-ghost use Rattle.event_messages.specs.Firings.{Happening, IsLastFiring, last_version};
+ghost use Rattle.event_messages.specs.Firings.{Happening, IsLastFiring, fires, firing_of, last_version};
 
 use bml_bytes::{TableFault, law_of_fields};
 use table_fields::law_of_descriptors;
@@ -18,17 +18,18 @@ pub fn law_of_messages()
         HasMessages section messages ↔ (messages_in section ≡ Ok messages) }
     ensures kind { (section : List ℕ) →
         (slice_index section 0 ≡ descriptor_table) ↔ (messages_in section ≢ Err TableFault.Kind) }
-    ensures short { (section : List ℕ) → messages_in section ≡ Err TableFault.Short →
-        (slice_index section 0 ≡ descriptor_table)
-        × ((messages : List Message) → ¬ HasMessages section messages) }
+    ensures short { (section : List ℕ) → (messages_in section ≡ Err TableFault.Short) ↔
+        ((slice_index section 0 ≡ descriptor_table)
+        × ((messages : List Message) → ¬ HasMessages section messages)) }
 {
     law_of_fields();
     law_of_descriptors();
 }
 
 /// The version that counts for an item, a group and an id is that of the last such firing since the item's firings were
-/// forgotten last, and none counts exactly where there is no such firing. So a message that is repeated in the version
-/// of that firing doesn't fire again, and one of another version does.
+/// forgotten last, and none counts exactly where there is no such firing. So an item fires for a message exactly where
+/// that firing had another version, or where there is none; a message that is repeated doesn't fire again, and once its
+/// firings are forgotten an item fires for each.
 pub fn law_of_firings()
     ensures last { (item group id : ℕ) (happenings : List Happening) (place version : ℕ)
         → IsLastFiring item group id happenings place version
@@ -41,4 +42,16 @@ pub fn law_of_firings()
         ≡ Some version }
     ensures forgotten { (item group id : ℕ) (happenings : List Happening)
         → last_version item group id (happenings ++ Happening.Forgets item ∷ []) ≡ None }
+    ensures fires { (item : ℕ) (message : Message) (happenings : List Happening)
+        (place version : ℕ)
+        → IsLastFiring item message.group message.id happenings place version
+        → fires item message happenings ≡ not (version == message.version) }
+    ensures first { (item : ℕ) (message : Message) (happenings : List Happening)
+        → ((place version : ℕ)
+        → ¬ IsLastFiring item message.group message.id happenings place version)
+        → fires item message happenings ≡ true }
+    ensures repeated { (item : ℕ) (message : Message) (happenings : List Happening)
+        → fires item message (happenings ++ firing_of item message ∷ []) ≡ false }
+    ensures anew { (item : ℕ) (message : Message) (happenings : List Happening)
+        → fires item message (happenings ++ Happening.Forgets item ∷ []) ≡ true }
 {}

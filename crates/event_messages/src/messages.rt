@@ -1,6 +1,6 @@
 //! The messages in a section.
 
-ghost use Rattle.std.specs.Prelude.{◌≡◌, ◌≤◌, ◌↔◌, ◌++◌, List, length, slice_index, IfOk, MatchResult, Err, OnOk, option_map, option_to_list};
+ghost use Rattle.std.specs.Prelude.{◌≡◌, ◌≢◌, ◌≤◌, ◌↔◌, ◌++◌, [], List, length, slice_index, IfOk, IsErr, MatchResult, Ok, Err, OnOk, None, option_map, option_to_list};
 ghost use Rattle.std.specs.Option.{ok_or};
 ghost use Rattle.table_fields.specs.Borrowed.{descriptor_of};
 ghost use Rattle.table_fields.specs.Descriptors.{descriptors_in};
@@ -51,7 +51,8 @@ struct Fields<'a> {
 /// The event messages that a section carries, in their order.
 ///
 /// A descriptor of another tag, with another time_mode or with fewer than 11 bytes is left out. `Kind` comes for a
-/// section of another table; `Short` for one of the table whose body isn't descriptors laid end to end.
+/// section of another table; `Short` for one of the table whose body isn't descriptors laid end to end. Memory is taken
+/// for messages alone.
 pub fn read_messages(alloc: Global, section: &[u8]) -> Result<Vec<Message>, TableRefusal>
     requires { 12 ≤ length section.now }
     ensures found { IfOk result (λ found. HasMessages section.now found.items) }
@@ -60,9 +61,11 @@ pub fn read_messages(alloc: Global, section: &[u8]) -> Result<Vec<Message>, Tabl
         (λ refusal. refusal ≡ TableRefusal.NoMemory) }
     ensures kind { (result ≡ Err (TableRefusal.Fault TableFault.Kind))
         ↔ ¬ (slice_index section.now 0 ≡ descriptor_table) }
-    ensures short { result ≡ Err (TableRefusal.Fault TableFault.Short)
-        → (slice_index section.now 0 ≡ descriptor_table)
-        × ((messages : List Message) → ¬ HasMessages section.now messages) }
+    ensures short { (result ≡ Err (TableRefusal.Fault TableFault.Short))
+        ↔ ((slice_index section.now 0 ≡ descriptor_table)
+        × ((messages : List Message) → ¬ HasMessages section.now messages)) }
+    ensures memory { result ≡ Err TableRefusal.NoMemory
+        → (messages : List Message) × HasMessages section.now messages × (messages ≢ []) }
 {
     law_of_messages();
     messages(alloc, section)
@@ -72,9 +75,9 @@ pub fn read_messages(alloc: Global, section: &[u8]) -> Result<Vec<Message>, Tabl
 fn messages(alloc: Global, section: &[u8]) -> Result<Vec<Message>, TableRefusal>
     requires { 12 ≤ length section.now }
     ensures reading { IsRead (λ found. found.items) result (messages_in section.now) }
-    // The kind is tested before any memory is taken.
-    ensures kind { result ≡ Err TableRefusal.NoMemory
-        → slice_index section.now 0 ≡ descriptor_table }
+    // Memory is taken where there is a message alone.
+    ensures memory { result ≡ Err TableRefusal.NoMemory
+        → (messages : List Message) × (messages_in section.now ≡ Ok messages) × (messages ≢ []) }
 {
     if section[0] != DESCRIPTOR_TABLE {
         return Err(TableRefusal::Fault(TableFault::Kind));
@@ -89,7 +92,8 @@ fn messages_among(
     alloc: Global,
     descriptors: &mut Descriptors<'_>,
 ) -> Result<Vec<Message>, NoMemory>
-    ensures { IfOk result (λ found. found.items ≡ messages_of descriptors.old) }
+    ensures found { IfOk result (λ found. found.items ≡ messages_of descriptors.old) }
+    ensures memory { IsErr result → messages_of descriptors.old ≢ [] }
 {
     let mut messages = Vec::new(alloc);
     'descriptors: while let Some(descriptor) = descriptors.next() {
@@ -105,8 +109,9 @@ fn push_message(
     descriptor: Descriptor<'_>,
     messages: &mut Vec<Message>,
 ) -> Result<(), NoMemory>
-    ensures { OnOk result (messages.new.items
+    ensures pushed { OnOk result (messages.new.items
         ≡ messages.old.items ++ option_to_list (message_of (descriptor_of descriptor.entry))) }
+    ensures memory { IsErr result → message_of (descriptor_of descriptor.entry) ≢ None }
 {
     match fields_of(descriptor) {
         None => Ok(()),
