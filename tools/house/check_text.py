@@ -1,0 +1,82 @@
+#!/usr/bin/env python3
+"""Refuses what the prover can't see and this repository doesn't want in its text; prints each place, and ends with 1 if there is one.
+
+- A crate that imports the proofs of another crate of this repository: layers join by public clauses and laws alone.
+- A line of source above 100 columns: a clause is to be read aloud. Left aside are comments, `ghost use` lines, attributes, the lines of a
+  text that is printed, and tests with their tables.
+- A file of specs/ whose head names no source: a standard and its section, or that it is this project's own, or a device of the proofs.
+- A document that names a row of tables/, as `modules: damaged`, or an example, that isn't there.
+"""
+
+import re
+import sys
+from pathlib import Path
+
+ROOT = Path(__file__).resolve().parents[2]
+CRATES = ROOT / "crates"
+WIDTH = 100
+SOURCE = re.compile(r"ISO/IEC|ARIB|ECMA|XML|CSS|RFC|\b[Oo]wn\b|project's own|[Dd]evices? of the proofs?")
+
+
+def foreign_proofs(crate, path, lines, names):
+    for number, line in enumerate(lines, 1):
+        for other in re.findall(r"\buse Rattle\.(\w+)\.proofs\b", line):
+            if other != crate and other in names:
+                yield f"{path}:{number}: the proofs of {other}: a public clause or law is wanting there"
+
+
+def wide_lines(path, lines):
+    if "test" in str(path):
+        return
+    in_text = False
+    for number, line in enumerate(lines, 1):
+        in_text ^= line.count('"') % 2 == 1
+        if len(line) > WIDTH and not in_text and not re.match(r"\s*(//|ghost use\b|#\[)", line):
+            yield f"{path}:{number}: {len(line)} columns"
+
+
+def head_without_source(path, lines):
+    head = []
+    for line in lines:
+        if not line.startswith("--"):
+            break
+        head.append(line)
+    if not SOURCE.search(" ".join(head)):
+        yield f"{path}:1: the head names no source of these definitions"
+
+
+def missing_rows():
+    """Rows and examples that documents name, and that aren't there."""
+    tables = {path.stem: path.read_text(encoding="utf-8") for path in (ROOT / "tables").glob("*.txt")}
+    rows = {name: set(re.findall(r"(?m)^row: (.*?)\s*$", text)) for name, text in tables.items()}
+    for path in [ROOT / "README.md", ROOT / "CONTRIBUTING.md", *sorted((ROOT / "docs").glob("*.md"))]:
+        for number, line in enumerate(path.read_text(encoding="utf-8").splitlines(), 1):
+            for table, row in re.findall(r"`([a-z]+): ([^`]+)`", line):
+                if table in rows and row not in rows[table]:
+                    yield f"{path.relative_to(ROOT)}:{number}: {table} has no row {row}"
+            for name in re.findall(r"\bexample `([\w-]+)`", line):
+                if not (ROOT / "examples" / name).is_dir():
+                    yield f"{path.relative_to(ROOT)}:{number}: there is no example {name}"
+
+
+def main():
+    names = {it.name for it in CRATES.iterdir() if it.is_dir()}
+    found = []
+    for crate in sorted(names):
+        for path in sorted((CRATES / crate).glob("**/*")):
+            inside = path.relative_to(CRATES.parent)
+            if path.suffix not in (".rt", ".antt") or "out" in inside.parts:
+                continue
+            lines = path.read_text(encoding="utf-8").splitlines()
+            found += foreign_proofs(crate, inside, lines, names)
+            if path.suffix == ".rt":
+                found += wide_lines(inside, lines)
+            elif inside.parts[2] == "specs" and path.name != "Lib.antt":
+                found += head_without_source(inside, lines)
+    found += missing_rows()
+    print("\n".join(found) if found else "the text is as it is to be")
+    return 1 if found else 0
+
+
+if __name__ == "__main__":
+    sys.exit(main())

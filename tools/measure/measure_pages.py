@@ -1,0 +1,95 @@
+#!/usr/bin/env python3
+"""Measures how long a release build takes over pages that act as much as the limits let them.
+
+usage: measure_pages.py PROGRAM [--rounds N]
+
+Module 0000 of a carousel on PID 256 is a document, and the record has keys behind `all`. What the program writes is compared with what
+is due: a line for the module, `load`, as many lines of lost events and stopped handlers as are said beside each, and `end`. Each is run N
+times (3), of which the best counts. `processor` is in seconds too, and says more than `seconds` where other work shares the machine. Status: 0
+where all was as due, 1 where a run went wrong.
+"""
+
+import sys
+from typing import NamedTuple
+
+from measuring import replayed, words
+from transport import TYPE_DESCRIPTOR, Module, ddb_section, descriptor, dii_section, packets_of_sections
+
+DATA_PID = 256
+OPTIONS = ["--data-pid", str(DATA_PID)]
+BLOCK_SIZE = 4000
+
+
+class Page(NamedTuple):
+    """A document, the lines of the record behind `all`, and how many lines tell of lost events and of stops."""
+
+    name: str
+    document: str
+    record: str
+    lost: int
+    stopped: int
+
+
+def with_script(script, body):
+    return f"<bml><head><script><![CDATA[{script}]]></script></head><body>{body}</body></bml>"
+
+
+def many_nodes(count):
+    """As many elements as that leaves room for, each of which can have the focus."""
+    return "".join(f'<a style="nav-index:{place % 32768};nav-down:{(place + 1) % count}" onkeydown="n++;"/>' for place in range(count))
+
+
+def pages():
+    two = '<p id="x" style="nav-index:0" onfocus="go(\'y\');">-</p><p id="y" style="nav-index:1" onfocus="go(\'x\');">y</p>'
+    endless = with_script("function go(i) { document.getElementById(i).focus(); }", two)
+    yield Page("10,000 turns of 256 dispatches each", endless, "release 1\n" * 10_000, 0, 0)
+    crowd = with_script(
+        'function k() { var x = document.getElementById("x"); var y = document.getElementById("y");'
+        " for (var i = 0; i < 100; i++) { y.focus(); x.focus(); } }",
+        '<p id="x" style="nav-index:0" onkeydown="k();">x</p><p id="y" style="nav-index:1">y</p>',
+    )
+    yield Page("a key that posts 400 events", crowd, "key 1\n", 145, 0)
+    busy = with_script("", '<p style="nav-index:0" onkeydown="while (true) ;">x</p>')
+    yield Page("100 keys whose handlers take all their steps", busy, "key 1\n" * 100, 0, 100)
+    plain = with_script("var n = 0;", many_nodes(2))
+    yield Page("100,000 keys over two elements", plain, "key 5\nkey 1\n" * 50_000, 0, 0)
+    for count in (1_000, 4_000, 8_000):
+        large = with_script("var n = 0;", many_nodes(count))
+        yield Page(f"10,000 arrows over {count:,} elements", large, "key 2\n" * 10_000, 0, 0)
+    yield Page("100,000 digits over 8,000 elements", with_script("var n = 0;", many_nodes(8_000)), "key 5\n" * 100_000, 0, 0)
+
+
+def sections_of(document):
+    """Returns the sections of the module, each with its PID."""
+    modules = [Module(0, 1, len(document), descriptor(TYPE_DESCRIPTOR, b"text/X-arib-bml"))]
+    blocks = range(0, len(document), BLOCK_SIZE)
+    sections = [dii_section(1, 1, BLOCK_SIZE, modules)]
+    sections += [ddb_section(1, 0, 1, at // BLOCK_SIZE, document[at : at + BLOCK_SIZE]) for at in blocks]
+    return [(DATA_PID, section) for section in sections]
+
+
+def is_due(page, document, packets, written):
+    lines = written.decode("ascii").splitlines()
+    first = [f"module 40 0000 01 {len(document)}", "load /40/0000"]
+    lost = sum(line.startswith("lost ") for line in lines)
+    stopped = sum(line.startswith("stop ") for line in lines)
+    told = len(first) + page.lost + page.stopped + 1
+    return lines[:2] == first and lines[-1] == f"end {packets}" and (lost, stopped, len(lines)) == (page.lost, page.stopped, told)
+
+
+def main():
+    program, rounds = words("measure_pages.py")
+    faults = 0
+    print(f"{'page':52} {'seconds':>8} {'processor':>9}")
+    for page in pages():
+        document = page.document.encode("ascii")
+        stream, packets = packets_of_sections(sections_of(document))
+        ran, seconds, processor = replayed(program, OPTIONS, stream, ("all\n" + page.record).encode("ascii"), rounds)
+        fault = "" if ran.returncode == 0 and is_due(page, document, packets, ran.stdout) else "  not as due"
+        faults += bool(fault)
+        print(f"{page.name:52} {seconds:8.3f} {processor:9.3f}{fault}")
+    return 1 if faults else 0
+
+
+if __name__ == "__main__":
+    sys.exit(main())

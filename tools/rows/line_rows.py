@@ -1,0 +1,172 @@
+"""Lines of records and words of commands: which the program takes, and which it refuses.
+
+A row here is a line or a few words, so these stand in Python and not in a table. The lines come over a
+stream without a packet, and a command that is taken ends since there is no stream of its name. What has
+to come of each is from docs/FORMATS.md, "The record", and from the README's commands.
+"""
+
+from pathlib import Path
+
+from tables import Run
+
+REPLAY = ["replay", "--data-pid", "256", "stream.ts", "record.txt"]
+USAGE = Path(__file__).resolve().parents[2] / "examples" / "usage" / "stderr"
+
+# Each of them is an item, a line that asks for nothing, or bad.
+ITEMS = [
+    b"all",
+    b"packets 1",
+    b" packets\t 42\t",
+    b"packets 0000000007",
+    b"packets 4294967295",
+    b"key 1",
+    b"key 14",
+    b"key 018",
+    b"release 1",
+    b"release 24",
+    b"tick 1",
+    b"tick 3600000",
+    b"random 0",
+    b"random 4294967295",
+    b"\tall",
+    b" \tall\t ",
+]
+NOTHING = [b"", b" \t ", b"#", b"#all", b"# packets 0", b"\t ## x", b"   "]
+BAD = [
+    b"packets 4294967296",
+    b"packets 00000000007",
+    b"packets 0",
+    b"packets",
+    b"packets -1",
+    b"packets 0x1",
+    b"packets 1 2",
+    b"packets1",
+    b"packet 1",
+    b"1 packets",
+    b"Packets 1",
+    b"all x",
+    b"all 1",
+    b"show 1",
+    b"shows",
+    b"all # all",
+    b"packets 1 #",
+    b"\x0b#",
+    b"key 0",
+    b"key 15",
+    b"key 17",
+    b"release 0",
+    b"release 25",
+    b"key 257",
+    b"tick 0",
+    b"tick 3600001",
+    b"random 4294967296",
+    b"random",
+    b"tick 1 ms",
+    b"keys 1",
+    b"load",
+    b"al",
+    b"alll",
+    b"ALL",
+    b"all all",
+    b"a ll",
+    b"all\r",
+    b"all\rall",
+]
+
+# Whole records, how many `show` of them come to their turn, and the number of the first bad line.
+RECORDS = [
+    (b"", 0, None),
+    (b"show", 1, None),
+    (b"show\n", 1, None),
+    (b"show\r\n", 1, None),
+    (b"show\r", 0, 1),
+    (b"show\r\r\n", 0, 1),
+    (b"show\rshow\n", 0, 1),
+    (b" \tshow\t \n", 1, None),
+    (b"show\nshow\r\nshow", 3, None),
+    (b"show\nshow\nload\nshow\n", 2, 3),
+    (b"packets 1\nshow\nall\nshow", 2, None),
+    (b"\n", 0, None),
+    (b"\r\n", 0, None),
+    (b"\r\r\n", 0, 1),
+    (b"show\n\n\r\nshow\n\n", 2, None),
+    (b"# one\nshow\n# show\n", 1, None),
+    # A line has 128 bytes at most without its end.
+    (b"show" + 124 * b" ", 1, None),
+    (b"show" + 124 * b" " + b"\n", 1, None),
+    (b"show" + 124 * b" " + b"\nsho ", 1, 2),
+    (b"show" + 124 * b" " + b"\r\n", 1, None),
+    (b"show" + 125 * b" ", 0, 1),
+    (b"show" + 125 * b" " + b"\n", 0, 1),
+    (b"show" + 125 * b" " + b"\r\n", 0, 1),
+    (b"show" + 124 * b" " + b"\r", 0, 1),
+    (b"#" + 127 * b" ", 0, None),
+    (b"#" + 128 * b" ", 0, 1),
+    (128 * b"\t", 0, None),
+    (129 * b"\t", 0, 1),
+    # More than the program holds of a record at once.
+    (3000 * b"show\n", 3000, None),
+    (3000 * b"show\n" + b"shown", 3000, 3001),
+]
+
+# The words of commands that are taken, and of those that are none.
+COMMANDS = [
+    "replay|s|r",
+    "replay|--service|1|s|r",
+    "replay|--service|65535|s|r",
+    "replay|--data-pid|16|s|r",
+    "replay|--data-pid|8190|s|r",
+    "replay|--data-pid|0000000300|s|r",
+    "replay|--data-pid|300|the stream|r-",
+]
+NO_COMMANDS = [
+    "replay|--service|0|s|r",
+    "replay|--service|65536|s|r",
+    "replay|--service||s|r",
+    "replay|--data-pid|15|s|r",
+    "replay|--data-pid|8191|s|r",
+    "replay|--data-pid|00000000300|s|r",
+    "replay|--data-pid|0x100|s|r",
+    "replay|--data-pid||s|r",
+    "replay|--data-pid|4294967596|s|r",
+    "replay|--data-pid|300||r",
+    "replay|--data-pid|300|s|",
+    "replay|--data-pid|300|-s|r",
+    "replay|--data-pid|300|s|-",
+    "replay|--data-pid|300|s",
+    "replay|--data-pid|300|s|r|r",
+    "replay|--service|1|--data-pid|300|s|r",
+    "replay|--pid|300|s|r",
+    "--data-pid|300|replay|s|r",
+    "replay|s|r|--data-pid|300",
+    "replay|s",
+    "replay|s|",
+    "replay|-s|r",
+    "replay|s|r|r",
+    "Replay|s|r",
+    "gen|1|2",
+    "",
+]
+
+
+def recorded(record, shows, bad):
+    """Returns the run of a record over an empty stream: so many display lists, and then its end."""
+    lines = shows * b"show 0\n"
+    if bad is None:
+        return Run(repr(record[:40]), REPLAY, b"", record, lines + b"end 0\n", b"", 0)
+    return Run(repr(record[:40]), REPLAY, b"", record, lines, b"bad record line %d\n" % bad, 2)
+
+
+def record_lines():
+    """Returns the runs of records."""
+    rows = [(line, 0, None) for line in [*ITEMS, *NOTHING]]
+    rows += [(line, 0, 1) for line in BAD]
+    rows += [(b"show\n" + line + b"\n", 1, None) for line in [*ITEMS, *NOTHING]]
+    return [recorded(*row) for row in [*rows, *RECORDS]]
+
+
+def command_words():
+    """Returns the runs of words: over no stream where they are a command, and `usage` where not."""
+    taken = [Run(words, words.split("|"), b"", b"", b"", b"open fault\n", 3) for words in COMMANDS]
+    usage = USAGE.read_bytes()
+    return taken + [Run(words, words.split("|"), b"", b"", b"", usage, 1) for words in NO_COMMANDS]
