@@ -98,11 +98,17 @@ fn rounds_and_media_are_sent(rt: HostRuntime) -> Result<(), Fail> {
 fn an_entity_has_its_parts(rt: HostRuntime) -> Result<(), Fail> {
     let alloc = rt.alloc();
     let mut parts = Vec::new(alloc);
-    parts.push(part(alloc, b"startup.bml", b"text/X-arib-bml; charset=\"euc-jp\"", b"<a>\n</a>")?)?;
+    parts.push(part(
+        alloc,
+        b"startup.bml",
+        b"text/X-arib-bml; charset=\"euc-jp\"",
+        b"<a>\n</a>",
+    )?)?;
     parts.push(part(alloc, b"\xA4\xA2", b"", b"\r\n-\r\n--\r\n--b\r")?)?;
     let boundary = Text::of_bytes(alloc, b"b1")?;
     let bytes = write_entity(alloc, &boundary, parts.as_slice())?;
-    let wanted: &[u8] = b"Content-Type: multipart/mixed; boundary=\"b1\"\r\n\r\n--b1\r\nContent-Type: text/X-arib-bml; charset=\"euc-jp\"\r\nContent-Location: startup.bml\r\n\r\n<a>\n</a>\r\n--b1\r\nContent-Type: \r\nContent-Location: \xA4\xA2\r\n\r\n\r\n-\r\n--\r\n--b\r\r\n--b1--\r\n";
+    let wanted: &[u8] =
+        b"Content-Type: multipart/mixed; boundary=\"b1\"\r\n\r\n--b1\r\nContent-Type: text/X-arib-bml; charset=\"euc-jp\"\r\nContent-Location: startup.bml\r\n\r\n<a>\n</a>\r\n--b1\r\nContent-Type: \r\nContent-Location: \xA4\xA2\r\n\r\n\r\n-\r\n--\r\n--b\r\r\n--b1--\r\n";
     assert!(rt; bytes.as_slice() == wanted);
     let found = entity_parts(alloc, bytes.as_slice())?;
     let name = Text::of_bytes(alloc, b"\xA4\xA2")?;
