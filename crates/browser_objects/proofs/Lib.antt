@@ -1,0 +1,5 @@
+pub mod FunctionLemmas
+pub mod NumberLemmas
+pub mod PlainLemmas
+pub mod RegisterLemmas
+pub mod TimerLemmas

@@ -1,0 +1,27 @@
+//! The browser object as scripts call it, and its registers (after ARIB STD-B24 volume 2, in this
+//! project's own profile).
+//!
+//! `specs/Calls.antt` is the table of the calls: what each gives, what the page has to do beside, and
+//! what it leaves of timers and random words. [`call_browser`] does just that. An [`Effect`] is handed
+//! to the page, which alone knows documents, modules and sounds. `specs/Registers.antt` has the texts
+//! of Ureg and Greg, and `specs/Functions.antt` how a text names the function of a timer.
+//! `readPersistentArray` and `writePersistentArray` aren't answered yet: they are unknown names.
+#![tactic(auto)]
+
+mod arguments;
+mod calls;
+mod effects;
+mod functions;
+mod laws;
+mod page_calls;
+mod random_calls;
+mod registers;
+mod sounds;
+mod states;
+mod timer_calls;
+
+pub use crate::calls::{BrowserCall, call_browser};
+pub use crate::effects::Effect;
+pub use crate::laws::{law_of_function_texts, law_of_plain_answers, law_of_register_names};
+pub use crate::registers::{register, set_register};
+pub use crate::states::BrowserState;

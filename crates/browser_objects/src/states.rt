@@ -1,0 +1,59 @@
+//! What calls act on.
+
+ghost use Rattle.std.specs.Prelude.{◌≡◌, [], IfOk};
+ghost use Rattle.event_queue.specs.Timers.{no_timers};
+ghost use Rattle.browser_objects.specs.Registers.{empty_registers as spec_empty_registers};
+
+use crate::registers::empty_registers;
+use bml_bytes::{AreaBytes, NoMemory, Text};
+use event_queue::Timers;
+use std::alloc::Global;
+use std::collections::VecDeque;
+use std::marker::Model;
+
+/// What the calls of the browser object act on: the registers Ureg and Greg, 64 texts each, the
+/// persistent area, the timers, and the random words that are left.
+#[derive(Drop)]
+pub struct BrowserState {
+    pub ureg: Vec<Text>,
+    pub greg: Vec<Text>,
+    pub area: AreaBytes,
+    pub timers: Timers,
+    pub random: VecDeque<u32>,
+}
+
+impl Model for BrowserState {
+    ghost use Rattle.browser_objects.specs.Calls.{BrowserParts};
+
+    ghost Value = { BrowserParts };
+
+    ghost view = { λ state. record {
+      ureg = state.ureg.items;
+      greg = state.greg.items;
+      area = state.area;
+      timers = state.timers;
+      random = state.random.items;
+    } };
+}
+
+impl BrowserState {
+    /// The state of a receiver with this persistent area: registers are empty, and there is neither a
+    /// timer nor a random word.
+    pub fn new(alloc: Global, area: AreaBytes) -> Result<BrowserState, NoMemory>
+        ensures ureg { IfOk result (λ state. state.ureg ≡ spec_empty_registers) }
+        ensures greg { IfOk result (λ state. state.greg ≡ spec_empty_registers) }
+        ensures area { IfOk result (λ state. state.area ≡ area) }
+        ensures timers { IfOk result (λ state. state.timers ≡ no_timers) }
+        ensures random { IfOk result (λ state. state.random ≡ []) }
+    {
+        let ureg = empty_registers(alloc)?;
+        let greg = empty_registers(alloc)?;
+        Ok(BrowserState {
+            ureg,
+            greg,
+            area,
+            timers: Timers::new(),
+            random: VecDeque::new(alloc),
+        })
+    }
+}
