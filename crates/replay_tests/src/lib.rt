@@ -24,6 +24,4 @@ mod messages;
 #[cfg(test)]
 mod pieces;
 #[cfg(test)]
-mod receivers;
-#[cfg(test)]
 mod runs;
