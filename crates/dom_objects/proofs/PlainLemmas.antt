@@ -94,6 +94,7 @@ plain-keys events.Unload = refl
 plain-keys (events.Focus node) = refl
 plain-keys (events.Blur node) = refl
 plain-keys (events.Click node) = refl
+plain-keys (events.Timer node) = refl
 plain-keys (events.KeyDown key) = refl
 plain-keys (events.KeyUp key) = refl
 plain-keys (events.Default key) = refl

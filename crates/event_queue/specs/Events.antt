@@ -1,8 +1,8 @@
--- Events by their names (after the intrinsic events of BML, ARIB STD-B24 volume 2; `default` is this project's
--- own).
+-- Events by their names (after the intrinsic events of BML, ARIB STD-B24 volume 2; `default` and `timer` are this
+-- project's own).
 use Rattle.std.specs.Prelude.{ℕ, List, Option, Some, None, codes}
 use Rattle.event_queue.specs.declared.events.Event.{Event}
-use Rattle.event_queue.specs.declared.events.Event.TheVariants.{Load, Unload, Focus, Blur, Click, KeyDown, KeyUp, Default}
+use Rattle.event_queue.specs.declared.events.Event.TheVariants.{Load, Unload, Focus, Blur, Click, KeyDown, KeyUp, Default, Timer}
 
 -- what scripts read as the type of an event, and what lines print
 abbrev pub name_of : Event → List ℕ
@@ -14,6 +14,7 @@ name_of (Click node) = codes "click"
 name_of (KeyDown key) = codes "keydown"
 name_of (KeyUp key) = codes "keyup"
 name_of (Default key) = codes "default"
+name_of (Timer number) = codes "timer"
 
 -- the node that the event names
 abbrev pub target_of : Event → Option ℕ

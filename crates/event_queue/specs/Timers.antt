@@ -1,7 +1,7 @@
 -- The timers of a document (after setInterval and clearTimer of the browser object of BML, ARIB STD-B24 volume
 -- 2; the numbers, the limits and when a timer ends are this project's own). Moments and intervals are
 -- milliseconds.
-use Rattle.std.specs.Prelude.{ℕ, zero, suc, ◌+◌, ◌-◌, ◌==◌, ◌&&◌, ◌||◌, Bool, true, nat_lt, nat_le, if◌then◌else◌, List, [], ◌∷◌, ◌++◌, length, find, Option, Some, None, option_map}
+use Rattle.std.specs.Prelude.{ℕ, zero, suc, ◌+◌, ◌-◌, ◌^◌, min, ◌==◌, ◌&&◌, ◌||◌, Bool, true, nat_lt, nat_le, if◌then◌else◌, List, [], ◌∷◌, ◌++◌, length, find, Option, Some, None, option_map}
 
 pub record Timer : Type 0 where
   pub number : ℕ
@@ -62,13 +62,17 @@ is_firing (Some left) = nat_lt 0 left
 abbrev pub is_due : ℕ → Timer → Bool
 is_due moment timer = is_firing timer.left && nat_le timer.moment moment
 
+-- how many events can be out; no more than wait in the queue ever are, which are far fewer
+abbrev pub most_out : ℕ
+most_out = 2 ^ 32 - 1
+
 -- once it has fired its next moment is one interval after the one that was due, and one more event is out
 abbrev pub fired : Timer → Timer
 fired timer =
     record timer {
       moment = timer.moment + timer.interval;
       left = option_map (λ left. left - 1) timer.left;
-      out = timer.out + 1;
+      out = min (timer.out + 1) most_out;
     }
 
 -- one of its events was dispatched, or was lost

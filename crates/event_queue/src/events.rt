@@ -7,8 +7,8 @@ ghost use Rattle.event_queue.specs.Events.{name_of, target_of};
 pub type NodeNo = u32;
 
 /// An event: that a document was loaded or ends, what became of the focus, that an element was
-/// clicked, or what was done with a key, by its number (after the intrinsic events of BML, ARIB
-/// STD-B24 volume 2). `Default` is the default action of a key. `Unload` is never posted; it is the
+/// clicked, what was done with a key, by its number (after the intrinsic events of BML, ARIB
+/// STD-B24 volume 2), or that a timer fired, by its number. `Default` is the default action of a key. `Unload` is never posted; it is the
 /// current event of the handler of that name alone.
 #[derive(Clone, Copy, Debug, PartialEq, Eq)]
 pub enum Event {
@@ -20,6 +20,7 @@ pub enum Event {
     KeyDown(u8),
     KeyUp(u8),
     Default(u8),
+    Timer(u32),
 }
 
 impl Event {
@@ -36,6 +37,7 @@ impl Event {
             Event::KeyDown(_) => "keydown",
             Event::KeyUp(_) => "keyup",
             Event::Default(_) => "default",
+            Event::Timer(_) => "timer",
         }
     }
 

@@ -54,7 +54,6 @@ impl KeptTimer {
     // It fires.
     fn fire(&mut self)
         requires moment { self.old.moment < 2 ^ 62 }
-        requires out { self.old.out + 1 < 2 ^ 32 }
         ensures fired { seen self.new ≡ fired (seen self.old) }
         ensures function { self.new.function ≡ self.old.function }
     {
@@ -62,16 +61,15 @@ impl KeptTimer {
         if let Some(left) = self.left {
             self.left = Some(left.saturating_sub(1));
         }
-        self.out += 1;
+        self.out = self.out.saturating_add(1);
     }
 
     // One of its events was dispatched or lost.
     fn settle(&mut self)
-        requires out { 0 < self.old.out }
         ensures settled { seen self.new ≡ settled (seen self.old) }
         ensures function { self.new.function ≡ self.old.function }
     {
-        self.out -= 1;
+        self.out = self.out.saturating_sub(1);
     }
 }
 
@@ -150,6 +148,13 @@ impl Timers {
         }
     }
 
+    /// Ends all timers. Their numbers aren't used again.
+    pub fn drop_all(&mut self)
+        ensures { self.new ≡ record self.old { timers = [] } }
+    {
+        self.timers.clear();
+    }
+
     /// The least moment at which a timer fires, and None exactly where none has a firing left.
     pub fn next_due(&self) -> Option<u64>
         ensures { result ≡ least_moment self.now.timers }
@@ -161,7 +166,6 @@ impl Timers {
     /// none is due.
     pub fn fire(&mut self, moment: u64) -> Option<u32>
         requires moment { moment < 2 ^ 62 }
-        requires out { All (λ timer. timer.out + 1 < 2 ^ 32) self.old.timers }
         ensures number { result ≡ first_due moment self.old }
         ensures fired { IsSome result → self.new ≡ with_fired moment self.old }
         ensures none { IfNone result (self.new ≡ self.old) }
@@ -188,7 +192,6 @@ impl Timers {
     /// there where no firing is left and no other event of it is out. Answers whether a timer has
     /// the number.
     pub fn settle(&mut self, number: u32) -> bool
-        requires out { IfSome (timer_of number self.old) (λ timer. 0 < timer.out) }
         ensures there { result ≡ is_some (timer_of number self.old) }
         ensures timers { self.new ≡ with_settled number self.old }
     {
@@ -216,8 +219,6 @@ fn fire_at(timers: &mut ArrayVec<KeptTimer, TIMER_LIMIT>, place: usize) -> u32
     requires place { place < length timers.old.items }
     requires moment { (d : KeptTimerSeen)
         → (slice_index_or timers.old.items place d).moment < 2 ^ 62 }
-    requires out { (d : KeptTimerSeen)
-        → (slice_index_or timers.old.items place d).out + 1 < 2 ^ 32 }
     ensures number { (d : KeptTimerSeen)
         → result ≡ (slice_index_or timers.old.items place d).number }
     ensures changed { IsChanged fired place timers.old.items timers.new.items }
@@ -230,7 +231,6 @@ fn fire_at(timers: &mut ArrayVec<KeptTimer, TIMER_LIMIT>, place: usize) -> u32
 // One event of the timer at a place was dispatched or lost: answers whether it goes on.
 fn settle_at(timers: &mut ArrayVec<KeptTimer, TIMER_LIMIT>, place: usize) -> bool
     requires place { place < length timers.old.items }
-    requires out { (d : KeptTimerSeen) → 0 < (slice_index_or timers.old.items place d).out }
     ensures goes_on { (d : KeptTimerSeen) → result
         ≡ spec_goes_on (settled (seen (slice_index_or timers.old.items place d))) }
     ensures changed { IsChanged settled place timers.old.items timers.new.items }

@@ -1,6 +1,6 @@
 -- A device of the proofs: how timers are kept.
-use Rattle.std.specs.Prelude.{◌≡◌, ◌≤◌, ◌<◌, ◌+◌, ◌^◌, ℕ, true, is_some, List, [], All, unwrap_or, slice_index_or, slice_set}
-use Rattle.event_queue.specs.Timers.{Timer, TimersState, last_number}
+use Rattle.std.specs.Prelude.{◌≡◌, ◌≤◌, ◌+◌, ℕ, true, is_some, List, [], All, unwrap_or, slice_index_or, slice_set}
+use Rattle.event_queue.specs.Timers.{Timer, last_number}
 use Rattle.event_queue.specs.declared.timers.KeptTimer.{KeptTimer}
 
 abbrev pub seen : KeptTimer → Timer

@@ -1,5 +1,5 @@
-use Rattle.std.proofs.Common.{◌≡◌, ◌<◌, length, true, false, refl, sym, ap, ◌∙◌, arith}
-use Rattle.event_queue.specs.Timers.{is_firing, least_moment, lesser}
+use Rattle.std.proofs.Common.{◌<◌, length, refl, sym, ap, ◌∙◌, arith}
+use Rattle.event_queue.specs.Timers.{lesser}
 use Rattle.event_queue.proofs.KeptLemmas.{none-left, one-more}
 use Rattle.event_queue.proofs.timers.least_of.Goals as goal
 use Rattle.event_queue.proofs.timers.least_of.Goals.{then-is_firing, else-is_firing}

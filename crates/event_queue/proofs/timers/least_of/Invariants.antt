@@ -1,4 +1,4 @@
-use Rattle.std.proofs.Common.{◌≡◌, ◌-◌, ◌+◌, ◌≤◌, length, map, drop}
+use Rattle.std.proofs.Common.{◌≡◌, ◌-◌, ◌≤◌, length, map, drop}
 use Rattle.event_queue.specs.Timers.{least_moment}
 use Rattle.event_queue.specs.devices.KeptTimers.{seen}
 use Rattle.event_queue.proofs.timers.least_of.Given as goal

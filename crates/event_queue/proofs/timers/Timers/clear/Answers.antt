@@ -1,8 +1,7 @@
-use Rattle.std.proofs.Common.{◌≡◌, ◌<◌, ◌+◌, ◌^◌, ℕ, true, false, length, map, [], Option, Some, None, refl, sym, ap, ◌∙◌, arith, subst}
-use Rattle.std.specs.Prelude.{is_some, option_map, position, IfSome}
-use Rattle.event_queue.specs.Timers.{Timer, has_number, replaced, timer_of}
+use Rattle.std.proofs.Common.{map, [], sym, ap, ◌∙◌}
+use Rattle.std.specs.Prelude.{is_some, position}
+use Rattle.event_queue.specs.Timers.{has_number, timer_of}
 use Rattle.event_queue.specs.devices.KeptTimers.{seen}
-use Rattle.event_queue.specs.declared.timers.KeptTimer.{KeptTimer}
 use Rattle.event_queue.proofs.KeptLemmas.{blank, first, kept-without, none, removed-at}
 use Rattle.event_queue.proofs.timers.Timers.clear.Goals as goal
 

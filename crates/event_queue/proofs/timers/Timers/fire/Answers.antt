@@ -1,9 +1,8 @@
-use Rattle.std.proofs.Common.{◌≡◌, ◌<◌, ◌+◌, ◌^◌, ℕ, true, false, length, map, [], Option, Some, None, refl, sym, ap, ◌∙◌, arith, subst}
-use Rattle.std.specs.Prelude.{◌≤◌, All, is_some, option_map, position, slice_index_or, IfSome}
-use Rattle.event_queue.specs.Timers.{Timer, TimersState, fired, first_due, is_due, replaced}
+use Rattle.std.proofs.Common.{◌<◌, ◌^◌, Some, sym, ap, ◌∙◌, arith}
+use Rattle.std.specs.Prelude.{◌≤◌, option_map, position, slice_index_or}
+use Rattle.event_queue.specs.Timers.{fired, first_due, is_due}
 use Rattle.event_queue.specs.devices.KeptTimers.{seen}
-use Rattle.event_queue.specs.declared.timers.KeptTimer.{KeptTimer}
-use Rattle.event_queue.proofs.KeptLemmas.{blank, changed-at, due-moment, first, kept-changed, none, seen-at}
+use Rattle.event_queue.proofs.KeptLemmas.{blank, changed-at, due-moment, first, none}
 use Rattle.event_queue.proofs.timers.Timers.fire.Goals as goal
 
 pub fire_at-requires-clause-moment : goal.fire_at-requires-clause-moment
@@ -13,13 +12,6 @@ fire_at-requires-clause-moment c d =
     let due : (slice_index_or c.self.inside.timers.items c.in-Some.place d).moment ≤ c.args.moment = due-moment c.args.moment (seen (slice_index_or c.self.inside.timers.items c.in-Some.place d)) f.passes in
     let least : c.args.moment < 2 ^ 62 = c.requires.moment in
     omega arith
-
-pub fire_at-requires-clause-out : goal.fire_at-requires-clause-out
-fire_at-requires-clause-out c d =
-    let f = first (is_due c.args.moment) c.self.inside.timers.items c.in-Some.place blank
-    (ap (position (λ timer. is_due c.args.moment (seen timer))) (sym c.as_slice.ensures.value) ∙ (sym c.due_place.ensures ∙ c.in-Some.is)) in
-    seen-at (λ timer. timer.out + 1 < 2 ^ 32) c.self.inside.timers.items c.in-Some.place d f.below
-    (subst (λ (s : TimersState). All (λ timer. timer.out + 1 < 2 ^ 32) s.timers) (sym c.self.view_is) c.requires.out)
 
 pub returns-in-None-clause-number : goal.returns-in-None-clause-number
 unfolding first_due

@@ -1,4 +1,4 @@
-use Rattle.std.proofs.Common.{◌≡◌, true, List, map, Some, None, sym, ap, ◌∙◌, get_or}
+use Rattle.std.proofs.Common.{◌≡◌, true, List, sym, ap, ◌∙◌, get_or}
 use Rattle.std.specs.Prelude.{is_some, option_map, position}
 use Rattle.std.proofs.lemmas.List.Elements.{All-get_or}
 use Rattle.event_queue.specs.Timers.{has_number, timer_of}

@@ -1,8 +1,7 @@
-use Rattle.std.proofs.Common.{◌≡◌, ◌<◌, ◌+◌, ◌^◌, ℕ, true, false, length, map, [], Option, Some, None, refl, sym, ap, ◌∙◌, arith, subst}
-use Rattle.std.specs.Prelude.{is_some, option_map, position, IfSome}
-use Rattle.event_queue.specs.Timers.{Timer, TimersState, goes_on, has_number, replaced, settled, settled_or_ended, timer_of}
+use Rattle.std.proofs.Common.{map, sym, ap, ◌∙◌}
+use Rattle.std.specs.Prelude.{is_some, position}
+use Rattle.event_queue.specs.Timers.{has_number, settled, settled_or_ended, timer_of}
 use Rattle.event_queue.specs.devices.KeptTimers.{seen}
-use Rattle.event_queue.specs.declared.timers.KeptTimer.{KeptTimer}
 use Rattle.event_queue.proofs.KeptLemmas.{blank, ends-at, first, goes-on-at, kept-changed, kept-without, none}
 use Rattle.event_queue.proofs.timers.Timers.settle.Goals as goal
 
@@ -12,14 +11,6 @@ returns-in-None-clause-there c =
     let n = none (has_number c.args.number) c.self.inside.timers.items blank
     (ap (position (λ timer. has_number c.args.number (seen timer))) (sym c.as_slice.ensures.value) ∙ (sym c.place_of.ensures ∙ c.in-None.is)) in
     rw (← c.self.view_is) (sym (ap is_some n.found))
-
-pub settle_at-requires-clause-out : goal.settle_at-requires-clause-out
-unfolding timer_of
-settle_at-requires-clause-out c d =
-    let f = first (has_number c.args.number) c.self.inside.timers.items c.in-Some.place d
-    (ap (position (λ timer. has_number c.args.number (seen timer))) (sym c.as_slice.ensures.value) ∙ (sym c.place_of.ensures ∙ c.in-Some.is)) in
-    subst (λ (o : Option Timer). IfSome o (λ timer. 0 < timer.out)) f.found
-    (subst (λ (s : TimersState). IfSome (timer_of c.args.number s) (λ timer. 0 < timer.out)) (sym c.self.view_is) c.requires.out)
 
 pub invariant_of-self : goal.invariant_of-self
 invariant_of-self c =
