@@ -1,1 +1,3 @@
+mod CallLemmas
 mod StyleLemmas
+mod TimerLemmas

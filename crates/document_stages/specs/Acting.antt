@@ -1,11 +1,14 @@
--- What handlers and default actions act on, and what they do to it: posts, moves of the focus, and the rows
--- of what scripts read, write and call of the document (after the events, the navigation and the DOM
--- interfaces of BML, ARIB STD-B24 volume 2, in this project's own profile).
-use Rattle.std.specs.Prelude.{ℕ, nat_lt, pos, Bool, true, false, if◌then◌else◌, List, [], ◌∷◌, ◌++◌, length, Option, Some, None, codes, is_some}
+-- What handlers and default actions act on, and what they do to it: posts, moves of the focus, timers, and the
+-- rows of what scripts read, write and call of the document and of the browser object (after the events, the
+-- navigation, the DOM interfaces and the browser object of BML, ARIB STD-B24 volume 2, in this project's own
+-- profile).
+use Rattle.std.specs.Prelude.{ℕ, zero, suc, nat_lt, pos, Bool, true, false, if◌then◌else◌, List, [], ◌∷◌, ◌++◌, length, Option, Some, None, codes, is_some}
+use Rattle.std.specs.Option.{option_map_or}
 use Rattle.bml_bytes.specs.Words.{is_same}
 use Rattle.dom_tree.specs.Items.{tag_of}
 use Rattle.dom_tree.specs.NodeNumbers.{number_of}
 use Rattle.dom_tree.specs.Walks.{node_of_id}
+use Rattle.multipart_entities.specs.declared.paths.Path.{Path}
 use Rattle.style_cascade.specs.States.{is_node}
 use Rattle.style_cascade.specs.StyledTrees.{StyledTree}
 use Rattle.style_cascade.specs.declared.states.Focus.{Focus}
@@ -13,30 +16,59 @@ use Rattle.focus_keys.specs.Defaults.{Action}
 use Rattle.focus_keys.specs.Defaults.Action.{NoAction, Moves, Activates, Accesses}
 use Rattle.focus_keys.specs.Targets.{can_have_focus, nav_target_of}
 use Rattle.es_values.specs.declared.hosts.HostAnswer.{HostAnswer}
-use Rattle.es_values.specs.declared.hosts.HostAnswer.TheVariants.{Value as Answer, NotCallable}
+use Rattle.es_values.specs.declared.hosts.HostAnswer.TheVariants.{Value as Answer, Ended, NotCallable}
 use Rattle.es_values.specs.declared.numbers.Num.TheVariants.{NotANumber}
 use Rattle.es_values.specs.declared.values.HostRef.{HostRef}
-use Rattle.es_values.specs.declared.values.HostRef.TheVariants.{Browser, Document as TheDocument, Node}
+use Rattle.es_values.specs.declared.values.HostRef.TheVariants.{Browser, Document as TheDocument, Greg, Node, Ureg}
 use Rattle.es_values.specs.declared.values.Value.{Value}
-use Rattle.es_values.specs.declared.values.Value.TheVariants.{Number, Undefined}
+use Rattle.es_values.specs.declared.values.Value.TheVariants.{Host, Number, Str, Undefined}
 use Rattle.es_values.specs.Conversions.{text_of}
 use Rattle.es_values.specs.Objects.{ObjectState}
 use Rattle.event_queue.specs.Queues.{most_events, with_posted}
+use Rattle.event_queue.specs.Timers.{TimersState, first_due, most_timers, no_timers, with_fired, with_settled}
 use Rattle.event_queue.specs.declared.events.Event.{Event}
 use Rattle.event_queue.specs.declared.events.Event.TheVariants as events
+use Rattle.browser_objects.specs.Calls.{BrowserParts, Called, call_of}
+use Rattle.browser_objects.specs.Registers.{empty_registers, register_text, with_register}
+use Rattle.browser_objects.specs.declared.effects.Effect as of_browser
+use Rattle.browser_objects.specs.declared.effects.Effect.TheVariants as effects
 use Rattle.dom_objects.specs.Parts.{Parts}
 use Rattle.dom_objects.specs.Reads.{node_value, read_value}
 use Rattle.dom_objects.specs.Writes.{change_of, changed_tree}
 use Rattle.dom_objects.specs.declared.current_events.CurrentEvent.{CurrentEvent}
 use Rattle.dom_tree.specs.declared.node_ids.NodeId.{NodeId}
-use Rattle.document_stages.specs.EventLines.{lost_line}
+use Rattle.document_stages.specs.EventLines.{kept_line, launch_line, lost_line, sound_line}
 
--- the document with its styles and its focus, the events that wait, the event whose handler runs, and what was
--- printed since it began
+-- What belongs to the receiver, before anything came, with this persistent area: empty registers, and neither timers nor
+-- random words.
+abbrev pub first_browser : List ℕ → BrowserParts
+first_browser area =
+    record {
+      ureg = empty_registers;
+      greg = empty_registers;
+      area = area;
+      timers = no_timers;
+      random = [];
+    }
+
+abbrev pub with_timers : TimersState → BrowserParts → BrowserParts
+with_timers timers browser = record browser { timers = timers }
+
+-- one random word more
+abbrev pub word_added : ℕ → BrowserParts → BrowserParts
+word_added word browser = record browser { random = browser.random ++ word ∷ [] }
+
+-- the document at a path, with its styles and its focus, and the events that wait; the registers, the persistent area
+-- and the random words, which belong to the receiver, and the timers; the time in milliseconds; the event whose handler
+-- runs; the path of the document that a script launched, which ends this one; and what was printed since this began
 pub record Acting : Type 0 where
+  pub path : Path
   pub tree : StyledTree
   pub queue : List Event
+  pub browser : BrowserParts
+  pub now : ℕ
   pub event : CurrentEvent
+  pub launched : Option Path
   pub text : List ℕ
 
 abbrev pub node_id : ℕ → NodeId
@@ -90,6 +122,41 @@ unfoldable pub left_by : ℕ → Acting → Acting
 left_by node a =
     if has_focus node a then posted (events.Blur node) (with_focus no_focus a) else a
 
+-- ---- timers
+
+-- with what became of the timers
+abbrev pub acting_with_timers : TimersState → Acting → Acting
+acting_with_timers timers a = record a { browser = with_timers timers a.browser }
+
+-- An event of the timer of a number was dispatched or lost: the timer ends there where it goes on no more.
+abbrev pub timer_settled : ℕ → Acting → Acting
+timer_settled number a =
+    acting_with_timers (with_settled number a.browser.timers) a
+
+-- a timer fired: its event is posted, and where it is lost it is no longer out
+abbrev pub timer_posted : ℕ → Acting → Acting
+timer_posted number a =
+    if nat_lt (length a.queue) most_events then posted (events.Timer number) a
+    else timer_settled number (posted (events.Timer number) a)
+
+-- the first timer that is due at a moment fires
+abbrev pub timer_fired : ℕ → ℕ → Acting → Acting
+timer_fired moment number a =
+    timer_posted number
+    (acting_with_timers (with_fired moment a.browser.timers) a)
+
+-- as long as a timer is due at the moment, the first of them fires, so many times at most
+unfoldable pub timers_fired : ℕ → ℕ → Acting → Acting
+timers_fired zero moment a = a
+timers_fired (suc more) moment a =
+    option_map_or (λ number. timers_fired more moment (timer_fired moment number a))
+    (first_due moment a.browser.timers) a
+
+-- All timers that are due at a moment fire, in ascending number. Each fires once, since its next moment comes later, and
+-- there are no more than so many.
+abbrev pub due_posted : ℕ → Acting → Acting
+due_posted moment a = timers_fired most_timers moment a
+
 -- ---- default actions, keys and the first focus
 
 -- what has the focus becomes active and is clicked
@@ -123,24 +190,49 @@ begun (Some node) a =
 
 -- ---- what scripts read and write
 
+-- the registers of the browser object
+abbrev pub browser_value : List ℕ → Value
+browser_value name =
+    if is_same name (codes "Ureg") then Host Ureg
+    else if is_same name (codes "Greg") then Host Greg
+    else Undefined
+
+-- the text of a register; a name that none has reads as Undefined
+abbrev pub register_value : List (List ℕ) → List ℕ → Value
+register_value registers name = option_map_or Str (register_text registers name) Undefined
+
 abbrev pub read_by : Acting → HostRef → List ℕ → Value
-read_by a base name = read_value (parts_of a) base name
+read_by a Browser name = browser_value name
+read_by a Ureg name = register_value a.browser.ureg name
+read_by a Greg name = register_value a.browser.greg name
+read_by a other name = read_value (parts_of a) other name
+
+abbrev pub with_browser : BrowserParts → Acting → Acting
+with_browser browser a = record a { browser = browser }
 
 abbrev pub written : Acting → HostRef → List ℕ → List ℕ → Acting
+written a Ureg name text =
+    let browser = a.browser in
+    with_browser (record browser { ureg = with_register name text browser.ureg }) a
+written a Greg name text =
+    let browser = a.browser in
+    with_browser (record browser { greg = with_register name text browser.greg }) a
 written a base name text =
     record a { tree = changed_tree (change_of a.tree.items base name text) a.tree }
 
 -- ---- what scripts call
 
+-- the answer, what is acted on behind the call, and the objects behind it
 pub record Answered : Type 0 where
   pub answer : HostAnswer
   pub acting : Acting
+  pub heap : List ObjectState
 
-abbrev pub gives : Value → Acting → Answered
-gives value a = record { answer = Answer value; acting = a }
+abbrev pub gives : Value → Acting → List ObjectState → Answered
+gives value a heap = record { answer = Answer value; acting = a; heap = heap }
 
-abbrev pub not_callable : Acting → Answered
-not_callable a = record { answer = NotCallable; acting = a }
+abbrev pub not_callable : Acting → List ObjectState → Answered
+not_callable a heap = record { answer = NotCallable; acting = a; heap = heap }
 
 -- an absent argument is Undefined
 abbrev pub first_argument : List Value → Value
@@ -148,30 +240,75 @@ first_argument [] = Undefined
 first_argument (value ∷ arguments) = value
 
 -- `getElementById` gives the first element in document order that has the id, or Null
-abbrev pub document_call : Acting → List ℕ → List ℕ → Answered
-document_call a name id =
-    if is_same name (codes "getElementById") then gives (node_value (node_of_id a.tree.items id)) a
-    else not_callable a
+abbrev pub document_call : Acting → List ℕ → List ℕ → List ObjectState → Answered
+document_call a name id heap =
+    if is_same name (codes "getElementById")
+    then gives (node_value (node_of_id a.tree.items id)) a heap
+    else not_callable a heap
 
 -- `focus` moves the focus to the element where it can have it
 abbrev pub focused : ℕ → Acting → Acting
 focused node a = if can_have_focus a.tree node then moved_to node a else a
 
-abbrev pub element_call : Acting → ℕ → List ℕ → Answered
-element_call a node name =
-    if is_same name (codes "focus") then gives Undefined (focused node a)
-    else if is_same name (codes "blur") then gives Undefined (left_by node a)
-    else not_callable a
+abbrev pub element_call : Acting → ℕ → List ℕ → List ObjectState → Answered
+element_call a node name heap =
+    if is_same name (codes "focus") then gives Undefined (focused node a) heap
+    else if is_same name (codes "blur") then gives Undefined (left_by node a) heap
+    else not_callable a heap
 
 -- a text has nothing that can be called
-abbrev pub node_call : Acting → ℕ → List ℕ → Answered
-node_call a node name =
-    if is_some (tag_of a.tree.items node) then element_call a node name else not_callable a
+abbrev pub node_call : Acting → ℕ → List ℕ → List ObjectState → Answered
+node_call a node name heap =
+    if is_some (tag_of a.tree.items node) then element_call a node name heap
+    else not_callable a heap
 
--- what a call of a member of a reference answers and does; the browser has no names yet, and gives NaN
+-- ---- calls of the browser object
+
+abbrev pub with_line : List ℕ → Acting → Acting
+with_line line a = record a { text = a.text ++ line }
+
+-- NaN, and nothing is done
+abbrev pub refused : Acting → List ObjectState → Answered
+refused a heap = gives (Number NotANumber) a heap
+
+-- the handler of `unload` runs: for it alone that event is the current one
+abbrev pub is_unload : Option Event → Bool
+is_unload (Some events.Unload) = true
+is_unload other = false
+
+-- A launch is told and ends the handler. The handler of `unload` cannot launch another document.
+abbrev pub launch : Path → Acting → List ObjectState → Answered
+launch path a heap =
+    if is_unload a.event.event then refused a heap
+    else record {
+      answer = Ended;
+      acting = record (with_line (launch_line path) a) { launched = Some path };
+      heap = heap;
+    }
+
+-- What is done for a call that gives this value: a line is printed, or a document is launched. Modules cannot be
+-- locked yet.
+abbrev pub done_for : of_browser.Effect → Value → Acting → List ObjectState → Answered
+done_for effects.Nothing value a heap = gives value a heap
+done_for (effects.Sound sound) value a heap = gives value (with_line (sound_line sound) a) heap
+done_for (effects.Kept slot size) value a heap =
+    gives value (with_line (kept_line slot size) a) heap
+done_for (effects.Launch path) value a heap = launch path a heap
+done_for (effects.Lock path) value a heap = refused a heap
+done_for (effects.Unlock path) value a heap = refused a heap
+
+abbrev pub browser_done : Called → Acting → List ObjectState → Answered
+browser_done called a heap = done_for called.effect called.value (with_browser called.state a) heap
+
+abbrev pub browser_call : Acting → List ℕ → List Value → List ObjectState → Answered
+browser_call a name arguments heap =
+    browser_done
+    (call_of name a.path a.now arguments heap a.browser) a heap
+
+-- what a call of a member of a reference answers and does
 unfoldable pub called : Acting → HostRef → List ℕ → List Value → List ObjectState → Answered
 called a TheDocument name arguments heap =
-    document_call a name (text_of heap (first_argument arguments))
-called a (Node node) name arguments heap = node_call a node name
-called a Browser name arguments heap = gives (Number NotANumber) a
-called a other name arguments heap = not_callable a
+    document_call a name (text_of heap (first_argument arguments)) heap
+called a (Node node) name arguments heap = node_call a node name heap
+called a Browser name arguments heap = browser_call a name arguments heap
+called a other name arguments heap = not_callable a heap

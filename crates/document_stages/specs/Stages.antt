@@ -44,4 +44,4 @@ pub record HasCalled (old : StageState) (base : HostRef) (name : List ℕ) (argu
     (after : List ObjectState) : Type 0 where
   pub answer_is : answer ≡ (called old.acting base name arguments heap).answer
   pub acting_is : new.acting ≡ (called old.acting base name arguments heap).acting
-  pub same_heap : after ≡ heap
+  pub heap_is : after ≡ (called old.acting base name arguments heap).heap

@@ -1,7 +1,8 @@
 //! What handlers and default actions act on.
 
 ghost use Rattle.std.specs.Io.{StartsWith};
-ghost use Rattle.std.specs.Prelude.{◌≡◌, ◌++◌, ℕ, [], false, None, drop, OnOk};
+ghost use Rattle.std.specs.Prelude.{◌≡◌, ◌<◌, ◌^◌, ◌++◌, ℕ, [], false, None, drop, is_some, option_map, IfOk, OnOk};
+ghost use Rattle.std.specs.Option.{option_map_or};
 ghost use Rattle.dom_tree.specs.Items.{IsElement};
 ghost use Rattle.dom_tree.specs.NodeNumbers.{number_of};
 ghost use Rattle.style_cascade.specs.Keeping.{IsRight};
@@ -13,21 +14,26 @@ ghost use Rattle.focus_keys.specs.KeyTables.{passes_list};
 ghost use Rattle.focus_keys.specs.Targets.{normal_value};
 ghost use Rattle.style_reader.specs.declared.properties.Property.TheVariants as property;
 ghost use Rattle.event_queue.specs.Queues.{first_of};
-ghost use Rattle.document_stages.specs.Acting.{activated, acted, begun, first_focus, focused, has_focus as spec_has_focus, key_posts, left_by, moved_to, no_focus, posted, with_focus};
+ghost use Rattle.event_queue.specs.Timers.{first_due, timer_of};
+ghost use Rattle.document_stages.specs.Acting.{activated, acted, begun, due_posted, first_focus, focused, has_focus as spec_has_focus, key_posts, left_by, moved_to, no_focus, posted, timer_fired, timer_posted, timer_settled, with_focus, with_timers};
 ghost use Rattle.document_stages.specs.Displays.{tree_lines};
 ghost use Rattle.document_stages.specs.Stages.{IsElementOf};
 
 mod hosts;
 
 use crate::event_lines::push_lost_line;
-use bml_bytes::{NoMemory, law_of_fronts};
+use bml_bytes::{AreaBytes, NoMemory, Text, law_of_fronts};
+use browser_objects::BrowserState;
 use display_list::Shower;
 use dom_objects::CurrentEvent;
 use dom_tree::{NodeId, Tree};
-use event_queue::{Event, Queue};
+use event_queue::{Event, Queue, TIMER_LIMIT, Timers};
 use focus_keys::{KeyDefault, default_of, is_focusable, nav_target, passes};
+use multipart_entities::Path;
 use std::alloc::Global;
+use std::collections::VecDeque;
 use std::marker::Model;
+use std::mem;
 use style_cascade::{Focus, State, Styles};
 use style_reader::Property;
 
@@ -43,21 +49,26 @@ pub const NO_EVENT: CurrentEvent = CurrentEvent {
     target: 0,
 };
 
-/// The parts of a document that its scripts see, the event whose handler runs, and what was printed
-/// since it began. It is the host of the scripts. Contracts see it as `Acting`, and how many values
-/// its styles worked out.
+/// The parts of a document that its scripts see, what belongs to the receiver, the event whose handler
+/// runs, the path of the document that was launched, and what was printed since it began. It is the
+/// host of the scripts. Contracts see it as `Acting`, and how many values its styles worked out.
 #[derive(Drop)]
 pub struct Stage {
     alloc: Global,
+    path: Path,
     tree: Tree,
     styles: Styles,
     focus: Focus,
     queue: Queue,
+    browser: BrowserState,
+    time: u64,
     event: CurrentEvent,
+    launched: Option<Path>,
     text: Vec<u8>,
 }
 
 impl Model for Stage {
+    ghost use Rattle.std.specs.Prelude.{◌<◌, ◌^◌};
     ghost use Rattle.style_cascade.specs.StyledTrees.{styled_tree};
     ghost use Rattle.document_stages.specs.Stages.{IsStaged, StageState};
 
@@ -65,26 +76,34 @@ impl Model for Stage {
 
     ghost view = { λ s. record {
       acting = record {
+        path = s.path;
         tree = styled_tree s.tree s.styles s.focus;
         queue = s.queue;
+        browser = s.browser;
+        now = s.time;
         event = s.event;
+        launched = s.launched;
         text = s.text.items;
       };
       worked = s.styles.worked;
     } };
 
-    ghost invariant = { λ s. IsStaged s.tree s.focus s.styles };
+    ghost invariant = { λ s. IsStaged s.tree s.focus s.styles × (s.time < 2 ^ 62) };
 }
 
 impl Stage {
-    /// A document in which nothing happened yet.
-    pub fn new(alloc: Global, tree: Tree, styles: Styles) -> Stage
+    /// The document at a path, in which nothing happened yet. It isn't lent anything yet.
+    pub fn new(alloc: Global, path: Path, tree: Tree, styles: Styles) -> Stage
         requires { (states : ℕ → State) → IsRight tree states styles }
         ensures { result ≡ record {
           acting = record {
+            path = path;
             tree = styled_tree tree styles no_focus;
             queue = [];
+            browser = result.acting.browser;
+            now = 0;
             event = record { event = None; target = 0 };
+            launched = None;
             text = [];
           };
           worked = styles.worked;
@@ -92,13 +111,30 @@ impl Stage {
     {
         Stage {
             alloc,
+            path,
             tree,
             styles,
             focus: NO_FOCUS,
             queue: Queue::new(),
+            browser: placeholder(alloc),
+            time: 0,
             event: NO_EVENT,
+            launched: None,
             text: Vec::new(alloc),
         }
+    }
+
+    /// Exchanges what it is lent with what stands there: the registers, the persistent area, the
+    /// random words and the timers before the document acts at this time, and back behind that.
+    pub fn exchange(&mut self, browser: &mut BrowserState, now: u64)
+        requires { now < 2 ^ 62 }
+        ensures acting { self.new.acting
+            ≡ record self.old.acting { browser = browser.old; now = now } }
+        ensures given_back { browser.new ≡ self.old.acting.browser }
+        ensures worked { self.new.worked ≡ self.old.worked }
+    {
+        mem::swap(&mut self.browser, browser);
+        self.time = now;
     }
 
     /// Posts an event. Where 256 wait it is lost, and a line tells that.
@@ -202,14 +238,111 @@ impl Stage {
         Ok(())
     }
 
-    /// Begins what is done for an event: it is the current one, and nothing is printed yet.
+    /// Begins what is done for an event: it is the current one, and nothing was launched or printed
+    /// yet.
     pub fn prepare(&mut self, event: CurrentEvent)
         ensures acting { self.new.acting
-            ≡ record self.old.acting { event = event; text = [] } }
+            ≡ record self.old.acting { event = event; launched = None; text = [] } }
         ensures worked { self.new.worked ≡ self.old.worked }
     {
         self.event = event;
+        self.launched = None;
         self.text.clear();
+    }
+
+    /// Whether a script launched another document.
+    pub fn has_launched(&self) -> bool
+        ensures { result ≡ is_some self.now.acting.launched }
+    {
+        self.launched.is_some()
+    }
+
+    /// Takes the path of the document that was launched.
+    pub fn take_launched(&mut self) -> Option<Path>
+        ensures path { result ≡ self.old.acting.launched }
+        ensures acting { self.new.acting ≡ record self.old.acting { launched = None } }
+        ensures worked { self.new.worked ≡ self.old.worked }
+    {
+        mem::replace(&mut self.launched, None)
+    }
+
+    /// The function of the timer of a number, and None exactly where no timer has it.
+    pub fn timer_function(&self, number: u32) -> Result<Option<Text>, NoMemory>
+        ensures { IfOk result (λ function. function ≡ option_map (λ timer. timer.function)
+            (timer_of number self.now.acting.browser.timers)) }
+    {
+        match self.browser.timers.function(number) {
+            Some(function) => Ok(Some(function.share()?)),
+            None => Ok(None),
+        }
+    }
+
+    /// An event of the timer of a number was taken or lost: it ends where it goes on no more.
+    pub fn settle_timer(&mut self, number: u32)
+        ensures acting { self.new.acting ≡ timer_settled number self.old.acting }
+        ensures worked { self.new.worked ≡ self.old.worked }
+    {
+        self.browser.timers.settle(number);
+    }
+
+    /// The clock goes to a moment, and all timers that are due then fire, in ascending number: their
+    /// events are posted.
+    pub fn post_due(&mut self, moment: u64) -> Result<(), NoMemory>
+        requires { moment < 2 ^ 62 }
+        ensures posted { OnOk result (self.new.acting
+            ≡ due_posted moment (record self.old.acting { now = moment })) }
+        ensures worked { self.new.worked ≡ self.old.worked }
+    {
+        self.time = moment;
+        'firings: for _firing in 0..TIMER_LIMIT {
+            if !self.fire_timer(moment)? {
+                return Ok(());
+            }
+        }
+        Ok(())
+    }
+
+    // The first timer that is due at the moment fires. Answers whether there was one.
+    fn fire_timer(&mut self, moment: u64) -> Result<bool, NoMemory>
+        requires { moment < 2 ^ 62 }
+        ensures there { IfOk result (λ there. there
+            ≡ is_some (first_due moment self.old.acting.browser.timers)) }
+        ensures fired { OnOk result (self.new.acting
+            ≡ option_map_or (λ number. timer_fired moment number self.old.acting)
+            (first_due moment self.old.acting.browser.timers) self.old.acting) }
+        ensures worked { self.new.worked ≡ self.old.worked }
+    {
+        let Some(number) = self.browser.timers.fire(moment) else {
+            return Ok(false);
+        };
+        self.post_timer(number)?;
+        Ok(true)
+    }
+
+    // Posts the event of a timer that fired, which is settled where it is lost.
+    fn post_timer(&mut self, number: u32) -> Result<(), NoMemory>
+        ensures posted { OnOk result (self.new.acting ≡ timer_posted number self.old.acting) }
+        ensures worked { self.new.worked ≡ self.old.worked }
+    {
+        if self.queue.post(Event::Timer(number)) {
+            return Ok(());
+        }
+        push_lost_line(Event::Timer(number), &mut self.text)?;
+        self.settle_timer(number);
+        Ok(())
+    }
+
+    /// Drops the events that wait, and the timers; their numbers go on.
+    pub fn drop_waiting(&mut self)
+        ensures acting { self.new.acting ≡ record self.old.acting {
+          queue = [];
+          browser = with_timers (record self.old.acting.browser.timers { timers = [] })
+              self.old.acting.browser;
+        } }
+        ensures worked { self.new.worked ≡ self.old.worked }
+    {
+        self.queue.clear();
+        self.browser.timers.drop_all();
     }
 
     /// The element that has the focus.
@@ -339,6 +472,17 @@ impl Stage {
         ensures { result ≡ self.now.worked }
     {
         self.styles.worked()
+    }
+}
+
+// What stands in the place of what is lent, as long as nothing is. This takes no memory.
+fn placeholder(alloc: Global) -> BrowserState {
+    BrowserState {
+        ureg: Vec::new(alloc),
+        greg: Vec::new(alloc),
+        area: AreaBytes { bytes: [0; 1024] },
+        timers: Timers::new(),
+        random: VecDeque::new(alloc),
     }
 }
 

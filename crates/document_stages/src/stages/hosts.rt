@@ -1,19 +1,28 @@
 //! What scripts read, write and call of a document.
 
-ghost use Rattle.std.specs.Prelude.{◌≡◌, ◌↔◌, List, All, IfOk, IsTrue, OnOk};
+ghost use Rattle.std.specs.Prelude.{◌≡◌, ◌↔◌, List, All, IfOk, IsTrue, OnOk, true};
 ghost use Rattle.dom_tree.specs.Items.{IsElement};
 ghost use Rattle.es_values.specs.Conversions.{text_of};
 ghost use Rattle.es_values.specs.Heaps.{IsLive};
 ghost use Rattle.es_values.specs.Hosts.{IsAnswer};
 ghost use Rattle.es_values.specs.Objects.{ObjectState};
-ghost use Rattle.document_stages.specs.Acting.{document_call, first_argument, node_call};
+ghost use Rattle.es_values.specs.Values.{is_plain};
+ghost use Rattle.es_values.specs.declared.hosts.HostAnswer.TheVariants.{Value as Answer};
+ghost use Rattle.es_values.specs.declared.numbers.Num.TheVariants.{NotANumber};
+ghost use Rattle.es_values.specs.declared.values.Value.TheVariants.{Number};
+ghost use Rattle.browser_objects.specs.Calls.{Answers, call_of};
+ghost use Rattle.document_stages.specs.Acting.{browser_call, browser_value as spec_browser_value, document_call, done_for, first_argument, launch, node_call, register_value as spec_register_value, with_browser};
 ghost use Rattle.document_stages.specs.Stages.{HasCalled, HasRead, HasWritten};
 
+use crate::event_lines::{push_kept_line, push_launch_line, push_sound_line};
 use crate::stages::Stage;
 use bml_bytes::{NoMemory, Text};
+use browser_objects::{Effect, call_browser, law_of_plain_answers, register, set_register};
 use dom_objects::{get_node, set_node};
 use dom_tree::NodeId;
 use es_values::{Heap, Host, HostAnswer, HostRef, Num, Value};
+use event_queue::Event;
+use multipart_entities::Path;
 
 impl Host for Stage {
     ghost reads = { HasRead };
@@ -23,15 +32,20 @@ impl Host for Stage {
     ghost calls = { HasCalled };
 
     fn get(&mut self, base: HostRef, name: &Text) -> Result<Value, NoMemory> {
-        get_node(
-            self.alloc,
-            &self.tree,
-            &mut self.styles,
-            &self.focus,
-            &self.event,
-            base,
-            name,
-        )
+        match base {
+            HostRef::Browser => Ok(browser_value(name)),
+            HostRef::Ureg => register_value(&self.browser.ureg, name),
+            HostRef::Greg => register_value(&self.browser.greg, name),
+            _ => get_node(
+                self.alloc,
+                &self.tree,
+                &mut self.styles,
+                &self.focus,
+                &self.event,
+                base,
+                name,
+            ),
+        }
     }
 
     fn set(
@@ -42,7 +56,11 @@ impl Host for Stage {
         heap: &Heap,
     ) -> Result<(), NoMemory> {
         let text = heap.to_text(value)?;
-        set_node(&mut self.tree, &mut self.styles, base, name, &text)
+        match base {
+            HostRef::Ureg => set_register(self.alloc, &mut self.browser.ureg, name, &text),
+            HostRef::Greg => set_register(self.alloc, &mut self.browser.greg, name, &text),
+            _ => set_node(&mut self.tree, &mut self.styles, base, name, &text),
+        }
     }
 
     #[tactic(auto, unfolding(crate::specs::Acting::called))]
@@ -56,7 +74,7 @@ impl Host for Stage {
         match base {
             HostRef::Document => self.call_document(name, args, heap),
             HostRef::Node(number) => self.call_node(NodeId(number), name),
-            HostRef::Browser => Ok(HostAnswer::Value(Value::Number(Num::NotANumber))),
+            HostRef::Browser => self.call_browser(name, args, heap),
             HostRef::Ureg | HostRef::Greg | HostRef::Event | HostRef::Style(_, _) => {
                 Ok(HostAnswer::NotCallable)
             }
@@ -74,7 +92,7 @@ impl Stage {
     ) -> Result<HostAnswer, NoMemory>
         requires { All (IsLive heap.now) args.now }
         ensures answer { IfOk result (λ answer. answer ≡ (document_call self.now.acting name.now
-            (text_of heap.now (first_argument args.now))).answer) }
+            (text_of heap.now (first_argument args.now)) heap.now).answer) }
         ensures safe { IfOk result (λ answer. IsAnswer heap.now answer) }
     {
         if !name.is_word("getElementById") {
@@ -89,11 +107,11 @@ impl Stage {
 
     // Calls a member of a node: `focus` and `blur` of an element.
     fn call_node(&mut self, node: NodeId, name: &Text) -> Result<HostAnswer, NoMemory>
-        ensures answer { IfOk result
-            (λ answer. answer ≡ (node_call self.old.acting node.0 name.now).answer) }
+        ensures answer { (heap : List ObjectState) → IfOk result
+            (λ answer. answer ≡ (node_call self.old.acting node.0 name.now heap).answer) }
         ensures safe { (heap : List ObjectState) → IfOk result (λ answer. IsAnswer heap answer) }
-        ensures acting { OnOk result
-            (self.new.acting ≡ (node_call self.old.acting node.0 name.now).acting) }
+        ensures acting { (heap : List ObjectState) → OnOk result
+            (self.new.acting ≡ (node_call self.old.acting node.0 name.now heap).acting) }
     {
         if !self.is_element(node) {
             return Ok(HostAnswer::NotCallable);
@@ -108,12 +126,131 @@ impl Stage {
         Ok(HostAnswer::Value(Value::Undefined))
     }
 
+    // Calls the browser object, and does what this comes to.
+    fn call_browser(
+        &mut self,
+        name: &Text,
+        args: &[Value],
+        heap: &Heap,
+    ) -> Result<HostAnswer, NoMemory>
+        requires { All (IsLive heap.now) args.now }
+        ensures answer { IfOk result (λ answer. answer
+            ≡ (browser_call self.old.acting name.now args.now heap.now).answer) }
+        ensures acting { OnOk result (self.new.acting
+            ≡ (browser_call self.old.acting name.now args.now heap.now).acting) }
+        ensures safe { IfOk result (λ answer. IsAnswer heap.now answer) }
+    {
+        law_of_plain_answers();
+        let (value, effect) = self.ask_browser(name, args, heap)?;
+        self.do_effect(effect, value)
+    }
+
+    // What a call of the browser object gives, and what has to be done beside.
+    fn ask_browser(
+        &mut self,
+        name: &Text,
+        args: &[Value],
+        heap: &Heap,
+    ) -> Result<(Value, Effect), NoMemory>
+        requires { All (IsLive heap.now) args.now }
+        ensures answers { IfOk result (λ answer. Answers (call_of name.now self.old.acting.path
+            self.old.acting.now args.now heap.now self.old.acting.browser) answer
+            self.new.acting.browser) }
+        ensures acting { self.new.acting ≡ with_browser self.new.acting.browser self.old.acting }
+    {
+        call_browser(
+            self.alloc,
+            &mut self.browser,
+            &self.path,
+            self.time,
+            name,
+            args,
+            heap,
+        )
+    }
+
+    // Does what a call that gives this value comes to: a line is printed, or a document is launched.
+    fn do_effect(&mut self, effect: Effect, value: Value) -> Result<HostAnswer, NoMemory>
+        requires { is_plain value ≡ true }
+        ensures answer { (heap : List ObjectState) → IfOk result (λ answer. answer
+            ≡ (done_for effect value self.old.acting heap).answer) }
+        ensures acting { (heap : List ObjectState) → OnOk result (self.new.acting
+            ≡ (done_for effect value self.old.acting heap).acting) }
+        ensures safe { (heap : List ObjectState) → IfOk result (λ answer. IsAnswer heap answer) }
+    {
+        match effect {
+            Effect::Nothing => Ok(HostAnswer::Value(value)),
+            Effect::Sound(sound) => {
+                push_sound_line(sound, &mut self.text)?;
+                Ok(HostAnswer::Value(value))
+            }
+            Effect::Kept(slot, size) => {
+                push_kept_line(slot, size, &mut self.text)?;
+                Ok(HostAnswer::Value(value))
+            }
+            Effect::Launch(path) => {
+                drop(value);
+                self.launch(path)
+            }
+            Effect::Lock(_) | Effect::Unlock(_) => {
+                drop(value);
+                Ok(refusal())
+            }
+        }
+    }
+
+    // A script launches the document at a path, which ends this one. The handler of `unload` can't.
+    fn launch(&mut self, path: Path) -> Result<HostAnswer, NoMemory>
+        ensures answer { (heap : List ObjectState) → IfOk result (λ answer. answer
+            ≡ (launch path self.old.acting heap).answer) }
+        ensures acting { (heap : List ObjectState) → OnOk result (self.new.acting
+            ≡ (launch path self.old.acting heap).acting) }
+        ensures safe { (heap : List ObjectState) → IfOk result (λ answer. IsAnswer heap answer) }
+    {
+        if let Some(Event::Unload) = self.event.event {
+            return Ok(refusal());
+        }
+        push_launch_line(&path, &mut self.text)?;
+        self.launched = Some(path);
+        Ok(HostAnswer::Ended)
+    }
+
     /// Whether there is a node of this number, and it is an element.
     pub fn is_element(&self, node: NodeId) -> bool
         ensures { IsTrue result ↔ IsElement self.now.acting.tree.items node.0 }
     {
         self.tree.contains(node) && self.tree.tag(node).is_some()
     }
+}
+
+// What a name of the browser object reads as: one of its registers.
+fn browser_value(name: &Text) -> Value
+    ensures { result ≡ spec_browser_value name.now }
+{
+    if name.is_word("Ureg") {
+        Value::Host(HostRef::Ureg)
+    } else if name.is_word("Greg") {
+        Value::Host(HostRef::Greg)
+    } else {
+        Value::Undefined
+    }
+}
+
+// The text of the register of a name, and Undefined where no register has it.
+fn register_value(registers: &[Text], name: &Text) -> Result<Value, NoMemory>
+    ensures { IfOk result (λ value. value ≡ spec_register_value registers.now name.now) }
+{
+    match register(registers, name) {
+        Some(text) => Ok(Value::Str(text.share()?)),
+        None => Ok(Value::Undefined),
+    }
+}
+
+// NaN.
+fn refusal() -> HostAnswer
+    ensures { result ≡ Answer (Number NotANumber) }
+{
+    HostAnswer::Value(Value::Number(Num::NotANumber))
 }
 
 // The first argument as a text; an absent one is Undefined.

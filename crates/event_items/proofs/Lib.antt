@@ -1,0 +1,4 @@
+pub mod DigitLemmas
+pub mod ItemLemmas
+pub mod MatchLemmas
+pub mod NodeLemmas

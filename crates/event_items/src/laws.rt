@@ -1,0 +1,86 @@
+//! What the definitions of this crate say together. A law's contract is what it is for, and it does nothing
+//! when it runs.
+
+ghost use Rattle.std.specs.Prelude.{◌≡◌, ◌≢◌, ◌↔◌, ℕ, List, Some, true, false, Contains, codes, map, slice_get};
+ghost use Rattle.std.specs.List.Sorted.{IsStrictlyIncreasing};
+ghost use Rattle.dom_tree.specs.Items.{Item, tag_of};
+ghost use Rattle.event_messages.specs.declared.messages.Message.{Message};
+ghost use Rattle.multipart_entities.specs.declared.paths.Path.{Path};
+ghost use Rattle.event_items.specs.EventItems.{EventItem, any_id, event_items, item_of, kind_name, kind_named, matches_message, matches_module};
+
+use crate::asked::{Asked, AskedComponent};
+use crate::kinds::ItemKind;
+use bml_bytes::law_of_same_texts;
+
+/// The event items of a document are its elements `beitem`, each once and in ascending number, and each is what its own
+/// element says.
+pub fn law_of_event_items()
+    ensures nodes { (base : Path) (items : List Item) (node : ℕ)
+        → Contains (map (λ item. item.node) (event_items base items)) node
+        ↔ (tag_of items node ≡ Some (codes "beitem")) }
+    ensures ascending { (base : Path) (items : List Item)
+        → IsStrictlyIncreasing (map (λ item. item.node) (event_items base items)) }
+    ensures own { (base : Path) (items : List Item) (item : EventItem)
+        → Contains (event_items base items) item
+        → (element : Item) × (slice_get items item.node ≡ Some element)
+        × (item ≡ item_of base item.node element) }
+{
+    law_of_same_texts();
+}
+
+/// An item is of the kind whose name its type is, case included, and of no kind where its type is no such name.
+pub fn law_of_kinds()
+    ensures { (name : List ℕ) (kind : ItemKind)
+        → (kind_named name ≡ Some kind) ↔ (name ≡ kind_name kind) }
+{
+    law_of_same_texts();
+}
+
+/// An item that asks for nothing and is of the kind EventMessageFired matches each message of each component. One of
+/// another kind matches none.
+pub fn law_of_message_items()
+    ensures each { (component : ℕ) (message : Message) (item : EventItem)
+        → item.kind ≡ Some ItemKind.EventMessageFired → item.component ≡ AskedComponent.AnyComponent
+        → item.group ≡ Asked.Anything → item.id ≡ Asked.Anything → item.version ≡ Asked.Anything
+        → matches_message component message item ≡ true }
+    ensures others { (component : ℕ) (message : Message) (item : EventItem)
+        → item.kind ≢ Some ItemKind.EventMessageFired
+        → matches_message component message item ≡ false }
+{}
+
+/// An item that asks for a number that no number is matches no message, and neither does one that asks for a component
+/// that none is.
+pub fn law_of_bad_numbers()
+    ensures group { (component : ℕ) (message : Message) (item : EventItem)
+        → item.group ≡ Asked.NoNumber → matches_message component message item ≡ false }
+    ensures id { (component : ℕ) (message : Message) (item : EventItem)
+        → item.id ≡ Asked.NoNumber → matches_message component message item ≡ false }
+    ensures version { (component : ℕ) (message : Message) (item : EventItem)
+        → item.version ≡ Asked.NoNumber → matches_message component message item ≡ false }
+    ensures component { (component : ℕ) (message : Message) (item : EventItem)
+        → item.component ≡ AskedComponent.NoComponent
+        → matches_message component message item ≡ false }
+{}
+
+/// An item that asks for the id 255 matches messages of each id alike, and so it is with versions. One that asks for a
+/// group matches messages of that group alone, of 255 too.
+pub fn law_of_any_id()
+    ensures id { (component other : ℕ) (message : Message) (item : EventItem)
+        → item.id ≡ Asked.Exactly any_id
+        → matches_message component (record message { id = other }) item
+        ≡ matches_message component message item }
+    ensures version { (component other : ℕ) (message : Message) (item : EventItem)
+        → item.version ≡ Asked.Exactly any_id
+        → matches_message component (record message { version = other }) item
+        ≡ matches_message component message item }
+    ensures group { (component group : ℕ) (message : Message) (item : EventItem)
+        → item.group ≡ Asked.Exactly group → matches_message component message item ≡ true
+        → message.group ≡ group }
+{}
+
+/// An item matches a change of a module exactly where it is of the kind of that change and about that module.
+pub fn law_of_module_items()
+    ensures { (kind : ItemKind) (component number : ℕ) (item : EventItem)
+        → (matches_module kind component number item ≡ true)
+        ↔ ((item.kind ≡ Some kind) × (item.about ≡ Some (component, number))) }
+{}
