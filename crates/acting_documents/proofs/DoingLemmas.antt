@@ -1,6 +1,6 @@
 -- What calls do to a document that acts: one behind the other, and in the words of its parts.
 use Rattle.std.proofs.Common.{◌≡◌, ℕ, zero, suc, ◌≤◌, List, [], ◌∷◌, ◌++◌, length, map, take, Option, Some, None, refl, sym, ap, ◌∙◌, subst, append_assoc, arith}
-use Rattle.std.specs.Prelude.{codes, slice_get, OnOk, Result, Ok, Err, Bool, true, false, if◌then◌else◌, IsTrue, ◌↔◌}
+use Rattle.std.specs.Prelude.{codes, slice_get, is_some, option_map, option_and_then, OnOk, Result, Ok, Err, Bool, true, false, if◌then◌else◌, IsTrue, ◌↔◌}
 use Rattle.std.proofs.lemmas.List.{append-nil}
 use Rattle.std.proofs.lemmas.Slice.Zip.{AllZip-long}
 use Rattle.std.specs.List.{AllZip}
@@ -9,6 +9,7 @@ use Rattle.std.specs.Option.{option_map_or}
 use Rattle.dom_tree.specs.Items.{IsElement}
 use Rattle.dom_tree.specs.NodeNumbers.{number_of}
 use Rattle.dom_tree.specs.declared.node_ids.NodeId.{NodeId}
+use Rattle.multipart_entities.specs.declared.paths.Path.{Path}
 use Rattle.style_cascade.specs.StyledTrees.{StyledTree}
 use Rattle.es_values.specs.declared.values.Value.{Value}
 use Rattle.es_values.specs.Objects.{ObjectState}
@@ -16,39 +17,38 @@ use Rattle.es_reader.specs.Programs.{Tells, ToldProgram}
 use Rattle.es_eval.specs.declared.outcomes.Outcome.{Outcome}
 use Rattle.es_eval.specs.Endings.{EndsWith}
 use Rattle.es_eval.specs.declared.outcomes.Outcome.TheVariants.{Normal as AtEnd}
-use Rattle.es_eval.specs.Evaluation.{program_run, run_at, world}
+use Rattle.es_eval.specs.Evaluation.{global_run, program_run, run_at, world}
 use Rattle.es_shapes.specs.Syntax.{Program}
 use Rattle.es_eval.specs.Worlds.Run.{Over}
 use Rattle.es_reader.specs.Statements.{Item as ProgramItem}
 use Rattle.es_shapes.specs.Sources.{program_of}
 use Rattle.es_eval.specs.Worlds.{World, Run}
+use Rattle.event_queue.specs.Events.{name_of}
+use Rattle.event_queue.specs.Timers.{Timer, timer_of}
 use Rattle.event_queue.specs.declared.events.Event.{Event}
+use Rattle.event_queue.specs.declared.events.Event.TheVariants as events
 use Rattle.document_load.specs.Scripts.{HandlerState, unnamed_places}
+use Rattle.browser_objects.specs.Calls.{BrowserParts}
 use Rattle.dom_objects.specs.declared.current_events.CurrentEvent.{CurrentEvent}
 use Rattle.document_stages.specs.Acting.{Acting, key_posts}
-use Rattle.acting_documents.specs.Handling.{key_effect}
-use Rattle.acting_documents.specs.Documents.{Document, body_of, passes}
-use Rattle.acting_documents.specs.Doings.{Does, HasDone}
+use Rattle.acting_documents.specs.Handling.{key_effect, kind_of, run_handler, timer_effect, timer_taken}
+use Rattle.acting_documents.specs.Documents.{Document, body_of, handler_in, passes}
+use Rattle.acting_documents.specs.Doings.{Changes, Does, HasDone, scene_of}
 use Rattle.acting_documents.specs.Kept.{IsDocument, KeptDocument}
 use Rattle.acting_documents.specs.Beginnings.{run_scripts, script_places}
-use Rattle.acting_documents.specs.Runs.{Effect, End, acting_in, and_then, done, effect_of_end, ended, most_steps, nothing_done, no_event, run_program, with_acting, with_world}
+use Rattle.acting_documents.specs.Runs.{Effect, End, Scene, acting_in, and_then, done, effect_behind, effect_of_end, ended, most_steps, no_event, nothing_done, run_function, run_program, unless_launched}
 use Rattle.document_stages.specs.Stages.{HasCalled, HasRead, HasWritten, StageState}
 use Rattle.acting_documents.specs.StopLines.{stop_lines}
 use Rattle.focus_keys.specs.KeyTables.{passes_list}
 use Rattle.focus_keys.specs.Targets.{normal_value}
 use Rattle.style_reader.specs.declared.properties.Property.TheVariants.{UsedKeyList}
 use Rattle.acting_documents.proofs.BodyLemmas.{body-element}
-use Rattle.acting_documents.proofs.EndedLemmas.{ended-body, ends_as, key_posts-items}
+use Rattle.acting_documents.proofs.EndedLemmas.{Stays, ended-stays, ends_as, stays_of}
 
 -- ---- part by part
 
-kept_parts : (tree tree' : StyledTree) (queue queue' : List Event) (programs : List ToldProgram) (handlers handlers' : List HandlerState) (globals globals' : List (List ℕ × Value)) (heap heap' : List ObjectState) (body body' : Option ℕ) (worked : ℕ)
-    → tree ≡ tree' → queue ≡ queue' → handlers ≡ handlers' → globals ≡ globals' → heap ≡ heap' → body ≡ body'
-    → (let x : KeptDocument = record { tree = tree; queue = queue; programs = programs; handlers = handlers; globals = globals; heap = heap; body = body; worked = worked } in x)
-    ≡ record { tree = tree'; queue = queue'; programs = programs; handlers = handlers'; globals = globals'; heap = heap'; body = body'; worked = worked }
-kept_parts tree tree' queue queue' programs handlers handlers' globals globals' heap heap' body body' worked a b c d e f = cc
-
 pub record Parts (kept : KeptDocument) (d : Document) : Type 0 where
+  pub path : kept.path ≡ d.path
   pub tree : kept.tree ≡ d.tree
   pub queue : kept.queue ≡ d.queue
   pub handlers : kept.handlers ≡ d.handlers
@@ -58,6 +58,7 @@ pub record Parts (kept : KeptDocument) (d : Document) : Type 0 where
 
 pub parts_of_kept : (kept : KeptDocument) (d : Document) → IsDocument kept d → Parts kept d
 parts_of_kept kept d k = record {
+  path = ap (λ (x : KeptDocument). x.path) k.others;
   tree = ap (λ (x : KeptDocument). x.tree) k.others;
   queue = ap (λ (x : KeptDocument). x.queue) k.others;
   handlers = ap (λ (x : KeptDocument). x.handlers) k.others;
@@ -66,64 +67,143 @@ parts_of_kept kept d k = record {
   body = ap (λ (x : KeptDocument). x.body) k.others;
 }
 
+kept_parts : (path path' : Path) (tree tree' : StyledTree) (queue queue' : List Event) (programs : List ToldProgram) (handlers handlers' : List HandlerState) (globals globals' : List (List ℕ × Value)) (heap heap' : List ObjectState) (body body' : Option ℕ) (worked : ℕ) (lent : BrowserParts) (now : ℕ) (launched : Option Path)
+    → path ≡ path' → tree ≡ tree' → queue ≡ queue' → handlers ≡ handlers' → globals ≡ globals' → heap ≡ heap' → body ≡ body'
+    → (let x : KeptDocument = record { path = path; tree = tree; queue = queue; programs = programs; handlers = handlers; globals = globals; heap = heap; body = body; worked = worked; lent = lent; now = now; launched = launched } in x)
+    ≡ record { path = path'; tree = tree'; queue = queue'; programs = programs; handlers = handlers'; globals = globals'; heap = heap'; body = body'; worked = worked; lent = lent; now = now; launched = launched }
+kept_parts path path' tree tree' queue queue' programs handlers handlers' globals globals' heap heap' body body' worked lent now launched a b c d e f g = cc
+
 pub kept_of_parts : (kept : KeptDocument) (d : Document) → AllZip Tells d.programs kept.programs → Parts kept d → IsDocument kept d
 kept_of_parts kept d z p = record {
   programs = z;
-  others = kept_parts kept.tree d.tree kept.queue d.queue kept.programs kept.handlers d.handlers kept.globals d.globals kept.heap d.heap kept.body (body_of d.tree.items) kept.worked p.tree p.queue p.handlers p.globals p.heap p.body;
+  others = kept_parts kept.path d.path kept.tree d.tree kept.queue d.queue kept.programs kept.handlers d.handlers kept.globals d.globals kept.heap d.heap kept.body (body_of d.tree.items) kept.worked kept.lent kept.now kept.launched p.path p.tree p.queue p.handlers p.globals p.heap p.body;
 }
+
+scene_same : (d : Document) (b b' : BrowserParts) (n n' : ℕ) → b ≡ b' → n ≡ n' → (let x : Scene = record { document = d; browser = b; now = n } in x) ≡ record { document = d; browser = b'; now = n' }
+scene_same d b b' n n' x y = cc
 
 -- ---- one behind the other
 
-pub does_nothing : (old : KeptDocument) (before : List ℕ) → Does nothing_done old old before before
-does_nothing old before = record {
-  text = [];
-  printed = sym (append-nil before);
-  does = λ d k. record { is = k; text_is = refl };
-}
-
-pub does_then : (first more : Document → Effect) (old middle new : KeptDocument) (before between after : List ℕ) → Does first old middle before between → Does more middle new between after → Does (λ d. and_then more (first d)) old new before after
-does_then first more old middle new before between after x y = record {
-  text = x.text ++ y.text;
-  printed = y.printed ∙ (ap (λ (t : List ℕ). t ++ y.text) x.printed ∙ append_assoc before x.text y.text);
-  does = λ d k.
-      let one = x.does d k in
-      let two = y.does (first d).document one.is in
-      record {
-        is = two.is;
-        text_is = ap (λ (t : List ℕ). t ++ y.text) one.text_is ∙ ap (λ (t : List ℕ). (first d).text ++ t) two.text_is;
-      };
-}
-
 -- the same effect in other words
-pub does_as : (more effect : Document → Effect) (old new : KeptDocument) (before after : List ℕ) → ((d : Document) → IsDocument old d → effect d ≡ more d) → Does more old new before after → Does effect old new before after
+pub does_as : (more effect : Scene → Effect) (old new : KeptDocument) (before after : List ℕ) → ((d : Document) → IsDocument old d → effect (scene_of old d) ≡ more (scene_of old d)) → Does more old new before after → Does effect old new before after
 does_as more effect old new before after same x = record {
   text = x.text;
   printed = x.printed;
   does = λ d k. subst (λ (e : Effect). HasDone new x.text e) (sym (same d k)) (x.does d k);
 }
 
+-- nothing was launched, and another thing is done
+both_done : (e : Effect) (more : Scene → Effect) (middle new : KeptDocument) (one two : List ℕ) → middle.launched ≡ None → HasDone middle one e → HasDone new two (more (scene_of middle e.scene.document)) → HasDone new (one ++ two) (and_then more e)
+both_done e more middle new one two none x y =
+    let launched : e.launched ≡ None = sym x.launched_is ∙ none in
+    let z : HasDone new two (more e.scene) = subst (λ (s : Scene). HasDone new two (more s)) (scene_same e.scene.document middle.lent e.scene.browser middle.now e.scene.now x.lent_is x.now_is) y in
+    subst (λ (o : Option Path). HasDone new (one ++ two) (unless_launched o more e)) (sym launched) (record {
+      is = z.is;
+      lent_is = z.lent_is;
+      now_is = z.now_is;
+      launched_is = z.launched_is;
+      text_is = ap (λ (t : List ℕ). t ++ two) x.text_is ∙ ap (λ (t : List ℕ). e.text ++ t) z.text_is;
+    })
+
+pub does_then : (first more : Scene → Effect) (old middle new : KeptDocument) (before between after : List ℕ) → is_some middle.launched ≡ false → Does first old middle before between → Does more middle new between after → Does (λ s. and_then more (first s)) old new before after
+does_then first more old middle new before between after none x y = record {
+  text = x.text ++ y.text;
+  printed = y.printed ∙ (ap (λ (t : List ℕ). t ++ y.text) x.printed ∙ append_assoc before x.text y.text);
+  does = λ d k.
+      let one = x.does d k in
+      both_done (first (scene_of old d)) more middle new x.text y.text (is_none middle.launched none) one (y.does (first (scene_of old d)).scene.document one.is);
+}
+  where
+    is_none : (o : Option Path) → is_some o ≡ false → o ≡ None
+    is_none None e = refl
+    is_none (Some path) e = absurd (cc e)
+
+-- another document was launched, and so nothing more is done
+stopped : (e : Effect) (more : Scene → Effect) → is_some e.launched ≡ true → and_then more e ≡ e
+stopped e more some = go e.launched some
+  where
+    go : (o : Option Path) → is_some o ≡ true → unless_launched o more e ≡ e
+    go None s = absurd (cc s)
+    go (Some path) s = refl
+
+pub does_stopped : (first more : Scene → Effect) (old new : KeptDocument) (before after : List ℕ) → is_some new.launched ≡ true → Does first old new before after → Does (λ s. and_then more (first s)) old new before after
+does_stopped first more old new before after some x = record {
+  text = x.text;
+  printed = x.printed;
+  does = λ d k.
+      let one = x.does d k in
+      subst (λ (e : Effect). HasDone new x.text e) (sym (stopped (first (scene_of old d)) more (sym (ap is_some one.launched_is) ∙ some))) one;
+}
+
+-- something was changed, and then a thing is done
+pub does_changed : (change : Scene → Scene) (effect : Scene → Effect) (old middle new : KeptDocument) (before after : List ℕ) → ((s : Scene) → (change s).now ≡ s.now) → Changes change old middle → Does effect middle new before after → Does (λ s. effect (change s)) old new before after
+does_changed change effect old middle new before after keeps c x = record {
+  text = x.text;
+  printed = x.printed;
+  does = λ d k.
+      let s = change (scene_of old d) in
+      subst (λ (t : Scene). HasDone new x.text (effect t))
+      (scene_same s.document middle.lent s.browser middle.now s.now (c.lent_is d k) (c.now_is ∙ sym (keeps (scene_of old d))))
+      (x.does s.document (c.document d k));
+}
+
+-- the time went on, and then a thing is done
+does_later : (moment : ℕ) (effect : Scene → Effect) (old new : KeptDocument) (before after : List ℕ) → Does effect (record old { now = moment }) new before after → Does (λ s. effect (record s { now = moment })) old new before after
+does_later moment effect old new before after x = record {
+  text = x.text;
+  printed = x.printed;
+  does = λ d k.
+      let p = parts_of_kept old d k in
+      x.does d (kept_of_parts (record old { now = moment }) d k.programs (record {
+        path = p.path;
+        tree = p.tree;
+        queue = p.queue;
+        handlers = p.handlers;
+        globals = p.globals;
+        heap = p.heap;
+        body = p.body;
+      }));
+}
+
 -- ---- what is acted on
 
 abbrev pub acting_of : KeptDocument → CurrentEvent → Acting
-acting_of old event = record { tree = old.tree; queue = old.queue; event = event; text = [] }
+acting_of old event = record {
+  path = old.path;
+  tree = old.tree;
+  queue = old.queue;
+  browser = old.lent;
+  now = old.now;
+  event = event;
+  launched = None;
+  text = [];
+}
 
-acting_is : (old : KeptDocument) (event : CurrentEvent) (d : Document) → Parts old d → acting_of old event ≡ acting_in event d
-acting_is old event d p = same old.tree d.tree old.queue d.queue p.tree p.queue
+acting_is : (old : KeptDocument) (event : CurrentEvent) (d : Document) → Parts old d → acting_of old event ≡ acting_in event (scene_of old d)
+acting_is old event d p = same old.path d.path old.tree d.tree old.queue d.queue p.path p.tree p.queue
   where
-    same : (t t' : StyledTree) (q q' : List Event) → t ≡ t' → q ≡ q' → (let x : Acting = record { tree = t; queue = q; event = event; text = [] } in x) ≡ record { tree = t'; queue = q'; event = event; text = [] }
-    same t t' q q' x y = cc
+    acts : Path → StyledTree → List Event → Acting
+    acts path tree queue = record { path = path; tree = tree; queue = queue; browser = old.lent; now = old.now; event = event; launched = None; text = [] }
+
+    same : (x x' : Path) (t t' : StyledTree) (q q' : List Event) → x ≡ x' → t ≡ t' → q ≡ q' → acts x t q ≡ acts x' t' q'
+    same x x' t t' q q' a b c = cc
 
 -- what is kept now is what was acted on, and what was kept before
-pub record Leaves (old new : KeptDocument) (last : Acting) : Type 0 where
+pub record Leaves (told : List ToldProgram) (kept : List HandlerState) (node : Option ℕ) (new : KeptDocument) (last : Acting) : Type 0 where
+  pub path : new.path ≡ last.path
   pub tree : new.tree ≡ last.tree
   pub queue : new.queue ≡ last.queue
-  pub programs : new.programs ≡ old.programs
-  pub handlers : new.handlers ≡ old.handlers
-  pub body : new.body ≡ old.body
+  pub lent : new.lent ≡ last.browser
+  pub now : new.now ≡ last.now
+  pub launched : new.launched ≡ last.launched
+  pub programs : new.programs ≡ told
+  pub handlers : new.handlers ≡ kept
+  pub body : new.body ≡ node
 
 -- what contracts see of a document that is kept in parts
 abbrev pub kept_in : StageState → List ToldProgram → List HandlerState → List (List ℕ × Value) → List ObjectState → Option NodeId → KeptDocument
 kept_in stage programs handlers globals heap body = record {
+  path = stage.acting.path;
   tree = stage.acting.tree;
   queue = stage.acting.queue;
   programs = programs;
@@ -132,95 +212,137 @@ kept_in stage programs handlers globals heap body = record {
   heap = heap;
   body = number_of body;
   worked = stage.worked;
+  lent = stage.acting.browser;
+  now = stage.acting.now;
+  launched = stage.acting.launched;
 }
 
-pub leaves_in : (first given : StageState) (last : Acting) (programs : List ToldProgram) (handlers : List HandlerState) (globals globals' : List (List ℕ × Value)) (heap heap' : List ObjectState) (body : Option NodeId)
+pub leaves_in : (given : StageState) (last : Acting) (programs : List ToldProgram) (handlers : List HandlerState) (globals : List (List ℕ × Value)) (heap : List ObjectState) (body : Option NodeId)
     → given.acting ≡ record last { text = [] }
-    → Leaves (kept_in first programs handlers globals heap body) (kept_in given programs handlers globals' heap' body) last
-leaves_in first given last programs handlers globals globals' heap heap' body e = record {
+    → Leaves programs handlers (number_of body) (kept_in given programs handlers globals heap body) last
+leaves_in given last programs handlers globals heap body e = record {
+  path = ap (λ (a : Acting). a.path) e;
   tree = ap (λ (a : Acting). a.tree) e;
   queue = ap (λ (a : Acting). a.queue) e;
+  lent = ap (λ (a : Acting). a.browser) e;
+  now = ap (λ (a : Acting). a.now) e;
+  launched = ap (λ (a : Acting). a.launched) e;
   programs = refl;
   handlers = refl;
   body = refl;
 }
 
+-- ---- what was left of it
+
+abbrev effect_left : Scene → Acting → List (List ℕ × Value) → List ObjectState → List ℕ → Effect
+effect_left s last globals heap text = record {
+  scene = record s {
+    document = record s.document { tree = last.tree; queue = last.queue; globals = globals; heap = heap };
+    browser = last.browser;
+  };
+  launched = last.launched;
+  text = text;
+}
+
+left_done : (old new : KeptDocument) (d : Document) (last : Acting) (globals : List (List ℕ × Value)) (heap : List ObjectState) (text : List ℕ)
+    → AllZip Tells d.programs old.programs → Parts old d
+    → stays_of last ≡ stays_of (acting_in no_event (scene_of old d))
+    → Leaves old.programs old.handlers old.body new last → new.globals ≡ globals → new.heap ≡ heap
+    → HasDone new text (effect_left (scene_of old d) last globals heap text)
+left_done old new d last globals heap text z p stays left globals_are heap_is = record {
+  is = kept_of_parts new (effect_left (scene_of old d) last globals heap text).scene.document (subst (λ (t : List ToldProgram). AllZip Tells d.programs t) (sym left.programs) z) (record {
+    path = left.path ∙ ap (λ (s : Stays). s.path) stays;
+    tree = left.tree;
+    queue = left.queue;
+    handlers = left.handlers ∙ p.handlers;
+    globals = globals_are;
+    heap = heap_is;
+    body = left.body ∙ (p.body ∙ sym (ap (λ (s : Stays). s.body) stays));
+  });
+  lent_is = left.lent;
+  now_is = left.now ∙ ap (λ (s : Stays). s.now) stays;
+  launched_is = left.launched;
+  text_is = refl;
+}
+
 pub does_done : (change : Acting → Acting) (old new : KeptDocument) (first last : Acting) (before after : List ℕ)
-    → first ≡ acting_of old no_event → last ≡ change first → ((a : Acting) → (change a).tree.items ≡ a.tree.items)
-    → Leaves old new last → new.globals ≡ old.globals → new.heap ≡ old.heap
+    → first ≡ acting_of old no_event → last ≡ change first → ((a : Acting) → stays_of (change a) ≡ stays_of a)
+    → Leaves old.programs old.handlers old.body new last → new.globals ≡ old.globals → new.heap ≡ old.heap
     → after ≡ before ++ last.text → Does (done change) old new before after
 does_done change old new first last before after is becomes keeps left globals heap printed = record {
   text = last.text;
   printed = printed;
-  does = λ d k. let p = parts_of_kept old d k in
+  does = λ d k.
+      let p = parts_of_kept old d k in
+      let s = scene_of old d in
       let e = becomes ∙ ap change (is ∙ acting_is old no_event d p) in
-      record {
-        is = kept_of_parts new (with_acting (change (acting_in no_event d)) d) (subst (λ (t : List ToldProgram). AllZip Tells d.programs t) (sym left.programs) k.programs) (record {
-          tree = left.tree ∙ ap (λ (a : Acting). a.tree) e;
-          queue = left.queue ∙ ap (λ (a : Acting). a.queue) e;
-          handlers = left.handlers ∙ p.handlers;
-          globals = globals ∙ p.globals;
-          heap = heap ∙ p.heap;
-          body = left.body ∙ (p.body ∙ ap body_of (sym (keeps (acting_in no_event d))));
-        });
-        text_is = ap (λ (a : Acting). a.text) e;
-      };
+      subst (λ (a : Acting). HasDone new last.text (effect_left s a d.globals d.heap a.text)) e
+      (left_done old new d last d.globals d.heap last.text k.programs p (ap stays_of e ∙ keeps (acting_in no_event s)) left (globals ∙ p.globals) (heap ∙ p.heap));
 }
 
 -- ---- runs
 
-run_ended : (run : Run) (event : CurrentEvent) (old : KeptDocument) (d : Document) (first last : StageState) (outcome : Outcome) (globals : List (List ℕ × Value)) (heap : List ObjectState)
-    → Parts old d → first.acting ≡ acting_of old event
-    → (ends : EndsWith HasRead HasWritten HasCalled run first outcome globals heap last)
-    → ended run (acting_in event d) ≡ record { outcome = outcome; world = ends.0; acting = last.acting }
-run_ended run event old d first last outcome globals heap p is ends =
-    ends_as run first outcome ends.0 last (acting_in event d) ends.3 (is ∙ acting_is old event d p)
+-- the run of the programs, the globals, the objects and so many steps, for the event of this name
+abbrev pub run_effect : (List (List ProgramItem) → List (List ℕ × Value) → List ObjectState → ℕ → Run) → List ℕ → CurrentEvent → Scene → Effect
+run_effect run name event s =
+    effect_of_end name s (ended (run s.document.programs s.document.globals s.document.heap most_steps) (acting_in event s))
 
-run_done : (name : List ℕ) (event : CurrentEvent) (run : Run) (old new : KeptDocument) (d : Document) (w : World) (outcome : Outcome) (last : Acting)
+run_done : (run : Run) (name : List ℕ) (event : CurrentEvent) (old new : KeptDocument) (d : Document) (w : World) (outcome : Outcome) (last : Acting)
     → AllZip Tells d.programs old.programs → Parts old d
-    → ended run (acting_in event d) ≡ record { outcome = outcome; world = w; acting = last }
-    → w.globals ≡ new.globals → w.heap ≡ new.heap → Leaves old new last
-    → HasDone new (last.text ++ stop_lines outcome name) (effect_of_end name d (ended run (acting_in event d)))
-run_done name event run old new d w outcome last z p e globals heap left =
-    let same = ap (λ (x : End). body_of x.acting.tree.items) e in
-    subst (λ (x : End). HasDone new (last.text ++ stop_lines outcome name) (effect_of_end name d x)) (sym e) (record {
-      is = kept_of_parts new (with_world w (with_acting last d)) (subst (λ (t : List ToldProgram). AllZip Tells d.programs t) (sym left.programs) z) (record {
-        tree = left.tree;
-        queue = left.queue;
-        handlers = left.handlers ∙ p.handlers;
-        globals = sym globals;
-        heap = sym heap;
-        body = left.body ∙ (p.body ∙ (sym (ended-body run (acting_in event d)) ∙ same));
-      });
-      text_is = refl;
-    })
+    → ended run (acting_in event (scene_of old d)) ≡ record { outcome = outcome; world = w; acting = last }
+    → w.globals ≡ new.globals → w.heap ≡ new.heap → Leaves old.programs old.handlers old.body new last
+    → HasDone new (last.text ++ stop_lines outcome name) (effect_of_end name (scene_of old d) (ended run (acting_in event (scene_of old d))))
+run_done run name event old new d w outcome last z p e globals heap left =
+    let s = scene_of old d in
+    subst (λ (x : End). HasDone new (last.text ++ stop_lines outcome name) (effect_of_end name s x)) (sym e)
+    (left_done old new d last w.globals w.heap (last.text ++ stop_lines outcome name) z p
+    (sym (ap (λ (x : End). stays_of x.acting) e) ∙ ended-stays run (acting_in event s)) left (sym globals) (sym heap))
 
-run_in : (sources : List (List ProgramItem)) (place budget : ℕ) (old : KeptDocument) (d : Document) (x : Acting) (y : End)
+run_in : (run : List (List ProgramItem) → List (List ℕ × Value) → List ObjectState → ℕ → Run) (sources : List (List ProgramItem)) (budget : ℕ) (old : KeptDocument) (d : Document) (x : Acting) (y : End)
     → Parts old d → budget ≡ most_steps
-    → ended (run_at (map program_of sources) place old.globals old.heap budget) x ≡ y
-    → ended (run_at (map program_of sources) place d.globals d.heap most_steps) x ≡ y
-run_in sources place budget old d x y p steps e =
-    subst (λ (b : ℕ). ended (run_at (map program_of sources) place d.globals d.heap b) x ≡ y) steps
-    (subst (λ (h : List ObjectState). ended (run_at (map program_of sources) place d.globals h budget) x ≡ y) p.heap
-    (subst (λ (g : List (List ℕ × Value)). ended (run_at (map program_of sources) place g old.heap budget) x ≡ y) p.globals e))
+    → ended (run sources old.globals old.heap budget) x ≡ y
+    → ended (run sources d.globals d.heap most_steps) x ≡ y
+run_in run sources budget old d x y p steps e =
+    subst (λ (b : ℕ). ended (run sources d.globals d.heap b) x ≡ y) steps
+    (subst (λ (h : List ObjectState). ended (run sources d.globals h budget) x ≡ y) p.heap
+    (subst (λ (g : List (List ℕ × Value)). ended (run sources g old.heap budget) x ≡ y) p.globals e))
 
-pub does_run : (name : List ℕ) (event : CurrentEvent) (place budget : ℕ) (old new : KeptDocument) (first last : StageState) (outcome : Outcome) (before between after : List ℕ)
+does_run : (run : List (List ProgramItem) → List (List ℕ × Value) → List ObjectState → ℕ → Run) (name : List ℕ) (event : CurrentEvent) (budget : ℕ) (old new : KeptDocument) (first last : StageState) (outcome : Outcome) (before between after : List ℕ)
+    → first.acting ≡ acting_of old event
+    → ((sources : List (List ProgramItem)) → AllZip Tells sources old.programs → EndsWith HasRead HasWritten HasCalled (run sources old.globals old.heap budget) first outcome new.globals new.heap last)
+    → budget ≡ most_steps → Leaves old.programs old.handlers old.body new last.acting
+    → between ≡ before ++ last.acting.text → after ≡ between ++ stop_lines outcome name
+    → Does (run_effect run name event) old new before after
+does_run run name event budget old new first last outcome before between after is runs steps left given told = record {
+  text = last.acting.text ++ stop_lines outcome name;
+  printed = told ∙ (ap (λ (t : List ℕ). t ++ stop_lines outcome name) given ∙ append_assoc before last.acting.text (stop_lines outcome name));
+  does = λ d k.
+      let p = parts_of_kept old d k in
+      let s = scene_of old d in
+      let ends = runs d.programs k.programs in
+      run_done (run d.programs d.globals d.heap most_steps) name event old new d ends.0 outcome last.acting k.programs p
+      (run_in run d.programs budget old d (acting_in event s) (record { outcome = outcome; world = ends.0; acting = last.acting }) p steps
+      (ends_as (run d.programs old.globals old.heap budget) first outcome ends.0 last (acting_in event s) ends.3 (is ∙ acting_is old event d p)))
+      ends.1 ends.2 left;
+}
+
+pub does_program : (name : List ℕ) (event : CurrentEvent) (place budget : ℕ) (old new : KeptDocument) (first last : StageState) (outcome : Outcome) (before between after : List ℕ)
     → first.acting ≡ acting_of old event
     → ((sources : List (List ProgramItem)) → AllZip Tells sources old.programs → EndsWith HasRead HasWritten HasCalled (run_at (map program_of sources) place old.globals old.heap budget) first outcome new.globals new.heap last)
-    → budget ≡ most_steps → Leaves old new last.acting
+    → budget ≡ most_steps → Leaves old.programs old.handlers old.body new last.acting
     → between ≡ before ++ last.acting.text → after ≡ between ++ stop_lines outcome name
     → Does (run_program name event place) old new before after
 unfolding run_program
-does_run name event place budget old new first last outcome before between after is runs steps left given told = record {
-  text = last.acting.text ++ stop_lines outcome name;
-  printed = told ∙ (ap (λ (t : List ℕ). t ++ stop_lines outcome name) given ∙ append_assoc before last.acting.text (stop_lines outcome name));
-  does = λ d k. let p = parts_of_kept old d k in
-      let ends = runs d.programs k.programs in
-      run_done name event (run_at (map program_of d.programs) place d.globals d.heap most_steps) old new d ends.0 outcome last.acting k.programs p
-      (run_in d.programs place budget old d (acting_in event d) (record { outcome = outcome; world = ends.0; acting = last.acting }) p steps
-      (run_ended (run_at (map program_of d.programs) place old.globals old.heap budget) event old d first last outcome new.globals new.heap p is ends))
-      ends.1 ends.2 left;
-}
+does_program name event place = does_run (λ sources globals heap budget. run_at (map program_of sources) place globals heap budget) name event
+
+pub does_function : (name function : List ℕ) (budget : ℕ) (old new : KeptDocument) (first last : StageState) (outcome : Outcome) (before between after : List ℕ)
+    → first.acting ≡ acting_of old no_event
+    → ((sources : List (List ProgramItem)) → AllZip Tells sources old.programs → EndsWith HasRead HasWritten HasCalled (global_run (map program_of sources) function old.globals old.heap budget) first outcome new.globals new.heap last)
+    → budget ≡ most_steps → Leaves old.programs old.handlers old.body new last.acting
+    → between ≡ before ++ last.acting.text → after ≡ between ++ stop_lines outcome name
+    → Does (run_function name function) old new before after
+unfolding run_function
+does_function name function = does_run (λ sources globals heap budget. global_run (map program_of sources) function globals heap budget) name no_event
 
 pub steps-are : 100000 ≡ most_steps
 unfolding most_steps
@@ -233,63 +355,103 @@ no_program [] place h = refl
 no_program (x ∷ xs) zero h = absurd (omega (arith, h))
 no_program (x ∷ xs) (suc place) h = no_program xs place (omega (arith, h))
 
-pub does_no_run : (name : List ℕ) (event : CurrentEvent) (place : ℕ) (old : KeptDocument) (before : List ℕ) → length old.programs ≤ place → Does (run_program name event place) old old before before
+pub does_no_program : (name : List ℕ) (event : CurrentEvent) (place : ℕ) (old new : KeptDocument) (before : List ℕ) → length old.programs ≤ place → Does nothing_done old new before before → Does (run_program name event place) old new before before
 unfolding run_program run_at ended
-does_no_run name event place old before h = does_as nothing_done (run_program name event place) old old before before
-    (λ d k. nothing d (no_program d.programs place (subst (λ (n : ℕ). n ≤ place) (AllZip-long Tells d.programs old.programs k.programs) h))) (does_nothing old before)
+does_no_program name event place old new before h x = does_as nothing_done (run_program name event place) old new before before
+    (λ d k. nothing (scene_of old d) (no_program d.programs place (subst (λ (n : ℕ). n ≤ place) (AllZip-long Tells d.programs old.programs k.programs) h))) x
   where
-    nothing : (d : Document) → slice_get (map program_of d.programs) place ≡ None → run_program name event place d ≡ nothing_done d
-    nothing d none = ap (λ (o : Option Program). effect_of_end name d (ended (option_map_or (λ program. program_run (map program_of d.programs) (take place (map program_of d.programs)) program d.globals d.heap most_steps) o (Over AtEnd (world d.globals d.heap most_steps))) (acting_in event d))) none
+    nothing : (s : Scene) → slice_get (map program_of s.document.programs) place ≡ None → run_program name event place s ≡ nothing_done s
+    nothing s none =
+        let d = s.document in
+        ap (λ (o : Option Program). effect_of_end name s (ended (option_map_or (λ program. program_run (map program_of d.programs) (take place (map program_of d.programs)) program d.globals d.heap most_steps) o (Over AtEnd (world d.globals d.heap most_steps))) (acting_in event s))) none
 
 -- ---- scripts
 
-run_scripts-more : (places : List ℕ) (place : ℕ) (d : Document) → run_scripts (places ++ place ∷ []) d ≡ and_then (run_program (codes "script") no_event place) (run_scripts places d)
-run_scripts-more [] place d = alone (run_program (codes "script") no_event place d)
-  where
-    alone : (e : Effect) → and_then nothing_done e ≡ (let x : Effect = record { document = e.document; text = [] ++ e.text } in x)
-    alone e = ap (λ (t : List ℕ). let x : Effect = record { document = e.document; text = t } in x) (append-nil e.text)
-run_scripts-more (first ∷ places) place d =
-    let e = run_program (codes "script") no_event first d in
-    ap (and_same e) (run_scripts-more places place e.document)
-    ∙ ap (λ (t : List ℕ). let x : Effect = record { document = (run_program (codes "script") no_event place (run_scripts places e.document).document).document; text = t } in x)
-    (sym (append_assoc e.text (run_scripts places e.document).text (run_program (codes "script") no_event place (run_scripts places e.document).document).text))
-  where
-    and_same : Effect → Effect → Effect
-    and_same e more = record { document = more.document; text = e.text ++ more.text }
+and_then-same : (f g : Scene → Effect) (s : Scene) (o : Option Path) (text : List ℕ) → ((s : Scene) → f s ≡ g s) → (let e : Effect = record { scene = s; launched = o; text = text } in and_then f e ≡ and_then g e)
+and_then-same f g s None text same = ap (effect_behind text) (same s)
+and_then-same f g s (Some path) text same = refl
 
-pub does_scripts-more : (places : List ℕ) (place : ℕ) (old middle new : KeptDocument) (before between after : List ℕ) → Does (run_scripts places) old middle before between → Does (run_program (codes "script") no_event place) middle new between after → Does (run_scripts (places ++ place ∷ [])) old new before after
-does_scripts-more places place old middle new before between after x y =
-    does_as (λ d. and_then (run_program (codes "script") no_event place) (run_scripts places d)) (run_scripts (places ++ place ∷ [])) old new before after
-    (λ d k. run_scripts-more places place d)
-    (does_then (run_scripts places) (run_program (codes "script") no_event place) old middle new before between after x y)
+and_then-nothing : (s : Scene) (o : Option Path) (text : List ℕ) → (let e : Effect = record { scene = s; launched = o; text = text } in and_then nothing_done e ≡ e)
+and_then-nothing s None text = ap (λ (t : List ℕ). let e : Effect = record { scene = s; launched = None; text = t } in e) (append-nil text)
+and_then-nothing s (Some path) text = refl
+
+behind_then : (more : Scene → Effect) (front : List ℕ) (s : Scene) (o : Option Path) (text : List ℕ)
+    → (let e : Effect = record { scene = s; launched = o; text = text } in effect_behind front (and_then more e) ≡ and_then more (effect_behind front e))
+behind_then more front s None text = ap (λ (t : List ℕ). record (more s) { text = t }) (sym (append_assoc front text (more s).text))
+behind_then more front s (Some path) text = refl
+
+and_then-assoc : (f g : Scene → Effect) (s : Scene) (o : Option Path) (text : List ℕ)
+    → (let e : Effect = record { scene = s; launched = o; text = text } in and_then (λ s. and_then g (f s)) e ≡ and_then g (and_then f e))
+and_then-assoc f g s None text = behind_then g text (f s).scene (f s).launched (f s).text
+and_then-assoc f g s (Some path) text = refl
+
+run_scripts-append : (places more : List ℕ) (s : Scene) → run_scripts (places ++ more) s ≡ and_then (run_scripts more) (run_scripts places s)
+run_scripts-append [] more s = refl
+run_scripts-append (place ∷ places) more s =
+    let e = run_program (codes "script") no_event place s in
+    and_then-same (run_scripts (places ++ more)) (λ s. and_then (run_scripts more) (run_scripts places s)) e.scene e.launched e.text (run_scripts-append places more)
+    ∙ and_then-assoc (run_scripts places) (run_scripts more) e.scene e.launched e.text
+
+-- one more of them runs
+pub does_scripts-more : (places : List ℕ) (place : ℕ) (old middle new : KeptDocument) (before between after : List ℕ) → is_some middle.launched ≡ false → Does (run_scripts places) old middle before between → Does (run_program (codes "script") no_event place) middle new between after → Does (run_scripts (places ++ place ∷ [])) old new before after
+does_scripts-more places place old middle new before between after none x y =
+    does_as (λ s. and_then (run_scripts (place ∷ [])) (run_scripts places s)) (run_scripts (places ++ place ∷ [])) old new before after
+    (λ d k. run_scripts-append places (place ∷ []) (scene_of old d))
+    (does_then (run_scripts places) (run_scripts (place ∷ [])) old middle new before between after none x
+    (does_as (run_program (codes "script") no_event place) (run_scripts (place ∷ [])) middle new between after
+    (λ d k. let e = run_program (codes "script") no_event place (scene_of middle d) in and_then-nothing e.scene e.launched e.text) y))
+
+-- one of them launched another document, and so those behind it don't run
+pub does_scripts-stopped : (places more : List ℕ) (old new : KeptDocument) (before after : List ℕ) → is_some new.launched ≡ true → Does (run_scripts places) old new before after → Does (run_scripts (places ++ more)) old new before after
+does_scripts-stopped places more old new before after some x =
+    does_as (λ s. and_then (run_scripts more) (run_scripts places s)) (run_scripts (places ++ more)) old new before after
+    (λ d k. run_scripts-append places more (scene_of old d))
+    (does_stopped (run_scripts places) (run_scripts more) old new before after some x)
+
+-- the scripts of a document, by what is kept of it
+pub does_scripts : (places : List ℕ) (old new : KeptDocument) (before after : List ℕ) → places ≡ unnamed_places (length old.programs) old.handlers → Does (run_scripts places) old new before after → Does (λ s. run_scripts (script_places s.document) s) old new before after
+does_scripts places old new before after is x =
+    does_as (run_scripts places) (λ s. run_scripts (script_places s.document) s) old new before after
+    (λ d k. ap (λ (p : List ℕ). run_scripts p (scene_of old d))
+    (sym (is ∙ (ap (λ (n : ℕ). unnamed_places n old.handlers) (AllZip-long Tells d.programs old.programs k.programs)
+    ∙ ap (λ (h : List HandlerState). unnamed_places (length d.programs) h) (parts_of_kept old d k).handlers)))) x
 
 -- ---- the documents that are kept in parts
 
 -- what is done outside of handlers, behind which the text is given
-pub does_in : (change : Acting → Acting) (old : KeptDocument) (stage first last given : StageState) (programs : List ToldProgram) (handlers : List HandlerState) (globals : List (List ℕ × Value)) (heap : List ObjectState) (body : Option NodeId) (before after : List ℕ)
-    → kept_in stage programs handlers globals heap body ≡ old
-    → first.acting ≡ record stage.acting { event = no_event; text = [] }
-    → last.acting ≡ change first.acting
-    → ((a : Acting) → (change a).tree.items ≡ a.tree.items)
-    → given.acting ≡ record last.acting { text = [] }
-    → after ≡ before ++ last.acting.text
-    → Does (done change) old (kept_in given programs handlers globals heap body) before after
-does_in change old stage first last given programs handlers globals heap body before after is begins becomes keeps left printed =
-    subst (λ (k : KeptDocument). Does (done change) k (kept_in given programs handlers globals heap body) before after) is
-    (does_done change (kept_in stage programs handlers globals heap body) (kept_in given programs handlers globals heap body) first.acting last.acting before after begins becomes keeps
-    (leaves_in stage given last.acting programs handlers globals globals heap heap body left) refl refl printed)
-
 pub gives : {T E : Type 0} (r : Result T E) (change : Acting → Acting) (old : KeptDocument) (stage first last given : StageState) (programs : List ToldProgram) (handlers : List HandlerState) (globals : List (List ℕ × Value)) (heap : List ObjectState) (body : Option NodeId) (before after : List ℕ)
     → kept_in stage programs handlers globals heap body ≡ old
-    → first.acting ≡ record stage.acting { event = no_event; text = [] }
+    → first.acting ≡ record stage.acting { event = no_event; launched = None; text = [] }
     → last.acting ≡ change first.acting
-    → ((a : Acting) → (change a).tree.items ≡ a.tree.items)
+    → ((a : Acting) → stays_of (change a) ≡ stays_of a)
     → OnOk r (given.acting ≡ record last.acting { text = [] })
     → OnOk r (after ≡ before ++ last.acting.text)
     → OnOk r (Does (done change) old (kept_in given programs handlers globals heap body) before after)
 gives (Ok x) change old stage first last given programs handlers globals heap body before after is begins becomes keeps left printed =
-    does_in change old stage first last given programs handlers globals heap body before after is begins becomes keeps left printed
+    let new = kept_in given programs handlers globals heap body in
+    subst (λ (k : KeptDocument). Does (done change) k new before after) is
+    (does_done change (kept_in stage programs handlers globals heap body) new first.acting last.acting before after begins becomes keeps
+    (leaves_in given last.acting programs handlers globals heap body left) refl refl printed)
 gives (Err e) change old stage first last given programs handlers globals heap body before after is begins becomes keeps left printed = tt
+
+-- the same at another time
+pub gives_later : {T E : Type 0} (r : Result T E) (moment : ℕ) (change : Acting → Acting) (old : KeptDocument) (stage first last given : StageState) (programs : List ToldProgram) (handlers : List HandlerState) (globals : List (List ℕ × Value)) (heap : List ObjectState) (body : Option NodeId) (before after : List ℕ)
+    → kept_in stage programs handlers globals heap body ≡ old
+    → first.acting ≡ record stage.acting { event = no_event; launched = None; text = [] }
+    → last.acting ≡ change (record first.acting { now = moment })
+    → ((a : Acting) → stays_of (change a) ≡ stays_of a)
+    → OnOk r (given.acting ≡ record last.acting { text = [] })
+    → OnOk r (after ≡ before ++ last.acting.text)
+    → OnOk r (Does (λ s. done change (record s { now = moment })) old (kept_in given programs handlers globals heap body) before after)
+gives_later (Ok x) moment change old stage first last given programs handlers globals heap body before after is begins becomes keeps left printed =
+    let new = kept_in given programs handlers globals heap body in
+    let kept = kept_in stage programs handlers globals heap body in
+    subst (λ (k : KeptDocument). Does (λ s. done change (record s { now = moment })) k new before after) is
+    (does_later moment (done change) kept new before after
+    (does_done change (record kept { now = moment }) new (record first.acting { now = moment }) last.acting before after
+    (ap (λ (a : Acting). record a { now = moment }) begins) becomes keeps
+    (leaves_in given last.acting programs handlers globals heap body left) refl refl printed))
+gives_later (Err e) moment change old stage first last given programs handlers globals heap body before after is begins becomes keeps left printed = tt
 
 -- what is printed stands behind what was there
 
@@ -297,81 +459,88 @@ front_of : (xs ys : List ℕ) → take (length xs) (xs ++ ys) ≡ xs
 front_of [] ys = refl
 front_of (x ∷ xs) ys = ap (λ (zs : List ℕ). x ∷ zs) (front_of xs ys)
 
-pub does_grows : (effect : Document → Effect) (old new : KeptDocument) (before after : List ℕ) → Does effect old new before after → StartsWith after before
+pub does_grows : (effect : Scene → Effect) (old new : KeptDocument) (before after : List ℕ) → Does effect old new before after → StartsWith after before
 does_grows effect old new before after x = subst (λ (t : List ℕ). take (length before) t ≡ before) (sym x.printed) (front_of before x.text)
 
--- the scripts of a document, by what is kept of it
-pub does_scripts : (places : List ℕ) (old new : KeptDocument) (before after : List ℕ) → places ≡ unnamed_places (length old.programs) old.handlers → Does (run_scripts places) old new before after → Does (λ d. run_scripts (script_places d) d) old new before after
-does_scripts places old new before after is x =
-    does_as (run_scripts places) (λ d. run_scripts (script_places d) d) old new before after
-    (λ d k. ap (λ (p : List ℕ). run_scripts p d)
-    (sym (is ∙ (ap (λ (n : ℕ). unnamed_places n old.handlers) (AllZip-long Tells d.programs old.programs k.programs)
-    ∙ ap (λ (h : List HandlerState). unnamed_places (length d.programs) h) (parts_of_kept old d k).handlers)))) x
+-- ---- handlers and timers
+
+-- a node that has no handler
+pub does_no_handler : (event : Event) (node : ℕ) (old new : KeptDocument) (before : List ℕ) → option_and_then (handler_in old.handlers node) (kind_of event) ≡ None → Does nothing_done old new before before → Does (run_handler event node) old new before before
+does_no_handler event node old new before none x =
+    does_as nothing_done (run_handler event node) old new before before
+    (λ d k. ap (λ (o : Option ℕ). option_map_or (λ place. run_program (name_of event) (record { event = Some event; target = node }) place (scene_of old d)) o (nothing_done (scene_of old d)))
+    (ap (λ (h : List HandlerState). option_and_then (handler_in h node) (kind_of event)) (sym (parts_of_kept old d k).handlers) ∙ none)) x
+
+-- there is no timer of the number
+pub does_no_timer : (number : ℕ) (old new : KeptDocument) (before : List ℕ) → option_map (λ timer. timer.function) (timer_of number old.lent.timers) ≡ None → Does nothing_done old new before before → Does (timer_effect number) old new before before
+does_no_timer number old new before none x =
+    does_as nothing_done (timer_effect number) old new before before (λ d k. go (scene_of old d) (timer_of number old.lent.timers) none) x
+  where
+    go : (s : Scene) (timer : Option Timer) → option_map (λ timer. timer.function) timer ≡ None → option_map_or (λ timer. run_function (name_of (events.Timer number)) timer.function (timer_taken number s)) timer (nothing_done s) ≡ nothing_done s
+    go s None e = refl
+    go s (Some timer) e = absurd (cc e)
+
+-- there is one, whose event was taken
+pub does_timer : (number : ℕ) (function : List ℕ) (old middle new : KeptDocument) (before after : List ℕ) → option_map (λ timer. timer.function) (timer_of number old.lent.timers) ≡ Some function → Changes (timer_taken number) old middle → Does (run_function (name_of (events.Timer number)) function) middle new before after → Does (timer_effect number) old new before after
+does_timer number function old middle new before after is taken x =
+    does_as (λ s. run_function (name_of (events.Timer number)) function (timer_taken number s)) (timer_effect number) old new before after
+    (λ d k. go (scene_of old d) (timer_of number old.lent.timers) is)
+    (does_changed (timer_taken number) (run_function (name_of (events.Timer number)) function) old middle new before after (λ s. refl) taken x)
+  where
+    go : (s : Scene) (timer : Option Timer) → option_map (λ timer. timer.function) timer ≡ Some function → option_map_or (λ timer. run_function (name_of (events.Timer number)) timer.function (timer_taken number s)) timer (nothing_done s) ≡ run_function (name_of (events.Timer number)) function (timer_taken number s)
+    go s None e = absurd (cc e)
+    go s (Some timer) e = ap (λ (f : List ℕ). run_function (name_of (events.Timer number)) f (timer_taken number s)) (cc e)
 
 -- ---- keys
 
 -- there is no document whose body is no element
-pub does_no_element : (effect : Document → Effect) (kept old : KeptDocument) (node : NodeId) (is_element : Bool) (before : List ℕ)
-    → kept ≡ old → kept.body ≡ Some node.0 → (IsTrue is_element ↔ IsElement kept.tree.items node.0) → is_element ≡ false
-    → Does effect old old before before
-does_no_element effect kept old node is_element before is body element fails =
-    subst (λ (k : KeptDocument). Does effect k k before before) is (record {
-      text = [];
-      printed = sym (append-nil before);
-      does = λ d k. absurd (none d (parts_of_kept kept d k));
-    })
-  where
-    none : (d : Document) → Parts kept d → ⊥
-    none d p =
-        let here : IsElement kept.tree.items node.0 = subst (λ (tree : StyledTree). IsElement tree.items node.0) (sym p.tree) (body-element d.tree.items node (sym body ∙ p.body)) in
-        let both : true ≡ false = sym (element.1 here) ∙ fails in
-        cc
+pub no_element : (kept : KeptDocument) (d : Document) (node : NodeId) (is_element : Bool) → IsDocument kept d → kept.body ≡ Some node.0 → (IsTrue is_element ↔ IsElement kept.tree.items node.0) → is_element ≡ false → ⊥
+no_element kept d node is_element k body element fails =
+    let p = parts_of_kept kept d k in
+    let here : IsElement kept.tree.items node.0 = subst (λ (tree : StyledTree). IsElement tree.items node.0) (sym p.tree) (body-element d.tree.items node (sym body ∙ p.body)) in
+    let both : true ≡ false = sym (element.1 here) ∙ fails in
+    cc
 
-pub passes_by : (kept : KeptDocument) (d : Document) (node : NodeId) (key : ℕ) → kept.body ≡ Some node.0 → Parts kept d
-    → passes key d ≡ passes_list (normal_value kept.tree node.0 UsedKeyList) key
+pub passes_by : (kept : KeptDocument) (d : Document) (node : NodeId) (key : ℕ) → IsDocument kept d → kept.body ≡ Some node.0
+    → passes_list (normal_value kept.tree node.0 UsedKeyList) key ≡ passes key d
 unfolding passes
-passes_by kept d node key body p =
-    ap (λ (b : Option ℕ). option_map_or (λ n. passes_list (normal_value d.tree n UsedKeyList) key) b false) (sym p.body ∙ body)
-    ∙ ap (λ (tree : StyledTree). passes_list (normal_value tree node.0 UsedKeyList) key) (sym p.tree)
+passes_by kept d node key k body =
+    let p = parts_of_kept kept d k in
+    sym (ap (λ (b : Option ℕ). option_map_or (λ n. passes_list (normal_value d.tree n UsedKeyList) key) b false) (sym p.body ∙ body)
+    ∙ ap (λ (tree : StyledTree). passes_list (normal_value tree node.0 UsedKeyList) key) (sym p.tree))
 
-pub key_if : (key : ℕ) (down : Bool) (d : Document) (b : Bool) → passes key d ≡ b → key_effect key down d ≡ (if b then done (key_posts down key) d else nothing_done d)
-unfolding key_effect
-key_if key down d b e = ap (λ (x : Bool). if x then done (key_posts down key) d else nothing_done d) e
+pub passes_none : (kept : KeptDocument) (d : Document) (key : ℕ) → IsDocument kept d → kept.body ≡ None → false ≡ passes key d
+unfolding passes
+passes_none kept d key k body =
+    let p = parts_of_kept kept d k in
+    sym (ap (λ (b : Option ℕ). option_map_or (λ n. passes_list (normal_value d.tree n UsedKeyList) key) b false) (sym p.body ∙ body))
 
--- the stage was asked, and nothing of it changed but what was worked out
-pub does_still : (effect : Document → Effect) (old : KeptDocument) (stage asked : StageState) (programs : List ToldProgram) (handlers : List HandlerState) (globals : List (List ℕ × Value)) (heap : List ObjectState) (body : Option NodeId) (before : List ℕ)
-    → kept_in stage programs handlers globals heap body ≡ old → asked.acting ≡ stage.acting
-    → ((d : Document) → IsDocument (kept_in stage programs handlers globals heap body) d → effect d ≡ nothing_done d)
-    → Does effect old (kept_in asked programs handlers globals heap body) before before
-does_still effect old stage asked programs handlers globals heap body before is same none =
-    subst (λ (k : KeptDocument). Does effect k (kept_in asked programs handlers globals heap body) before before) is
-    (does_as nothing_done effect (kept_in stage programs handlers globals heap body) (kept_in asked programs handlers globals heap body) before before none (record {
-      text = [];
-      printed = sym (append-nil before);
-      does = λ d k. let p = parts_of_kept (kept_in stage programs handlers globals heap body) d k in record {
-        is = kept_of_parts (kept_in asked programs handlers globals heap body) d k.programs (record {
-          tree = ap (λ (a : Acting). a.tree) same ∙ p.tree;
-          queue = ap (λ (a : Acting). a.queue) same ∙ p.queue;
-          handlers = p.handlers;
-          globals = p.globals;
-          heap = p.heap;
-          body = p.body;
-        });
-        text_is = refl;
-      };
+-- only how many values the styles worked out was changed
+still_document : (old middle : KeptDocument) (d : Document) → middle ≡ record old { worked = middle.worked } → IsDocument old d → IsDocument middle d
+still_document old middle d same k =
+    let p = parts_of_kept old d k in
+    subst (λ (x : KeptDocument). IsDocument x d) (sym same) (kept_of_parts (record old { worked = middle.worked }) d k.programs (record {
+      path = p.path;
+      tree = p.tree;
+      queue = p.queue;
+      handlers = p.handlers;
+      globals = p.globals;
+      heap = p.heap;
+      body = p.body;
     }))
 
-pub gives_key : {T E : Type 0} (r : Result T E) (key : ℕ) (down : Bool) (old : KeptDocument) (stage first last given : StageState) (programs : List ToldProgram) (handlers : List HandlerState) (globals : List (List ℕ × Value)) (heap : List ObjectState) (body : Option NodeId) (before after : List ℕ)
-    → kept_in stage programs handlers globals heap body ≡ old
-    → ((d : Document) → IsDocument (kept_in stage programs handlers globals heap body) d → passes key d ≡ true)
-    → first.acting ≡ record stage.acting { event = no_event; text = [] }
-    → last.acting ≡ key_posts down key first.acting
-    → OnOk r (given.acting ≡ record last.acting { text = [] })
-    → OnOk r (after ≡ before ++ last.acting.text)
-    → OnOk r (Does (key_effect key down) old (kept_in given programs handlers globals heap body) before after)
-gives_key (Ok x) key down old stage first last given programs handlers globals heap body before after is passed begins becomes left printed =
-    subst (λ (k : KeptDocument). Does (key_effect key down) k (kept_in given programs handlers globals heap body) before after) is
-    (does_as (done (key_posts down key)) (key_effect key down) (kept_in stage programs handlers globals heap body) (kept_in given programs handlers globals heap body) before after
-    (λ d k. key_if key down d true (passed d k))
-    (does_in (key_posts down key) (kept_in stage programs handlers globals heap body) stage first last given programs handlers globals heap body before after refl begins becomes (key_posts-items down key) left printed))
-gives_key (Err e) key down old stage first last given programs handlers globals heap body before after is passed begins becomes left printed = tt
+pub does_still : (effect : Scene → Effect) (old middle new : KeptDocument) (before after : List ℕ) → middle ≡ record old { worked = middle.worked } → Does effect middle new before after → Does effect old new before after
+does_still effect old middle new before after same x = record {
+  text = x.text;
+  printed = x.printed;
+  does = λ d k.
+      subst (λ (s : Scene). HasDone new x.text (effect s))
+      (scene_same d middle.lent old.lent middle.now old.now (ap (λ (x : KeptDocument). x.lent) same) (ap (λ (x : KeptDocument). x.now) same))
+      (x.does d (still_document old middle d same k));
+}
+
+pub does_key : (key : ℕ) (down passed : Bool) (old new : KeptDocument) (before after : List ℕ) → ((d : Document) → IsDocument old d → passed ≡ passes key d) → Does (λ s. if passed then done (key_posts down key) s else nothing_done s) old new before after → Does (key_effect key down) old new before after
+unfolding key_effect
+does_key key down passed old new before after is x =
+    does_as (λ s. if passed then done (key_posts down key) s else nothing_done s) (key_effect key down) old new before after
+    (λ d k. ap (λ (b : Bool). if b then done (key_posts down key) (scene_of old d) else nothing_done (scene_of old d)) (sym (is d k))) x

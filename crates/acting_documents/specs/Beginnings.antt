@@ -1,10 +1,12 @@
--- How a document begins: its scripts run, and its first events wait (after BML, ARIB STD-B24 volume 2, in this project's own
--- profile).
+-- How a document begins, and how it ends: its scripts run, and its first events wait; or it gives way to another
+-- (after BML, ARIB STD-B24 volume 2, in this project's own profile).
 use Rattle.std.specs.Prelude.{ℕ, List, [], ◌∷◌, length, codes}
 use Rattle.document_load.specs.Scripts.{unnamed_places}
-use Rattle.document_stages.specs.Acting.{begun, first_focus}
+use Rattle.event_queue.specs.declared.events.Event.TheVariants as events
+use Rattle.document_stages.specs.Acting.{begun, first_focus, with_timers}
 use Rattle.acting_documents.specs.Documents.{Document}
-use Rattle.acting_documents.specs.Runs.{Effect, and_then, done, no_event, nothing_done, run_program}
+use Rattle.acting_documents.specs.Handling.{handled}
+use Rattle.acting_documents.specs.Runs.{Effect, Scene, and_then, done, no_event, nothing_done, run_program}
 
 -- ---- its scripts
 
@@ -13,17 +15,31 @@ abbrev pub script_places : Document → List ℕ
 script_places d = unnamed_places (length d.programs) d.handlers
 
 -- they run one behind the other
-abbrev pub run_scripts : List ℕ → Document → Effect
-run_scripts [] d = nothing_done d
-run_scripts (place ∷ places) d =
-    and_then (run_scripts places) (run_program (codes "script") no_event place d)
+abbrev pub run_scripts : List ℕ → Scene → Effect
+run_scripts [] s = nothing_done s
+run_scripts (place ∷ places) s =
+    and_then (run_scripts places) (run_program (codes "script") no_event place s)
 
 -- ---- its beginning
 
 -- Where no script gave the focus to an element, that with the nav-index 0 gets it; then its `load` waits, and
 -- the `focus` of that element.
-abbrev pub begin : Document → Effect
-begin d = done (λ a. begun (first_focus a) a) d
+abbrev pub begin : Scene → Effect
+begin s = done (λ a. begun (first_focus a) a) s
 
-unfoldable pub load_effect : Document → Effect
-load_effect d = and_then begin (run_scripts (script_places d) d)
+unfoldable pub load_effect : Scene → Effect
+load_effect s = and_then begin (run_scripts (script_places s.document) s)
+
+-- ---- its end
+
+-- nothing waits in the document any more, and its timers are dropped; a timer that is set then has the next number
+abbrev pub without_waiting : Scene → Scene
+without_waiting s =
+    record s {
+      document = record s.document { queue = [] };
+      browser = with_timers (record s.browser.timers { timers = [] }) s.browser;
+    }
+
+-- What waits is dropped, and then its body's handler of `unload` runs.
+unfoldable pub unload_effect : Scene → Effect
+unload_effect s = handled events.Unload (without_waiting s)

@@ -5,6 +5,7 @@ use Rattle.std.specs.Option.{option_map_or}
 use Rattle.bml_bytes.specs.Words.{is_same}
 use Rattle.dom_tree.specs.Items.{Item, tag_in}
 use Rattle.dom_tree.specs.Walks.{first, places}
+use Rattle.multipart_entities.specs.declared.paths.Path.{Path}
 use Rattle.style_reader.specs.declared.properties.Property.TheVariants.{UsedKeyList}
 use Rattle.style_reader.specs.declared.rules.Rule.{Rule}
 use Rattle.style_cascade.specs.Cascade.{unwritten}
@@ -22,6 +23,8 @@ use Rattle.document_stages.specs.Acting.{no_focus}
 use Rattle.document_stages.specs.Displays.{tree_lines}
 
 pub record Document : Type 0 where
+  -- the path at which it was found
+  pub path : Path
   -- the nodes, what their styles come from, and which of them have the focus and are active
   pub tree : StyledTree
   -- the events that wait for their dispatch, the one that waits longest in front

@@ -1,6 +1,6 @@
 -- What the dispatch of an event does: the handler of its target runs, or the default action of a key is made
 -- (after the intrinsic events and the navigation of BML, ARIB STD-B24 volume 2, in this project's own
--- profile). Events do not bubble.
+-- profile), or a timer's function is called. Events do not bubble.
 use Rattle.std.specs.Prelude.{ℕ, ◌==◌, Bool, if◌then◌else◌, drop, Option, Some, None, option_and_then}
 use Rattle.std.specs.Option.{option_map_or}
 use Rattle.dom_tree.specs.NodeNumbers.{number_of}
@@ -12,11 +12,12 @@ use Rattle.document_load.specs.declared.handler_kinds.HandlerKind.TheVariants as
 use Rattle.event_queue.specs.Events.{name_of}
 use Rattle.event_queue.specs.declared.events.Event.{Event}
 use Rattle.event_queue.specs.declared.events.Event.TheVariants as events
-use Rattle.document_stages.specs.Acting.{acted, key_posts}
+use Rattle.event_queue.specs.Timers.{timer_of, with_settled}
+use Rattle.document_stages.specs.Acting.{acted, due_posted, key_posts, with_timers}
 use Rattle.acting_documents.specs.Documents.{Document, body_of, handler_in, passes}
-use Rattle.acting_documents.specs.Runs.{Effect, done, nothing_done, run_program}
+use Rattle.acting_documents.specs.Runs.{Effect, Scene, done, nothing_done, run_function, run_program}
 
--- the kind of the handlers of an event; there is none for `default`
+-- the kind of the handlers of an event; there is none for `default` and for timers
 abbrev pub kind_of : Event → Option HandlerKind
 kind_of events.Load = Some kinds.Load
 kind_of events.Unload = Some kinds.Unload
@@ -26,32 +27,55 @@ kind_of (events.Click node) = Some kinds.Click
 kind_of (events.KeyDown key) = Some kinds.KeyDown
 kind_of (events.KeyUp key) = Some kinds.KeyUp
 kind_of (events.Default key) = None
+kind_of (events.Timer number) = None
 
 -- the handler that a node has for an event runs, where it has one, with the event as the current one
-abbrev pub run_handler : Event → ℕ → Document → Effect
-run_handler event node d =
+abbrev pub run_handler : Event → ℕ → Scene → Effect
+run_handler event node s =
     option_map_or
-    (λ place. run_program (name_of event) (record { event = Some event; target = node }) place d)
-    (option_and_then (handler_in d.handlers node) (kind_of event)) (nothing_done d)
+    (λ place. run_program (name_of event) (record { event = Some event; target = node }) place s)
+    (option_and_then (handler_in s.document.handlers node) (kind_of event)) (nothing_done s)
 
 -- the same at a target that may be absent
-abbrev pub handled_at : Option ℕ → Event → Document → Effect
-handled_at None event d = nothing_done d
-handled_at (Some node) event d = run_handler event node d
+abbrev pub handled_at : Option ℕ → Event → Scene → Effect
+handled_at None event s = nothing_done s
+handled_at (Some node) event s = run_handler event node s
 
 -- the element that has the focus
-abbrev pub focus_of : Document → Option ℕ
-focus_of d = number_of d.tree.focus.focus
+abbrev pub focus_of : Scene → Option ℕ
+focus_of s = number_of s.document.tree.focus.focus
+
+abbrev pub body_in : Scene → Option ℕ
+body_in s = body_of s.document.tree.items
 
 -- the default action of a key
-abbrev pub default_action : ℕ → Document → Effect
-default_action key d = done (acted (action_of d.tree key)) d
+abbrev pub default_action : ℕ → Scene → Effect
+default_action key s = done (acted (action_of s.document.tree key)) s
+
+-- ---- timers
+
+-- an event of the timer of a number was taken
+abbrev pub timer_taken : ℕ → Scene → Scene
+timer_taken number s =
+    record s { browser = with_timers (with_settled number s.browser.timers) s.browser }
+
+-- The function of a timer is called. A timer that goes on no more ends before that, so its number and its place are
+-- free then. Where no timer has the number any more nothing is done.
+abbrev pub timer_effect : ℕ → Scene → Effect
+timer_effect number s =
+    option_map_or
+    (λ timer. run_function (name_of (events.Timer number)) timer.function (timer_taken number s))
+    (timer_of number s.browser.timers) (nothing_done s)
+
+-- All timers that are due at a moment, which is the time then, post their events.
+unfoldable pub due_effect : ℕ → Scene → Effect
+due_effect moment s = done (due_posted moment) (record s { now = moment })
 
 -- ---- events
 
 -- the first of the events that wait in a document, which it leaves
-abbrev pub without_first : Document → Document
-without_first d = record d { queue = drop 1 d.queue }
+abbrev pub without_first : Scene → Scene
+without_first s = record s { document = record s.document { queue = drop 1 s.document.queue } }
 
 -- no element is active any more
 abbrev pub deactivated : Document → Document
@@ -59,23 +83,26 @@ deactivated d =
     record d { tree = record d.tree { focus = record d.tree.focus { active = None } } }
 
 -- `keyup` of enter ends the active state before its handler runs
-abbrev pub released : ℕ → Document → Document
-released key d = if key == key_number Enter then deactivated d else d
+abbrev pub released : ℕ → Scene → Scene
+released key s =
+    if key == key_number Enter then record s { document = deactivated s.document } else s
 
 -- Events of the focus and clicks go to the node that they name, those of keys to the focus as it is now, and
 -- those of a document to its body.
-unfoldable pub handled : Event → Document → Effect
-handled events.Load d = handled_at (body_of d.tree.items) events.Load d
-handled events.Unload d = handled_at (body_of d.tree.items) events.Unload d
-handled (events.Focus node) d = run_handler (events.Focus node) node d
-handled (events.Blur node) d = run_handler (events.Blur node) node d
-handled (events.Click node) d = run_handler (events.Click node) node d
-handled (events.KeyDown key) d = handled_at (focus_of d) (events.KeyDown key) d
-handled (events.KeyUp key) d = handled_at (focus_of d) (events.KeyUp key) (released key d)
-handled (events.Default key) d = default_action key d
+unfoldable pub handled : Event → Scene → Effect
+handled events.Load s = handled_at (body_in s) events.Load s
+handled events.Unload s = handled_at (body_in s) events.Unload s
+handled (events.Focus node) s = run_handler (events.Focus node) node s
+handled (events.Blur node) s = run_handler (events.Blur node) node s
+handled (events.Click node) s = run_handler (events.Click node) node s
+handled (events.KeyDown key) s = handled_at (focus_of s) (events.KeyDown key) s
+handled (events.KeyUp key) s = handled_at (focus_of s) (events.KeyUp key) (released key s)
+handled (events.Default key) s = default_action key s
+handled (events.Timer number) s = timer_effect number s
 
 -- ---- keys
 
 -- a key that passes posts what it does; no other does anything
-unfoldable pub key_effect : ℕ → Bool → Document → Effect
-key_effect key down d = if passes key d then done (key_posts down key) d else nothing_done d
+unfoldable pub key_effect : ℕ → Bool → Scene → Effect
+key_effect key down s =
+    if passes key s.document then done (key_posts down key) s else nothing_done s

@@ -1,7 +1,8 @@
 -- A device of the proofs: what is kept of a document that acts, and for which document it stands.
-use Rattle.std.specs.Prelude.{◌≡◌, ◌<◌, ◌^◌, ℕ, List, [], All, Option, length}
+use Rattle.std.specs.Prelude.{◌≡◌, ◌<◌, ◌^◌, ℕ, List, [], All, Option, None, length}
 use Rattle.std.specs.List.{AllZip}
 use Rattle.dom_tree.specs.Items.{Item}
+use Rattle.multipart_entities.specs.declared.paths.Path.{Path}
 use Rattle.style_reader.specs.declared.rules.Rule.{Rule}
 use Rattle.style_cascade.specs.StyledTrees.{StyledTree}
 use Rattle.es_values.specs.declared.values.Value.{Value}
@@ -11,13 +12,15 @@ use Rattle.es_shapes.specs.Codes.{declared_by}
 use Rattle.es_eval.specs.Worlds.{IsNamedLive}
 use Rattle.event_queue.specs.declared.events.Event.{Event}
 use Rattle.document_load.specs.Scripts.{HandlerState, unnamed_places}
+use Rattle.browser_objects.specs.Calls.{BrowserParts}
 use Rattle.document_stages.specs.Stages.{StageState}
 use Rattle.acting_documents.specs.Documents.{Document, body_of, first_tree}
 use Rattle.acting_documents.specs.Runs.{no_event}
 
--- the document with what is told of its programs, which node is its body, and how many values its styles
--- worked out
+-- the document with what is told of its programs, which node is its body, how many values its styles worked out,
+-- and what it is lent
 pub record KeptDocument : Type 0 where
+  pub path : Path
   pub tree : StyledTree
   pub queue : List Event
   pub programs : List ToldProgram
@@ -26,42 +29,53 @@ pub record KeptDocument : Type 0 where
   pub heap : List ObjectState
   pub body : Option ℕ
   pub worked : ℕ
+  -- what it is lent while it acts: what belongs to the receiver, with the timers; the time; and the path of the document
+  -- that was launched
+  pub lent : BrowserParts
+  pub now : ℕ
+  pub launched : Option Path
 
-abbrev pub kept_as : List ToldProgram → ℕ → Document → KeptDocument
-kept_as programs worked d =
-    record {
+-- what is kept for a document
+abbrev pub kept_as : KeptDocument → Document → KeptDocument
+kept_as kept d =
+    record kept {
+      path = d.path;
       tree = d.tree;
       queue = d.queue;
-      programs = programs;
       handlers = d.handlers;
       globals = d.globals;
       heap = d.heap;
       body = body_of d.tree.items;
-      worked = worked;
     }
 
 -- what is kept is that of the document, whose programs are told
 pub record IsDocument (kept : KeptDocument) (d : Document) : Type 0 where
   pub programs : AllZip Tells d.programs kept.programs
-  pub others : kept ≡ kept_as kept.programs kept.worked d
+  pub others : kept ≡ kept_as kept d
 
 -- what a document acts on before its scripts run, with these nodes and rules
-abbrev pub staged_first : List Item → List Rule → StageState
-staged_first items rules =
+abbrev pub staged_first : Path → List Item → List Rule → BrowserParts → ℕ → StageState
+staged_first path items rules lent now =
     record {
       acting = record {
+        path = path;
         tree = first_tree items rules;
         queue = [];
+        browser = lent;
+        now = now;
         event = no_event;
+        launched = None;
         text = [];
       };
       worked = 0;
     }
 
 -- a document before its scripts run, with these parts
-abbrev pub kept_first : List Item → List Rule → List ToldProgram → List HandlerState → KeptDocument
-kept_first items rules programs handlers =
+abbrev pub kept_first : Path → List Item → List Rule → List ToldProgram → List HandlerState
+    → BrowserParts → ℕ → KeptDocument
+kept_first path items rules programs handlers lent now =
     record {
+      path = path;
       tree = first_tree items rules;
       queue = [];
       programs = programs;
@@ -70,6 +84,9 @@ kept_first items rules programs handlers =
       heap = [];
       body = body_of items;
       worked = 0;
+      lent = lent;
+      now = now;
+      launched = None;
     }
 
 -- what is kept beside: the places of the script elements' programs; objects that the globals name are there;

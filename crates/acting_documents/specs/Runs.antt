@@ -1,13 +1,15 @@
 -- What the run of a script comes to in a document. A run is a tree of what it asks of its host; here each
--- question is answered by the rows of the document. (This project's own.)
-use Rattle.std.specs.Prelude.{ℕ, List, [], ◌++◌, None, map}
+-- question is answered by the rows of the document and of the browser object. (This project's own.)
+use Rattle.std.specs.Prelude.{ℕ, List, [], ◌++◌, Option, Some, None, map}
 use Rattle.es_values.specs.Conversions.{text_of}
 use Rattle.es_eval.specs.declared.outcomes.Outcome.{Outcome}
-use Rattle.es_eval.specs.Evaluation.{run_at}
+use Rattle.es_eval.specs.Evaluation.{global_run, run_at}
 use Rattle.es_shapes.specs.Sources.{program_of}
 use Rattle.es_eval.specs.Worlds.{World, Run}
 use Rattle.es_eval.specs.Worlds.Run.{Over, Reads, Writes, Calls}
+use Rattle.multipart_entities.specs.declared.paths.Path.{Path}
 use Rattle.dom_objects.specs.declared.current_events.CurrentEvent.{CurrentEvent}
+use Rattle.browser_objects.specs.Calls.{BrowserParts}
 use Rattle.document_stages.specs.Acting.{Acting, called, read_by, written}
 use Rattle.acting_documents.specs.Documents.{Document}
 use Rattle.acting_documents.specs.StopLines.{stop_lines}
@@ -23,63 +25,100 @@ ended (Over outcome w) a = record { outcome = outcome; world = w; acting = a }
 ended (Reads base name go) a = ended (go (read_by a base name)) a
 ended (Writes base name value heap go) a = ended go (written a base name (text_of heap value))
 ended (Calls base name arguments heap go) a =
-    ended (go (called a base name arguments heap).answer heap)
+    ended (go (called a base name arguments heap).answer (called a base name arguments heap).heap)
     (called a base name arguments heap).acting
 
 -- ---- in a document
 
--- what became of a document, and what was printed
-pub record Effect : Type 0 where
+-- a document that acts; the registers, the persistent area and the random words, which belong to the receiver, and the
+-- timers; and the time
+pub record Scene : Type 0 where
   pub document : Document
+  pub browser : BrowserParts
+  pub now : ℕ
+
+-- what became of them, the path of the document that was launched, if one was, and what was printed
+pub record Effect : Type 0 where
+  pub scene : Scene
+  pub launched : Option Path
   pub text : List ℕ
 
-abbrev pub nothing_done : Document → Effect
-nothing_done d = record { document = d; text = [] }
+abbrev pub nothing_done : Scene → Effect
+nothing_done s = record { scene = s; launched = None; text = [] }
 
--- one thing, and then another
-abbrev pub and_then : (Document → Effect) → Effect → Effect
-and_then more e =
-    record { document = (more e.document).document; text = e.text ++ (more e.document).text }
+-- the effect, with what was printed before it
+abbrev pub effect_behind : List ℕ → Effect → Effect
+effect_behind text e = record e { text = text ++ e.text }
 
--- the document's parts for the handler of an event, behind which nothing is printed yet
-abbrev pub acting_in : CurrentEvent → Document → Acting
-acting_in event d =
-    record { tree = d.tree; queue = d.queue; event = event; text = [] }
+-- One thing, and then another. Where another document was launched, this one does nothing more.
+abbrev pub unless_launched : Option Path → (Scene → Effect) → Effect → Effect
+unless_launched None more e = effect_behind e.text (more e.scene)
+unless_launched (Some path) more e = e
 
--- the document with what was left of these parts
-abbrev pub with_acting : Acting → Document → Document
-with_acting a d = record d { tree = a.tree; queue = a.queue }
+abbrev pub and_then : (Scene → Effect) → Effect → Effect
+and_then more e = unless_launched e.launched more e
 
-abbrev pub with_world : World → Document → Document
-with_world w d = record d { globals = w.globals; heap = w.heap }
+-- what the handler of an event acts on, behind which nothing is printed yet
+abbrev pub acting_in : CurrentEvent → Scene → Acting
+acting_in event s =
+    record {
+      path = s.document.path;
+      tree = s.document.tree;
+      queue = s.document.queue;
+      browser = s.browser;
+      now = s.now;
+      event = event;
+      launched = None;
+      text = [];
+    }
+
+-- what was left of it
+abbrev pub with_acting : Acting → Scene → Scene
+with_acting a s =
+    record s {
+      document = record s.document { tree = a.tree; queue = a.queue };
+      browser = a.browser;
+    }
+
+abbrev pub with_world : World → Scene → Scene
+with_world w s =
+    record s { document = record s.document { globals = w.globals; heap = w.heap } }
 
 -- the most steps of a script or a handler
 unfoldable pub most_steps : ℕ
 most_steps = 100000
 
--- what an end of a script that ran for the event of this name leaves of a document
-abbrev pub effect_of_end : List ℕ → Document → End → Effect
-effect_of_end name d e =
+-- what an end of a script that ran for the event of this name leaves
+abbrev pub effect_of_end : List ℕ → Scene → End → Effect
+effect_of_end name s e =
     record {
-      document = with_world e.world (with_acting e.acting d);
+      scene = with_world e.world (with_acting e.acting s);
+      launched = e.acting.launched;
       text = e.acting.text ++ stop_lines e.outcome name;
     }
 
 -- the program at a place runs, for the event of this name, as the handler of the current event
-unfoldable pub run_program : List ℕ → CurrentEvent → ℕ → Document → Effect
-run_program name event place d =
-    effect_of_end name d
+unfoldable pub run_program : List ℕ → CurrentEvent → ℕ → Scene → Effect
+run_program name event place s =
+    let d = s.document in
+    effect_of_end name s
     (ended (run_at (map program_of d.programs) place d.globals d.heap most_steps)
-    (acting_in event d))
+    (acting_in event s))
 
 -- outside of handlers there is no current event
 abbrev pub no_event : CurrentEvent
 no_event = record { event = None; target = 0 }
 
+-- the global of a name is called without arguments, for the event of that other name and without a current one
+unfoldable pub run_function : List ℕ → List ℕ → Scene → Effect
+run_function name function s =
+    let d = s.document in
+    effect_of_end name s
+    (ended (global_run (map program_of d.programs) function d.globals d.heap most_steps)
+    (acting_in no_event s))
+
 -- something is done to what handlers act on, outside of them
-abbrev pub done : (Acting → Acting) → Document → Effect
-done change d =
-    record {
-      document = with_acting (change (acting_in no_event d)) d;
-      text = (change (acting_in no_event d)).text;
-    }
+abbrev pub done : (Acting → Acting) → Scene → Effect
+done change s =
+    let a = change (acting_in no_event s) in
+    record { scene = with_acting a s; launched = a.launched; text = a.text }

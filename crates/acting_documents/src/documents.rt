@@ -1,33 +1,36 @@
 //! A document that acts.
 
 ghost use Rattle.std.specs.Io.{StartsWith};
-ghost use Rattle.std.specs.Prelude.{◌≡◌, ◌<◌, ◌^◌, ◌++◌, [], map, length, IfOk, OnOk};
+ghost use Rattle.std.specs.Prelude.{◌≡◌, ◌<◌, ◌^◌, ◌++◌, ℕ, List, [], None, map, length, IfOk, OnOk};
 ghost use Rattle.document_load.specs.Scripts.{HavePlaces, unnamed_places};
 ghost use Rattle.document_load.specs.ScriptViews.{told_handler};
 ghost use Rattle.es_shapes.specs.Codes.{declared_by};
 ghost use Rattle.event_queue.specs.Queues.{first_of};
 ghost use Rattle.dom_tree.specs.NodeNumbers.{number_of};
+ghost use Rattle.document_stages.specs.Acting.{key_posts};
 ghost use Rattle.acting_documents.specs.Handling.{without_first};
-ghost use Rattle.acting_documents.specs.Documents.{Document as TheDocument, body_of as spec_body_of};
+ghost use Rattle.acting_documents.specs.Documents.{Document as TheDocument, body_of as spec_body_of, passes as spec_passes};
 ghost use Rattle.acting_documents.specs.Doings.{Changes, Does};
-ghost use Rattle.acting_documents.specs.Handling.{default_action, focus_of, handled as spec_handled, handled_at, key_effect, released, run_handler as spec_run_handler};
+ghost use Rattle.acting_documents.specs.Handling.{default_action, due_effect, focus_of, handled as spec_handled, handled_at, key_effect, released, run_handler as spec_run_handler, timer_effect, timer_taken};
 ghost use Rattle.acting_documents.specs.Documents.{document_lines};
 ghost use Rattle.acting_documents.specs.Kept.{IsDocument, kept_first, staged_first};
-ghost use Rattle.acting_documents.specs.Beginnings.{load_effect, run_scripts as spec_run_scripts, script_places};
-ghost use Rattle.acting_documents.specs.Runs.{run_program as spec_run_program};
+ghost use Rattle.acting_documents.specs.Beginnings.{begin as spec_begin, load_effect, run_scripts as spec_run_scripts, script_places, unload_effect, without_waiting};
+ghost use Rattle.acting_documents.specs.Runs.{done, nothing_done, run_function as spec_run_function, run_program as spec_run_program};
 
 use crate::handlers::Handlers;
 use crate::stop_lines::push_stop_line;
-use bml_bytes::NoMemory;
+use bml_bytes::{NoMemory, Text};
+use browser_objects::BrowserState;
 use document_load::{Document, Handler};
 use document_stages::{NO_EVENT, Stage};
 use dom_objects::CurrentEvent;
 use dom_tree::{NodeId, Tree};
-use es_eval::{Globals, are_few_functions, run};
+use es_eval::{Globals, are_few_functions, run, run_global};
 use es_reader::Program;
 use es_values::Heap;
 use event_queue::Event;
 use focus_keys::Key;
+use multipart_entities::Path;
 use std::alloc::Global;
 use std::marker::Model;
 use style_cascade::Styles;
@@ -36,8 +39,9 @@ use style_reader::Rules;
 /// The most steps of a script or a handler; this project's own limit.
 const MOST_STEPS: u32 = 100_000;
 
-/// A document with the world of its scripts, and the events that wait in it. Contracts see its
-/// parts; which document it is is the relation `IsDocument`.
+/// A document with the world of its scripts, and the events that wait in it. While it acts it is
+/// lent what belongs to the receiver, with the timers. Contracts see its parts; which document it
+/// is is the relation `IsDocument`.
 #[derive(Drop)]
 pub struct ActingDocument {
     alloc: Global,
@@ -57,6 +61,7 @@ impl Model for ActingDocument {
     ghost Value = { KeptDocument };
 
     ghost view = { λ d. record {
+      path = d.stage.acting.path;
       tree = d.stage.acting.tree;
       queue = d.stage.acting.queue;
       programs = d.programs.items;
@@ -65,6 +70,9 @@ impl Model for ActingDocument {
       heap = d.heap;
       body = number_of d.body;
       worked = d.stage.worked;
+      lent = d.stage.acting.browser;
+      now = d.stage.acting.now;
+      launched = d.stage.acting.launched;
     } };
 
     ghost invariant = { λ d.
@@ -72,31 +80,31 @@ impl Model for ActingDocument {
 }
 
 impl ActingDocument {
-    /// A document that was read, in which nothing happened yet. Its handlers and scripts name its
-    /// programs, as `document_load` gives them. One whose programs declare 2^48 functions takes
-    /// more memory than there is.
-    pub fn new(alloc: Global, document: Document) -> Result<ActingDocument, NoMemory>
+    /// A document that was read at a path, in which nothing happened yet. Its handlers and scripts
+    /// name its programs, as `document_load` gives them. One whose programs declare 2^48 functions
+    /// takes more memory than there is.
+    pub fn new(alloc: Global, path: Path, document: Document) -> Result<ActingDocument, NoMemory>
         requires { HavePlaces document.scripts.items (length document.programs.items)
             (map told_handler document.handlers.items) }
         ensures { IfOk result (λ acting. acting
-            ≡ kept_first document.tree document.rules document.programs.items
-            (map told_handler document.handlers.items)) }
+            ≡ kept_first path document.tree document.rules document.programs.items
+            (map told_handler document.handlers.items) acting.lent acting.now) }
     {
         if are_few_functions(&document.programs) {
-            ActingDocument::of(alloc, document)
+            ActingDocument::of(alloc, path, document)
         } else {
             Err(NoMemory)
         }
     }
 
     // The same, where its programs declare few functions.
-    fn of(alloc: Global, document: Document) -> Result<ActingDocument, NoMemory>
+    fn of(alloc: Global, path: Path, document: Document) -> Result<ActingDocument, NoMemory>
         requires places { HavePlaces document.scripts.items (length document.programs.items)
             (map told_handler document.handlers.items) }
         requires few { length (declared_by document.programs.items) < 2 ^ 48 }
         ensures { IfOk result (λ acting. acting
-            ≡ kept_first document.tree document.rules document.programs.items
-            (map told_handler document.handlers.items)) }
+            ≡ kept_first path document.tree document.rules document.programs.items
+            (map told_handler document.handlers.items) acting.lent acting.now) }
     {
         let Document {
             tree,
@@ -107,7 +115,7 @@ impl ActingDocument {
             ..
         } = document;
         let body = body_of(&tree);
-        let (stage, handlers, globals) = parts_of(alloc, tree, rules, handlers)?;
+        let (stage, handlers, globals) = parts_of(alloc, path, tree, rules, handlers)?;
         Ok(ActingDocument {
             alloc,
             stage,
@@ -120,22 +128,71 @@ impl ActingDocument {
         })
     }
 
+    /// Exchanges what it is lent with what stands there: what belongs to the receiver before it acts
+    /// at this time, and back behind that.
+    pub fn exchange(&mut self, browser: &mut BrowserState, now: u64)
+        requires { now < 2 ^ 62 }
+        ensures lent { self.new ≡ record self.old { lent = browser.old; now = now } }
+        ensures given_back { browser.new ≡ self.old.lent }
+    {
+        self.stage.exchange(browser, now);
+    }
+
+    /// Takes the path of the document that was launched.
+    pub fn take_launched(&mut self) -> Option<Path>
+        ensures path { result ≡ self.old.launched }
+        ensures document { self.new ≡ record self.old { launched = None } }
+    {
+        self.stage.take_launched()
+    }
+
     /// Begins the document: its scripts run one behind the other, an element gets the focus where
-    /// no script gave it to one, and the first events are posted.
+    /// no script gave it to one, and the first events are posted. Where a script launches another
+    /// document, nothing is done behind that.
     pub fn begin(&mut self, out: &mut Vec<u8>) -> Result<(), NoMemory>
         ensures does { OnOk result
             (Does load_effect self.old self.new out.old.items out.new.items) }
         ensures grows { StartsWith out.new.items out.old.items }
     {
         self.run_scripts(out)?;
+        if self.stage.has_launched() {
+            return Ok(());
+        }
+        self.begin_events(out)
+    }
+
+    // Gives an element the focus where none has it, and posts the first events.
+    fn begin_events(&mut self, out: &mut Vec<u8>) -> Result<(), NoMemory>
+        ensures does { OnOk result
+            (Does spec_begin self.old self.new out.old.items out.new.items) }
+        ensures grows { StartsWith out.new.items out.old.items }
+    {
         self.stage.prepare(NO_EVENT);
         self.stage.begin()?;
         self.stage.give_text(out)
     }
 
+    /// Ends the document for another: what waits in it is dropped with its timers, and its body's
+    /// `unload` is handled.
+    pub fn unload(&mut self, out: &mut Vec<u8>) -> Result<(), NoMemory>
+        ensures does { OnOk result
+            (Does unload_effect self.old self.new out.old.items out.new.items) }
+        ensures grows { StartsWith out.new.items out.old.items }
+    {
+        self.drop_waiting();
+        self.handle(Event::Unload, out)
+    }
+
+    // Drops what waits, and the timers.
+    fn drop_waiting(&mut self)
+        ensures { Changes without_waiting self.old self.new }
+    {
+        self.stage.drop_waiting();
+    }
+
     // Runs the programs of the script elements, one behind the other.
     fn run_scripts(&mut self, out: &mut Vec<u8>) -> Result<(), NoMemory>
-        ensures does { OnOk result (Does (λ d. spec_run_scripts (script_places d) d)
+        ensures does { OnOk result (Does (λ s. spec_run_scripts (script_places s.document) s)
             self.old self.new out.old.items out.new.items) }
         ensures grows { StartsWith out.new.items out.old.items }
     {
@@ -149,7 +206,11 @@ impl ActingDocument {
             self.old self.new out.old.items out.new.items) }
         ensures grows { StartsWith out.new.items out.old.items }
     {
+        self.do_nothing();
         'scripts: for place in places {
+            if self.stage.has_launched() {
+                return Ok(());
+            }
             self.run_program("script", NO_EVENT, *place as usize, out)?;
         }
         Ok(())
@@ -180,6 +241,7 @@ impl ActingDocument {
         if place < self.programs.len() {
             self.run_there(name, event, place, out)
         } else {
+            self.do_nothing();
             Ok(())
         }
     }
@@ -201,6 +263,37 @@ impl ActingDocument {
         let outcome = run(
             self.programs.as_slice(),
             place,
+            &mut self.globals,
+            &mut self.heap,
+            &mut self.stage,
+            MOST_STEPS,
+        )?;
+        self.stage.give_text(out)?;
+        push_stop_line(outcome, name, out)
+    }
+
+    // Nothing is done, and so nothing is launched.
+    fn do_nothing(&mut self)
+        ensures { (before : List ℕ) → Does nothing_done self.old self.new before before }
+    {
+        self.stage.prepare(NO_EVENT);
+    }
+
+    // Calls the global of a name, for the event of that other name.
+    fn run_function(
+        &mut self,
+        name: &'static str,
+        function: &Text,
+        out: &mut Vec<u8>,
+    ) -> Result<(), NoMemory>
+        ensures does { OnOk result (Does (spec_run_function name.now function.now)
+            self.old self.new out.old.items out.new.items) }
+        ensures grows { StartsWith out.new.items out.old.items }
+    {
+        self.stage.prepare(NO_EVENT);
+        let outcome = run_global(
+            self.programs.as_slice(),
+            function,
             &mut self.globals,
             &mut self.heap,
             &mut self.stage,
@@ -240,7 +333,29 @@ impl ActingDocument {
             Event::Focus(node) | Event::Blur(node) | Event::Click(node) => {
                 self.run_handler(event, NodeId(node), out)
             }
+            Event::Timer(number) => self.handle_timer(number, out),
         }
+    }
+
+    // Calls the function of a timer that fired, where a timer has the number still.
+    fn handle_timer(&mut self, number: u32, out: &mut Vec<u8>) -> Result<(), NoMemory>
+        ensures does { OnOk result
+            (Does (timer_effect number) self.old self.new out.old.items out.new.items) }
+        ensures grows { StartsWith out.new.items out.old.items }
+    {
+        let Some(function) = self.stage.timer_function(number)? else {
+            self.do_nothing();
+            return Ok(());
+        };
+        self.settle_timer(number);
+        self.run_function("timer", &function, out)
+    }
+
+    // An event of the timer of a number was taken: it ends where it goes on no more.
+    fn settle_timer(&mut self, number: u32)
+        ensures { Changes (timer_taken number) self.old self.new }
+    {
+        self.stage.settle_timer(number);
     }
 
     // Ends the active state, where enter is released.
@@ -254,7 +369,7 @@ impl ActingDocument {
 
     // Runs the handler of an event at the element that has the focus.
     fn handle_at_focus(&mut self, event: Event, out: &mut Vec<u8>) -> Result<(), NoMemory>
-        ensures does { OnOk result (Does (λ d. handled_at (focus_of d) event d)
+        ensures does { OnOk result (Does (λ s. handled_at (focus_of s) event s)
             self.old self.new out.old.items out.new.items) }
         ensures grows { StartsWith out.new.items out.old.items }
     {
@@ -275,7 +390,10 @@ impl ActingDocument {
     {
         match target {
             Some(node) => self.run_handler(event, node, out),
-            None => Ok(()),
+            None => {
+                self.do_nothing();
+                Ok(())
+            }
         }
     }
 
@@ -286,6 +404,7 @@ impl ActingDocument {
         ensures grows { StartsWith out.new.items out.old.items }
     {
         let Some(place) = self.handlers.program_of(node, event) else {
+            self.do_nothing();
             return Ok(());
         };
         let current = CurrentEvent {
@@ -307,24 +426,54 @@ impl ActingDocument {
     }
 
     /// Posts what a key does that is pressed or released, where the body lets it pass.
-    #[tactic(auto, unfolding(crate::specs::Handling::key_effect, crate::specs::Documents::passes))]
     pub fn post_key(&mut self, key: u8, down: bool, out: &mut Vec<u8>) -> Result<(), NoMemory>
         ensures does { OnOk result
             (Does (key_effect key down) self.old self.new out.old.items out.new.items) }
         ensures grows { StartsWith out.new.items out.old.items }
     {
+        if self.passes(key) {
+            self.post_passed(key, down, out)
+        } else {
+            self.do_nothing();
+            Ok(())
+        }
+    }
+
+    // Whether the body lets a key pass.
+    fn passes(&mut self, key: u8) -> bool
+        ensures passes { (d : TheDocument) → IsDocument self.old d → result ≡ spec_passes key d }
+        ensures kept { self.new ≡ record self.old { worked = self.new.worked } }
+    {
         let Some(body) = self.body else {
-            return Ok(());
+            return false;
         };
         // Behind a call that found no memory nothing is known of the nodes.
         if !self.stage.is_element(body) {
-            return Ok(());
+            return false;
         }
-        if !self.stage.passes(body, key) {
-            return Ok(());
-        }
+        self.stage.passes(body, key)
+    }
+
+    // Posts what a key does that passes.
+    fn post_passed(&mut self, key: u8, down: bool, out: &mut Vec<u8>) -> Result<(), NoMemory>
+        ensures does { OnOk result
+            (Does (done (key_posts down key)) self.old self.new out.old.items out.new.items) }
+        ensures grows { StartsWith out.new.items out.old.items }
+    {
         self.stage.prepare(NO_EVENT);
         self.stage.post_key(key, down)?;
+        self.stage.give_text(out)
+    }
+
+    /// The clock goes to a moment, and the timers that are due then post their events.
+    pub fn post_due(&mut self, moment: u64, out: &mut Vec<u8>) -> Result<(), NoMemory>
+        requires { moment < 2 ^ 62 }
+        ensures does { OnOk result
+            (Does (due_effect moment) self.old self.new out.old.items out.new.items) }
+        ensures grows { StartsWith out.new.items out.old.items }
+    {
+        self.stage.prepare(NO_EVENT);
+        self.stage.post_due(moment)?;
         self.stage.give_text(out)
     }
 
@@ -332,7 +481,7 @@ impl ActingDocument {
     pub fn show(&mut self, out: &mut Vec<u8>) -> Result<(), NoMemory>
         ensures shown { OnOk result ((d : TheDocument) → IsDocument self.old d
             → out.new.items ≡ out.old.items ++ document_lines d) }
-        ensures same { Changes (λ d. d) self.old self.new }
+        ensures same { Changes (λ s. s) self.old self.new }
         ensures grows { StartsWith out.new.items out.old.items }
     {
         self.stage.show(out)
@@ -349,15 +498,17 @@ impl ActingDocument {
 // What a document that was read acts on, with its handlers, and the globals of its scripts.
 fn parts_of(
     alloc: Global,
+    path: Path,
     tree: Tree,
     rules: Rules,
     handlers: Vec<Handler>,
 ) -> Result<(Stage, Handlers, Globals), NoMemory>
-    ensures stage { IfOk result (λ made. made.0 ≡ staged_first tree rules) }
+    ensures stage { IfOk result (λ made. made.0
+        ≡ staged_first path tree rules made.0.acting.browser made.0.acting.now) }
     ensures handlers { IfOk result (λ made. made.1 ≡ map told_handler handlers.items) }
     ensures globals { IfOk result (λ made. made.2 ≡ []) }
 {
-    let stage = stage_of(alloc, tree, rules)?;
+    let stage = stage_of(alloc, path, tree, rules)?;
     with_handlers(alloc, stage, handlers)
 }
 
@@ -388,11 +539,12 @@ fn handlers_of(alloc: Global, handlers: Vec<Handler>) -> Result<(Handlers, Globa
 }
 
 // What a document that was read acts on.
-fn stage_of(alloc: Global, tree: Tree, rules: Rules) -> Result<Stage, NoMemory>
-    ensures { IfOk result (λ stage. stage ≡ staged_first tree rules) }
+fn stage_of(alloc: Global, path: Path, tree: Tree, rules: Rules) -> Result<Stage, NoMemory>
+    ensures { IfOk result (λ stage. stage
+        ≡ staged_first path tree rules stage.acting.browser stage.acting.now) }
 {
     let styles = Styles::new(alloc, &tree, rules)?;
-    Ok(Stage::new(alloc, tree, styles))
+    Ok(Stage::new(alloc, path, tree, styles))
 }
 
 // The first `body` of a document.

@@ -62,7 +62,7 @@ impl Handlers {
     }
 }
 
-// The kind of the handlers of an event; there is none for `default`.
+// The kind of the handlers of an event; there is none for `default` and for timers.
 fn kind_of(event: Event) -> Option<HandlerKind>
     ensures { result ≡ spec_kind_of event }
 {
@@ -74,7 +74,7 @@ fn kind_of(event: Event) -> Option<HandlerKind>
         Event::Click(_) => Some(HandlerKind::Click),
         Event::KeyDown(_) => Some(HandlerKind::KeyDown),
         Event::KeyUp(_) => Some(HandlerKind::KeyUp),
-        Event::Default(_) => None,
+        Event::Default(_) | Event::Timer(_) => None,
     }
 }
 

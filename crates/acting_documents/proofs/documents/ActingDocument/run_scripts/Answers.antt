@@ -11,7 +11,7 @@ returns-clause-does c =
     let new = c.run_places.new.self in
     let before = c.args.out.now.items in
     let after = c.run_places.new.out.items in
-    on_ok_weaker {Q = Does (λ d. spec_run_scripts (script_places d) d) old new before after} c.run_places.result
+    on_ok_weaker {Q = Does (λ s. spec_run_scripts (script_places s.document) s) old new before after} c.run_places.result
     (λ does. does_scripts c.in_ok-places.places.items old new before after c.in_ok-places.ensures
     (subst (λ (all : List ℕ). Does (spec_run_scripts all) old new before after) c.as_slice.ensures.value does))
     c.run_places.ensures.does

@@ -1,0 +1,19 @@
+use Rattle.std.proofs.Common.{refl}
+use Rattle.std.proofs.lemmas.Result.{on_ok_weaker}
+use Rattle.event_queue.specs.declared.events.Event.TheVariants as events
+use Rattle.acting_documents.specs.Beginnings.{unload_effect, without_waiting}
+use Rattle.acting_documents.specs.Doings.{Does}
+use Rattle.acting_documents.specs.Handling.{handled}
+use Rattle.acting_documents.proofs.DoingLemmas.{does_changed}
+use Rattle.acting_documents.proofs.documents.ActingDocument.unload.Goals as goal
+
+pub returns-clause-does : goal.returns-clause-does
+unfolding unload_effect
+returns-clause-does c =
+    let old = c.args.self.now in
+    let new = c.handle.new.self in
+    let before = c.args.out.now.items in
+    let after = c.handle.new.out.items in
+    on_ok_weaker {Q = Does unload_effect old new before after} c.handle.result
+    (λ does. does_changed without_waiting (handled events.Unload) old c.drop_waiting.new.self new before after (λ s. refl) c.drop_waiting.ensures does)
+    c.handle.ensures.does
