@@ -1,4 +1,5 @@
+pub mod ActLemmas
 mod GiftLaws
-pub mod PageLaws
+mod PageLaws
 mod PendingLaws
-pub mod StandingLaws
+mod StandingLaws

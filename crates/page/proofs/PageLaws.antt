@@ -5,28 +5,29 @@ use Rattle.std.specs.Option.{option_map_or, option_or}
 use Rattle.std.specs.Io.{StartsWith}
 use Rattle.std.proofs.lemmas.List.{take-append-drop}
 use Rattle.bml_reader.specs.declared.faults.DocFault.{DocFault}
+use Rattle.browser_objects.specs.Calls.{BrowserParts}
 use Rattle.display_list.specs.Show.{clock_line}
 use Rattle.document_load.specs.Drafts.{DraftState}
-use Rattle.event_queue.specs.Queues.{first_of}
-use Rattle.event_queue.specs.declared.events.Event.{Event}
+use Rattle.document_stages.specs.Acting.{with_timers}
+use Rattle.event_queue.specs.Timers.{no_timers}
 use Rattle.module_store.specs.Resources.{start_path}
 use Rattle.module_store.specs.Standing.{ForStored, StoreState}
 use Rattle.module_store.specs.Store.{Stored}
-use Rattle.page.specs.Dispatches.{dispatch, dispatches, event_in, load_at, most_dispatches, next_and, next_event, next_load, turn}
-use Rattle.acting_documents.specs.Handling.{without_first}
-use Rattle.acting_documents.specs.Documents.{Document}
-use Rattle.acting_documents.specs.Doings.{Changes, Does}
-use Rattle.acting_documents.specs.Handling.{handled}
-use Rattle.page.specs.Inputs.{display_of}
-use Rattle.acting_documents.specs.Documents.{document_lines}
-use Rattle.acting_documents.specs.Kept.{IsDocument, KeptDocument}
-use Rattle.page.specs.Loading.{load, loadable_reading, opened, wanted_path}
+use Rattle.multipart_entities.specs.declared.paths.Path.{Path}
 use Rattle.acting_documents.specs.Beginnings.{load_effect}
-use Rattle.page.specs.Pendings.{Loads, wanted_of}
-use Rattle.acting_documents.specs.Runs.{Effect}
-use Rattle.page.specs.Standing.{AreDocuments, HasMade, HasMadeOf, Makes, MakesWith, MayMake, PageState, StandsFor, TakesLoad}
-use Rattle.page.specs.State.{State, Step, Wanted, step_behind, step_of, still}
-use Rattle.page.specs.State.Wanted.{StartDocument, NoDocument}
+use Rattle.acting_documents.specs.Documents.{Document, document_lines}
+use Rattle.acting_documents.specs.Doings.{Changes}
+use Rattle.acting_documents.specs.Handling.{due_effect}
+use Rattle.acting_documents.specs.Kept.{IsDocument, KeptDocument}
+use Rattle.acting_documents.specs.Runs.{Effect, Scene}
+use Rattle.page.specs.Acts.{HasActed, scene_with}
+use Rattle.page.specs.Dispatches.{dispatch, dispatches, load_at, most_dispatches, next_and, next_event, next_load, turn}
+use Rattle.page.specs.Inputs.{display_of, due_step, with_clock}
+use Rattle.page.specs.Loading.{load, loadable_reading, opened, wanted_path}
+use Rattle.page.specs.Pendings.{Loads, wanted_at, wanted_of}
+use Rattle.page.specs.Standing.{AreDocuments, Begins, HasMade, HasMadeOf, Makes, MakesWith, MayMake, MayMakeHere, PageState, StandsFor, TakesLoad, behind_launch, with_document}
+use Rattle.page.specs.State.{State, Step, Wanted, scene_in, stays_or_goes, step_behind, step_of, still}
+use Rattle.page.specs.State.Wanted.{NoDocument}
 use Rattle.page.specs.declared.loading.Load.{Load}
 use Rattle.page.specs.declared.loading.Load.TheVariants as came
 use Rattle.page.specs.declared.loading.Loading.{Loading}
@@ -44,8 +45,7 @@ spent_stands page spent stored s stands = record {
   wanted = stands.wanted;
   current = stands.current;
   clock = stands.clock;
-  random = stands.random;
-  area = stands.area;
+  browser = stands.browser;
 }
 
 pub makes_spent : (step : State → Step) (old new : PageState) (before after : List ℕ) (spent : Bool) → Makes step old new before after → Makes step old (with_spent spent new) before after
@@ -57,15 +57,6 @@ makes_spent step old new before after spent made = record {
       record { stands = spent_stands new spent stored (step s).state has.stands; text_is = has.text_is };
 }
 
-pub makes_with_spent : (state : StoreState) (step : Stored → State → Step) (old new : PageState) (before after : List ℕ) (spent : Bool) → MakesWith state step old new before after → MakesWith state step old (with_spent spent new) before after
-makes_with_spent state step old new before after spent made = record {
-  text = made.text;
-  printed = made.printed;
-  makes = λ stored is s stands.
-      let has = made.makes stored is s stands in
-      record { stands = spent_stands new spent stored (step stored s).state has.stands; text_is = has.text_is };
-}
-
 -- the same of a call that spends the page where it found no memory
 pub makes_after : {A E : Type 0} (step : State → Step) (old page now : PageState) (before after : List ℕ) (called result : Result A E) → OnOk called (Makes step old page before after) → result ≡ called → now ≡ with_spent (is_err called) page
     → OnOk result (Makes step old now before after)
@@ -75,24 +66,8 @@ makes_after {A} {E} step old page now before after (Ok done) result made same sp
 
 -- ---- the document of a page
 
-abbrev pub with_document : Option KeptDocument → ℕ → PageState → PageState
-with_document document worked page = record page { document = document; worked = worked }
-
 abbrev pub with_loading : Loading → PageState → PageState
 with_loading loading page = record page { loading = loading }
-
--- with another document, which is that of the state
-pub document_stands : (page : PageState) (document : Option KeptDocument) (worked : ℕ) (stored : Stored) (s : State) (d : Option Document) → StandsFor page stored s → AreDocuments document d
-    → StandsFor (with_document document worked page) stored (record s { document = d })
-document_stands page document worked stored s d stands are = record {
-  reader = stands.reader;
-  document = are;
-  wanted = stands.wanted;
-  current = stands.current;
-  clock = stands.clock;
-  random = stands.random;
-  area = stands.area;
-}
 
 -- where a document is kept, it is that of the state
 document_there : (page : PageState) (stored : Stored) (s : State) (k : KeptDocument) → page.document ≡ Some k → StandsFor page stored s → (d : Document) × (s.document ≡ Some d) × IsDocument k d
@@ -109,44 +84,59 @@ none_there page stored s is stands = by s.document refl (subst (λ (x : Option K
     by None e are = e
     by (Some d) e are = absurd are
 
--- the state with the document that it has
-same_document : (s : State) (d : Option Document) → s.document ≡ d → s ≡ record s { document = d }
-same_document s d e = ap (λ (x : Option Document). record s { document = x }) e
+-- ---- what documents do
 
--- ---- keys
+-- the page behind what its document did, and launched or not
+pub made_of : (launched : Option Path) (page : PageState) (stored : Stored) (s : State) (k : KeptDocument) (browser : BrowserParts) (text : List ℕ) (e : Effect) → StandsFor page stored s → HasActed launched k browser text e
+    → HasMade (behind_launch launched (with_document k browser page)) stored text (step_of s e)
+made_of None page stored s k browser text e stands acted =
+    subst (λ (o : Option Path). HasMade (with_document k browser page) stored text (step_behind e.text (stays_or_goes o s e.scene))) (sym acted.launched_is) (record {
+      stands = record {
+        reader = stands.reader;
+        document = acted.is;
+        wanted = stands.wanted;
+        current = stands.current;
+        clock = stands.clock;
+        browser = acted.given_back_is;
+      };
+      text_is = acted.text_is ∙ sym (append-nil e.text);
+    })
+made_of (Some path) page stored s k browser text e stands acted =
+    subst (λ (o : Option Path). HasMade (behind_launch (Some path) (with_document k browser page)) stored text (step_behind e.text (stays_or_goes o s e.scene))) (sym acted.launched_is) (record {
+      stands = record {
+        reader = stands.reader;
+        document = tt;
+        wanted = refl;
+        current = tt;
+        clock = stands.clock;
+        browser = ap (with_timers no_timers) acted.given_back_is;
+      };
+      text_is = acted.text_is;
+    })
 
-abbrev pub in_document : (Document → Effect) → State → Step
-in_document effect s = option_map_or (λ d. step_of s (effect d)) s.document (still s)
+-- ---- moments
 
-pub none_done : (effect : Document → Effect) (page : PageState) (before : List ℕ) → page.document ≡ None → Makes (in_document effect) page page before before
-none_done effect page before is = record {
+due_without : (moment : ℕ) (s : State) → s.document ≡ None → due_step moment s ≡ still (with_clock moment s)
+due_without moment s e = ap (λ (o : Option Document). option_map_or (λ d. step_of (with_clock moment s) (due_effect moment (scene_in s d))) o (still (with_clock moment s))) e
+
+-- without a document the clock moves alone
+pub time_passed : (moment : ℕ) (page : PageState) (before : List ℕ) → page.document ≡ None → Makes (due_step moment) page (record page { clock = moment }) before before
+time_passed moment page before is = record {
   text = [];
   printed = sym (append-nil before);
   makes = λ stored s stands.
-      subst (λ (o : Option Document). HasMade page stored [] (option_map_or (λ d. step_of s (effect d)) o (still s))) (sym (none_there page stored s is stands)) (record { stands = stands; text_is = refl });
+      subst (HasMade (record page { clock = moment }) stored []) (sym (due_without moment s (none_there page stored s is stands))) (record {
+        stands = record {
+          reader = stands.reader;
+          document = stands.document;
+          wanted = stands.wanted;
+          current = stands.current;
+          clock = refl;
+          browser = stands.browser;
+        };
+        text_is = refl;
+      });
 }
-
-pub done_in_document : (effect : Document → Effect) (page : PageState) (k new : KeptDocument) (worked : ℕ) (before after : List ℕ) → page.document ≡ Some k → Does effect k new before after
-    → Makes (in_document effect) page (with_document (Some new) worked page) before after
-done_in_document effect page k new worked before after is does = record {
-  text = does.text;
-  printed = does.printed;
-  makes = λ stored s stands.
-      let there = document_there page stored s k is stands in
-      let done = does.does there.0 there.2 in
-      subst (λ (o : Option Document). HasMade (with_document (Some new) worked page) stored does.text (option_map_or (λ d. step_of s (effect d)) o (still s))) (sym there.1)
-      (record { stands = document_stands page (Some new) worked stored s (Some (effect there.0).document) stands done.is; text_is = done.text_is });
-}
-
--- the same of a call that spends the page where it found no memory
-pub posted_by : {A E : Type 0} (effect : Document → Effect) (old page : PageState) (k new : KeptDocument) (worked : ℕ) (now : PageState) (before after : List ℕ) (called result : Result A E) → page ≡ old → page.document ≡ Some k
-    → OnOk called (Does effect k new before after) → result ≡ called → now ≡ with_spent (is_err called) (with_document (Some new) worked page) → OnOk result (Makes (in_document effect) old now before after)
-posted_by {A} {E} effect old page k new worked now before after (Err fault) result view is does same spent = subst (λ (r : Result A E). OnOk r (Makes (in_document effect) old now before after)) (sym same) tt
-posted_by {A} {E} effect old page k new worked now before after (Ok done) result view is does same spent =
-    subst (λ (r : Result A E). OnOk r (Makes (in_document effect) old now before after)) (sym same)
-    (subst (λ (p : PageState). Makes (in_document effect) p now before after) view
-    (subst (λ (p : PageState). Makes (in_document effect) page p before after) (sym spent)
-    (makes_spent (in_document effect) page (with_document (Some new) worked page) before after false (done_in_document effect page k new worked before after is does))))
 
 -- ---- what is shown
 
@@ -175,16 +165,27 @@ same_behind : (front one other : List ℕ) → front ++ one ≡ front ++ other �
 same_behind [] one other e = e
 same_behind (x ∷ front) one other e = same_behind front one other cc
 
-pub shown_with : (page : PageState) (k new : KeptDocument) (worked : ℕ) (before between after : List ℕ) → page.document ≡ Some k → between ≡ before ++ clock_line page.clock
-    → ((d : Document) → IsDocument k d → after ≡ between ++ document_lines d) → Changes (λ d. d) k new → StartsWith after between → Makes shown_step page (with_document (Some new) worked page) before after
-shown_with page k new worked before between after is printed shown same grows = record {
+-- the document of a page that was shown
+abbrev with_shown : KeptDocument → PageState → PageState
+with_shown shown page = record page { document = Some shown; worked = shown.worked }
+
+pub shown_with : (page : PageState) (k new : KeptDocument) (before between after : List ℕ) → page.document ≡ Some k → between ≡ before ++ clock_line page.clock
+    → ((d : Document) → IsDocument k d → after ≡ between ++ document_lines d) → Changes (λ s. s) k new → StartsWith after between → Makes shown_step page (with_shown new page) before after
+shown_with page k new before between after is printed shown same grows = record {
   text = clock_line page.clock ++ drop (length between) after;
   printed = rest_after after between grows ∙ ap (λ (l : List ℕ). l ++ drop (length between) after) printed ∙ append_assoc before (clock_line page.clock) (drop (length between) after);
   makes = λ stored s stands.
       let there = document_there page stored s k is stands in
       let lines = same_behind between (drop (length between) after) (document_lines there.0) (sym (rest_after after between grows) ∙ shown there.0 there.2) in
       record {
-        stands = subst (StandsFor (with_document (Some new) worked page) stored) (sym (same_document s (Some there.0) there.1)) (document_stands page (Some new) worked stored s (Some there.0) stands (same there.0 there.2));
+        stands = record {
+          reader = stands.reader;
+          document = subst (AreDocuments (Some new)) (sym there.1) (same.document there.0 there.2);
+          wanted = stands.wanted;
+          current = stands.current;
+          clock = stands.clock;
+          browser = stands.browser;
+        };
         text_is = ap₂ (λ (a b : List ℕ). a ++ b) (ap clock_line stands.clock) lines ∙ sym (display_with s (Some there.0) there.1);
       };
 }
@@ -195,15 +196,15 @@ displayed_without old page new before after (Err fault) view is same printed = t
 displayed_without old page new before after (Ok done) view is same printed =
     subst (λ (p : PageState). Makes shown_step p new before after) view (subst (λ (p : PageState). Makes shown_step page p before after) (sym same) (shown_without page before after is printed))
 
-displayed_as : {A E : Type 0} (old page new : PageState) (k shown : KeptDocument) (before between after : List ℕ) (result : Result A E) → page ≡ old → page.document ≡ Some k → new ≡ with_document (Some shown) shown.worked page
-    → between ≡ before ++ clock_line page.clock → OnOk result ((d : Document) → IsDocument k d → after ≡ between ++ document_lines d) → Changes (λ d. d) k shown → StartsWith after between → OnOk result (Makes shown_step old new before after)
+displayed_as : {A E : Type 0} (old page new : PageState) (k shown : KeptDocument) (before between after : List ℕ) (result : Result A E) → page ≡ old → page.document ≡ Some k → new ≡ with_shown shown page
+    → between ≡ before ++ clock_line page.clock → OnOk result ((d : Document) → IsDocument k d → after ≡ between ++ document_lines d) → Changes (λ s. s) k shown → StartsWith after between → OnOk result (Makes shown_step old new before after)
 displayed_as old page new k shown before between after (Err fault) view is same printed lines changes grows = tt
 displayed_as old page new k shown before between after (Ok done) view is same printed lines changes grows =
     subst (λ (p : PageState). Makes shown_step p new before after) view
-    (subst (λ (p : PageState). Makes shown_step page p before after) (sym same) (shown_with page k shown shown.worked before between after is printed lines changes grows))
+    (subst (λ (p : PageState). Makes shown_step page p before after) (sym same) (shown_with page k shown before between after is printed lines changes grows))
 
-pub displayed_with : {A E : Type 0} (old page new : PageState) (k shown : KeptDocument) (before between after left : List ℕ) (called result : Result A E) → page ≡ old → page.document ≡ Some k → new ≡ with_document (Some shown) shown.worked page
-    → between ≡ before ++ clock_line page.clock → OnOk called ((d : Document) → IsDocument k d → after ≡ between ++ document_lines d) → Changes (λ d. d) k shown → StartsWith after between → left ≡ after → result ≡ called
+pub displayed_with : {A E : Type 0} (old page new : PageState) (k shown : KeptDocument) (before between after left : List ℕ) (called result : Result A E) → page ≡ old → page.document ≡ Some k → new ≡ with_shown shown page
+    → between ≡ before ++ clock_line page.clock → OnOk called ((d : Document) → IsDocument k d → after ≡ between ++ document_lines d) → Changes (λ s. s) k shown → StartsWith after between → left ≡ after → result ≡ called
     → OnOk result (Makes shown_step old new before left)
 displayed_with {A} {E} old page new k shown before between after left called result view is same printed lines changes grows e called_is =
     subst (λ (r : Result A E). OnOk r (Makes shown_step old new before left)) (sym called_is)
@@ -235,147 +236,53 @@ events_next : (stored : Stored) (s : State) → next_load stored s ≡ None → 
 unfolding dispatch
 events_next stored s e = ap (λ (o : Option Step). option_or o (next_event s)) e
 
-pub none_acts : (state : StoreState) (old page : PageState) (before after : List ℕ) → page.document ≡ None → MayMake false state next_load old page before after → MayMake false state dispatch old page before after
-none_acts state old page before after is made = record {
-  text = made.text;
-  printed = made.printed;
+pub event_next : (made : Bool) (state : StoreState) (old page new : PageState) (before between after : List ℕ) → MayMake false state next_load old page before between → MayMakeHere made next_event page new between after
+    → MayMake made state dispatch old new before after
+event_next made state old page new before between after loads event = record {
+  text = loads.text ++ event.text;
+  printed = event.printed ∙ ap (λ (l : List ℕ). l ++ event.text) loads.printed ∙ append_assoc before loads.text event.text;
   makes = λ stored known s stands.
-      let none = none_loaded page stored made.text s (next_load stored s) (made.makes stored known s stands) in
-      let nothing = events_next stored s none.0 ∙ ap (option_and_then (event_in s)) (none_there page stored s is none.1.stands) in
-      subst (HasMadeOf false page stored made.text s) (sym nothing) none.1;
+      let none = none_loaded page stored loads.text s (next_load stored s) (loads.makes stored known s stands) in
+      subst (λ (l : List ℕ). HasMadeOf made new stored (l ++ event.text) s (dispatch stored s)) (sym none.1.text_is)
+      (subst (HasMadeOf made new stored event.text s) (sym (events_next stored s none.0)) (event.makes stored s none.1.stands));
 }
 
-empty_of : (queue : List Event) → first_of queue ≡ None → drop 1 queue ≡ queue
-empty_of [] e = refl
-empty_of (event ∷ queue) e = absurd cc
-
-first_in : (page : PageState) (k : KeptDocument) (d : Document) → IsDocument k d → k.queue ≡ d.queue
-first_in page k d is = ap (λ (x : KeptDocument). x.queue) is.others
-
-event_next : (s : State) (d : Document) (event : Option Event) → s.document ≡ Some d → first_of d.queue ≡ event → next_event s ≡ option_map (λ event. step_of s (handled event (without_first d))) event
-event_next s d event e first = ap (option_and_then (event_in s)) e ∙ ap (option_map (λ event. step_of s (handled event (without_first d)))) first
-
-pub none_waits : (state : StoreState) (old page : PageState) (k new : KeptDocument) (worked : ℕ) (before after : List ℕ) → page.document ≡ Some k → first_of k.queue ≡ None → Changes without_first k new
-    → MayMake false state next_load old page before after → MayMake false state dispatch old (with_document (Some new) worked page) before after
-none_waits state old page k new worked before after is first changes made = record {
-  text = made.text;
-  printed = made.printed;
-  makes = λ stored known s stands.
-      let none = none_loaded page stored made.text s (next_load stored s) (made.makes stored known s stands) in
-      let there = document_there page stored s k is none.1.stands in
-      let d = there.0 in
-      let empty : first_of d.queue ≡ None = ap first_of (sym (first_in page k d there.2)) ∙ first in
-      let nothing = events_next stored s none.0 ∙ event_next s d None there.1 empty in
-      let same : without_first d ≡ d = ap (λ (queue : List Event). record d { queue = queue }) (empty_of d.queue empty) in
-      let is_now : IsDocument new d = subst (IsDocument new) same (changes d there.2) in
-      subst (HasMadeOf false (with_document (Some new) worked page) stored made.text s) (sym nothing)
-      (record {
-        stands = subst (StandsFor (with_document (Some new) worked page) stored) (sym (same_document s (Some d) there.1)) (document_stands page (Some new) worked stored s (Some d) none.1.stands is_now);
-        text_is = none.1.text_is;
-      });
-}
-
-pub event_made : (state : StoreState) (old page : PageState) (k between new : KeptDocument) (event : Event) (worked : ℕ) (before middle after : List ℕ) → page.document ≡ Some k → first_of k.queue ≡ Some event
-    → Changes without_first k between → Does (handled event) between new middle after → MayMake false state next_load old page before middle → MayMake true state dispatch old (with_document (Some new) worked page) before after
-event_made state old page k between new event worked before middle after is first changes does made = record {
-  text = made.text ++ does.text;
-  printed = does.printed ∙ ap (λ (l : List ℕ). l ++ does.text) made.printed ∙ append_assoc before made.text does.text;
-  makes = λ stored known s stands.
-      let none = none_loaded page stored made.text s (next_load stored s) (made.makes stored known s stands) in
-      let there = document_there page stored s k is none.1.stands in
-      let d = there.0 in
-      let some : first_of d.queue ≡ Some event = ap first_of (sym (first_in page k d there.2)) ∙ first in
-      let next = events_next stored s none.0 ∙ event_next s d (Some event) there.1 some in
-      let done = does.does (without_first d) (changes d there.2) in
-      subst (HasMadeOf true (with_document (Some new) worked page) stored (made.text ++ does.text) s) (sym next)
-      (record {
-        stands = document_stands page (Some new) worked stored s (Some (handled event (without_first d)).document) none.1.stands done.is;
-        text_is = ap (λ (l : List ℕ). l ++ does.text) none.1.text_is ∙ done.text_is;
-      });
-}
+-- the same of a call that may find no memory
+pub event_comes : {E : Type 0} (result : Result Bool E) (state : StoreState) (old page new : PageState) (before between after : List ℕ) → MayMake false state next_load old page before between
+    → IfOk result (λ made. MayMakeHere made next_event page new between after) → IfOk result (λ made. MayMake made state dispatch old new before after)
+event_comes (Err fault) state old page new before between after loads event = tt
+event_comes (Ok made) state old page new before between after loads event = event_next made state old page new before between after loads event
 
 -- ---- loads
 
+-- a document that is wanted has a path
+path_wanted : (loading : Loading) → (loading ≡ kept.Nothing → ⊥) → (stored : Stored) → (path : Path) × (wanted_path (wanted_of loading) stored ≡ Some path)
+path_wanted kept.Start wanted stored = (start_path stored, refl)
+path_wanted (kept.At path) wanted stored = (path, refl)
+path_wanted (kept.Pending pending) wanted stored = by pending.is_start
+  where
+    by : (is_start : Bool) → (path : Path) × (wanted_path (wanted_at is_start pending.path) stored ≡ Some path)
+    by true = (start_path stored, refl)
+    by false = (pending.path, refl)
+path_wanted kept.Nothing wanted stored = absurd (wanted refl)
+
 -- the load of what is wanted
-load_next : (stored : Stored) (s : State) (wanted : Wanted) → s.wanted ≡ wanted → next_load stored s ≡ option_and_then (load_at stored s) (wanted_path wanted stored)
+load_next : (stored : Stored) (s : State) (wanted : Wanted) (path : Path) (reading : Option (Result DraftState DocFault)) → s.wanted ≡ wanted → wanted_path wanted stored ≡ Some path → loadable_reading stored path ≡ reading
+    → next_load stored s ≡ option_map (load s path) reading
 unfolding next_load
-load_next stored s wanted e = ap (λ (w : Wanted). option_and_then (load_at stored s) (wanted_path w stored)) e
+load_next stored s wanted path reading e path_is reading_is =
+    ap (λ (w : Wanted). option_and_then (load_at stored s) (wanted_path w stored)) e ∙ ap (option_and_then (load_at stored s)) path_is ∙ ap (option_map (load s path)) reading_is
+
+nothing_next : (stored : Stored) (s : State) → s.wanted ≡ NoDocument → next_load stored s ≡ None
+unfolding next_load
+nothing_next stored s e = ap (λ (w : Wanted). option_and_then (load_at stored s) (wanted_path w stored)) e
 
 -- nothing is wanted
-pub none_wanted : (state : StoreState) (page : PageState) (before : List ℕ) → page.loading ≡ kept.Nothing → MayMake false state next_load page page before before
+none_wanted : (state : StoreState) (page : PageState) (before : List ℕ) → page.loading ≡ kept.Nothing → MayMake false state next_load page page before before
 none_wanted state page before is = record {
   text = [];
   printed = sym (append-nil before);
-  makes = λ stored known s stands.
-      let none : next_load stored s ≡ None = load_next stored s NoDocument (sym stands.wanted ∙ ap wanted_of is) in
-      subst (HasMadeOf false page stored [] s) (sym none) (record { stands = stands; text_is = refl });
-}
-
--- what is wanted is the start document
-start_next : (page : PageState) (stored : Stored) (s : State) (reading : Option (Result DraftState DocFault)) → wanted_of page.loading ≡ StartDocument → StandsFor page stored s
-    → loadable_reading stored (start_path stored) ≡ reading → next_load stored s ≡ option_map (load s (start_path stored)) reading
-start_next page stored s reading wanted stands is =
-    load_next stored s StartDocument (sym stands.wanted ∙ wanted) ∙ ap (option_map (load s (start_path stored))) is
-
-pub load_waits : (state : StoreState) (page : PageState) (loading : Loading) (before after : List ℕ) → wanted_of page.loading ≡ StartDocument → Loads state page.loading (came.Waits loading) before after
-    → MayMake false state next_load page (with_loading loading page) before after
-load_waits state page loading before after wanted loads = record {
-  text = loads.text;
-  printed = loads.printed;
-  makes = λ stored known s stands.
-      let goes = loads.loads stored known stands.current s.read stands.reader in
-      subst (HasMadeOf false (with_loading loading page) stored loads.text s) (sym (start_next page stored s None wanted stands goes.none))
-      (record {
-        stands = record {
-          reader = stands.reader;
-          document = stands.document;
-          wanted = goes.wanted ∙ sym wanted ∙ stands.wanted;
-          current = goes.current;
-          clock = stands.clock;
-          random = stands.random;
-          area = stands.area;
-        };
-        text_is = goes.silent;
-      });
-}
-
--- nothing is wanted behind a load
-nothing_wanted : (page : PageState) (document : Option KeptDocument) (worked : ℕ) (stored : Stored) (s : State) (d : Option Document) → StandsFor page stored s → AreDocuments document d
-    → StandsFor (with_document document worked (with_loading kept.Nothing page)) stored (record s { document = d; wanted = NoDocument })
-nothing_wanted page document worked stored s d stands are = record {
-  reader = stands.reader;
-  document = are;
-  wanted = refl;
-  current = tt;
-  clock = stands.clock;
-  random = stands.random;
-  area = stands.area;
-}
-
-pub load_refused : (state : StoreState) (page : PageState) (before after : List ℕ) → wanted_of page.loading ≡ StartDocument → Loads state page.loading came.Refused before after
-    → MayMake true state next_load page (with_document None 0 (with_loading kept.Nothing page)) before after
-load_refused state page before after wanted loads = record {
-  text = loads.text;
-  printed = loads.printed;
-  makes = λ stored known s stands.
-      let refused = loads.loads stored known stands.current s.read stands.reader in
-      subst (HasMadeOf true (with_document None 0 (with_loading kept.Nothing page)) stored loads.text s) (sym (start_next page stored s (Some (Err refused.fault)) wanted stands refused.reading_is))
-      (record { stands = nothing_wanted page None 0 stored s None stands tt; text_is = refused.text_is });
-}
-
-pub load_made : (state : StoreState) (page : PageState) (k new : KeptDocument) (worked : ℕ) (before between after : List ℕ) → wanted_of page.loading ≡ StartDocument → Loads state page.loading (came.Loaded k) before between
-    → Does load_effect k new between after → MayMake true state next_load page (with_document (Some new) worked (with_loading kept.Nothing page)) before after
-load_made state page k new worked before between after wanted loads does = record {
-  text = loads.text ++ does.text;
-  printed = does.printed ∙ ap (λ (l : List ℕ). l ++ does.text) loads.printed ∙ append_assoc before loads.text does.text;
-  makes = λ stored known s stands.
-      let has = loads.loads stored known stands.current s.read stands.reader in
-      let done = does.does (opened s.read has.0) has.2 in
-      subst (HasMadeOf true (with_document (Some new) worked (with_loading kept.Nothing page)) stored (loads.text ++ does.text) s) (sym (start_next page stored s (Some (Ok has.0)) wanted stands has.1))
-      (record {
-        stands = nothing_wanted page (Some new) worked stored s (Some (load_effect (opened s.read has.0)).document) stands done.is;
-        text_is = ap₂ (λ (a b : List ℕ). a ++ b) has.3 done.text_is;
-      });
+  makes = λ stored known s stands. subst (HasMadeOf false page stored [] s) (sym (nothing_next stored s (sym stands.wanted ∙ ap wanted_of is))) (record { stands = stands; text_is = refl });
 }
 
 pub load_nothing : (state : StoreState) (old page : PageState) (loading : Loading) (before : List ℕ) → page ≡ old → page.loading ≡ kept.Nothing → loading ≡ kept.Nothing → MayMake false state next_load old (with_loading loading page) before before
@@ -383,8 +290,85 @@ load_nothing state old page loading before view is e =
     subst (λ (p : PageState). MayMake false state next_load p (with_loading loading page) before before) view
     (subst (λ (l : Loading). MayMake false state next_load page (with_loading l page) before before) (is ∙ sym e) (none_wanted state page before is))
 
+load_waits : (state : StoreState) (page : PageState) (loading : Loading) (before after : List ℕ) → (page.loading ≡ kept.Nothing → ⊥) → Loads state page.loading (came.Waits loading) before after
+    → MayMake false state next_load page (with_loading loading page) before after
+load_waits state page loading before after wanted loads = record {
+  text = loads.text;
+  printed = loads.printed;
+  makes = λ stored known s stands.
+      let at = path_wanted page.loading wanted stored in
+      let goes = loads.loads stored known stands.current at.0 at.1 s.read stands.reader in
+      subst (HasMadeOf false (with_loading loading page) stored loads.text s) (sym (load_next stored s (wanted_of page.loading) at.0 None (sym stands.wanted) at.1 goes.none)) (record {
+        stands = record {
+          reader = stands.reader;
+          document = stands.document;
+          wanted = goes.still ∙ stands.wanted;
+          current = goes.current;
+          clock = stands.clock;
+          browser = stands.browser;
+        };
+        text_is = goes.silent;
+      });
+}
+
+load_refused : (state : StoreState) (page : PageState) (before after : List ℕ) → (page.loading ≡ kept.Nothing → ⊥) → Loads state page.loading came.Refused before after
+    → MayMake true state next_load page (record page { loading = kept.Nothing; document = None; worked = 0 }) before after
+load_refused state page before after wanted loads = record {
+  text = loads.text;
+  printed = loads.printed;
+  makes = λ stored known s stands.
+      let at = path_wanted page.loading wanted stored in
+      let refused = loads.loads stored known stands.current at.0 at.1 s.read stands.reader in
+      subst (HasMadeOf true (record page { loading = kept.Nothing; document = None; worked = 0 }) stored loads.text s)
+      (sym (load_next stored s (wanted_of page.loading) at.0 (Some (Err refused.fault)) (sym stands.wanted) at.1 refused.reading_is)) (record {
+        stands = record {
+          reader = stands.reader;
+          document = tt;
+          wanted = refl;
+          current = tt;
+          clock = stands.clock;
+          browser = stands.browser;
+        };
+        text_is = refused.text_is;
+      });
+}
+
+-- none is wanted while the scripts of one that was loaded run
+abbrev unwanting : State → State
+unwanting s = record s { wanted = NoDocument }
+
+nothing_wanted : (page : PageState) (stored : Stored) (s : State) → StandsFor page stored s → StandsFor (with_loading kept.Nothing page) stored (unwanting s)
+nothing_wanted page stored s stands = record {
+  reader = stands.reader;
+  document = stands.document;
+  wanted = refl;
+  current = tt;
+  clock = stands.clock;
+  browser = stands.browser;
+}
+
+load_made : (state : StoreState) (page now : PageState) (k : KeptDocument) (before between after : List ℕ) → (page.loading ≡ kept.Nothing → ⊥) → Loads state page.loading (came.Loaded k) before between
+    → Begins k (with_loading kept.Nothing page) now between after → MayMake true state next_load page now before after
+load_made state page now k before between after wanted loads begins =
+    let acts = begins.acts in
+    record {
+      text = loads.text ++ acts.text;
+      printed = acts.printed ∙ ap (λ (l : List ℕ). l ++ acts.text) loads.printed ∙ append_assoc before loads.text acts.text;
+      makes = λ stored known s stands.
+          let at = path_wanted page.loading wanted stored in
+          let has = loads.loads stored known stands.current at.0 at.1 s.read stands.reader in
+          let d = opened s.read at.0 has.draft in
+          let scene : scene_with page.browser page.clock d ≡ scene_in s d = ap₂ (λ (b : BrowserParts) (n : ℕ). scene_with b n d) stands.browser stands.clock in
+          let acted = subst (λ (x : Scene). HasActed begins.launched begins.document begins.browser acts.text (load_effect x)) scene (acts.acts d has.document_is) in
+          let made = made_of begins.launched (with_loading kept.Nothing page) stored (unwanting s) begins.document begins.browser acts.text (load_effect (scene_in s d)) (nothing_wanted page stored s stands) acted in
+          subst (λ (p : PageState). HasMadeOf true p stored (loads.text ++ acts.text) s (next_load stored s)) (sym begins.new_is)
+          (subst (HasMadeOf true (behind_launch begins.launched (with_document begins.document begins.browser (with_loading kept.Nothing page))) stored (loads.text ++ acts.text) s)
+          (sym (load_next stored s (wanted_of page.loading) at.0 (Some (Ok has.draft)) (sym stands.wanted) at.1 has.reading_is))
+          (record { stands = made.stands; text_is = ap₂ (λ (a b : List ℕ). a ++ b) has.text_is made.text_is }));
+    }
+
 -- what was taken of a load is what the load makes of the state
-takes_load : (state : StoreState) (page now : PageState) (what : Load) (made : Bool) (before middle after : List ℕ) → wanted_of page.loading ≡ StartDocument → Loads state page.loading what before middle
+takes_load : (state : StoreState) (page now : PageState) (what : Load) (made : Bool) (before middle after : List ℕ) → (page.loading ≡ kept.Nothing → ⊥) → Loads state page.loading what before middle
     → TakesLoad what made (with_loading kept.Nothing page) now middle after → MayMake made state next_load page now before after
 takes_load state page now (came.Waits loading) made before middle after wanted loads takes =
     may_make false made state next_load page now before after (sym takes.0)
@@ -393,18 +377,16 @@ takes_load state page now (came.Waits loading) made before middle after wanted l
 takes_load state page now came.Refused made before middle after wanted loads takes =
     may_make true made state next_load page now before after (sym takes.0)
     (subst (λ (p : PageState). MayMake true state next_load page p before after) (sym takes.1)
-    (subst (λ (l : List ℕ). MayMake true state next_load page (with_document None 0 (with_loading kept.Nothing page)) before l) (sym takes.2) (load_refused state page before middle wanted loads)))
+    (subst (λ (l : List ℕ). MayMake true state next_load page (record page { loading = kept.Nothing; document = None; worked = 0 }) before l) (sym takes.2) (load_refused state page before middle wanted loads)))
 takes_load state page now (came.Loaded k) made before middle after wanted loads takes =
-    may_make true made state next_load page now before after (sym takes.0)
-    (subst (λ (p : PageState). MayMake true state next_load page p before after) (sym takes.2)
-    (load_made state page k takes.1 takes.1.worked before middle after wanted loads takes.3))
+    may_make true made state next_load page now before after (sym takes.0) (load_made state page now k before middle after wanted loads takes.1)
 
 pub load_taken : {E : Type 0} (state : StoreState) (old page now : PageState) (loading emptied : Loading) (what : Load) (before middle after : List ℕ) (result : Result Bool E) → page ≡ old → loading ≡ page.loading → emptied ≡ kept.Nothing
-    → wanted_of loading ≡ StartDocument → Loads state loading what before middle → IfOk result (λ made. TakesLoad what made (with_loading emptied page) now middle after) → IfOk result (λ made. MayMake made state next_load old now before after)
+    → (loading ≡ kept.Nothing → ⊥) → Loads state loading what before middle → IfOk result (λ made. TakesLoad what made (with_loading emptied page) now middle after) → IfOk result (λ made. MayMake made state next_load old now before after)
 load_taken state old page now loading emptied what before middle after (Err fault) view is none wanted loads takes = takes
 load_taken state old page now loading emptied what before middle after (Ok made) view is none wanted loads takes =
     subst (λ (p : PageState). MayMake made state next_load p now before after) view
-    (takes_load state page now what made before middle after (ap wanted_of (sym is) ∙ wanted) (subst (λ (l : Loading). Loads state l what before middle) is loads)
+    (takes_load state page now what made before middle after (λ e. wanted (is ∙ e)) (subst (λ (l : Loading). Loads state l what before middle) is loads)
     (subst (λ (l : Loading). TakesLoad what made (with_loading l page) now middle after) none takes))
 
 -- ---- turns

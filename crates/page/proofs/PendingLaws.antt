@@ -1,10 +1,12 @@
 -- What the load of a document comes to.
-use Rattle.std.proofs.Common.{◌≡◌, ◌∙◌, ℕ, suc, ◌+◌, Bool, true, false, cond, ◌&&◌, List, [], ◌∷◌, ◌++◌, take, drop, refl, sym, ap, ap₂, subst, append-nil, IfOk, arith}
+use Rattle.std.proofs.Common.{◌≡◌, ◌∙◌, ℕ, suc, ◌+◌, ◌<◌, ◌^◌, Bool, true, false, cond, ◌&&◌, List, [], ◌∷◌, ◌++◌, take, drop, refl, sym, ap, ap₂, subst, append-nil, IfOk, arith}
 use Rattle.std.specs.Prelude.{zero, length, replicate, Option, Some, None, Result, Ok, Err, map, slice_get}
 use Rattle.std.specs.List.{AllZip}
 use Rattle.document_load.specs.Drafts.{DraftState, draft_of, with_gifts}
 use Rattle.document_load.specs.Scripts.{AreScripts, HandlerState, programs_by, sources_of}
+use Rattle.document_load.specs.ScriptViews.{told_handler}
 use Rattle.document_load.specs.StyleTexts.{document_rules}
+use Rattle.document_load.specs.declared.drafts.Document.{Document as Finished}
 use Rattle.es_reader.specs.Programs.{Tells, ToldProgram}
 use Rattle.es_reader.specs.Readers.{Reader, IsReader}
 use Rattle.dom_tree.specs.Items.{Item}
@@ -12,19 +14,21 @@ use Rattle.style_reader.specs.declared.rules.Rule.{Rule}
 use Rattle.bml_reader.specs.declared.faults.DocFault.{DocFault}
 use Rattle.bml_reader.specs.Readings.{reading_of}
 use Rattle.multipart_entities.specs.declared.paths.Path.{Path}
-use Rattle.module_store.specs.Resources.{Resource, look, start_path}
+use Rattle.module_store.specs.Resources.{Resource, look}
 use Rattle.module_store.specs.Resources.Resource.{Found, Waiting}
 use Rattle.module_store.specs.Standing.{StandsFor, StoreState}
 use Rattle.module_store.specs.Store.{Stored}
 use Rattle.page.specs.declared.loading.Load.{Load}
 use Rattle.page.specs.declared.loading.Load.TheVariants as load
 use Rattle.page.specs.declared.loading.Loading.TheVariants as kept
-use Rattle.page.specs.Gifts.{GivesFound}
+use Rattle.page.specs.Gifts.{IsFinished}
+use Rattle.acting_documents.specs.Documents.{Document}
 use Rattle.acting_documents.specs.Kept.{IsDocument, KeptDocument, kept_as, kept_first}
 use Rattle.page.specs.Lines.{load_lines}
-use Rattle.page.specs.Loading.{are_settled, is_settled, loadable_reading, reading_in, once_settled, opened, text_at}
-use Rattle.page.specs.PendingStates.{IsStart, PendingState}
-use Rattle.page.specs.Pendings.{Loads, WaitsAt}
+use Rattle.page.specs.Loading.{are_settled, is_settled, loadable_reading, reading_in, once_settled, opened, text_at, wanted_path}
+use Rattle.page.specs.PendingStates.{IsFound, IsStartPath, PendingState}
+use Rattle.page.specs.Pendings.{Loads, LoadsAs, LoadsUnread, WaitsAt, wanted_at, wanted_of}
+use Rattle.page.specs.State.{Wanted}
 
 -- what a document that was read and is the one that is there comes to
 abbrev given_now : Stored → DraftState → DraftState
@@ -33,14 +37,36 @@ given_now stored draft = with_gifts (map (text_at stored) draft.needs) draft
 abbrev reading_now : Stored → DraftState → Option (Result DraftState DocFault)
 reading_now stored draft = cond (are_settled stored draft.needs) (Some (Ok (given_now stored draft))) None
 
-reading_pending : (stored : Stored) (pending : PendingState) → IsStart stored pending → loadable_reading stored (start_path stored) ≡ reading_now stored pending.draft
-reading_pending stored pending is =
-    ap (loadable_reading stored) (sym is.path_is) ∙ ap (reading_in stored pending.path) is.found ∙ ap (once_settled stored pending.path) is.reading_is
-    ∙ ap (reading_now stored) (sym is.draft_is)
+reading_pending : (stored : Stored) (pending : PendingState) → IsFound stored pending → loadable_reading stored pending.path ≡ reading_now stored pending.draft
+reading_pending stored pending is = ap (reading_in stored pending.path) is.found ∙ ap (once_settled stored pending.path) is.reading_is ∙ ap (reading_now stored) (sym is.draft_is)
+
+-- the path of what is wanted is that at which it was read
+path_wanted : (is_start : Bool) (stored : Stored) (own path : Path) → IsStartPath is_start stored own → wanted_path (wanted_at is_start own) stored ≡ Some path → own ≡ path
+path_wanted true stored own path is e = is ∙ cc
+path_wanted false stored own path is e = cc
+
+-- so it comes of what is wanted what comes of the document that was read
+comes_of : (store : StoreState) (pending : PendingState) (new : Load) (text : List ℕ)
+    → ((stored : Stored) → StandsFor store stored → IsFound stored pending → (read : Reader) → IsReader read → LoadsAs read stored (wanted_of (kept.Pending pending)) pending.path new text)
+    → (stored : Stored) → StandsFor store stored → IsFound stored pending → (path : Path) → wanted_path (wanted_of (kept.Pending pending)) stored ≡ Some path → (read : Reader) → IsReader read
+    → LoadsAs read stored (wanted_of (kept.Pending pending)) path new text
+comes_of store pending new text comes stored stands is path e read right =
+    subst (λ (p : Path). LoadsAs read stored (wanted_of (kept.Pending pending)) p new text) (path_wanted pending.is_start stored pending.path path is.path_is e) (comes stored stands is read right)
 
 -- wherever it waits, it is the same document
-moved : (stored : Stored) (pending : PendingState) (place : ℕ) → IsStart stored pending → IsStart stored (record { path = pending.path; draft = pending.draft; place = place })
-moved stored pending place is = record { path_is = is.path_is; bytes = is.bytes; found = is.found; reading_is = is.reading_is; draft_is = is.draft_is }
+abbrev pub at_place : ℕ → PendingState → PendingState
+at_place place pending = record pending { place = place }
+
+moved : (stored : Stored) (pending : PendingState) (place : ℕ) → IsFound stored pending → IsFound stored (at_place place pending)
+moved stored pending place is = record {
+  path_is = is.path_is;
+  component_fits = is.component_fits;
+  module_fits = is.module_fits;
+  bytes = is.bytes;
+  found = is.found;
+  reading_is = is.reading_is;
+  draft_is = is.draft_is;
+}
 
 -- ---- the need at a place
 
@@ -74,79 +100,100 @@ unsettled_at stored (x ∷ needs) (suc place) need h waits =
     ap (λ (b : Bool). is_settled (look stored x) && b) (unsettled_at stored needs place need h waits) ∙ never_both (is_settled (look stored x))
 
 -- something is waited for
-pub goes_on : (store : StoreState) (pending : PendingState) (place : ℕ) (before : List ℕ) → WaitsAt store pending.draft.needs place
-    → Loads store (kept.Pending pending) (load.Waits (kept.Pending (record { path = pending.path; draft = pending.draft; place = place }))) before before
+pub goes_on : (store : StoreState) (pending : PendingState) (place : ℕ) (before : List ℕ) → WaitsAt store pending.draft.needs place → Loads store (kept.Pending pending) (load.Waits (kept.Pending (at_place place pending))) before before
 goes_on store pending place before w = record {
   text = [];
   printed = sym (append-nil before);
-  loads = λ stored stands is read right. record {
+  loads = comes_of store pending (load.Waits (kept.Pending (at_place place pending))) [] (λ stored stands is read right. record {
     none = reading_pending stored pending is ∙ ap (λ (b : Bool). cond b (Some (Ok (given_now stored pending.draft))) None) (unsettled_at stored pending.draft.needs place w.need w.is_there (w.waits stored stands));
-    wanted = refl;
+    still = refl;
     current = moved stored pending place is;
     silent = refl;
-  };
+  });
 }
 
 -- ---- the document that is loaded
 
 -- it is the one that the draft opens
-opened_as : (read : Reader) (draft : DraftState) (items : List Item) (rules : List Rule) (programs : List ToldProgram) (handlers : List HandlerState) (bad : List ℕ) (document : KeptDocument)
-    → document ≡ kept_first items rules programs handlers → items ≡ draft.items → rules ≡ document_rules draft → AreScripts read (sources_of draft) programs handlers bad
-    → IsDocument document (opened read draft)
-opened_as read draft items rules programs handlers bad document is items_are rules_are scripts = record {
-  programs = subst (λ (d : KeptDocument). AllZip Tells (programs_by read (sources_of draft)) d.programs) (sym is) scripts.programs_are;
+opened_as : (read : Reader) (path : Path) (draft : DraftState) (items : List Item) (rules : List Rule) (programs : List ToldProgram) (handlers : List HandlerState) (bad : List ℕ) (document : KeptDocument)
+    → document ≡ kept_first path items rules programs handlers document.lent document.now → items ≡ draft.items → rules ≡ document_rules draft → AreScripts read (sources_of draft) programs handlers bad
+    → IsDocument document (opened read path draft)
+opened_as read path draft items rules programs handlers bad document is items_are rules_are scripts = record {
+  programs = subst (λ (told : List ToldProgram). AllZip Tells (programs_by read (sources_of draft)) told) (sym (ap (λ (d : KeptDocument). d.programs) is)) scripts.programs_are;
   others =
-      subst (λ (d : KeptDocument). d ≡ kept_as d.programs d.worked (opened read draft)) (sym is)
-      (ap (λ (i : List Item). kept_first i rules programs handlers) items_are
-      ∙ ap (λ (r : List Rule). kept_first draft.items r programs handlers) rules_are
-      ∙ ap (kept_first draft.items (document_rules draft) programs) scripts.handlers_are);
+      is
+      ∙ ap (λ (i : List Item). kept_first path i rules programs handlers document.lent document.now) items_are
+      ∙ ap (λ (r : List Rule). kept_first path draft.items r programs handlers document.lent document.now) rules_are
+      ∙ ap (λ (h : List HandlerState). kept_first path draft.items (document_rules draft) programs h document.lent document.now) scripts.handlers_are
+      ∙ same_beside document (opened read path draft) programs (ap (λ (d : KeptDocument). d.programs) is) (ap (λ (d : KeptDocument). d.worked) is) (ap (λ (d : KeptDocument). d.launched) is);
 }
+  where
+    -- what is kept beside the document is the same
+    same_beside : (k : KeptDocument) (d : Document) (told : List ToldProgram) → k.programs ≡ told → k.worked ≡ 0 → k.launched ≡ None
+        → kept_as (record k { programs = told; worked = 0; launched = None }) d ≡ kept_as k d
+    same_beside k d told programs worked launched =
+        sym (ap (λ (l : List ToldProgram). kept_as (record k { programs = l }) d) programs ∙ ap (λ (n : ℕ). kept_as (record k { programs = told; worked = n }) d) worked
+        ∙ ap (λ (p : Option Path). kept_as (record k { programs = told; worked = 0; launched = p }) d) launched)
 
 -- the document that was read is loaded, with what is found of its needs
-pub is_loaded : (store : StoreState) (pending : PendingState) (given : DraftState) (items : List Item) (rules : List Rule) (programs : List ToldProgram) (handlers : List HandlerState) (bad : List ℕ)
-    (document : KeptDocument) (before after : List ℕ)
+pub is_loaded : (store : StoreState) (pending : PendingState) (finished : Finished) (document : KeptDocument) (before after : List ℕ)
     → ((stored : Stored) → StandsFor store stored → are_settled stored pending.draft.needs ≡ true)
-    → GivesFound store pending.draft given
-    → items ≡ given.items → rules ≡ document_rules given → ((read : Reader) → IsReader read → AreScripts read (sources_of given) programs handlers bad)
-    → document ≡ kept_first items rules programs handlers
-    → after ≡ before ++ load_lines pending.path bad
+    → IsFinished store pending.draft finished
+    → document ≡ kept_first pending.path finished.tree finished.rules finished.programs.items (map told_handler finished.handlers.items) document.lent document.now
+    → after ≡ before ++ load_lines pending.path finished.bad.items
     → Loads store (kept.Pending pending) (load.Loaded document) before after
-is_loaded store pending given items rules programs handlers bad document before after settled found items_are rules_are scripts is printed = record {
-  text = load_lines pending.path bad;
+is_loaded store pending finished document before after settled from is printed = record {
+  text = load_lines pending.path finished.bad.items;
   printed = printed;
-  loads = λ stored stands start read right.
-      let scripts_are = scripts read right in
+  loads = comes_of store pending (load.Loaded document) (load_lines pending.path finished.bad.items) (λ stored stands start read right.
+      let scripts_are = from.scripts_are read right in
       let nothing = ap (λ (d : DraftState). d.given) start.draft_is ∙ ap (λ (needs : List Path). replicate (length needs) None) (sym (ap (λ (d : DraftState). d.needs) start.draft_is)) in
-      let given_is : given ≡ given_now stored pending.draft = found nothing stored stands in (
-        given,
-        reading_pending stored pending start ∙ ap (λ (b : Bool). cond b (Some (Ok (given_now stored pending.draft))) None) (settled stored stands)
-            ∙ ap (λ (d : DraftState). Some (Ok d)) (sym given_is),
-        opened_as read given items rules programs handlers bad document is items_are rules_are scripts_are,
-        ap₂ load_lines start.path_is scripts_are.bad_are,
-      );
+      let given_is : from.given ≡ given_now stored pending.draft = from.found nothing stored stands in
+      record {
+        draft = from.given;
+        reading_is =
+            reading_pending stored pending start ∙ ap (λ (b : Bool). cond b (Some (Ok (given_now stored pending.draft))) None) (settled stored stands)
+            ∙ ap (λ (d : DraftState). Some (Ok d)) (sym given_is);
+        document_is =
+            opened_as read pending.path from.given finished.tree finished.rules finished.programs.items (map told_handler finished.handlers.items) finished.bad.items document is
+            from.tree_is from.rules_are scripts_are;
+        text_is = ap (load_lines pending.path) scripts_are.bad_are;
+      });
 }
 
 -- ---- the document that is found
 
--- what was read under the start path is the one that is there
-pub is_read : (stored : Stored) (path : Path) (bytes : List ℕ) (draft : DraftState) (pending : PendingState) → pending.path ≡ path → pending.draft ≡ draft → path ≡ start_path stored → look stored path ≡ Found bytes
-    → ((items : List Item) × (reading_of bytes ≡ Ok items) × (draft ≡ draft_of path items)) → IsStart stored pending
-is_read stored path bytes draft pending path_is draft_is start found reading =
+-- what was read under a path is the one that is there
+pub is_read : (stored : Stored) (is_start : Bool) (path : Path) (bytes : List ℕ) (draft : DraftState) (pending : PendingState) → pending.is_start ≡ is_start → pending.path ≡ path → pending.draft ≡ draft → IsStartPath is_start stored path
+    → path.component < 2 ^ 8 → path.«module» < 2 ^ 16 → look stored path ≡ Found bytes
+    → ((items : List Item) × (reading_of bytes ≡ Ok items) × (draft ≡ draft_of path items)) → IsFound stored pending
+is_read stored is_start path bytes draft pending start_is path_is draft_is start component_fits module_fits found reading =
     let items_are : pending.draft.items ≡ reading.0 = ap (λ (d : DraftState). d.items) (draft_is ∙ reading.2) in
     record {
-      path_is = path_is ∙ start;
+      path_is = subst (λ (b : Bool). IsStartPath b stored pending.path) (sym start_is) (subst (IsStartPath is_start stored) (sym path_is) start);
+      component_fits = subst (λ (p : Path). p.component < 2 ^ 8) (sym path_is) component_fits;
+      module_fits = subst (λ (p : Path). p.«module» < 2 ^ 16) (sym path_is) module_fits;
       bytes = bytes;
       found = ap (look stored) path_is ∙ found;
       reading_is = reading.1 ∙ ap (λ (items : List Item). Ok items) (sym items_are);
       draft_is = draft_is ∙ reading.2 ∙ ap₂ draft_of (sym path_is) (sym items_are);
     }
 
--- and what comes of it comes of what is wanted
-pub loads_read : {E : Type 0} (result : Result Load E) (store : StoreState) (pending : PendingState) (before after : List ℕ) → ((stored : Stored) → StandsFor store stored → IsStart stored pending)
-    → IfOk result (λ load. Loads store (kept.Pending pending) load before after) → IfOk result (λ load. Loads store kept.Wanted load before after)
-loads_read (Ok load) store pending before after is loads = record {
+-- a start path is the path of the start document, and every other is its own
+path_is_wanted : (is_start : Bool) (stored : Stored) (path : Path) → IsStartPath is_start stored path → wanted_path (wanted_at is_start path) stored ≡ Some path
+path_is_wanted true stored path is = ap (λ (p : Path). Some p) (sym is)
+path_is_wanted false stored path is = refl
+
+-- what comes of the document that was read comes of the one that is at this path
+pub loads_read : {E : Type 0} (result : Result Load E) (store : StoreState) (is_start : Bool) (path : Path) (pending : PendingState) (before after : List ℕ) → pending.is_start ≡ is_start → pending.path ≡ path
+    → ((stored : Stored) → StandsFor store stored → IsStartPath is_start stored path → IsFound stored pending)
+    → IfOk result (λ load. Loads store (kept.Pending pending) load before after) → IfOk result (λ load. LoadsUnread store is_start path load before after)
+loads_read (Ok load) store is_start path pending before after start_is path_is is loads = record {
   text = loads.text;
   printed = loads.printed;
-  loads = λ stored stands wanted. loads.loads stored stands (is stored stands);
+  loads = λ stored stands start read right.
+      let same : wanted_at pending.is_start pending.path ≡ wanted_at is_start path = ap₂ wanted_at start_is path_is in
+      subst (λ (w : Wanted). LoadsAs read stored w path load loads.text) same
+      (loads.loads stored stands (is stored stands start) path (ap (λ (w : Wanted). wanted_path w stored) same ∙ path_is_wanted is_start stored path start) read right);
 }
-loads_read (Err error) store pending before after is loads = tt
+loads_read (Err error) store is_start path pending before after start_is path_is is loads = tt

@@ -1,5 +1,5 @@
 -- What becomes of what is kept of a document that is wanted, where changes in modules are posted.
-use Rattle.std.proofs.Common.{◌≡◌, ◌∙◌, ℕ, ◌<◌, Bool, true, false, cond, eqb, ◌&&◌, List, [], ◌∷◌, refl, sym, ap, ap₂, subst, arith}
+use Rattle.std.proofs.Common.{◌≡◌, ◌∙◌, ℕ, ◌<◌, Bool, true, false, cond, eqb, ◌&&◌, List, [], ◌∷◌, refl, sym, ap, ap₂, subst}
 use Rattle.std.specs.Prelude.{◌||◌, AllPairs, map}
 use Rattle.std.specs.List.{list_any}
 use Rattle.std.proofs.lemmas.Bool.{eq-eqb, eqb-true}
@@ -13,8 +13,8 @@ use Rattle.module_store.specs.Staying.{tells_of, is_gone}
 use Rattle.module_store.specs.Store.{Stored, changes_by, with_section, gone_by, with_map}
 use Rattle.page.specs.declared.loading.Loading.{Loading}
 use Rattle.page.specs.declared.loading.Loading.TheVariants as kept
-use Rattle.page.specs.Pendings.{IsCurrent, loading_behind, wanted_of}
-use Rattle.page.specs.PendingStates.{IsStart, PendingState}
+use Rattle.page.specs.Pendings.{IsCurrent, loading_behind, unread, wanted_at, wanted_of}
+use Rattle.page.specs.PendingStates.{IsFound, IsStartPath, PendingState}
 use Rattle.page.specs.Standing.{PageState, StandsFor, behind_all, behind_change}
 use Rattle.page.specs.State.{State}
 
@@ -33,12 +33,17 @@ behind_all_is : (changes : List (ℕ × Change)) (page : PageState) → behind_a
 behind_all_is [] page = refl
 behind_all_is (change ∷ changes) page = behind_all_is changes (behind_change change.0 change.1 page)
 
-wanted_anew : (told : Bool) (pending : PendingState) → wanted_of (cond told kept.Wanted (kept.Pending pending)) ≡ wanted_of (kept.Pending pending)
-wanted_anew true pending = refl
+wanted_unread : (is_start : Bool) (path : Path) → wanted_of (unread is_start path) ≡ wanted_at is_start path
+wanted_unread true path = refl
+wanted_unread false path = refl
+
+wanted_anew : (told : Bool) (pending : PendingState) → wanted_of (cond told (unread pending.is_start pending.path) (kept.Pending pending)) ≡ wanted_of (kept.Pending pending)
+wanted_anew true pending = wanted_unread pending.is_start pending.path
 wanted_anew false pending = refl
 
 wanted_behind : (component : ℕ) (change : Change) (loading : Loading) → wanted_of (loading_behind component change loading) ≡ wanted_of loading
-wanted_behind component change kept.Wanted = refl
+wanted_behind component change kept.Start = refl
+wanted_behind component change (kept.At path) = refl
 wanted_behind component change (kept.Pending pending) = wanted_anew (eqb pending.path.component component && eqb change.«module» pending.path.«module») pending
 wanted_behind component change kept.Nothing = refl
 
@@ -46,43 +51,62 @@ wanted_behind_all : (changes : List (ℕ × Change)) (loading : Loading) → wan
 wanted_behind_all [] loading = refl
 wanted_behind_all (change ∷ changes) loading = wanted_behind_all changes (loading_behind change.0 change.1 loading) ∙ wanted_behind change.0 change.1 loading
 
-still_wanted : (changes : List (ℕ × Change)) → loading_behind_all changes kept.Wanted ≡ kept.Wanted
-still_wanted [] = refl
-still_wanted (change ∷ changes) = still_wanted changes
+-- only what was read changes
+still_start : (changes : List (ℕ × Change)) → loading_behind_all changes kept.Start ≡ kept.Start
+still_start [] = refl
+still_start (change ∷ changes) = still_start changes
+
+still_at : (path : Path) (changes : List (ℕ × Change)) → loading_behind_all changes (kept.At path) ≡ kept.At path
+still_at path [] = refl
+still_at path (change ∷ changes) = still_at path changes
 
 still_nothing : (changes : List (ℕ × Change)) → loading_behind_all changes kept.Nothing ≡ kept.Nothing
 still_nothing [] = refl
 still_nothing (change ∷ changes) = still_nothing changes
 
+still_unread : (is_start : Bool) (path : Path) (changes : List (ℕ × Change)) → loading_behind_all changes (unread is_start path) ≡ unread is_start path
+still_unread true path changes = still_start changes
+still_unread false path changes = still_at path changes
+
+unread_current : (is_start : Bool) (path : Path) (stored : Stored) → IsCurrent stored (unread is_start path)
+unread_current true path stored = tt
+unread_current false path stored = tt
+
 -- one of them is of this module of that component
 abbrev is_told : ℕ → ℕ → List (ℕ × Change) → Bool
 is_told component number changes = list_any (λ change. eqb component change.0 && eqb change.1.«module» number) changes
 
--- a document that was read is forgotten exactly where one of them is of its module
-pending_behind_all : (changes : List (ℕ × Change)) (pending : PendingState)
-    → loading_behind_all changes (kept.Pending pending) ≡ cond (is_told pending.path.component pending.path.«module» changes) kept.Wanted (kept.Pending pending)
+-- what is left of a document that was read
+abbrev left_of : Bool → PendingState → Loading
+left_of told pending = cond told (unread pending.is_start pending.path) (kept.Pending pending)
+
+-- it is forgotten exactly where one of them is of its module
+pending_behind_all : (changes : List (ℕ × Change)) (pending : PendingState) → loading_behind_all changes (kept.Pending pending) ≡ left_of (is_told pending.path.component pending.path.«module» changes) pending
 pending_behind_all [] pending = refl
 pending_behind_all (change ∷ changes) pending = by (eqb pending.path.component change.0 && eqb change.1.«module» pending.path.«module») (pending_behind_all changes pending)
   where
-    by : (b : Bool) → loading_behind_all changes (kept.Pending pending) ≡ cond (is_told pending.path.component pending.path.«module» changes) kept.Wanted (kept.Pending pending)
-        → loading_behind_all changes (cond b kept.Wanted (kept.Pending pending)) ≡ cond (b || is_told pending.path.component pending.path.«module» changes) kept.Wanted (kept.Pending pending)
-    by true later = still_wanted changes
+    by : (b : Bool) → loading_behind_all changes (kept.Pending pending) ≡ left_of (is_told pending.path.component pending.path.«module» changes) pending
+        → loading_behind_all changes (left_of b pending) ≡ left_of (b || is_told pending.path.component pending.path.«module» changes) pending
+    by true later = still_unread pending.is_start pending.path changes
     by false later = later
 
 -- ---- a document that was read stays the one that is there
 
--- its path is that of the start document: module 0000 of component 0x40
-is_low : (stored : Stored) (pending : PendingState) → IsStart stored pending → (pending.path.component < 256) × (pending.path.«module» < 65536)
-is_low stored pending is = subst (λ (path : Path). (path.component < 256) × (path.«module» < 65536)) (sym is.path_is) (omega arith, omega arith)
-
-still_start : (one other : Stored) (pending : PendingState) (is : IsStart one pending) → look other pending.path ≡ Found is.bytes → start_path other ≡ start_path one → IsStart other pending
-still_start one other pending is found start = record {
-  path_is = is.path_is ∙ sym start;
+still_found : (one other : Stored) (pending : PendingState) (is : IsFound one pending) → look other pending.path ≡ Found is.bytes → IsStartPath pending.is_start other pending.path → IsFound other pending
+still_found one other pending is found start = record {
+  path_is = start;
+  component_fits = is.component_fits;
+  module_fits = is.module_fits;
   bytes = is.bytes;
   found = found;
   reading_is = is.reading_is;
   draft_is = is.draft_is;
 }
+
+-- the start path stays where what is found there does
+still_start_path : (one other : Stored) (is_start : Bool) (path : Path) → IsStartPath is_start one path → (path ≡ start_path one → start_path other ≡ start_path one) → IsStartPath is_start other path
+still_start_path one other true path is same = is ∙ sym (same is)
+still_start_path one other false path is same = tt
 
 -- where its component is the one, no change of the module is told
 told_in_component : (component number : ℕ) (changes : List Change) → is_told component number (map (λ change. (component, change)) changes) ≡ tells_of number changes
@@ -124,19 +148,22 @@ StartInMaps = (stored : Stored) (components : List Component) (bytes : List ℕ)
 
 pending_in_sections : FoundInSections → StartInSections → (stored : Stored) (component : ℕ) (section : List ℕ) (pending : PendingState) (told : Bool)
     → is_told pending.path.component pending.path.«module» (map (λ change. (component, change)) (changes_by component section stored)) ≡ told
-    → IsStart stored pending → IsCurrent (with_section component section stored) (cond told kept.Wanted (kept.Pending pending))
-pending_in_sections found start stored component section pending true e is = tt
+    → IsFound stored pending → IsCurrent (with_section component section stored) (left_of told pending)
+pending_in_sections found start stored component section pending true e is = unread_current pending.is_start pending.path (with_section component section stored)
 pending_in_sections found start stored component section pending false e is =
     let none = untold component pending.path.component pending.path.«module» (changes_by component section stored) e in
-    still_start stored (with_section component section stored) pending is
-    (found stored component section pending.path is.bytes (is_low stored pending is).1 is.found none)
-    (start stored component section is.bytes (ap (look stored) (sym is.path_is) ∙ is.found)
-    (subst (λ (path : Path). component ≡ path.component → tells_of path.«module» (changes_by component section stored) ≡ false) is.path_is none))
+    still_found stored (with_section component section stored) pending is
+    (found stored component section pending.path is.bytes is.module_fits is.found none)
+    (still_start_path stored (with_section component section stored) pending.is_start pending.path is.path_is
+    (λ path_is. start stored component section is.bytes (ap (look stored) (sym path_is) ∙ is.found)
+    (subst (λ (path : Path). component ≡ path.component → tells_of path.«module» (changes_by component section stored) ≡ false) path_is none)))
 
 current_in_sections : FoundInSections → StartInSections → (stored : Stored) (component : ℕ) (section : List ℕ) (loading : Loading) → IsCurrent stored loading
     → IsCurrent (with_section component section stored) (loading_behind_all (map (λ change. (component, change)) (changes_by component section stored)) loading)
-current_in_sections found start stored component section kept.Wanted is =
-    subst (λ (x : Loading). IsCurrent (with_section component section stored) x) (sym (still_wanted (map (λ change. (component, change)) (changes_by component section stored)))) tt
+current_in_sections found start stored component section kept.Start is =
+    subst (λ (x : Loading). IsCurrent (with_section component section stored) x) (sym (still_start (map (λ change. (component, change)) (changes_by component section stored)))) tt
+current_in_sections found start stored component section (kept.At path) is =
+    subst (λ (x : Loading). IsCurrent (with_section component section stored) x) (sym (still_at path (map (λ change. (component, change)) (changes_by component section stored)))) tt
 current_in_sections found start stored component section (kept.Pending pending) is =
     subst (λ (x : Loading). IsCurrent (with_section component section stored) x) (sym (pending_behind_all (map (λ change. (component, change)) (changes_by component section stored)) pending))
     (pending_in_sections found start stored component section pending _ refl is)
@@ -144,19 +171,20 @@ current_in_sections found start stored component section kept.Nothing is =
     subst (λ (x : Loading). IsCurrent (with_section component section stored) x) (sym (still_nothing (map (λ change. (component, change)) (changes_by component section stored)))) tt
 
 pending_in_maps : FoundInMaps → StartInMaps → (stored : Stored) (components : List Component) (pending : PendingState) (told : Bool) → AllPairs AreApart components
-    → is_told pending.path.component pending.path.«module» (gone_by components stored) ≡ told → IsStart stored pending → IsCurrent (with_map components stored) (cond told kept.Wanted (kept.Pending pending))
-pending_in_maps found start stored components pending true apart e is = tt
+    → is_told pending.path.component pending.path.«module» (gone_by components stored) ≡ told → IsFound stored pending → IsCurrent (with_map components stored) (left_of told pending)
+pending_in_maps found start stored components pending true apart e is = unread_current pending.is_start pending.path (with_map components stored)
 pending_in_maps found start stored components pending false apart e is =
-    let low = is_low stored pending is in
     let none = gone_is_told pending.path.component pending.path.«module» (gone_by components stored) ∙ e in
-    still_start stored (with_map components stored) pending is
-    (found stored components pending.path is.bytes low.0 low.1 apart is.found none)
-    (start stored components is.bytes apart (ap (look stored) (sym is.path_is) ∙ is.found)
-    (subst (λ (path : Path). is_gone path.component path.«module» (gone_by components stored) ≡ false) is.path_is none))
+    still_found stored (with_map components stored) pending is
+    (found stored components pending.path is.bytes is.component_fits is.module_fits apart is.found none)
+    (still_start_path stored (with_map components stored) pending.is_start pending.path is.path_is
+    (λ path_is. start stored components is.bytes apart (ap (look stored) (sym path_is) ∙ is.found)
+    (subst (λ (path : Path). is_gone path.component path.«module» (gone_by components stored) ≡ false) path_is none)))
 
 current_in_maps : FoundInMaps → StartInMaps → (stored : Stored) (components : List Component) (loading : Loading) → AllPairs AreApart components → IsCurrent stored loading
     → IsCurrent (with_map components stored) (loading_behind_all (gone_by components stored) loading)
-current_in_maps found start stored components kept.Wanted apart is = subst (λ (x : Loading). IsCurrent (with_map components stored) x) (sym (still_wanted (gone_by components stored))) tt
+current_in_maps found start stored components kept.Start apart is = subst (λ (x : Loading). IsCurrent (with_map components stored) x) (sym (still_start (gone_by components stored))) tt
+current_in_maps found start stored components (kept.At path) apart is = subst (λ (x : Loading). IsCurrent (with_map components stored) x) (sym (still_at path (gone_by components stored))) tt
 current_in_maps found start stored components (kept.Pending pending) apart is =
     subst (λ (x : Loading). IsCurrent (with_map components stored) x) (sym (pending_behind_all (gone_by components stored) pending)) (pending_in_maps found start stored components pending _ apart refl is)
 current_in_maps found start stored components kept.Nothing apart is = subst (λ (x : Loading). IsCurrent (with_map components stored) x) (sym (still_nothing (gone_by components stored))) tt
@@ -171,8 +199,7 @@ stands_behind changes page one other s stands current = subst (λ (p : PageState
   wanted = wanted_behind_all changes page.loading ∙ stands.wanted;
   current = current;
   clock = stands.clock;
-  random = stands.random;
-  area = stands.area;
+  browser = stands.browser;
 })
 
 pub stands_in_sections : FoundInSections → StartInSections → (page : PageState) (stored : Stored) (s : State) (component : ℕ) (section : List ℕ) → StandsFor page stored s

@@ -8,7 +8,7 @@ use Rattle.event_queue.specs.Queues.{first_of}
 use Rattle.acting_documents.specs.Documents.{Document}
 use Rattle.acting_documents.specs.Handling.{handled, without_first}
 use Rattle.page.specs.Loading.{load, loadable_reading, wanted_path}
-use Rattle.page.specs.State.{State, Step, step_behind, step_of}
+use Rattle.page.specs.State.{State, Step, scene_in, step_behind, step_of}
 
 -- the load of the wanted document, where it can be loaded
 abbrev pub load_at : Stored → State → Path → Option Step
@@ -18,7 +18,9 @@ unfoldable pub next_load : Stored → State → Option Step
 next_load stored s = option_and_then (load_at stored s) (wanted_path s.wanted stored)
 
 abbrev pub event_in : State → Document → Option Step
-event_in s d = option_map (λ event. step_of s (handled event (without_first d))) (first_of d.queue)
+event_in s d =
+    option_map (λ event. step_of s (handled event (without_first (scene_in s d))))
+    (first_of d.queue)
 
 abbrev pub next_event : State → Option Step
 next_event s = option_and_then (event_in s) s.document

@@ -4,6 +4,7 @@ pub mod Loading
 pub mod Dispatches
 pub mod Inputs
 pub mod Gifts
+pub mod Acts
 pub mod PendingStates
 pub mod Pendings
 pub mod Standing

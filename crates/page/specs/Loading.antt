@@ -1,6 +1,6 @@
 -- The load of a document: when it can be loaded, what it is then, and what its load does (after BML, ARIB
 -- STD-B24 volume 2, in this project's own profile).
-use Rattle.std.specs.Prelude.{ℕ, Bool, true, false, if◌then◌else◌, List, [], ◌++◌, map, Option, Some, None, Result, Ok, Err}
+use Rattle.std.specs.Prelude.{ℕ, Bool, true, false, if◌then◌else◌, List, [], map, Option, Some, None, Result, Ok, Err}
 use Rattle.std.specs.List.{list_all}
 use Rattle.bml_bytes.specs.Codes.{codes}
 use Rattle.dom_tree.specs.Items.{Item}
@@ -18,8 +18,8 @@ use Rattle.document_load.specs.StyleTexts.{document_rules}
 use Rattle.acting_documents.specs.Documents.{Document, first_tree}
 use Rattle.acting_documents.specs.Beginnings.{load_effect}
 use Rattle.page.specs.Lines.{load_lines, refuse_line}
-use Rattle.page.specs.State.{State, Step, Wanted}
-use Rattle.page.specs.State.Wanted.{StartDocument, NoDocument}
+use Rattle.page.specs.State.{State, Step, Wanted, scene_in, step_behind, step_of}
+use Rattle.page.specs.State.Wanted.{StartDocument, DocumentAt, NoDocument}
 
 -- ---- which documents can be loaded
 
@@ -66,13 +66,15 @@ loadable_reading stored path = reading_in stored path (look stored path)
 -- the path of the document that is wanted; that of the start document is found anew each time
 abbrev pub wanted_path : Wanted → Stored → Option Path
 wanted_path StartDocument stored = Some (start_path stored)
+wanted_path (DocumentAt path) stored = Some path
 wanted_path NoDocument stored = None
 
 -- ---- the document, before its scripts run
 
-abbrev pub opened : Reader → DraftState → Document
-opened read draft =
+abbrev pub opened : Reader → Path → DraftState → Document
+opened read path draft =
     record {
+      path = path;
       tree = first_tree draft.items (document_rules draft);
       queue = [];
       programs = programs_by read (sources_of draft);
@@ -83,13 +85,12 @@ opened read draft =
 
 -- ---- the load
 
+-- none is wanted while its scripts run; they may launch another
 abbrev pub loaded : State → Path → DraftState → Step
 loaded s path draft =
-    let e = load_effect (opened s.read draft) in
-    record {
-      state = record s { document = Some e.document; wanted = NoDocument };
-      text = load_lines path (bad_numbers s.read (sources_of draft)) ++ e.text;
-    }
+    step_behind (load_lines path (bad_numbers s.read (sources_of draft)))
+    (step_of (record s { wanted = NoDocument })
+    (load_effect (scene_in s (opened s.read path draft))))
 
 -- behind a document that is refused there is none, and none is wanted
 abbrev pub load : State → Path → Result DraftState DocFault → Step

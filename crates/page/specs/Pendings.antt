@@ -4,7 +4,7 @@ use Rattle.std.specs.Prelude.{◌≡◌, ◌==◌, ◌&&◌, Bool, true, false, 
 use Rattle.bml_reader.specs.declared.faults.DocFault.{DocFault}
 use Rattle.carousel_blocks.specs.declared.changes.Change.{Change}
 use Rattle.multipart_entities.specs.declared.paths.Path.{Path}
-use Rattle.module_store.specs.Resources.{look, start_path}
+use Rattle.module_store.specs.Resources.{look}
 use Rattle.module_store.specs.Resources.Resource.{Waiting}
 use Rattle.module_store.specs.Standing.{ForStored, StoreState}
 use Rattle.module_store.specs.Store.{Stored}
@@ -13,24 +13,33 @@ use Rattle.document_load.specs.Drafts.{DraftState}
 use Rattle.document_load.specs.Scripts.{bad_numbers, sources_of}
 use Rattle.acting_documents.specs.Kept.{IsDocument, KeptDocument}
 use Rattle.page.specs.Lines.{load_lines, refuse_line}
-use Rattle.page.specs.Loading.{are_settled, loadable_reading, opened}
-use Rattle.page.specs.PendingStates.{IsStart}
+use Rattle.page.specs.Loading.{are_settled, loadable_reading, opened, wanted_path}
+use Rattle.page.specs.PendingStates.{IsFound, IsStartPath}
 use Rattle.page.specs.State.{Wanted}
-use Rattle.page.specs.State.Wanted.{StartDocument, NoDocument}
+use Rattle.page.specs.State.Wanted.{StartDocument, DocumentAt, NoDocument}
 use Rattle.page.specs.declared.loading.Load.{Load}
 use Rattle.page.specs.declared.loading.Load.TheVariants as load
 use Rattle.page.specs.declared.loading.Loading.{Loading}
 use Rattle.page.specs.declared.loading.Loading.TheVariants as kept
 
+-- the document at a path: the start document, or one that a script launched
+abbrev pub wanted_at : Bool → Path → Wanted
+wanted_at is_start path = if is_start then StartDocument else DocumentAt path
+
+-- what is kept of it as long as it wasn't read
+abbrev pub unread : Bool → Path → Loading
+unread is_start path = if is_start then kept.Start else kept.At path
+
 -- what is wanted: one that was read and waits is still wanted
 abbrev pub wanted_of : Loading → Wanted
-wanted_of kept.Wanted = StartDocument
-wanted_of (kept.Pending pending) = StartDocument
+wanted_of kept.Start = StartDocument
+wanted_of (kept.At path) = DocumentAt path
+wanted_of (kept.Pending pending) = wanted_at pending.is_start pending.path
 wanted_of kept.Nothing = NoDocument
 
 -- one that was read is the one that is there
 abbrev pub IsCurrent : Stored → Loading → Type 0
-IsCurrent stored (kept.Pending pending) = IsStart stored pending
+IsCurrent stored (kept.Pending pending) = IsFound stored pending
 IsCurrent stored _ = Unit {0}
 
 -- ---- what changes tell of it
@@ -41,10 +50,15 @@ is_told_by component change (kept.Pending pending) =
     (pending.path.component == component) && (change.«module» == pending.path.«module»)
 is_told_by component change _ = false
 
+-- it is wanted, and wasn't read
+abbrev pub wanted_anew : Loading → Loading
+wanted_anew (kept.Pending pending) = unread pending.is_start pending.path
+wanted_anew loading = loading
+
 -- then it is wanted anew
 abbrev pub loading_behind : ℕ → Change → Loading → Loading
 loading_behind component change loading =
-    if is_told_by component change loading then kept.Wanted else loading
+    if is_told_by component change loading then wanted_anew loading else loading
 
 -- ---- a load
 
@@ -60,10 +74,10 @@ KnowsItsPlace store (load.Waits (kept.Pending pending)) =
     WaitsAt store pending.draft.needs pending.place
 KnowsItsPlace store _ = Unit {0}
 
-pub record GoesOn (stored : Stored) (reading : Option (Result DraftState DocFault))
+pub record GoesOn (stored : Stored) (wanted : Wanted) (reading : Option (Result DraftState DocFault))
     (loading : Loading) (text : List ℕ) : Type 0 where
   pub none : reading ≡ None
-  pub wanted : wanted_of loading ≡ StartDocument
+  pub still : wanted_of loading ≡ wanted
   pub current : IsCurrent stored loading
   pub silent : text ≡ []
 
@@ -73,29 +87,45 @@ pub record IsRefused (path : Path) (reading : Option (Result DraftState DocFault
   pub reading_is : reading ≡ Some (Err fault)
   pub text_is : text ≡ refuse_line path fault
 
--- what comes of a reading under the start path, and the lines that tell it
-abbrev pub LoadsAs : Reader → Stored → Load → List ℕ → Type 0
-LoadsAs read stored (load.Waits loading) text =
-    GoesOn stored (loadable_reading stored (start_path stored)) loading text
-LoadsAs read stored load.Refused text =
-    IsRefused (start_path stored) (loadable_reading stored (start_path stored)) text
-LoadsAs read stored (load.Loaded document) text =
-    (draft : DraftState)
-    × (loadable_reading stored (start_path stored) ≡ Some (Ok draft))
-    × IsDocument document (opened read draft)
-    × (text ≡ load_lines (start_path stored) (bad_numbers read (sources_of draft)))
+pub record IsLoaded (read : Reader) (path : Path) (reading : Option (Result DraftState DocFault))
+    (document : KeptDocument) (text : List ℕ) : Type 0 where
+  pub draft : DraftState
+  pub reading_is : reading ≡ Some (Ok draft)
+  pub document_is : IsDocument document (opened read path draft)
+  pub text_is : text ≡ load_lines path (bad_numbers read (sources_of draft))
+
+-- what comes of a reading under the path of what is wanted, and the lines that tell it
+abbrev pub LoadsAs : Reader → Stored → Wanted → Path → Load → List ℕ → Type 0
+LoadsAs read stored wanted path (load.Waits loading) text =
+    GoesOn stored wanted (loadable_reading stored path) loading text
+LoadsAs read stored wanted path load.Refused text =
+    IsRefused path (loadable_reading stored path) text
+LoadsAs read stored wanted path (load.Loaded document) text =
+    IsLoaded read path (loadable_reading stored path) document text
 
 -- A text was printed, and this came of what was kept of a document that is wanted.
 pub record Loads (store : StoreState) (old : Loading) (new : Load) (before after : List ℕ)
     : Type 0 where
   pub text : List ℕ
   pub printed : after ≡ before ++ text
-  pub loads : ForStored store (λ stored. IsCurrent stored old → (read : Reader) → IsReader read
-      → LoadsAs read stored new text)
+  pub loads : ForStored store (λ stored. IsCurrent stored old → (path : Path)
+      → wanted_path (wanted_of old) stored ≡ Some path → (read : Reader) → IsReader read
+      → LoadsAs read stored (wanted_of old) path new text)
+
+-- The same of a document that wasn't read, and is at this path.
+pub record LoadsUnread (store : StoreState) (is_start : Bool) (path : Path) (new : Load)
+    (before after : List ℕ) : Type 0 where
+  pub text : List ℕ
+  pub printed : after ≡ before ++ text
+  pub loads : ForStored store (λ stored. IsStartPath is_start stored path
+      → (read : Reader) → IsReader read
+      → LoadsAs read stored (wanted_at is_start path) path new text)
 
 -- The same of the document that is loaded of a draft at a path, where nothing that it needs is waited for.
 abbrev pub LoadsSettled : StoreState → Path → DraftState → KeptDocument → List ℕ → List ℕ → Type 0
 LoadsSettled store path draft document before after =
-    (place : ℕ) → ForStored store (λ stored. are_settled stored draft.needs ≡ true)
-    → Loads store (kept.Pending (record { path = path; draft = draft; place = place }))
+    (is_start : Bool) (place : ℕ)
+    → ForStored store (λ stored. are_settled stored draft.needs ≡ true)
+    → Loads store
+    (kept.Pending (record { is_start = is_start; path = path; draft = draft; place = place }))
     (load.Loaded document) before after

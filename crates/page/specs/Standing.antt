@@ -1,23 +1,28 @@
 -- For which state a page stands, with the store that it is lent. (This project's own.)
 use Rattle.std.specs.Prelude.{◌≡◌, ◌++◌, Bool, true, false, ℕ, List, [], ◌∷◌, Option, Some, None}
 use Rattle.carousel_blocks.specs.declared.changes.Change.{Change}
+use Rattle.multipart_entities.specs.declared.paths.Path.{Path}
 use Rattle.module_store.specs.Standing.{ForStored, StoreState}
 use Rattle.module_store.specs.Store.{Stored}
 use Rattle.es_reader.specs.Readers.{IsReader}
+use Rattle.event_queue.specs.Timers.{no_timers}
+use Rattle.browser_objects.specs.Calls.{BrowserParts}
+use Rattle.document_stages.specs.Acting.{with_timers}
 use Rattle.acting_documents.specs.Documents.{Document}
-use Rattle.acting_documents.specs.Doings.{Does}
 use Rattle.acting_documents.specs.Kept.{IsDocument, KeptDocument}
 use Rattle.acting_documents.specs.Beginnings.{load_effect}
+use Rattle.page.specs.Acts.{Acts}
 use Rattle.page.specs.Pendings.{IsCurrent, loading_behind, wanted_of}
 use Rattle.page.specs.State.{State, Step, still}
 use Rattle.page.specs.declared.loading.Load.{Load}
 use Rattle.page.specs.declared.loading.Load.TheVariants as came
 use Rattle.page.specs.declared.loading.Loading.{Loading}
+use Rattle.page.specs.declared.loading.Loading.TheVariants.{At}
 
 pub record PageState : Type 0 where
-  -- the time and the persistent area
+  -- the time; the registers, the persistent area and the random words, and the timers
   pub clock : ℕ
-  pub area : List ℕ
+  pub browser : BrowserParts
   -- how many style values were worked out for the document
   pub worked : ℕ
   -- whether a call found no memory
@@ -25,7 +30,6 @@ pub record PageState : Type 0 where
   -- devices of the proofs
   pub document : Option KeptDocument
   pub loading : Loading
-  pub random : List ℕ
 
 -- what is kept is the document that is there, or there is none
 abbrev pub AreDocuments : Option KeptDocument → Option Document → Type 0
@@ -41,8 +45,11 @@ pub record StandsFor (page : PageState) (stored : Stored) (s : State) : Type 0 w
   pub wanted : wanted_of page.loading ≡ s.wanted
   pub current : IsCurrent stored page.loading
   pub clock : page.clock ≡ s.clock
-  pub random : page.random ≡ s.random
-  pub area : page.area ≡ s.area
+  pub browser : page.browser ≡ s.browser
+
+-- the persistent area
+abbrev pub page_area : PageState → List ℕ
+page_area page = page.browser.area
 
 -- a call found no memory
 abbrev pub IsSpent : PageState → Type 0
@@ -88,6 +95,41 @@ pub record MayMake (made : Bool) (store : StoreState) (step : Stored → State �
   pub makes : ForStored store (λ stored. (s : State) → StandsFor old stored s
       → HasMadeOf made new stored text s (step stored s))
 
+-- The same of a step that is there or not, whatever the store has.
+pub record MayMakeHere (made : Bool) (step : State → Option Step) (old new : PageState)
+    (before after : List ℕ) : Type 0 where
+  pub text : List ℕ
+  pub printed : after ≡ before ++ text
+  pub makes : (stored : Stored) (s : State) → StandsFor old stored s
+      → HasMadeOf made new stored text s (step s)
+
+-- ---- documents that act
+
+-- this document is there, and this was given back of what it was lent
+abbrev pub with_document : KeptDocument → BrowserParts → PageState → PageState
+with_document document browser page =
+    record page { document = Some document; worked = document.worked; browser = browser }
+
+-- Behind a document that launched the one at a path there is none, its timers are gone, and that one is wanted.
+abbrev pub behind_launch : Option Path → PageState → PageState
+behind_launch None page = page
+behind_launch (Some path) page =
+    record page {
+      document = None;
+      worked = 0;
+      browser = with_timers no_timers page.browser;
+      loading = At path;
+    }
+
+-- a document that was loaded began, and launched another or none
+pub record Begins (first : KeptDocument) (old new : PageState) (before after : List ℕ)
+    : Type 0 where
+  pub launched : Option Path
+  pub document : KeptDocument
+  pub browser : BrowserParts
+  pub acts : Acts load_effect launched old.clock first document old.browser browser before after
+  pub new_is : new ≡ behind_launch launched (with_document document browser old)
+
 -- what becomes of a page behind what came of a load, of which `made` tells whether it was one
 abbrev pub TakesLoad : Load → Bool → PageState → PageState → List ℕ → List ℕ
     → Type 0
@@ -96,10 +138,7 @@ TakesLoad (came.Waits loading) made old new before after =
 TakesLoad came.Refused made old new before after =
     (made ≡ true) × (new ≡ record old { document = None; worked = 0 }) × (after ≡ before)
 TakesLoad (came.Loaded first) made old new before after =
-    (made ≡ true)
-    × (document : KeptDocument)
-    × (new ≡ record old { document = Some document; worked = document.worked })
-    × Does load_effect first document before after
+    (made ≡ true) × Begins first old new before after
 
 -- ---- changes in the store
 

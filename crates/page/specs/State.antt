@@ -1,12 +1,19 @@
 -- What a page is at a moment (after the receiver of ARIB STD-B24 volume 2, in this project's own profile).
 use Rattle.std.specs.Prelude.{ℕ, List, [], ◌++◌, Option, Some, None}
+use Rattle.multipart_entities.specs.declared.paths.Path.{Path}
 use Rattle.es_reader.specs.Readers.{Reader}
+use Rattle.event_queue.specs.Timers.{no_timers}
+use Rattle.browser_objects.specs.Calls.{BrowserParts}
+use Rattle.document_stages.specs.Acting.{first_browser, with_timers}
+use Rattle.acting_documents.specs.Beginnings.{unload_effect}
 use Rattle.acting_documents.specs.Documents.{Document}
-use Rattle.acting_documents.specs.Runs.{Effect}
+use Rattle.acting_documents.specs.Runs.{Effect, Scene}
 
--- Which document is wanted next: the start document, whose path is found anew each time, or none.
+-- Which document is wanted next: the start document, whose path is found anew each time; that at a path, which a script
+-- launched; or none.
 pub data Wanted : Type 0 where
   StartDocument : Wanted
+  DocumentAt : Path → Wanted
   NoDocument : Wanted
 
 pub record State : Type 0 where
@@ -17,10 +24,8 @@ pub record State : Type 0 where
   pub wanted : Wanted
   -- the time, in milliseconds
   pub clock : ℕ
-  -- the random words that are left
-  pub random : List ℕ
-  -- the persistent area
-  pub area : List ℕ
+  -- the registers, the persistent area and the random words that are left, and the timers of the document
+  pub browser : BrowserParts
 
 -- before anything came, with that area: there is no document, and the start document is wanted
 abbrev pub opening : Reader → List ℕ → State
@@ -30,18 +35,23 @@ opening read area =
       document = None;
       wanted = StartDocument;
       clock = 0;
-      random = [];
-      area = area;
+      browser = first_browser area;
     }
+
+-- the persistent area
+abbrev pub area_of : State → List ℕ
+area_of s = s.browser.area
+
+-- a document that is there, with what it acts on beside itself
+abbrev pub scene_in : State → Document → Scene
+scene_in s d = record { document = d; browser = s.browser; now = s.clock }
+
+-- ---- steps
 
 -- a step: the state that it leaves, and what it prints
 pub record Step : Type 0 where
   pub state : State
   pub text : List ℕ
-
--- with what became of the document
-abbrev pub step_of : State → Effect → Step
-step_of s e = record { state = record s { document = Some e.document }; text = e.text }
 
 -- nothing is done
 abbrev pub still : State → Step
@@ -50,3 +60,32 @@ still s = record { state = s; text = [] }
 -- a step, with what was printed before it
 abbrev pub step_behind : List ℕ → Step → Step
 step_behind text t = record { state = t.state; text = text ++ t.text }
+
+-- the document goes on
+abbrev pub goes_on : State → Scene → State
+goes_on s scene =
+    record s { document = Some scene.document; browser = scene.browser }
+
+-- Behind a document that ended there is none: its timers end with it, and this one is wanted.
+abbrev pub gone_for : Path → State → BrowserParts → State
+gone_for path s browser =
+    record s {
+      document = None;
+      wanted = DocumentAt path;
+      browser = with_timers no_timers browser;
+    }
+
+-- A document gives way to the one at a path: its `unload` is handled.
+abbrev pub gives_way : Path → State → Scene → Step
+gives_way path s scene =
+    let e = unload_effect scene in
+    record { state = gone_for path s e.scene.browser; text = e.text }
+
+-- what becomes of a document that goes on or has launched another
+abbrev pub stays_or_goes : Option Path → State → Scene → Step
+stays_or_goes None s scene = still (goes_on s scene)
+stays_or_goes (Some path) s scene = gives_way path s scene
+
+-- the state behind what became of the document
+abbrev pub step_of : State → Effect → Step
+step_of s e = step_behind e.text (stays_or_goes e.launched s e.scene)

@@ -1,10 +1,11 @@
 //! The load of a document.
 
 ghost use Rattle.std.specs.Io.{StartsWith};
-ghost use Rattle.std.specs.Prelude.{◌≡◌, IfOk, length};
+ghost use Rattle.std.specs.Prelude.{◌≡◌, ◌++◌, IfOk, OnOk};
+ghost use Rattle.page.specs.Lines.{refuse_line};
+ghost use Rattle.page.specs.declared.loading.Load.TheVariants as came;
 ghost use Rattle.page.specs.declared.loading.Loading.TheVariants as kept;
-ghost use Rattle.page.specs.Pendings.{KnowsItsPlace, Loads, is_told_by as told_by, loading_behind, wanted_of};
-ghost use Rattle.page.specs.State.Wanted.{StartDocument};
+ghost use Rattle.page.specs.Pendings.{KnowsItsPlace, Loads, LoadsUnread, is_told_by as told_by, loading_behind, unread, wanted_anew};
 
 use crate::lines::push_refuse_line;
 use crate::pending::Pending;
@@ -13,6 +14,7 @@ use bml_bytes::NoMemory;
 use bml_reader::DocFault;
 use document_load::read_draft;
 use module_store::{Change, Look, Store};
+use multipart_entities::Path;
 use std::alloc::Global;
 use std::mem;
 
@@ -20,7 +22,9 @@ use std::mem;
 #[derive(Drop)]
 pub enum Loading {
     /// The start document is wanted, and wasn't read yet.
-    Wanted,
+    Start,
+    /// The document at a path is wanted, which a script launched, and wasn't read yet.
+    At(Path),
     /// It was read, and something that it needs is waited for.
     Pending(Pending),
     /// None is wanted.
@@ -39,16 +43,28 @@ pub enum Load {
 }
 
 impl Loading {
-    /// Loads the document, where it is wanted, is found, and nothing that it needs is waited for;
+    /// The document is wanted that is to be read at a path: the start document, or one that a
+    /// script launched.
+    pub fn unread(is_start: bool, path: Path) -> Loading
+        ensures { result ≡ unread is_start path }
+    {
+        if is_start {
+            Loading::Start
+        } else {
+            Loading::At(path)
+        }
+    }
+
+    /// Loads the document, where one is wanted, is found, and nothing that it needs is waited for;
     /// or refuses it. Appends the lines that tell it.
     pub fn load(self, alloc: Global, store: &Store, out: &mut Vec<u8>) -> Result<Load, NoMemory>
-        requires { wanted_of self ≡ StartDocument }
         ensures loads { IfOk result
             (λ load. Loads store.now self load out.old.items out.new.items) }
         ensures grows { StartsWith out.new.items out.old.items }
     {
         match self {
-            Loading::Wanted => load_start(alloc, store, out),
+            Loading::Start => load_start(alloc, store, out),
+            Loading::At(path) => load_unread(alloc, store, false, path, out),
             Loading::Pending(pending) => pending.load(alloc, store, out),
             Loading::Nothing => Ok(Load::Waits(self)),
         }
@@ -60,7 +76,18 @@ impl Loading {
         ensures { self.new ≡ loading_behind component change.now self.old }
     {
         if self.is_told_by(component, change) {
-            drop(mem::replace(self, Loading::Wanted));
+            let told = mem::replace(self, Loading::Nothing);
+            drop(mem::replace(self, told.anew()));
+        }
+    }
+
+    // The same document is wanted, and is to be read once more.
+    fn anew(self) -> Loading
+        ensures { result ≡ wanted_anew self }
+    {
+        match self {
+            Loading::Pending(pending) => pending.anew(),
+            Loading::Start | Loading::At(_) | Loading::Nothing => self,
         }
     }
 
@@ -73,29 +100,51 @@ impl Loading {
                 let path = pending.path();
                 path.component == component && change.module == path.module
             }
-            Loading::Wanted | Loading::Nothing => false,
+            Loading::Start | Loading::At(_) | Loading::Nothing => false,
         }
     }
 }
 
-// Reads the start document, where it is found, and loads it, where nothing that it needs is waited
-// for.
+// Loads the start document, which is found at the path that it has now.
 fn load_start(alloc: Global, store: &Store, out: &mut Vec<u8>) -> Result<Load, NoMemory>
     ensures loads { IfOk result
-        (λ load. Loads store.now kept.Wanted load out.old.items out.new.items) }
-    ensures knows { IfOk result (λ load. KnowsItsPlace store.now load) }
+        (λ load. Loads store.now kept.Start load out.old.items out.new.items) }
     ensures grows { StartsWith out.new.items out.old.items }
 {
     let path = store.start_path()?;
+    load_unread(alloc, store, true, path, out)
+}
+
+// Reads the document at a path, where it is found, and loads it, where nothing that it needs is
+// waited for.
+fn load_unread(
+    alloc: Global,
+    store: &Store,
+    is_start: bool,
+    path: Path,
+    out: &mut Vec<u8>,
+) -> Result<Load, NoMemory>
+    ensures loads { IfOk result (λ load.
+        LoadsUnread store.now is_start path load out.old.items out.new.items) }
+    ensures knows { IfOk result (λ load. KnowsItsPlace store.now load) }
+    ensures grows { StartsWith out.new.items out.old.items }
+{
     let Look::Found(bytes) = store.resource(&path) else {
-        return Ok(Load::Waits(Loading::Wanted));
+        return Ok(Load::Waits(Loading::unread(is_start, path)));
     };
     match read_draft(alloc, bytes, &path) {
-        Ok(draft) => Pending::new(path, draft).load(alloc, store, out),
+        Ok(draft) => Pending::new(is_start, path, draft).load(alloc, store, out),
         Err(DocFault::NoMemory) => Err(NoMemory),
-        Err(fault) => {
-            push_refuse_line(&path, fault, out)?;
-            Ok(Load::Refused)
-        }
+        Err(fault) => refuse(&path, fault, out),
     }
+}
+
+// Refuses the document at a path, and appends the line that tells it.
+fn refuse(path: &Path, fault: DocFault, out: &mut Vec<u8>) -> Result<Load, NoMemory>
+    ensures refused { IfOk result (λ load. load ≡ came.Refused) }
+    ensures told { OnOk result (out.new.items ≡ out.old.items ++ refuse_line path.now fault) }
+    ensures grows { StartsWith out.new.items out.old.items }
+{
+    push_refuse_line(path, fault, out)?;
+    Ok(Load::Refused)
 }

@@ -1,30 +1,34 @@
 //! The page: what becomes of the documents that come, and of keys and the clock.
 
 ghost use Rattle.std.specs.Io.{StartsWith};
-ghost use Rattle.std.specs.Prelude.{◌≡◌, ◌≤◌, ◌++◌, ℕ, List, [], None, false, IfOk, IsErr, OnErr, OnOk, is_err};
+ghost use Rattle.std.specs.Prelude.{◌≡◌, ◌<◌, ◌^◌, ◌++◌, ℕ, List, [], false, true, IfOk, IsErr, OnErr, OnOk, is_err};
 ghost use Rattle.es_reader.specs.Readers.{Reader, IsReader};
+ghost use Rattle.event_queue.specs.Timers.{least_moment};
 ghost use Rattle.module_store.specs.Store.{Stored};
-ghost use Rattle.page.specs.Dispatches.{dispatch as spec_dispatch, next_load, turn as spec_turn};
-ghost use Rattle.page.specs.Inputs.{display_of, key_step, with_clock, with_random};
+ghost use Rattle.page.specs.Dispatches.{dispatch as spec_dispatch, next_event, next_load, turn as spec_turn};
+ghost use Rattle.page.specs.Inputs.{display_of, due_step, key_step, with_random};
 ghost use Rattle.module_store.specs.Lines.{line_of_change};
-ghost use Rattle.page.specs.Standing.{IsSpent, Makes, MakesWith, MayMake, StandsFor, TakesLoad, behind_change};
+ghost use Rattle.page.specs.Standing.{Begins, IsSpent, Makes, MakesWith, MayMake, MayMakeHere, StandsFor, TakesLoad, behind_change, behind_launch, page_area};
 ghost use Rattle.page.specs.State.{State, opening};
 
+use crate::acts::{begin, handle, post_due, post_key};
 use crate::loading::{Load, Loading};
 use acting_documents::ActingDocument;
 use bml_bytes::{AreaBytes, NoMemory, law_of_fronts};
+use browser_objects::BrowserState;
 use display_list::push_clock_line;
+use event_queue::Timers;
 use module_store::{Change, Store, push_change_line};
+use multipart_entities::Path;
 use std::alloc::Global;
-use std::collections::VecDeque;
 use std::marker::Model;
 use std::mem;
 
 /// The most dispatches of a turn; this project's own limit.
 const MOST_DISPATCHES: u32 = 256;
 
-/// A page of the data broadcast: the document that is there or wanted, the time, and the persistent
-/// area.
+/// A page of the data broadcast: the document that is there or wanted, the time, and what belongs to
+/// the receiver: the registers, the persistent area and the random words, with the timers.
 ///
 /// What came to it before a turn is handled in it, by [`turn`](Page::turn). Once a call has
 /// answered
@@ -35,12 +39,12 @@ pub struct Page {
     document: Option<ActingDocument>,
     loading: Loading,
     clock: u64,
-    random: VecDeque<u32>,
-    area: AreaBytes,
+    browser: BrowserState,
     spent: bool,
 }
 
 impl Model for Page {
+    ghost use Rattle.std.specs.Prelude.{◌<◌, ◌^◌};
     ghost use Rattle.std.specs.Option.{option_map_or};
     ghost use Rattle.page.specs.Standing.{PageState};
 
@@ -48,13 +52,14 @@ impl Model for Page {
 
     ghost view = { λ p. record {
       clock = p.clock;
-      area = p.area;
+      browser = p.browser;
       worked = option_map_or (λ document. document.worked) p.document 0;
       spent = p.spent;
       document = p.document;
       loading = p.loading;
-      random = p.random.items;
     } };
+
+    ghost invariant = { λ p. p.clock < 2 ^ 62 };
 }
 
 impl Page {
@@ -65,15 +70,15 @@ impl Page {
         ensures unspent { IfOk result (λ page. page.spent ≡ false) }
         ensures worked { IfOk result (λ page. page.worked ≡ 0) }
         ensures clock { IfOk result (λ page. page.clock ≡ 0) }
-        ensures area { IfOk result (λ page. page.area ≡ area) }
+        ensures area { IfOk result (λ page. page_area page ≡ area) }
     {
+        let browser = BrowserState::new(alloc, area)?;
         Ok(Page {
             alloc,
             document: None,
-            loading: Loading::Wanted,
+            loading: Loading::Start,
             clock: 0,
-            random: VecDeque::new(alloc),
-            area,
+            browser,
             spent: false,
         })
     }
@@ -89,7 +94,7 @@ impl Page {
             (out.new.items ≡ out.old.items ++ line_of_change component change.now) }
         ensures behind { OnOk result (self.new ≡ behind_change component change.now self.old) }
         ensures clock { self.new.clock ≡ self.old.clock }
-        ensures area { self.new.area ≡ self.old.area }
+        ensures browser { self.new.browser ≡ self.old.browser }
         ensures grows { StartsWith out.new.items out.old.items }
         ensures spent { OnErr result (IsSpent self.new) }
         ensures after_spent { IsSpent self.old → IsErr result }
@@ -109,7 +114,6 @@ impl Page {
         ensures posted { OnOk result
             (Makes (key_step code down) self.old self.new out.old.items out.new.items) }
         ensures clock { self.new.clock ≡ self.old.clock }
-        ensures area { self.new.area ≡ self.old.area }
         ensures grows { StartsWith out.new.items out.old.items }
         ensures unspent { OnOk result (self.new.spent ≡ false) }
         ensures spent { OnErr result (IsSpent self.new) }
@@ -121,36 +125,43 @@ impl Page {
         let Some(document) = &mut self.document else {
             return Ok(());
         };
-        let posted = document.post_key(code, down, out);
+        let posted = post_key(document, &mut self.browser, self.clock, code, down, out);
         self.spent_by(posted)
     }
 
-    /// The moment when something is due next. Nothing is: there are no timers yet.
+    /// The moment when a timer of the document is due next, and None where none is.
     pub fn next_due(&self) -> Option<u64>
-        ensures { result ≡ None }
+        ensures { result ≡ least_moment self.now.browser.timers.timers }
     {
-        None
+        self.browser.timers.next_due()
     }
 
-    /// The clock goes to a moment, in milliseconds, and what is due then is posted: nothing is.
+    /// The clock goes to a moment, in milliseconds, and the timers that are due then post their
+    /// events. A post where 256 events wait is lost, which a line tells. Nothing is dispatched.
     pub fn post_due(&mut self, moment: u64, out: &mut Vec<u8>) -> Result<(), NoMemory>
-        requires { self.old.clock ≤ moment }
-        ensures moved { OnOk result (Makes (λ s. record { state = with_clock moment s; text = [] })
-            self.old self.new out.old.items out.new.items) }
+        requires { moment < 2 ^ 62 }
+        ensures moved { OnOk result
+            (Makes (due_step moment) self.old self.new out.old.items out.new.items) }
         ensures clock { OnOk result (self.new.clock ≡ moment) }
         ensures kept { OnErr result (self.new.clock ≡ self.old.clock) }
-        ensures area { self.new.area ≡ self.old.area }
-        ensures silent { out.new ≡ out.old }
+        ensures grows { StartsWith out.new.items out.old.items }
         ensures unspent { OnOk result (self.new.spent ≡ false) }
         ensures spent { OnErr result (IsSpent self.new) }
         ensures after_spent { IsSpent self.old → IsErr result }
     {
-        let _ = out;
         if self.spent {
             return Err(NoMemory);
         }
+        let moved = self.move_to(moment, out);
+        self.spent_by(moved)
+    }
+
+    /// The clock goes to a moment at which nothing is due.
+    pub fn pass_time(&mut self, moment: u64)
+        requires { moment < 2 ^ 62 }
+        ensures { self.new ≡ record self.old { clock = moment } }
+    {
         self.clock = moment;
-        Ok(())
     }
 
     /// Appends a word to the random words that are left.
@@ -158,7 +169,6 @@ impl Page {
         ensures added { OnOk result ((stored : Stored) (s : State) → StandsFor self.old stored s
             → StandsFor self.new stored (with_random word s)) }
         ensures clock { self.new.clock ≡ self.old.clock }
-        ensures area { self.new.area ≡ self.old.area }
         ensures unspent { OnOk result (self.new.spent ≡ false) }
         ensures spent { OnErr result (IsSpent self.new) }
         ensures after_spent { IsSpent self.old → IsErr result }
@@ -166,7 +176,7 @@ impl Page {
         if self.spent {
             return Err(NoMemory);
         }
-        let added = match self.random.push_back(word) {
+        let added = match self.browser.random.push_back(word) {
             Ok(()) => Ok(()),
             Err(_) => Err(NoMemory),
         };
@@ -181,7 +191,6 @@ impl Page {
             self.old self.new out.old.items out.new.items) }
         ensures store { store.new ≡ store.old }
         ensures clock { self.new.clock ≡ self.old.clock }
-        ensures area { self.new.area ≡ self.old.area }
         ensures grows { StartsWith out.new.items out.old.items }
         ensures unspent { OnOk result (self.new.spent ≡ false) }
         ensures spent { OnErr result (IsSpent self.new) }
@@ -200,7 +209,6 @@ impl Page {
         ensures shown { OnOk result (Makes (λ s. record { state = s; text = display_of s })
             self.old self.new out.old.items out.new.items) }
         ensures clock { self.new.clock ≡ self.old.clock }
-        ensures area { self.new.area ≡ self.old.area }
         ensures grows { StartsWith out.new.items out.old.items }
         ensures unspent { OnOk result (self.new.spent ≡ false) }
         ensures spent { OnErr result (IsSpent self.new) }
@@ -223,16 +231,17 @@ impl Page {
         }
     }
 
-    /// The persistent area. Nothing changes it yet.
+    /// The persistent area.
     pub fn area(&self) -> &AreaBytes
-        ensures { result.now ≡ self.now.area }
+        ensures { result.now ≡ page_area self.now }
     {
-        &self.area
+        &self.browser.area
     }
 
     /// The time, in milliseconds.
     pub fn clock(&self) -> u64
-        ensures { result ≡ self.now.clock }
+        ensures clock { result ≡ self.now.clock }
+        ensures bound { result < 2 ^ 62 }
     {
         self.clock
     }
@@ -246,12 +255,29 @@ impl Page {
         called
     }
 
+    // The clock goes to a moment, and the timers that are due then post their events.
+    fn move_to(&mut self, moment: u64, out: &mut Vec<u8>) -> Result<(), NoMemory>
+        requires { moment < 2 ^ 62 }
+        ensures moved { OnOk result
+            (Makes (due_step moment) self.old self.new out.old.items out.new.items) }
+        ensures clock { OnOk result (self.new.clock ≡ moment) }
+        ensures kept { OnErr result (self.new.clock ≡ self.old.clock) }
+        ensures grows { StartsWith out.new.items out.old.items }
+    {
+        let Some(document) = &mut self.document else {
+            self.clock = moment;
+            return Ok(());
+        };
+        post_due(document, &mut self.browser, self.clock, moment, out)?;
+        self.clock = moment;
+        Ok(())
+    }
+
     // Makes dispatches, one behind the other, as long as there is one, and at most 256.
     fn make_dispatches(&mut self, store: &Store, out: &mut Vec<u8>) -> Result<(), NoMemory>
         ensures turned { OnOk result (MakesWith store.now spec_turn
             self.old self.new out.old.items out.new.items) }
         ensures clock { self.new.clock ≡ self.old.clock }
-        ensures area { self.new.area ≡ self.old.area }
         ensures grows { StartsWith out.new.items out.old.items }
     {
         law_of_fronts();
@@ -268,19 +294,30 @@ impl Page {
         ensures made { IfOk result (λ made. MayMake made store.now spec_dispatch
             self.old self.new out.old.items out.new.items) }
         ensures clock { self.new.clock ≡ self.old.clock }
-        ensures area { self.new.area ≡ self.old.area }
         ensures grows { StartsWith out.new.items out.old.items }
     {
         if self.load(store, out)? {
             return Ok(true);
         }
+        self.handle_next(out)
+    }
+
+    // Lets the document that acts handle the event that waits longest, and tells whether there was
+    // one.
+    fn handle_next(&mut self, out: &mut Vec<u8>) -> Result<bool, NoMemory>
+        ensures made { IfOk result (λ made. MayMakeHere made next_event
+            self.old self.new out.old.items out.new.items) }
+        ensures clock { self.new.clock ≡ self.old.clock }
+        ensures grows { StartsWith out.new.items out.old.items }
+    {
         let Some(document) = &mut self.document else {
             return Ok(false);
         };
         let Some(event) = document.take_event() else {
             return Ok(false);
         };
-        document.handle(event, out)?;
+        let launched = handle(document, &mut self.browser, self.clock, event, out)?;
+        self.go_on(launched);
         Ok(true)
     }
 
@@ -290,7 +327,6 @@ impl Page {
         ensures made { IfOk result (λ made. MayMake made store.now next_load
             self.old self.new out.old.items out.new.items) }
         ensures clock { self.new.clock ≡ self.old.clock }
-        ensures area { self.new.area ≡ self.old.area }
         ensures grows { StartsWith out.new.items out.old.items }
     {
         let loading = mem::replace(&mut self.loading, Loading::Nothing);
@@ -307,7 +343,6 @@ impl Page {
         ensures taken { IfOk result (λ made. TakesLoad came made
             self.old self.new out.old.items out.new.items) }
         ensures clock { self.new.clock ≡ self.old.clock }
-        ensures area { self.new.area ≡ self.old.area }
         ensures grows { StartsWith out.new.items out.old.items }
     {
         match came {
@@ -319,13 +354,38 @@ impl Page {
                 drop(mem::replace(&mut self.document, None));
                 Ok(true)
             }
-            Load::Loaded(mut document) => {
-                let begun = document.begin(out);
-                drop(mem::replace(&mut self.document, Some(document)));
-                begun?;
+            Load::Loaded(document) => {
+                self.begin(document, out)?;
                 Ok(true)
             }
         }
+    }
+
+    // Has a document that was loaded, and begins it.
+    fn begin(&mut self, mut document: ActingDocument, out: &mut Vec<u8>) -> Result<(), NoMemory>
+        ensures begins { OnOk result
+            (Begins document self.old self.new out.old.items out.new.items) }
+        ensures clock { self.new.clock ≡ self.old.clock }
+        ensures grows { StartsWith out.new.items out.old.items }
+    {
+        let begun = begin(&mut document, &mut self.browser, self.clock, out);
+        drop(mem::replace(&mut self.document, Some(document)));
+        let launched = begun?;
+        self.go_on(launched);
+        Ok(())
+    }
+
+    // Goes on behind what the document did. Where it launched another one, it is gone with its
+    // timers, and the other one is wanted.
+    fn go_on(&mut self, launched: Option<Path>)
+        ensures { self.new ≡ behind_launch launched self.old }
+    {
+        let Some(path) = launched else {
+            return;
+        };
+        drop(mem::replace(&mut self.document, None));
+        self.browser.timers = Timers::new();
+        drop(mem::replace(&mut self.loading, Loading::At(path)));
     }
 
     // Appends the line of the clock, and what the document shows.
@@ -333,7 +393,6 @@ impl Page {
         ensures shown { OnOk result (Makes (λ s. record { state = s; text = display_of s })
             self.old self.new out.old.items out.new.items) }
         ensures clock { self.new.clock ≡ self.old.clock }
-        ensures area { self.new.area ≡ self.old.area }
         ensures grows { StartsWith out.new.items out.old.items }
     {
         law_of_fronts();

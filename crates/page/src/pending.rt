@@ -1,18 +1,22 @@
 //! A document that was read, and the needs that it waits for.
 
 ghost use Rattle.std.specs.Io.{StartsWith};
-ghost use Rattle.std.specs.Prelude.{◌≡◌, ◌<◌, true, None, IfOk, IfSome, OnOk, length};
+ghost use Rattle.std.specs.Prelude.{◌≡◌, ◌<◌, ◌++◌, true, None, IfOk, IfSome, OnOk, length, map};
+ghost use Rattle.acting_documents.specs.Kept.{kept_first};
+ghost use Rattle.document_load.specs.Scripts.{HavePlaces};
+ghost use Rattle.document_load.specs.ScriptViews.{told_handler};
 ghost use Rattle.module_store.specs.Standing.{ForStored};
 ghost use Rattle.page.specs.Loading.{are_settled};
 ghost use Rattle.page.specs.declared.loading.Loading.TheVariants as kept;
-ghost use Rattle.page.specs.Gifts.{GivesFound, with_found};
-ghost use Rattle.page.specs.Pendings.{KnowsItsPlace, Loads, LoadsSettled, WaitsAt};
+ghost use Rattle.page.specs.Lines.{load_lines};
+ghost use Rattle.page.specs.Gifts.{GivesFound, IsFinished, with_found};
+ghost use Rattle.page.specs.Pendings.{KnowsItsPlace, Loads, LoadsSettled, WaitsAt, unread};
 
 use crate::lines::push_load_lines;
 use crate::loading::{Load, Loading};
 use acting_documents::ActingDocument;
 use bml_bytes::NoMemory;
-use document_load::Draft;
+use document_load::{Document, Draft};
 use module_store::{Look, Store};
 use multipart_entities::Path;
 use std::alloc::Global;
@@ -21,6 +25,8 @@ use std::marker::Model;
 /// A document that was read, and waits until nothing that it needs is waited for.
 #[derive(Drop)]
 pub struct Pending {
+    /// Whether it is the start document.
+    is_start: bool,
     path: Path,
     draft: Draft,
     /// Where the need stands that was waited for last. Look-ups begin there, so that a document
@@ -34,18 +40,25 @@ impl Model for Pending {
 
     ghost Value = { PendingState };
 
-    ghost view = { λ p. record { path = p.path; draft = p.draft; place = p.place } };
+    ghost view = { λ p. record {
+      is_start = p.is_start;
+      path = p.path;
+      draft = p.draft;
+      place = p.place;
+    } };
 
     ghost invariant = { λ p. p.place ≤ length p.draft.needs };
 }
 
 impl Pending {
-    /// A document that was read at a path.
-    pub fn new(path: Path, draft: Draft) -> Pending
+    /// A document that was read at a path: the start document, or one that a script launched.
+    pub fn new(is_start: bool, path: Path, draft: Draft) -> Pending
+        ensures is_start { result.is_start ≡ is_start }
         ensures path { result.path ≡ path }
         ensures draft { result.draft ≡ draft }
     {
         Pending {
+            is_start,
             path,
             draft,
             place: 0,
@@ -59,6 +72,14 @@ impl Pending {
         &self.path
     }
 
+    /// The same document is wanted, and is to be read once more.
+    pub fn anew(self) -> Loading
+        ensures { result ≡ unread self.is_start self.path }
+    {
+        let Pending { is_start, path, .. } = self;
+        Loading::unread(is_start, path)
+    }
+
     /// Loads the document with what is found of its needs, where none of them is waited for, and
     /// appends its lines. Else it goes on waiting.
     pub fn load(self, alloc: Global, store: &Store, out: &mut Vec<u8>) -> Result<Load, NoMemory>
@@ -68,11 +89,21 @@ impl Pending {
         ensures grows { StartsWith out.new.items out.old.items }
     {
         let waited = self.waited_for(store);
-        let Pending { path, draft, .. } = self;
+        let Pending {
+            is_start,
+            path,
+            draft,
+            ..
+        } = self;
         match waited {
-            Some(place) => Ok(Load::Waits(Loading::Pending(Pending { path, draft, place }))),
+            Some(place) => Ok(Load::Waits(Loading::Pending(Pending {
+                is_start,
+                path,
+                draft,
+                place,
+            }))),
             None => {
-                let acting = load_settled(alloc, store, &path, draft, out)?;
+                let acting = load_settled(alloc, store, path, draft, out)?;
                 Ok(Load::Loaded(acting))
             }
         }
@@ -92,24 +123,55 @@ impl Pending {
     }
 }
 
-// The document that a draft is with what is found of its needs, none of which is waited for. Appends
-// its lines.
+// The document at a path that a draft is with what is found of its needs, none of which is waited
+// for. Appends its lines.
 fn load_settled(
     alloc: Global,
     store: &Store,
-    path: &Path,
-    mut draft: Draft,
+    path: Path,
+    draft: Draft,
     out: &mut Vec<u8>,
 ) -> Result<ActingDocument, NoMemory>
     ensures loads { IfOk result (λ document.
-        LoadsSettled store.now path.now draft document out.old.items out.new.items) }
+        LoadsSettled store.now path draft document out.old.items out.new.items) }
     ensures grows { StartsWith out.new.items out.old.items }
 {
-    give_all_found(store, &mut draft)?;
-    let document = draft.finish()?;
-    push_load_lines(path, document.bad.as_slice(), out)?;
-    let acting = ActingDocument::new(alloc, document)?;
+    let document = finish(store, draft)?;
+    let acting = acting_of(alloc, path, document, out)?;
     Ok(acting)
+}
+
+// A document at a path that acts, in which nothing happened yet. Appends the lines of its load.
+fn acting_of(
+    alloc: Global,
+    path: Path,
+    document: Document,
+    out: &mut Vec<u8>,
+) -> Result<ActingDocument, NoMemory>
+    requires { HavePlaces document.scripts.items (length document.programs.items)
+        (map told_handler document.handlers.items) }
+    ensures acting { IfOk result (λ acting. acting
+        ≡ kept_first path document.tree document.rules document.programs.items
+        (map told_handler document.handlers.items) acting.lent acting.now) }
+    ensures told { OnOk result
+        (out.new.items ≡ out.old.items ++ load_lines path document.bad.items) }
+    ensures grows { StartsWith out.new.items out.old.items }
+{
+    if push_load_lines(&path, document.bad.as_slice(), out).is_err() {
+        drop(document);
+        return Err(NoMemory);
+    }
+    ActingDocument::new(alloc, path, document)
+}
+
+// The document of a draft, to which what is found of its needs is given.
+fn finish(store: &Store, mut draft: Draft) -> Result<Document, NoMemory>
+    ensures finished { IfOk result (λ document. IsFinished store.now draft document) }
+    ensures places { IfOk result (λ document. HavePlaces document.scripts.items
+        (length document.programs.items) (map told_handler document.handlers.items)) }
+{
+    give_all_found(store, &mut draft)?;
+    draft.finish()
 }
 
 // Where the first need stands that is waited for.

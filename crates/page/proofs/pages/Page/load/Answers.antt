@@ -1,6 +1,3 @@
-use Rattle.std.proofs.Common.{◌∙◌, ap, rules}
-use Rattle.std.proofs.Transfers.{starts_with_trans}
-use Rattle.page.specs.Standing.{PageState}
 use Rattle.page.specs.contracts.pages.Page.{the_view}
 use Rattle.page.proofs.PageLaws.{load_nothing, load_taken}
 use Rattle.page.proofs.pages.Page.load.Goals as goal
@@ -9,12 +6,7 @@ pub returns-in-Nothing-clause-made : goal.returns-in-Nothing-clause-made
 returns-in-Nothing-clause-made c =
     load_nothing c.args.store.now c.args.self.now (the_view c.self.inside) c.replace-loading.new.dest c.args.out.now.items c.self.view_is (cc (c.replace-loading.ensures.value, c.in-Nothing.is)) c.replace-loading.ensures.after
 
-pub returns : goal.returns
-returns c = record {
-  made =
-      load_taken c.args.store.now c.args.self.now (the_view c.self.inside) c.take_load.new.self c.replace-loading.result c.replace-loading.new.dest c.in_ok-came.came c.args.out.now.items c.load.new.out.items c.take_load.new.out.items c.take_load.result
-      c.self.view_is c.replace-loading.ensures.value c.replace-loading.ensures.after (search rules) c.in_ok-came.ensures.loads c.take_load.ensures.taken;
-  clock = c.take_load.ensures.clock ∙ ap (λ (p : PageState). p.clock) c.self.view_is;
-  area = c.take_load.ensures.area ∙ ap (λ (p : PageState). p.area) c.self.view_is;
-  grows = starts_with_trans c.take_load.new.out.items c.load.new.out.items c.args.out.now.items c.take_load.ensures.grows c.load.ensures.grows;
-}
+pub returns-clause-made : goal.returns-clause-made
+returns-clause-made c =
+    load_taken c.args.store.now c.args.self.now (the_view c.self.inside) c.take_load.new.self c.replace-loading.result c.replace-loading.new.dest c.in_ok-came.came c.args.out.now.items c.load.new.out.items c.take_load.new.out.items c.take_load.result
+    c.self.view_is c.replace-loading.ensures.value c.replace-loading.ensures.after c.in_default.not-Nothing c.in_ok-came.ensures.loads c.take_load.ensures.taken

@@ -7,7 +7,6 @@ pub dispatches-init : goal.dispatches-init
 dispatches-init c = record {
   turning = turn_begins c.args.store.now c.args.self.now c.args.out.now.items;
   clock = refl;
-  area = refl;
 }
 
 pub returns-then-not-branch-clause-turned : goal.returns-then-not-branch-clause-turned
@@ -21,7 +20,6 @@ dispatches-preserved c = record {
       turn_goes c.args.store.now c.dispatches._dispatch c.args.self.now c.dispatches.self c.dispatch.new.self c.args.out.now.items c.dispatches.out.items c.dispatch.new.out.items (omega arith) c.dispatches.invariant.turning
       (may_make c.in_ok-dispatch.field-0 true c.args.store.now dispatch c.dispatches.self c.dispatch.new.self c.dispatches.out.items c.dispatch.new.out.items (search rules) c.in_ok-dispatch.ensures.made);
   clock = c.dispatch.ensures.clock ∙ c.dispatches.invariant.clock;
-  area = c.dispatch.ensures.area ∙ c.dispatches.invariant.area;
 }
 
 pub returns-clause-turned : goal.returns-clause-turned

@@ -6,5 +6,4 @@ abbrev pub invariant-dispatches : goal.invariant-dispatches
 invariant-dispatches l = record {
   turning : IsTurning l.store l._dispatch l.initial.self l.self l.initial.out.items l.out.items;
   clock : l.self.clock ≡ l.initial.self.clock;
-  area : l.self.area ≡ l.initial.self.area;
 }

@@ -8,7 +8,7 @@ use Rattle.page.proofs.pending.Pending.load.Goals as goal
 
 pub returns-in-Some-clause-loads : goal.returns-in-Some-clause-loads
 returns-in-Some-clause-loads c =
-    let pending : PendingState = record { path = c.self.inside.path; draft = c.self.inside.draft; place = c.self.inside.place } in
+    let pending : PendingState = record { is_start = c.self.inside.is_start; path = c.self.inside.path; draft = c.self.inside.draft; place = c.self.inside.place } in
     rw (← c.self.view_is) (goes_on c.args.store.now pending c.in-Some.place c.args.out.now.items
     (subst (λ (p : PendingState). WaitsAt c.args.store.now p.draft.needs c.in-Some.place) (sym c.self.view_is) c.in-Some.ensures.waits))
 
@@ -16,4 +16,4 @@ pub returns-in_ok-acting-in-None-clause-loads : goal.returns-in_ok-acting-in-Non
 returns-in_ok-acting-in-None-clause-loads c =
     let settled =
     subst (λ (p : PendingState). ForStored c.args.store.now (λ stored. are_settled stored p.draft.needs ≡ true)) (sym c.self.view_is) (c.in-None.ensures.settled refl) in
-    rw (← c.self.view_is) (c.in_ok-acting-in-None.ensures.loads c.self.inside.place settled)
+    rw (← c.self.view_is) (c.in_ok-acting-in-None.ensures.loads c.self.inside.is_start c.self.inside.place settled)

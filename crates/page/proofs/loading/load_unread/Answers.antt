@@ -1,0 +1,10 @@
+use Rattle.std.proofs.Common.{sym, rules}
+use Rattle.page.proofs.PendingLaws.{is_read, loads_read}
+use Rattle.page.proofs.loading.load_unread.Goals as goal
+
+pub returns-in-Ok-clause-loads : goal.returns-in-Ok-clause-loads
+returns-in-Ok-clause-loads c =
+    loads_read c.load.result c.args.store.now c.args.is_start c.args.path c.new.result c.args.out.now.items c.load.new.out.items c.new.ensures.is_start c.new.ensures.path
+    (λ stored stands start. is_read stored c.args.is_start c.args.path c.in-Found.bytes.now c.in-Ok.draft c.new.result c.new.ensures.is_start c.new.ensures.path c.new.ensures.draft start (search rules) (search rules)
+    (sym (c.in-Found.ensures.look stored stands)) c.in-Ok.ensures.reading)
+    c.load.ensures.loads
