@@ -1,5 +1,5 @@
 -- What is kept of a broadcast, behind one step more.
-use Rattle.std.proofs.Common.{◌≡◌, ℕ, ◌+◌, Bool, true, false, cond, List, [], ◌∷◌, ◌++◌, refl, sym, ap, ap₂, ◌∙◌, subst, append-nil, append_assoc}
+use Rattle.std.proofs.Common.{◌≡◌, ℕ, Bool, true, false, cond, List, [], ◌∷◌, ◌++◌, refl, sym, ap, ap₂, ◌∙◌, subst, append-nil, append_assoc}
 use Rattle.std.specs.Prelude.{AllPairs, OnOk, Option, Some, None, Result, Ok, Err, map}
 use Rattle.std.specs.List.{flat_map}
 use Rattle.es_reader.specs.Readers.{Reader, IsReader}
@@ -14,15 +14,16 @@ use Rattle.carousel_blocks.specs.declared.changes.Change.{Change}
 use Rattle.module_store.specs.Store.{Stored, at_start, changes_by, with_section, gone_by, with_map}
 use Rattle.module_store.specs.Standing.{StoreState}
 use Rattle.module_store.specs.Standing as store
-use Rattle.page.specs.Inputs.{changes_step, with_clock, with_random}
+use Rattle.page.specs.Inputs.{changes_step, with_random}
 use Rattle.module_store.specs.Lines.{line_of_change}
-use Rattle.page.specs.Standing.{PageState, behind_all}
+use Rattle.page.specs.Standing.{PageState, behind_all, page_area}
 use Rattle.page.specs.Standing as pages
 use Rattle.page.specs.State as paging
+use Rattle.page.specs.State.{area_of}
 use Rattle.receiver_core.specs.Broadcasts.{BroadcastState, HasMade, Makes, MakesOutcome, StandsFor}
 use Rattle.receiver_core.specs.Outputs.{Piece, with_piece, without_piece}
 use Rattle.receiver_core.specs.State.{State, opening, services, wants}
-use Rattle.receiver_core.specs.Turns.{Step, key_turn, of_page, page_turn, step_of_component, step_of_section, step_of_table, step_of_tag, turn, with_changes, with_handled, with_turn}
+use Rattle.receiver_core.specs.Turns.{Step, due_turn, key_turn, of_page, page_turn, step_of_component, step_of_section, step_of_table, step_of_tag, turn, with_changes, with_handled, with_turn}
 use Rattle.receiver_core.proofs.MapLaws.{IsSameMap, none_gone, pids_of_map, pids_of_section, stands_still}
 
 same_services : (a b : ServicesState) → a.selection ≡ b.selection → a.service ≡ b.service → a.map ≡ b.map → a ≡ b
@@ -74,19 +75,25 @@ page_made step old page before after made = record {
       record { stands = stands_with old page s (step s.page).state stands its.stands; text_is = its.text_is };
 }
 
+-- ---- the persistent area
+
+-- that which is kept is that of the state
+pub area_kept : (state : BroadcastState) (s : State) → StandsFor state s → page_area state.page ≡ area_of s.page
+area_kept state s stands = ap (λ b. b.area) stands.page.browser
+
 -- ---- inputs that are handed in whole
 
 -- a step, whose text is a piece
 pub outcome_with : (step : State → Step) (old new : BroadcastState) (before after : List ℕ)
     → Makes step old new before after → MakesOutcome (λ s. with_piece (step s)) old new before after
 outcome_with step old new before after made = record {
-  pieces = piece made.text new.page.area ∷ [];
+  pieces = piece made.text (page_area new.page) ∷ [];
   printed = made.printed ∙ ap (λ (l : List ℕ). before ++ l) (sym (append-nil made.text));
   gives = λ s stands.
       let has = made.makes s stands in
       record {
         stands = has.stands;
-        pieces_are = ap₂ (λ (text area : List ℕ). piece text area ∷ []) has.text_is has.stands.page.area;
+        pieces_are = ap₂ (λ (text area : List ℕ). piece text area ∷ []) has.text_is (area_kept new (step s).state has.stands);
       };
 }
   where
@@ -103,13 +110,6 @@ outcome_without state old new before after same stands = record {
   gives = λ s stood. record { stands = stands s stood; pieces_are = refl };
 }
 
-pub time_passed : (old : BroadcastState) (page : PageState) (count : ℕ) (before after : List ℕ) (moment : ℕ) → moment ≡ old.page.clock + count
-    → pages.Makes (λ s. record { state = with_clock moment s; text = [] }) old.page page before after
-    → (s : State) → StandsFor old s → StandsFor (with_page old page) (record s { page = with_clock (s.page.clock + count) s.page })
-time_passed old page count before after moment is made s stands =
-    stands_with old page s (with_clock (s.page.clock + count) s.page) stands
-    (subst (λ (n : ℕ). pages.StandsFor page s.store (with_clock n s.page)) (is ∙ ap (λ (n : ℕ). n + count) stands.page.clock) (made.makes s.store s.page stands.page).stands)
-
 pub random_added : (old : BroadcastState) (page : PageState) (word : ℕ) → ((stored : Stored) (s : paging.State) → pages.StandsFor old.page stored s → pages.StandsFor page stored (with_random word s))
     → (s : State) → StandsFor old s → StandsFor (with_page old page) (record s { page = with_random word s.page })
 random_added old page word added s stands = stands_with old page s (with_random word s.page) stands (added s.store s.page stands.page)
@@ -119,10 +119,6 @@ random_added old page word added s stands = stands_with old page s (with_random 
 pub clock_behind : (changes : List (ℕ × Change)) (page : PageState) → (behind_all changes page).clock ≡ page.clock
 clock_behind [] page = refl
 clock_behind (change ∷ changes) page = clock_behind changes (pages.behind_change change.0 change.1 page)
-
-pub area_behind : (changes : List (ℕ × Change)) (page : PageState) → (behind_all changes page).area ≡ page.area
-area_behind [] page = refl
-area_behind (change ∷ changes) page = area_behind changes (pages.behind_change change.0 change.1 page)
 
 -- the lines of changes, each with its component
 abbrev pub lines_of : List (ℕ × Change) → List ℕ
@@ -325,6 +321,10 @@ turn_packets pid section s = keeps_by_section s pid section (reads_table s.selec
 pub key_packets : (key : ℕ) (down : Bool) (s : State) → (key_turn key down s).state.packets ≡ s.packets
 unfolding key_turn
 key_packets key down s = refl
+
+pub due_packets : (moment : ℕ) (s : State) → (due_turn moment s).state.packets ≡ s.packets
+unfolding due_turn
+due_packets moment s = refl
 
 -- ---- what comes of what a call answers
 

@@ -11,6 +11,7 @@ use Rattle.section_demultiplexer.specs.Demultiplexing.{DemultiplexerState, Gives
 use Rattle.section_demultiplexer.specs.Demultiplexing as demultiplexing
 use Rattle.section_demultiplexer.specs.Laws.{SameLists}
 use Rattle.es_reader.specs.Readers.{Reader}
+use Rattle.page.specs.Standing.{page_area}
 use Rattle.receiver_core.specs.Broadcasts.{BroadcastState, HasMade, MakesOutcome}
 use Rattle.receiver_core.specs.Broadcasts as broadcasts
 use Rattle.receiver_core.specs.declared.broadcast.Input.{Input as HandedIn}
@@ -24,7 +25,8 @@ use Rattle.receiver_core.specs.Outputs.Input.{Packet}
 use Rattle.receiver_core.specs.Turns.{turn}
 use Rattle.receiver_core.specs.State as state_of
 use Rattle.receiver_core.proofs.OutputLaws.{behind_one_more, no_outputs, outputs_one_more}
-use Rattle.receiver_core.proofs.BroadcastLaws.{key_packets, services_are, turn_packets}
+use Rattle.receiver_core.proofs.BroadcastLaws.{area_kept, key_packets, services_are, turn_packets}
+use Rattle.receiver_core.proofs.TimeLaws.{time_packets}
 
 -- what callers see of a receiver that keeps this
 abbrev pub seen : DemultiplexerState → BroadcastState → Bool → ReceiverState
@@ -33,7 +35,7 @@ seen d b spent = record {
   pid = d.pid;
   waiting = d.waiting;
   clock = b.page.clock;
-  area = b.page.area;
+  area = page_area b.page;
   spent = spent;
   kept = record { demultiplexer = d; broadcast = b };
 }
@@ -80,7 +82,7 @@ stands_first read selection area d b none assembled stands = record {
   pieces = no_outputs read selection area ∙ sym (no_pieces d.pid d.waiting (opening read selection area) none);
   services_are = services_are b (opening read selection area) stands;
   clock_is = stands.page.clock;
-  area_is = stands.page.area;
+  area_is = area_kept b (opening read selection area) stands;
   unspent = refl;
   kept = record { broadcast = stands; sections = λ pid. []; assembled = assembled };
 }
@@ -91,6 +93,7 @@ stands_first read selection area d b none assembled stands = record {
 pub keeps_packets : (input : HandedIn) (s : State) → (state_after (input_of input) s).packets ≡ s.packets
 keeps_packets (handed.Key key) s = key_packets key true s
 keeps_packets (handed.Release key) s = key_packets key false s
+keeps_packets (handed.Tick count) s = time_packets count (s.page.clock + count) s
 keeps_packets _ s = refl
 
 -- what the broadcast makes of it is the receiver's answer
@@ -117,7 +120,7 @@ answers handed_in d b c spent still before after unspent made = record {
             ∙ ap (λ (l : List Piece). (given ++ made.pieces) ++ l) (sym (no_pieces d.pid d.waiting now none));
         services_are = services_are c now has.stands;
         clock_is = has.stands.page.clock;
-        area_is = has.stands.page.area;
+        area_is = area_kept c now has.stands;
         unspent = unspent;
         kept = record {
           broadcast = has.stands;
@@ -356,13 +359,13 @@ turned same old between new b c spent still section text gives intact follows tu
           s.pieces
           ∙ ap (λ (l : List (List ℕ)). given ++ pieces_of_turns old.pid l s.now) all
           ∙ ap (λ (w : Bool). given ++ cond w (piece_of t ∷ pieces_of_turns old.pid (filter is_intact rest) t.state) []) was
-          ∙ ap₂ (λ (l m : List ℕ). given ++ (record { text = l; area = m } ∷ pieces_of_turns old.pid (filter is_intact rest) t.state)) (sym made.text_is) (sym made.stands.page.area)
-          ∙ sym (append_assoc given (record { text = text; area = c.page.area } ∷ []) (pieces_of_turns old.pid (filter is_intact rest) t.state))
-          ∙ ap (λ (l : List Piece). (given ++ record { text = text; area = c.page.area } ∷ []) ++ l) (rest_pieces (wants c.services old.pid) old.pid rest t.state now_wanted)
-          ∙ ap₂ (λ (p : ℕ) (l : List (List ℕ)). (given ++ record { text = text; area = c.page.area } ∷ []) ++ pieces_of_turns p (filter is_intact l) t.state) (sym pid_is) (sym left_is);
+          ∙ ap₂ (λ (l m : List ℕ). given ++ (record { text = l; area = m } ∷ pieces_of_turns old.pid (filter is_intact rest) t.state)) (sym made.text_is) (sym (area_kept c t.state made.stands))
+          ∙ sym (append_assoc given (record { text = text; area = page_area c.page } ∷ []) (pieces_of_turns old.pid (filter is_intact rest) t.state))
+          ∙ ap (λ (l : List Piece). (given ++ record { text = text; area = page_area c.page } ∷ []) ++ l) (rest_pieces (wants c.services old.pid) old.pid rest t.state now_wanted)
+          ∙ ap₂ (λ (p : ℕ) (l : List (List ℕ)). (given ++ record { text = text; area = page_area c.page } ∷ []) ++ pieces_of_turns p (filter is_intact l) t.state) (sym pid_is) (sym left_is);
       services_are = is;
       clock_is = made.stands.page.clock;
-      area_is = made.stands.page.area;
+      area_is = area_kept c t.state made.stands;
       unspent = unspent;
       kept = record {
         broadcast = made.stands;

@@ -1,6 +1,6 @@
 -- A section leaves its own PID wanted.
-use Rattle.std.proofs.Common.{◌≡◌, ◌∙◌, ℕ, suc, Bool, true, false, cond, eqb, List, [], ◌∷◌, ◌++◌, length, Option, Some, None, refl, sym, ap, append-nil}
-use Rattle.std.specs.Prelude.{◌==◌, ◌||◌, if◌then◌else◌, is_some}
+use Rattle.std.proofs.Common.{◌≡◌, ◌∙◌, ℕ, suc, Bool, true, false, cond, eqb, List, [], ◌∷◌, ◌++◌, length, Option, Some, None, refl, ap, append-nil}
+use Rattle.std.specs.Prelude.{◌||◌, if◌then◌else◌, is_some}
 use Rattle.std.specs.List.{cons_option, filter_map}
 use Rattle.std.proofs.lemmas.List.Elements.{filter_map-append}
 use Rattle.psi_tables.specs.declared.components.Component.{Component}
@@ -10,7 +10,7 @@ use Rattle.psi_tables.specs.declared.services.Selection.TheVariants as selection
 use Rattle.psi_tables.specs.Components.{tag_in}
 use Rattle.psi_tables.specs.History.{Handled, is_on, last_of, map_of, service_in_pat, service_named, service_of}
 use Rattle.psi_tables.specs.Service.{reads_table}
-use Rattle.receiver_core.specs.Outputs.{Piece, piece_of, pieces_of_turns}
+use Rattle.receiver_core.specs.Outputs.{piece_of, pieces_of_turns}
 use Rattle.receiver_core.specs.State.{State, services, wants}
 use Rattle.receiver_core.specs.Turns.{step_of_table, step_of_tag, turn, with_handled, with_turn}
 

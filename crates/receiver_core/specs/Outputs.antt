@@ -1,14 +1,16 @@
 -- What comes to a receiver, and what it prints for that: a list of pieces, one for each turn and one
 -- for each display list that is asked for. (This project's own.)
-use Rattle.std.specs.Prelude.{ℕ, ◌+◌, ◌==◌, true, false, ◌&&◌, if◌then◌else◌, List, [], ◌∷◌, ◌++◌, filter, map}
+use Rattle.std.specs.Prelude.{ℕ, zero, suc, ◌+◌, ◌==◌, nat_le, true, false, ◌&&◌, if◌then◌else◌, List, [], ◌∷◌, ◌++◌, filter, map, Option, Some, None, option_and_then}
+use Rattle.std.specs.Option.{option_map_or}
 use Rattle.ts_packets.specs.Packet.{pid_of}
 use Rattle.ts_sections.specs.Sections.{completed_by}
 use Rattle.ts_sections.specs.Intact.{is_intact}
 use Rattle.psi_tables.specs.declared.services.Selection.{Selection}
 use Rattle.es_reader.specs.Readers.{Reader}
-use Rattle.page.specs.Inputs.{display_of, with_clock, with_random}
+use Rattle.page.specs.Inputs.{display_of, due_next, with_clock, with_random}
+use Rattle.page.specs.State.{area_of}
 use Rattle.receiver_core.specs.State.{State, opening, wants}
-use Rattle.receiver_core.specs.Turns.{Step, key_turn, turn}
+use Rattle.receiver_core.specs.Turns.{Step, due_turn, key_turn, turn}
 use Rattle.receiver_core.specs.declared.broadcast.Input.{Input as HandedIn}
 use Rattle.receiver_core.specs.declared.broadcast.Input.TheVariants as handed
 
@@ -47,7 +49,7 @@ abbrev pub texts_of : List Piece → List (List ℕ)
 texts_of pieces = map (λ piece. piece.text) pieces
 
 abbrev pub piece_of : Step → Piece
-piece_of step = record { text = step.text; area = step.state.page.area }
+piece_of step = record { text = step.text; area = area_of step.state.page }
 
 -- ---- turns
 
@@ -94,8 +96,37 @@ with_piece step = record { state = step.state; pieces = piece_of step ∷ [] }
 abbrev pub without_piece : State → Outcome
 without_piece s = record { state = s; pieces = [] }
 
--- A packet makes the turns of the intact sections that it completes, and a key makes one turn.
--- Nothing is printed where time passes, as nothing is due, nor for a random word.
+-- ---- time
+
+-- a step gives its piece, and then this comes of the state that it leaves
+abbrev pub with_first : Step → Outcome → Outcome
+with_first step outcome =
+    record { state = outcome.state; pieces = piece_of step ∷ outcome.pieces }
+
+-- the clock goes to a moment, and nothing is due on the way
+abbrev pub waits_until : ℕ → State → Outcome
+waits_until end s = without_piece (record s { page = with_clock end s.page })
+
+abbrev pub not_after : ℕ → ℕ → Option ℕ
+not_after end moment = if nat_le moment end then Some moment else None
+
+-- the next moment when a timer is due, where it comes by the end
+abbrev pub due_by : ℕ → State → Option ℕ
+due_by end s = option_and_then (not_after end) (due_next s.page)
+
+-- Time passes from due moment to due moment, each with its turn, and then to the end. There are no more due moments than
+-- milliseconds, since each comes later than the one before.
+unfoldable pub time_passes : ℕ → ℕ → State → Outcome
+time_passes zero end s = waits_until end s
+time_passes (suc more) end s =
+    option_map_or
+    (λ moment. with_first (due_turn moment s) (time_passes more end (due_turn moment s).state))
+    (due_by end s) (waits_until end s)
+
+-- ---- all of them
+
+-- A packet makes the turns of the intact sections that it completes, and a key makes one turn. So does each moment when
+-- timers are due. Nothing is printed for a random word.
 abbrev pub outcome_of : Input → State → Outcome
 outcome_of (Packet packet) s = record {
   state = state_behind_turns (pid_of packet) (intact_sections packet s) (with_packet packet s);
@@ -103,8 +134,7 @@ outcome_of (Packet packet) s = record {
 }
 outcome_of (Key key) s = with_piece (key_turn key true s)
 outcome_of (Release key) s = with_piece (key_turn key false s)
-outcome_of (Tick count) s =
-    without_piece (record s { page = with_clock (s.page.clock + count) s.page })
+outcome_of (Tick count) s = time_passes count (s.page.clock + count) s
 outcome_of (Random word) s = without_piece (record s { page = with_random word s.page })
 outcome_of Show s = with_piece (record { state = s; text = display_of s.page })
 

@@ -7,10 +7,11 @@ use Rattle.ts_sections.specs.Intact.{is_intact}
 use Rattle.psi_tables.specs.declared.services.Selection.{Selection}
 use Rattle.psi_tables.specs.Service.{ServicesState, wants}
 use Rattle.es_reader.specs.Readers.{Reader}
+use Rattle.page.specs.State.{area_of}
 use Rattle.receiver_core.specs.Keeping.{KeptState, Keeps}
 use Rattle.receiver_core.specs.Outputs.{Input, Piece, outputs, pieces_of, pieces_of_turns}
 use Rattle.receiver_core.specs.Outputs.{state_behind, state_behind_turns, texts_of}
-use Rattle.receiver_core.specs.Outputs.Input.{Tick, Random}
+use Rattle.receiver_core.specs.Outputs.Input.{Random}
 use Rattle.receiver_core.specs.State.{State, opening, services}
 
 pub record ReceiverState : Type 0 where
@@ -40,7 +41,7 @@ pub record StandsFor (read : Reader) (selection : Selection) (area : List ℕ) (
       ≡ given ++ pieces_of_turns state.pid (filter is_intact state.waiting) now
   pub services_are : state.services ≡ services now
   pub clock_is : state.clock ≡ now.page.clock
-  pub area_is : state.area ≡ now.page.area
+  pub area_is : state.area ≡ area_of now.page
   pub unspent : state.spent ≡ false
   -- a device
   pub kept : Keeps state.kept now
@@ -132,8 +133,7 @@ pub record Answers (input : Input) (old new : ReceiverState) (before after : Lis
       (inputs : List Input) (given : List Piece) → StandsFor read selection area old inputs given
       → StandsFor read selection area new (inputs ++ input ∷ []) (given ++ pieces)
 
--- nothing is printed for it: for time, as nothing is due, and for a random word
+-- nothing is printed for it: for a random word
 abbrev pub IsSilent : Input → Type 0
-IsSilent (Tick count) = Unit {0}
 IsSilent (Random word) = Unit {0}
 IsSilent _ = ⊥

@@ -1,11 +1,11 @@
--- What intact sections and keys change, with the turns that follow. (This project's own.)
+-- What intact sections, keys and moments change, with the turns that follow. (This project's own.)
 use Rattle.std.specs.Prelude.{ℕ, Bool, if◌then◌else◌, List, [], ◌∷◌, ◌++◌, map, Option, Some, None}
 use Rattle.psi_tables.specs.Components.{tag_in}
 use Rattle.psi_tables.specs.Service.{reads_table}
 use Rattle.carousel_blocks.specs.declared.changes.Change.{Change}
 use Rattle.module_store.specs.Store as store
 use Rattle.page.specs.Dispatches as dispatches
-use Rattle.page.specs.Inputs.{changes_step, key_step}
+use Rattle.page.specs.Inputs.{changes_step, due_step, key_step}
 use Rattle.page.specs.State as page
 use Rattle.receiver_core.specs.State.{State, services, wants}
 
@@ -75,3 +75,7 @@ turn pid section s = with_turn (step_of_section pid section s)
 -- that of a key that is pressed or released
 unfoldable pub key_turn : ℕ → Bool → State → Step
 key_turn key down s = with_turn (of_page s (key_step key down s.page))
+
+-- that of a moment, which the clock reaches, and when timers are due
+unfoldable pub due_turn : ℕ → State → Step
+due_turn moment s = with_turn (of_page s (due_step moment s.page))

@@ -1,18 +1,20 @@
 //! The broadcast that is received, with its tables, its modules and its page; and what comes to it
 //! beside sections.
 
-ghost use Rattle.std.specs.Prelude.{◌≡◌, ◌≤◌, ◌<◌, ◌+◌, ◌^◌, ◌++◌, ℕ, List, false, length, map, IfOk, OnOk};
+ghost use Rattle.std.specs.Prelude.{◌≡◌, ◌≤◌, ◌<◌, ◌+◌, ◌^◌, ◌++◌, ℕ, List, false, length, map, IfOk, IfSome, OnOk};
 ghost use Rattle.std.specs.Io.{StartsWith};
 ghost use Rattle.std.specs.List.{flat_map};
 ghost use Rattle.psi_tables.specs.Service.{reads_table};
 ghost use Rattle.es_reader.specs.Readers.{Reader, IsReader};
 ghost use Rattle.module_store.specs.Lines.{line_of_change};
-ghost use Rattle.page.specs.Standing.{behind_all};
-ghost use Rattle.receiver_core.specs.Broadcasts.{Makes, MakesOutcome, StandsFor};
+ghost use Rattle.page.specs.Standing.{behind_all, page_area};
+ghost use Rattle.receiver_core.specs.Broadcasts.{Makes, MakesFirst, MakesOutcome, StandsFor, due_in};
 ghost use Rattle.receiver_core.specs.Outputs.{input_of, milliseconds_of, outcome_of};
+ghost use Rattle.receiver_core.specs.Outputs.{time_passes, waits_until};
+ghost use Rattle.receiver_core.specs.Outputs.Input.{Tick};
 ghost use Rattle.receiver_core.specs.Receiving.{IsSilent};
 ghost use Rattle.receiver_core.specs.State.{opening};
-ghost use Rattle.receiver_core.specs.Turns.{key_turn, page_turn, step_of_component};
+ghost use Rattle.receiver_core.specs.Turns.{due_turn, key_turn, page_turn, step_of_component};
 ghost use Rattle.receiver_core.specs.Turns.{step_of_section, step_of_table, turn, with_handled};
 
 use bml_bytes::{AreaBytes, NoMemory, law_of_fronts};
@@ -60,7 +62,7 @@ impl Broadcast {
         ensures stands { IfOk result (λ broadcast. (read : Reader) → IsReader read
             → StandsFor broadcast (opening read selection area)) }
         ensures clock { IfOk result (λ broadcast. broadcast.page.clock ≡ 0) }
-        ensures area { IfOk result (λ broadcast. broadcast.page.area ≡ area) }
+        ensures area { IfOk result (λ broadcast. page_area broadcast.page ≡ area) }
     {
         let services = Services::new(alloc, selection);
         let mut store = Store::new(alloc);
@@ -82,7 +84,7 @@ impl Broadcast {
 
     /// The persistent area.
     pub fn area(&self) -> &AreaBytes
-        ensures { result.now ≡ self.now.page.area }
+        ensures { result.now ≡ page_area self.now.page }
     {
         self.page.area()
     }
@@ -95,7 +97,6 @@ impl Broadcast {
         ensures makes { OnOk result
             (Makes (turn pid section.now) self.old self.new out.old.items out.new.items) }
         ensures clock { OnOk result (self.new.page.clock ≡ self.old.page.clock) }
-        ensures area { OnOk result (self.new.page.area ≡ self.old.page.area) }
         ensures grows { StartsWith out.new.items out.old.items }
     {
         self.take(pid, section, out)?;
@@ -112,17 +113,13 @@ impl Broadcast {
         ensures services { self.new.services ≡ self.old.services }
         ensures clock { OnOk result
             (self.new.page.clock ≡ self.old.page.clock + milliseconds_of (input_of input)) }
-        ensures area { self.new.page.area ≡ self.old.page.area }
         ensures silent { IsSilent (input_of input) → out.new ≡ out.old }
         ensures grows { StartsWith out.new.items out.old.items }
     {
         match input {
             Input::Key(code) => self.key_turn(code, true, out),
             Input::Release(code) => self.key_turn(code, false, out),
-            Input::Tick(count) => {
-                let moment = self.page.clock() + u64::from(count);
-                self.page.post_due(moment, out)
-            }
+            Input::Tick(count) => self.pass_time(count, out),
             Input::Random(word) => self.page.add_random(word),
             Input::Show => self.page.show(out),
         }
@@ -135,10 +132,71 @@ impl Broadcast {
             (Makes (key_turn code down) self.old self.new out.old.items out.new.items) }
         ensures services { self.new.services ≡ self.old.services }
         ensures clock { self.new.page.clock ≡ self.old.page.clock }
-        ensures area { self.new.page.area ≡ self.old.page.area }
         ensures grows { StartsWith out.new.items out.old.items }
     {
         self.page.post_key(code, down, out)?;
+        self.page_turn(out)
+    }
+
+    // Lets so many milliseconds pass, and makes the turn of each moment on the way when timers are
+    // due.
+    fn pass_time(&mut self, count: u32, out: &mut Vec<u8>) -> Result<(), NoMemory>
+        requires { 0 < count → self.old.page.clock + count < 2 ^ 62 }
+        ensures makes { OnOk result (MakesOutcome (outcome_of (Tick count))
+            self.old self.new out.old.items out.new.items) }
+        ensures services { self.new.services ≡ self.old.services }
+        ensures clock { OnOk result (self.new.page.clock ≡ self.old.page.clock + count) }
+        ensures grows { StartsWith out.new.items out.old.items }
+    {
+        let end = self.page.clock() + u64::from(count);
+        self.due_turns(count, end, out)?;
+        self.page.pass_time(end);
+        Ok(())
+    }
+
+    // Makes the turns of the moments by the end when timers are due, of which there are at most so
+    // many.
+    fn due_turns(&mut self, most: u32, end: u64, out: &mut Vec<u8>) -> Result<(), NoMemory>
+        requires behind { self.old.page.clock ≤ end }
+        requires bound { end < 2 ^ 62 }
+        ensures makes { OnOk result (MakesFirst (time_passes most end) (waits_until end)
+            self.old self.new out.old.items out.new.items) }
+        ensures services { self.new.services ≡ self.old.services }
+        ensures behind { OnOk result (self.new.page.clock ≤ end) }
+        ensures grows { StartsWith out.new.items out.old.items }
+    {
+        law_of_fronts();
+        'moments: for _round in 0..most {
+            let Some(moment) = self.due_by(end) else {
+                return Ok(());
+            };
+            self.due_turn(moment, out)?;
+        }
+        Ok(())
+    }
+
+    // The next moment when a timer is due, where it comes by the end.
+    fn due_by(&self, end: u64) -> Option<u64>
+        ensures due { result ≡ due_in end self.now.page }
+        ensures within { IfSome result (λ moment. moment ≤ end) }
+    {
+        match self.page.next_due() {
+            Some(moment) if moment <= end => Some(moment),
+            _ => None,
+        }
+    }
+
+    // Makes the turn of a moment when timers are due, which the clock reaches.
+    #[tactic(auto, unfolding(crate::specs::Turns::due_turn))]
+    fn due_turn(&mut self, moment: u64, out: &mut Vec<u8>) -> Result<(), NoMemory>
+        requires { moment < 2 ^ 62 }
+        ensures makes { OnOk result
+            (Makes (due_turn moment) self.old self.new out.old.items out.new.items) }
+        ensures services { self.new.services ≡ self.old.services }
+        ensures clock { OnOk result (self.new.page.clock ≡ moment) }
+        ensures grows { StartsWith out.new.items out.old.items }
+    {
+        self.page.post_due(moment, out)?;
         self.page_turn(out)
     }
 
@@ -148,7 +206,6 @@ impl Broadcast {
             (Makes page_turn self.old self.new out.old.items out.new.items) }
         ensures services { self.new.services ≡ self.old.services }
         ensures clock { self.new.page.clock ≡ self.old.page.clock }
-        ensures area { self.new.page.area ≡ self.old.page.area }
         ensures grows { StartsWith out.new.items out.old.items }
     {
         self.page.turn(&mut self.store, out)
@@ -160,7 +217,6 @@ impl Broadcast {
         ensures makes { OnOk result (Makes (step_of_section pid section.now)
             self.old self.new out.old.items out.new.items) }
         ensures clock { OnOk result (self.new.page.clock ≡ self.old.page.clock) }
-        ensures area { OnOk result (self.new.page.area ≡ self.old.page.area) }
         ensures grows { StartsWith out.new.items out.old.items }
     {
         law_of_unread_sections();
@@ -180,7 +236,6 @@ impl Broadcast {
         ensures makes { OnOk result (Makes (λ s. step_of_table (with_handled pid section.now s))
             self.old self.new out.old.items out.new.items) }
         ensures clock { OnOk result (self.new.page.clock ≡ self.old.page.clock) }
-        ensures area { OnOk result (self.new.page.area ≡ self.old.page.area) }
         ensures grows { StartsWith out.new.items out.old.items }
     {
         law_of_posted_changes();
@@ -207,7 +262,6 @@ impl Broadcast {
             (λ s. step_of_component component section.now (with_handled pid section.now s))
             self.old self.new out.old.items out.new.items) }
         ensures clock { OnOk result (self.new.page.clock ≡ self.old.page.clock) }
-        ensures area { OnOk result (self.new.page.area ≡ self.old.page.area) }
         ensures grows { StartsWith out.new.items out.old.items }
     {
         law_of_unread_sections();
@@ -229,7 +283,6 @@ fn post_changes(
     ensures behind { OnOk result
         (page.new ≡ behind_all (map (λ change. (component, change)) changes.now) page.old) }
     ensures clock { OnOk result (page.new.clock ≡ page.old.clock) }
-    ensures area { OnOk result (page.new.area ≡ page.old.area) }
     ensures grows { StartsWith out.new.items out.old.items }
 {
     law_of_fronts();
@@ -246,7 +299,6 @@ fn post_gone(page: &mut Page, gone: &[(u8, Change)], out: &mut Vec<u8>) -> Resul
         ≡ out.old.items ++ flat_map (λ gone. line_of_change gone.0 gone.1) gone.now) }
     ensures behind { OnOk result (page.new ≡ behind_all gone.now page.old) }
     ensures clock { OnOk result (page.new.clock ≡ page.old.clock) }
-    ensures area { OnOk result (page.new.area ≡ page.old.area) }
     ensures grows { StartsWith out.new.items out.old.items }
 {
     law_of_fronts();

@@ -19,7 +19,7 @@ use ts_packets::Packet;
 use ts_sections::is_intact;
 
 /// Receives a service of a stream, with the modules of its data carousels, and its documents, which
-/// act on keys.
+/// act on keys and as time passes.
 ///
 /// Hand in a packet by [`packet`](Receiver::packet), and then make the turns of the sections that
 /// it completes by [`section_turn`](Receiver::section_turn), until that answers `false`. Once a
@@ -33,6 +33,7 @@ pub struct Receiver {
 }
 
 impl Model for Receiver {
+    ghost use Rattle.page.specs.Standing.{page_area};
     ghost use Rattle.receiver_core.specs.Keeping.{AreWanted};
     ghost use Rattle.receiver_core.specs.Receiving.{ReceiverState};
 
@@ -43,7 +44,7 @@ impl Model for Receiver {
       pid = r.demultiplexer.pid;
       waiting = r.demultiplexer.waiting;
       clock = r.broadcast.page.clock;
-      area = r.broadcast.page.area;
+      area = page_area r.broadcast.page;
       spent = r.spent;
       kept = record { demultiplexer = r.demultiplexer; broadcast = r.broadcast };
     } };
@@ -134,7 +135,6 @@ impl Receiver {
         ensures idle { result ≡ Ok false → IsIdle self.new }
         ensures begins { StartsWith out.new.items out.old.items }
         ensures clock { OnOk result (self.new.clock ≡ self.old.clock) }
-        ensures area { OnOk result (self.new.area ≡ self.old.area) }
         ensures spends { Spends (is_err result) self.old self.new }
     {
         law_of_same_lists();
@@ -170,7 +170,6 @@ impl Receiver {
         ensures idle { IsIdle self.old → IsIdle self.new }
         ensures clock { OnOk result
             (self.new.clock ≡ self.old.clock + milliseconds_of (input_of input)) }
-        ensures area { OnOk result (self.new.area ≡ self.old.area) }
         ensures silent { IsSilent (input_of input) → out.new ≡ out.old }
         ensures begins { StartsWith out.new.items out.old.items }
         ensures spends { Spends (is_err result) self.old self.new }
@@ -214,17 +213,17 @@ impl Receiver {
         self.input(Input::Release(code), out)
     }
 
-    /// Lets time pass: it goes to the next moment within `left` milliseconds at which something is
-    /// due and makes its turn, or goes the whole of `left` without one; and answers the
-    /// milliseconds that are left. Nothing is due yet.
+    /// Lets time pass: makes the turn of each moment on the way when timers are due, and appends what
+    /// they print. Answers the milliseconds that are left, which are none.
     pub fn clock_step(&mut self, left: u32, out: &mut Vec<u8>) -> Result<u32, NoMemory>
         requires idle { IsIdle self.old }
         requires within { self.old.clock + left < 2 ^ 62 }
-        ensures passed { OnOk result (Takes (Tick left) self.old self.new) }
+        ensures answers { OnOk result
+            (Answers (Tick left) self.old self.new out.old.items out.new.items) }
         ensures whole { IfOk result (λ rest. rest ≡ 0) }
         ensures clock { OnOk result (self.new.clock ≡ self.old.clock + left) }
         ensures idle { IsIdle self.new }
-        ensures silent { out.new ≡ out.old }
+        ensures begins { StartsWith out.new.items out.old.items }
         ensures spends { Spends (is_err result) self.old self.new }
     {
         self.input(Input::Tick(left), out)?;
@@ -252,7 +251,6 @@ impl Receiver {
         ensures idle { IsIdle self.old → IsIdle self.new }
         ensures clock { OnOk result (self.new.clock ≡ self.old.clock) }
         ensures begins { StartsWith out.new.items out.old.items }
-        ensures area { OnOk result (self.new.area ≡ self.old.area) }
         ensures spends { Spends (is_err result) self.old self.new }
     {
         self.input(Input::Show, out)

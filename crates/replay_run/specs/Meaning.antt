@@ -5,6 +5,7 @@ use Rattle.std.specs.Prelude.{ℕ, List, [], ◌∷◌, ◌++◌, replicate, Opt
 use Rattle.ts_packets.specs.Packets.{packets_of}
 use Rattle.psi_tables.specs.declared.services.Selection.{Selection}
 use Rattle.es_reader.specs.Readers.{Reader}
+use Rattle.page.specs.State.{area_of}
 use Rattle.receiver_core.specs.Outputs.{Input, Piece, outputs, state_behind}
 use Rattle.receiver_core.specs.State.{opening}
 use Rattle.replay_run.specs.declared.status.Status.{Status}
@@ -31,7 +32,7 @@ replay_inputs stream notes = inputs_of (packets_of stream) (items_before_bad not
 
 -- the area that inputs leave of the area at the start
 abbrev pub area_behind : Reader → Selection → List ℕ → List Input → List ℕ
-area_behind read selection area inputs = (state_behind (opening read selection area) inputs).page.area
+area_behind read selection area inputs = area_of (state_behind (opening read selection area) inputs).page
 
 -- how many packets were taken, behind these inputs
 abbrev pub end_piece : Reader → Selection → List ℕ → List Input → Piece

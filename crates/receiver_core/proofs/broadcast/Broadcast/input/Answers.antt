@@ -1,10 +1,9 @@
-use Rattle.std.proofs.Common.{◌≡◌, ◌+◌, arith, false, refl, true}
-use Rattle.page.specs.Inputs.{display_of, with_clock, with_random}
+use Rattle.std.proofs.Common.{false, refl, true}
+use Rattle.page.specs.Inputs.{display_of, with_random}
 use Rattle.receiver_core.specs.Broadcasts.{BroadcastState}
-use Rattle.receiver_core.specs.State.{State}
-use Rattle.receiver_core.specs.Turns.{key_turn, of_page}
+use Rattle.receiver_core.specs.Turns.{key_turn}
 use Rattle.receiver_core.proofs.BroadcastLaws.{on_ok, outcome_with, outcome_without, page_made}
-use Rattle.receiver_core.proofs.BroadcastLaws.{random_added, time_passed, with_page}
+use Rattle.receiver_core.proofs.BroadcastLaws.{random_added, with_page}
 use Rattle.receiver_core.proofs.broadcast.Broadcast.input.Goals as goal
 
 pub returns-in-Key-clause-makes : goal.returns-in-Key-clause-makes
@@ -22,29 +21,13 @@ returns-in-Release-clause-makes c =
     c.key_turn-in-Release.new.out.items)
     c.key_turn-in-Release.ensures.makes)
 
-pub returns-in-Tick-clause-makes : goal.returns-in-Tick-clause-makes
-returns-in-Tick-clause-makes c =
+pub returns-in-Random-clause-makes : goal.returns-in-Random-clause-makes
+returns-in-Random-clause-makes c =
     let inside = c.self.inside in
     let old : BroadcastState = record { services = inside.services; store = inside.store; page = inside.page } in
     let before = c.args.out.now.items in
-    let after = c.post_due.new.out.items in
-    let same : after ≡ before = rw c.post_due.ensures.silent refl in
-    rw c.in-Tick.is
-    (rw (← c.self.view_is)
-    (on_ok c.post_due.result
-    (λ moved. outcome_without
-    (λ s. record s { page = with_clock (s.page.clock + c.in-Tick.count) s.page })
-    old (with_page old c.post_due.new.self) before after same
-    (time_passed old c.post_due.new.self c.in-Tick.count before after _ (omega arith) moved))
-    c.post_due.ensures.moved))
-
-pub returns-in-Random-clause-makes : goal.returns-in-Random-clause-makes
-returns-in-Random-clause-makes c =
-    let inside = c.self-in-Random.inside in
-    let old : BroadcastState = record { services = inside.services; store = inside.store; page = inside.page } in
-    let before = c.args.out.now.items in
     rw c.in-Random.is
-    (rw (← c.self-in-Random.view_is)
+    (rw (← c.self.view_is)
     (on_ok c.add_random.result
     (λ added. outcome_without (λ s. record s { page = with_random c.in-Random.word s.page })
     old (with_page old c.add_random.new.self) before before refl
