@@ -1,5 +1,5 @@
 -- What handlers and default actions act on stays sound, whatever they do to it.
-use Rattle.std.proofs.Common.{◌≡◌, ℕ, ◌<◌, ◌≤◌, Bool, true, false, List, length, Option, Some, None, refl, sym, ◌∙◌, ap, subst}
+use Rattle.std.proofs.Common.{◌≡◌, ℕ, zero, suc, ◌<◌, ◌≤◌, Bool, true, false, List, length, Option, Some, None, refl, sym, ◌∙◌, ap, subst}
 use Rattle.std.specs.Prelude.{All, codes, if◌then◌else◌, is_some, nat_lt, pos}
 use Rattle.std.specs.Option.{option_map_or}
 use Rattle.std.proofs.lemmas.Bool.{eqb-true}
@@ -8,6 +8,7 @@ use Rattle.dom_tree.specs.Items.{IsElement, Item, changed_at, parent_of, tag_of,
 use Rattle.dom_tree.specs.NodeNumbers.{number_of}
 use Rattle.dom_tree.specs.Walks.{IsTree, KeepsPlaces}
 use Rattle.dom_tree.specs.declared.node_ids.NodeId.{NodeId}
+use Rattle.multipart_entities.specs.declared.paths.Path.{Path}
 use Rattle.style_cascade.specs.States.{is_node}
 use Rattle.style_cascade.specs.declared.states.Focus.{Focus}
 use Rattle.focus_keys.specs.Defaults.{Action}
@@ -18,21 +19,30 @@ use Rattle.es_values.specs.declared.hosts.HostAnswer.TheVariants.{Value as Answe
 use Rattle.es_values.specs.declared.values.HostRef.{HostRef}
 use Rattle.es_values.specs.declared.values.HostRef.TheVariants as ref
 use Rattle.es_values.specs.declared.values.Value.{Value}
-use Rattle.es_values.specs.declared.values.Value.TheVariants.{Undefined, Host}
+use Rattle.es_values.specs.declared.values.Value.TheVariants.{Undefined, Host, Str}
 use Rattle.es_values.specs.Conversions.{text_of}
 use Rattle.es_values.specs.Objects.{ObjectState}
 use Rattle.event_queue.specs.Queues.{most_events}
+use Rattle.event_queue.specs.Timers.{TimersState, first_due, most_timers, with_fired, with_settled}
 use Rattle.event_queue.specs.declared.events.Event.{Event}
 use Rattle.event_queue.specs.declared.events.Event.TheVariants as events
-use Rattle.dom_objects.specs.Writes.{Change, change_of, changed_items}
+use Rattle.browser_objects.specs.Calls.{BrowserParts, Called, call_of}
+use Rattle.browser_objects.specs.Registers.{register_text}
+use Rattle.browser_objects.specs.declared.effects.Effect as of_browser
+use Rattle.browser_objects.specs.declared.effects.Effect.TheVariants as effects
+use Rattle.dom_objects.specs.Reads.{read_value}
+use Rattle.dom_objects.specs.Writes.{Change, change_of, changed_items, changed_tree}
 use Rattle.dom_objects.specs.Writes.Change.{NoChange, ChangesText, ChangesAttribute, ChangesStyle}
 use Rattle.dom_objects.specs.declared.current_events.CurrentEvent.{CurrentEvent}
-use Rattle.document_stages.specs.Acting.{Acting, Answered, acted, activated, begun, called, document_call, element_call, first_argument, first_focus, focus_on, focused, gives, key_posts, left_by, moved_to, no_focus, node_id, not_callable, parts_of, posted, posted_for, read_by, with_focus, written}
-use Rattle.page_laws.specs.Soundness.{has_element, has_node, is_good, is_good_event, is_good_place, names_well}
+use Rattle.document_stages.specs.Acting.{Acting, Answered, acted, acting_with_timers, activated, begun, browser_call, browser_value, called, document_call, done_for, due_posted, element_call, first_argument, first_focus, focus_on, focused, gives, is_unload, key_posts, launch, left_by, moved_to, no_focus, node_id, not_callable, parts_of, posted, posted_for, read_by, register_value, timer_fired, timer_posted, timer_settled, timers_fired, with_browser, with_focus, with_line, written}
+use Rattle.document_stages.specs.EventLines.{kept_line, launch_line, sound_line}
+use Rattle.page_laws.specs.Soundness.{AreTimers, has_element, has_node, is_good, is_good_event, is_good_place, names_well}
+use Rattle.page_laws.proofs.BrowserLemmas.{call-good}
 use Rattle.page_laws.proofs.ItemLemmas.{changed-tree}
 use Rattle.page_laws.proofs.QueueLemmas.{posted-all, posted-room}
 use Rattle.page_laws.proofs.ReadLemmas.{HangBefore, IsGiven, has_target, id-given, is_given, value-given}
 use Rattle.page_laws.proofs.TargetLemmas.{IsGoodAction, focus-element, nav-element}
+use Rattle.page_laws.proofs.TimerLemmas.{with_settled-sound, with_fired-sound}
 
 -- what is known of trees
 pub record TreeLaws : Type 0 where
@@ -64,6 +74,7 @@ pub record IsSoundActing (items : List Item) (a : Acting) : Type 0 where
   pub nodes : AreAsFirst items a.tree.items
   pub focus : IsGoodFocus items a.tree.focus
   pub queue : IsGoodQueue items a.queue
+  pub timers : AreTimers a.browser.timers
   pub target : has_target items a.event ≡ true
 
 -- the value of an answer names what is there, if it has one
@@ -72,10 +83,12 @@ IsGivenAnswer items (Answer value) = IsGiven items value
 IsGivenAnswer items Ended = Unit {0}
 IsGivenAnswer items NotCallable = Unit {0}
 
--- and what is acted on behind it is sound
-pub record IsSoundAnswer (items : List Item) (r : Answered) : Type 0 where
+-- and what is acted on behind it is sound, and these are the objects
+pub record IsSoundAnswer (items : List Item) (heap : List ObjectState) (r : Answered)
+    : Type 0 where
   pub answer : IsGivenAnswer items r.answer
   pub acting : IsSoundActing items r.acting
+  pub heap_is : r.heap ≡ heap
 
 -- ---- what names well at first does so now, and the other way round
 
@@ -140,13 +153,20 @@ module _ (laws : TreeLaws) (items : List Item) where
       room = posted-room event a.queue s.queue.room;
       events = posted-all (λ e. is_good_event items e ≡ true) event a.queue h s.queue.events;
     };
+    timers = s.timers;
     target = s.target;
   }
 
   focus-sound : (focus : Focus) (a : Acting) → IsGoodFocus items focus → IsSoundActing items a
       → IsSoundActing items (with_focus focus a)
   focus-sound focus a h s =
-      record { nodes = s.nodes; focus = h; queue = s.queue; target = s.target }
+      record {
+        nodes = s.nodes;
+        focus = h;
+        queue = s.queue;
+        timers = s.timers;
+        target = s.target;
+      }
 
   on-good : (node : ℕ) → has_element items node ≡ true → IsGoodFocus items (focus_on node)
   on-good node h = record { has = h; active = refl }
@@ -212,6 +232,53 @@ module _ (laws : TreeLaws) (items : List Item) where
       posted-sound (events.Default key) _ refl (posted-sound (events.KeyDown key) a refl s)
   keys-sound false key a s = posted-sound (events.KeyUp key) a refl s
 
+  -- ---- timers
+
+  timers-sound : (timers : TimersState) (a : Acting) → AreTimers timers → IsSoundActing items a
+      → IsSoundActing items (acting_with_timers timers a)
+  timers-sound timers a h s = record {
+    nodes = s.nodes;
+    focus = s.focus;
+    queue = s.queue;
+    timers = h;
+    target = s.target;
+  }
+
+  timer_posted-sound : (number : ℕ) (a : Acting) → IsSoundActing items a
+      → IsSoundActing items (timer_posted number a)
+  timer_posted-sound number a s = by (nat_lt (length a.queue) most_events)
+    where
+      event : Event
+      event = events.Timer number
+
+      by : (room : Bool) → IsSoundActing items
+          (if room then posted event a else timer_settled number (posted event a))
+      by true = posted-sound event a refl s
+      by false =
+          timers-sound (with_settled number a.browser.timers) (posted event a)
+          (with_settled-sound number a.browser.timers s.timers) (posted-sound event a refl s)
+
+  fired-sound : (more moment : ℕ) (a : Acting) → IsSoundActing items a
+      → IsSoundActing items (timers_fired more moment a)
+  unfolding timers_fired
+  fired-sound zero moment a s = s
+  fired-sound (suc more) moment a s =
+      by (fired-sound more moment) (first_due moment a.browser.timers)
+    where
+      by : ((a : Acting) → IsSoundActing items a → IsSoundActing items (timers_fired more moment a))
+          → (number : Option ℕ) → IsSoundActing items (option_map_or
+          (λ number. timers_fired more moment (timer_fired moment number a)) number a)
+      by rest None = s
+      by rest (Some number) =
+          rest (timer_fired moment number a)
+          (timer_posted-sound number _
+          (timers-sound (with_fired moment a.browser.timers) a
+          (with_fired-sound moment a.browser.timers s.timers) s))
+
+  pub due-sound : (moment : ℕ) (a : Acting) → IsSoundActing items a
+      → IsSoundActing items (due_posted moment a)
+  due-sound moment a s = fired-sound most_timers moment a s
+
   -- ---- the first focus
 
   first-good : (a : Acting) → IsSoundActing items a
@@ -238,13 +305,41 @@ module _ (laws : TreeLaws) (items : List Item) where
 
   -- ---- what scripts read and write
 
-  pub read-given : (a : Acting) → IsSoundActing items a → (base : HostRef) (name : List ℕ)
-      → IsGiven items (read_by a base name)
-  read-given a s base name =
-      sym (given-same items a.tree.items s.nodes (read_by a base name))
+  part-given : (a : Acting) → IsSoundActing items a → (base : HostRef) (name : List ℕ)
+      → IsGiven items (read_value (parts_of a) base name)
+  part-given a s base name =
+      sym (given-same items a.tree.items s.nodes (read_value (parts_of a) base name))
       ∙ value-given (parts_of a) (hang a.tree.items s.nodes.tree)
       (place-same items a.tree.items s.nodes (number_of a.tree.focus.focus) ∙ s.focus.has)
       (target-same items a.tree.items s.nodes a.event ∙ s.target) base name
+
+  either-given : (t : Bool) (one other : Value) → IsGiven items one → IsGiven items other
+      → IsGiven items (if t then one else other)
+  either-given true one other h more = h
+  either-given false one other h more = more
+
+  browser-given : (name : List ℕ) → IsGiven items (browser_value name)
+  browser-given name =
+      either-given (is_same name (codes "Ureg")) _ _ refl
+      (either-given (is_same name (codes "Greg")) _ _ refl refl)
+
+  register-given : (registers : List (List ℕ)) (name : List ℕ)
+      → IsGiven items (register_value registers name)
+  register-given registers name = by (register_text registers name)
+    where
+      by : (text : Option (List ℕ)) → IsGiven items (option_map_or Str text Undefined)
+      by None = refl
+      by (Some text) = refl
+
+  pub read-given : (a : Acting) → IsSoundActing items a → (base : HostRef) (name : List ℕ)
+      → IsGiven items (read_by a base name)
+  read-given a s ref.Browser name = browser-given name
+  read-given a s ref.Ureg name = register-given a.browser.ureg name
+  read-given a s ref.Greg name = register-given a.browser.greg name
+  read-given a s ref.Document name = part-given a s ref.Document name
+  read-given a s ref.Event name = part-given a s ref.Event name
+  read-given a s (ref.Node node) name = part-given a s (ref.Node node) name
+  read-given a s (ref.Style node state) name = part-given a s (ref.Style node state) name
 
   changed-nodes : (f : Item → Item) (place : ℕ)
       → ((now : List Item) → KeepsPlaces now (changed_at f place now)) → (now : List Item)
@@ -265,35 +360,39 @@ module _ (laws : TreeLaws) (items : List Item) where
       now n
   written-nodes (ChangesStyle node state property value) now n = n
 
-  pub written-sound : (a : Acting) → IsSoundActing items a → (base : HostRef)
-      (name text : List ℕ) → IsSoundActing items (written a base name text)
-  written-sound a s base name text = record {
-    nodes = written-nodes (change_of a.tree.items base name text) a.tree.items s.nodes;
+  browser-sound : (browser : BrowserParts) (a : Acting) → AreTimers browser.timers
+      → IsSoundActing items a → IsSoundActing items (with_browser browser a)
+  browser-sound browser a h s = record {
+    nodes = s.nodes;
     focus = s.focus;
     queue = s.queue;
+    timers = h;
     target = s.target;
   }
 
+  tree-sound : (a : Acting) → IsSoundActing items a → (base : HostRef) (name text : List ℕ)
+      → IsSoundActing items
+      (record a { tree = changed_tree (change_of a.tree.items base name text) a.tree })
+  tree-sound a s base name text = record {
+    nodes = written-nodes (change_of a.tree.items base name text) a.tree.items s.nodes;
+    focus = s.focus;
+    queue = s.queue;
+    timers = s.timers;
+    target = s.target;
+  }
+
+  pub written-sound : (a : Acting) → IsSoundActing items a → (base : HostRef)
+      (name text : List ℕ) → IsSoundActing items (written a base name text)
+  written-sound a s ref.Ureg name text = browser-sound _ a s.timers s
+  written-sound a s ref.Greg name text = browser-sound _ a s.timers s
+  written-sound a s ref.Browser name text = tree-sound a s ref.Browser name text
+  written-sound a s ref.Document name text = tree-sound a s ref.Document name text
+  written-sound a s ref.Event name text = tree-sound a s ref.Event name text
+  written-sound a s (ref.Node node) name text = tree-sound a s (ref.Node node) name text
+  written-sound a s (ref.Style node state) name text =
+      tree-sound a s (ref.Style node state) name text
+
   -- ---- what scripts call
-
-  chosen-sound : (t : Bool) (one other : Answered) → IsSoundAnswer items one
-      → IsSoundAnswer items other → IsSoundAnswer items (if t then one else other)
-  chosen-sound true one other h more = h
-  chosen-sound false one other h more = more
-
-  gives-sound : (value : Value) (a : Acting) → IsGiven items value → IsSoundActing items a
-      → IsSoundAnswer items (gives value a)
-  gives-sound value a h s = record { answer = h; acting = s }
-
-  none-sound : (a : Acting) → IsSoundActing items a → IsSoundAnswer items (not_callable a)
-  none-sound a s = record { answer = tt; acting = s }
-
-  document-sound : (a : Acting) → IsSoundActing items a → (name id : List ℕ)
-      → IsSoundAnswer items (document_call a name id)
-  document-sound a s name id =
-      chosen-sound (is_same name (codes "getElementById")) _ _
-      (gives-sound _ a (sym (given-same items a.tree.items s.nodes _) ∙ id-given a.tree.items id) s)
-      (none-sound a s)
 
   focused-sound : (node : ℕ) (a : Acting) → IsSoundActing items a
       → IsSoundActing items (focused node a)
@@ -308,22 +407,86 @@ module _ (laws : TreeLaws) (items : List Item) where
           ∙ focus-element a.tree node e) s
       by false e = s
 
-  element-sound : (a : Acting) → IsSoundActing items a → (node : ℕ) (name : List ℕ)
-      → IsSoundAnswer items (element_call a node name)
-  element-sound a s node name =
-      chosen-sound (is_same name (codes "focus")) _ _
-      (gives-sound Undefined (focused node a) refl (focused-sound node a s))
-      (chosen-sound (is_same name (codes "blur")) _ _
-      (gives-sound Undefined (left_by node a) refl (left-sound node a s)) (none-sound a s))
+  module _ (heap : List ObjectState) where
+    chosen-sound : (t : Bool) (one other : Answered) → IsSoundAnswer items heap one
+        → IsSoundAnswer items heap other → IsSoundAnswer items heap (if t then one else other)
+    chosen-sound true one other h more = h
+    chosen-sound false one other h more = more
 
-  pub called-sound : (a : Acting) → IsSoundActing items a → (base : HostRef) (name : List ℕ)
-      (arguments : List Value) (heap : List ObjectState)
-      → IsSoundAnswer items (called a base name arguments heap)
-  unfolding called
-  called-sound a s ref.Document name arguments heap =
-      document-sound a s name (text_of heap (first_argument arguments))
-  called-sound a s (ref.Node node) name arguments heap =
-      chosen-sound (is_some (tag_of a.tree.items node)) _ _ (element-sound a s node name)
-      (none-sound a s)
-  called-sound a s ref.Browser name arguments heap = gives-sound _ a refl s
-  called-sound a s _ name arguments heap = none-sound a s
+    gives-sound : (value : Value) (a : Acting) → IsGiven items value → IsSoundActing items a
+        → IsSoundAnswer items heap (gives value a heap)
+    gives-sound value a h s = record { answer = h; acting = s; heap_is = refl }
+
+    none-sound : (a : Acting) → IsSoundActing items a
+        → IsSoundAnswer items heap (not_callable a heap)
+    none-sound a s = record { answer = tt; acting = s; heap_is = refl }
+
+    document-sound : (a : Acting) → IsSoundActing items a → (name id : List ℕ)
+        → IsSoundAnswer items heap (document_call a name id heap)
+    document-sound a s name id =
+        chosen-sound (is_same name (codes "getElementById")) _ _
+        (gives-sound _ a (sym (given-same items a.tree.items s.nodes _) ∙ id-given a.tree.items id)
+        s)
+        (none-sound a s)
+
+    element-sound : (a : Acting) → IsSoundActing items a → (node : ℕ) (name : List ℕ)
+        → IsSoundAnswer items heap (element_call a node name heap)
+    element-sound a s node name =
+        chosen-sound (is_same name (codes "focus")) _ _
+        (gives-sound Undefined (focused node a) refl (focused-sound node a s))
+        (chosen-sound (is_same name (codes "blur")) _ _
+        (gives-sound Undefined (left_by node a) refl (left-sound node a s)) (none-sound a s))
+
+    -- ---- calls of the browser object
+
+    line-sound : (line : List ℕ) (launched : Option Path) (a : Acting) → IsSoundActing items a
+        → IsSoundActing items (record (with_line line a) { launched = launched })
+    line-sound line launched a s = record {
+      nodes = s.nodes;
+      focus = s.focus;
+      queue = s.queue;
+      timers = s.timers;
+      target = s.target;
+    }
+
+    launch-sound : (path : Path) (a : Acting) → IsSoundActing items a
+        → IsSoundAnswer items heap (launch path a heap)
+    launch-sound path a s =
+        chosen-sound (is_unload a.event.event) _ _ (gives-sound _ a refl s)
+        (record {
+          answer = tt;
+          acting = line-sound (launch_line path) (Some path) a s;
+          heap_is = refl;
+        })
+
+    done-sound : (effect : of_browser.Effect) (value : Value) (a : Acting) → IsGiven items value
+        → IsSoundActing items a → IsSoundAnswer items heap (done_for effect value a heap)
+    done-sound effects.Nothing value a h s = gives-sound value a h s
+    done-sound (effects.Sound sound) value a h s =
+        gives-sound value (with_line (sound_line sound) a) h
+        (line-sound (sound_line sound) a.launched a s)
+    done-sound (effects.Kept slot size) value a h s =
+        gives-sound value (with_line (kept_line slot size) a) h
+        (line-sound (kept_line slot size) a.launched a s)
+    done-sound (effects.Launch path) value a h s = launch-sound path a s
+    done-sound (effects.Lock path) value a h s = gives-sound _ a refl s
+    done-sound (effects.Unlock path) value a h s = gives-sound _ a refl s
+
+    browser_call-sound : (a : Acting) → IsSoundActing items a → (name : List ℕ)
+        (arguments : List Value) → IsSoundAnswer items heap (browser_call a name arguments heap)
+    browser_call-sound a s name arguments =
+        let call : Called = call_of name a.path a.now arguments heap a.browser in
+        let good = call-good items a.browser s.timers name a.path a.now arguments heap in
+        done-sound call.effect call.value (with_browser call.state a) good.value
+        (browser-sound call.state a good.timers s)
+
+    pub called-sound : (a : Acting) → IsSoundActing items a → (base : HostRef) (name : List ℕ)
+        (arguments : List Value) → IsSoundAnswer items heap (called a base name arguments heap)
+    unfolding called
+    called-sound a s ref.Document name arguments =
+        document-sound a s name (text_of heap (first_argument arguments))
+    called-sound a s (ref.Node node) name arguments =
+        chosen-sound (is_some (tag_of a.tree.items node)) _ _ (element-sound a s node name)
+        (none-sound a s)
+    called-sound a s ref.Browser name arguments = browser_call-sound a s name arguments
+    called-sound a s _ name arguments = none-sound a s

@@ -1,4 +1,4 @@
--- Documents stay sound: their scripts and handlers, their default actions, and what keys post.
+-- Documents stay sound: their scripts, handlers and timers, their default actions, and what keys post.
 use Rattle.std.proofs.Common.{◌≡◌, ℕ, ◌<◌, Bool, true, false, List, [], ◌∷◌, length, Option, Some, None, refl, ◌∙◌, arith}
 use Rattle.std.specs.Prelude.{◌==◌, if◌then◌else◌, map, option_and_then}
 use Rattle.std.specs.Option.{option_map_or}
@@ -6,35 +6,39 @@ use Rattle.std.proofs.lemmas.Bool.{lt-ltb}
 use Rattle.std.proofs.lemmas.List.Elements.{All-nil, All-weaker}
 use Rattle.dom_tree.specs.Items.{Item}
 use Rattle.dom_tree.specs.Walks.{IsTree, places}
+use Rattle.multipart_entities.specs.declared.paths.Path.{Path}
+use Rattle.style_cascade.specs.StyledTrees.{StyledTree}
 use Rattle.focus_keys.specs.Defaults.{action_of}
 use Rattle.focus_keys.specs.KeyTables.{key_number}
 use Rattle.focus_keys.specs.declared.keys.Key.TheVariants.{Enter}
 use Rattle.es_values.specs.declared.values.Value.{Value}
 use Rattle.es_values.specs.Heaps as heaps
 use Rattle.es_values.specs.Objects.{ObjectState}
-use Rattle.es_eval.specs.Evaluation.{run_at, world}
+use Rattle.es_eval.specs.Evaluation.{global_run, run_at, world}
 use Rattle.es_shapes.specs.Sources.{program_of}
-use Rattle.es_eval.specs.Worlds.{World}
+use Rattle.es_eval.specs.Worlds.{Run, World}
 use Rattle.event_queue.specs.Events.{name_of}
+use Rattle.event_queue.specs.Timers.{Timer, timer_of}
 use Rattle.event_queue.specs.declared.events.Event.{Event}
 use Rattle.event_queue.specs.declared.events.Event.TheVariants as events
 use Rattle.document_load.specs.Drafts.{DraftState}
 use Rattle.dom_objects.specs.declared.current_events.CurrentEvent.{CurrentEvent}
 use Rattle.es_reader.specs.Readers.{Reader}
 use Rattle.script_laws.specs.Passing.{HeapPasses, ObjectPasses}
-use Rattle.script_laws.specs.Staying.{AreFit}
-use Rattle.document_stages.specs.Acting.{Acting, acted, begun, first_focus, key_posts}
+use Rattle.script_laws.specs.Staying.{AreFit, StaysWithin}
+use Rattle.document_stages.specs.Acting.{Acting, acted, begun, due_posted, first_focus, key_posts}
 use Rattle.acting_documents.specs.Documents.{Document, body_of, handler_in, is_body, passes}
-use Rattle.acting_documents.specs.Handling.{deactivated, focus_of, handled, handled_at, key_effect, kind_of, run_handler}
+use Rattle.acting_documents.specs.Handling.{body_in, deactivated, default_action, due_effect, focus_of, handled, handled_at, key_effect, kind_of, run_handler, timer_effect, timer_taken}
 use Rattle.acting_documents.specs.Beginnings.{begin, load_effect, run_scripts, script_places}
 use Rattle.page.specs.Loading.{opened}
-use Rattle.acting_documents.specs.Runs.{acting_in, done, ended, most_steps, no_event, nothing_done, run_program, with_acting, with_world}
-use Rattle.page_laws.specs.Soundness.{IsGoodHandler, IsSoundDocument, is_good, is_good_event, is_good_in, is_good_place, limit_of}
-use Rattle.page_laws.proofs.ActingLemmas.{IsSoundActing, TreeLaws, acted-sound, begun-sound, element-same, event-same, good-same, keys-sound, place-same}
+use Rattle.acting_documents.specs.Runs.{Effect, Scene, acting_in, and_then, done, effect_of_end, ended, most_steps, no_event, nothing_done, run_function, run_program, unless_launched, with_acting, with_world}
+use Rattle.page_laws.specs.Soundness.{AreTimers, IsGoodHandler, IsSoundDocument, is_good, is_good_event, is_good_in, is_good_place, limit_of}
+use Rattle.page_laws.proofs.ActingLemmas.{IsSoundActing, TreeLaws, acted-sound, begun-sound, due-sound, element-same, event-same, good-same, keys-sound, place-same}
 use Rattle.page_laws.proofs.HandlerLemmas.{read-handlers}
 use Rattle.page_laws.proofs.ReadLemmas.{has_target, place-below}
-use Rattle.page_laws.proofs.RunLemmas.{EndsSound, PlacesStay, own-pass, run-sound}
+use Rattle.page_laws.proofs.RunLemmas.{EndsSound, RunsStay, own-pass, run-sound}
 use Rattle.page_laws.proofs.TargetLemmas.{action-good}
+use Rattle.page_laws.proofs.TimerLemmas.{with_settled-sound}
 use Rattle.page_laws.proofs.WalkLemmas.{IsBelow, first-below, places-below}
 
 -- the world of a sound document
@@ -49,12 +53,26 @@ world-fit d s = record {
   objects = omega arith;
 }
 
-pub acting-first : (d : Document) (event : CurrentEvent) → IsSoundDocument d
-    → has_target d.tree.items event ≡ true → IsSoundActing d.tree.items (acting_in event d)
-acting-first d event s h = record {
-  nodes = record { tree = s.tree; count = refl; tags = λ node. refl };
-  focus = record { has = s.focus; active = s.active };
-  queue = record { room = s.room; events = s.events };
+-- a scene is sound where its document is, and its timers are as they have to be
+pub record IsSoundScene (scene : Scene) : Type 0 where
+  pub document : IsSoundDocument scene.document
+  pub timers : AreTimers scene.browser.timers
+
+-- the nodes of its document
+abbrev items_of : Scene → List Item
+items_of scene = scene.document.tree.items
+
+abbrev is_good_here : Scene → Value → Bool
+is_good_here scene = is_good_in scene.document
+
+acting-first : (scene : Scene) (event : CurrentEvent) → IsSoundScene scene
+    → has_target (items_of scene) event ≡ true
+    → IsSoundActing (items_of scene) (acting_in event scene)
+acting-first scene event s h = record {
+  nodes = record { tree = s.document.tree; count = refl; tags = λ node. refl };
+  focus = record { has = s.document.focus; active = s.document.active };
+  queue = record { room = s.document.room; events = s.document.events };
+  timers = s.timers;
   target = h;
 }
 
@@ -70,10 +88,11 @@ heap-passes one other same heap all =
     passes)
     heap all
 
-pub left-sound : (d : Document) (a : Acting) (w : World) → IsSoundDocument d
-    → IsSoundActing d.tree.items a → AreFit (is_good_in d) 0 w.globals w.heap
-    → IsSoundDocument (with_world w (with_acting a d))
-left-sound d a w before s fit =
+document-left : (scene : Scene) (a : Acting) (w : World) → IsSoundDocument scene.document
+    → IsSoundActing (items_of scene) a → AreFit (is_good_here scene) 0 w.globals w.heap
+    → IsSoundDocument (with_world w (with_acting a scene)).document
+document-left scene a w before s fit =
+    let d : Document = scene.document in
     let same = λ (value : Value). good-same d.tree.items a.tree.items s.nodes (limit_of d) value in
     record {
       tree = s.nodes.tree;
@@ -99,34 +118,92 @@ left-sound d a w before s fit =
       objects = fit.fit.sound;
     }
 
+left-sound : (scene : Scene) (a : Acting) (w : World) → IsSoundScene scene
+    → IsSoundActing (items_of scene) a → AreFit (is_good_here scene) 0 w.globals w.heap
+    → IsSoundScene (with_world w (with_acting a scene))
+left-sound scene a w before s fit = record {
+  document = document-left scene a w before.document s fit;
+  timers = s.timers;
+}
+
 -- the same where nothing was done to the world
-acted-left : (d : Document) (a : Acting) → IsSoundDocument d → IsSoundActing d.tree.items a
-    → IsSoundDocument (with_acting a d)
-acted-left d a s h = left-sound d a (world d.globals d.heap 0) s h (world-fit d s)
+acted-left : (scene : Scene) (a : Acting) → IsSoundScene scene
+    → IsSoundActing (items_of scene) a → IsSoundScene (with_acting a scene)
+acted-left scene a s h =
+    let d : Document = scene.document in
+    left-sound scene a (world d.globals d.heap 0) s h (world-fit d s.document)
 
-done-sound : (change : Acting → Acting) (d : Document) → IsSoundDocument d
-    → (IsSoundActing d.tree.items (acting_in no_event d)
-    → IsSoundActing d.tree.items (change (acting_in no_event d)))
-    → IsSoundDocument (done change d).document
-done-sound change d s h =
-    acted-left d (change (acting_in no_event d)) s (h (acting-first d no_event s refl))
+done-sound : (change : Acting → Acting) (scene : Scene) → IsSoundScene scene
+    → (IsSoundActing (items_of scene) (acting_in no_event scene)
+    → IsSoundActing (items_of scene) (change (acting_in no_event scene)))
+    → IsSoundScene (done change scene).scene
+done-sound change scene s h =
+    acted-left scene (change (acting_in no_event scene)) s
+    (h (acting-first scene no_event s refl))
 
-module _ (laws : TreeLaws) (stay : PlacesStay) where
+-- one thing, and then another
+then-sound : (more : Scene → Effect)
+    → ((scene : Scene) → IsSoundScene scene → IsSoundScene (more scene).scene) → (e : Effect)
+    → IsSoundScene e.scene → IsSoundScene (and_then more e).scene
+then-sound more keeps e s = by e.launched
+  where
+    by : (launched : Option Path) → IsSoundScene (unless_launched launched more e).scene
+    by None = keeps e.scene s
+    by (Some path) = s
+
+-- a document before its scripts run
+pub opened-sound : (read : Reader) (path : Path) (draft : DraftState) → IsTree draft.items
+    → IsSoundDocument (opened read path draft)
+opened-sound read path draft tree =
+    let d : Document = opened read path draft in
+    record {
+      tree = tree;
+      focus = refl;
+      active = refl;
+      room = omega arith;
+      events = All-nil (λ event. is_good_event draft.items event ≡ true);
+      handlers = read-handlers read draft;
+      globals = All-nil (λ (global : List ℕ × Value). is_good_in d global.1 ≡ true);
+      properties = All-nil (ObjectPasses (is_good_in d));
+      live = All-nil (λ (global : List ℕ × Value). heaps.IsLive [] global.1);
+      objects = All-nil (heaps.AreLiveAmong 0);
+    }
+
+module _ (laws : TreeLaws) (stay : RunsStay) where
   -- ---- programs
 
-  pub program-sound : (name : List ℕ) (event : CurrentEvent) (place : ℕ) (d : Document)
-      → IsSoundDocument d → has_target d.tree.items event ≡ true
-      → IsSoundDocument (run_program name event place d).document
+  end-sound : (name : List ℕ) (event : CurrentEvent) (run : Run) (scene : Scene)
+      → IsSoundScene scene → has_target (items_of scene) event ≡ true
+      → StaysWithin (is_good_here scene) 0 run
+      → IsSoundScene (effect_of_end name scene (ended run (acting_in event scene))).scene
+  end-sound name event run scene s h stays =
+      let limit = limit_of scene.document in
+      let end = ended run (acting_in event scene) in
+      let ends : EndsSound (items_of scene) limit 0 end =
+      run-sound laws (items_of scene) limit 0 run (acting_in event scene) stays
+      (acting-first scene event s h) in
+      left-sound scene end.acting end.world s ends.acting ends.fit
+
+  program-sound : (name : List ℕ) (event : CurrentEvent) (place : ℕ) (scene : Scene)
+      → IsSoundScene scene → has_target (items_of scene) event ≡ true
+      → IsSoundScene (run_program name event place scene).scene
   unfolding run_program
-  program-sound name event place d s h =
-      let run = run_at (map program_of d.programs) place d.globals d.heap most_steps in
-      let end = ended run (acting_in event d) in
-      let ends : EndsSound d.tree.items (limit_of d) 0 end =
-      run-sound laws d.tree.items (limit_of d) 0 run (acting_in event d)
-      (stay (is_good_in d) 0 (map program_of d.programs) place d.globals d.heap most_steps
-      (own-pass d.tree.items (limit_of d)) (world-fit d s))
-      (acting-first d event s h) in
-      left-sound d end.acting end.world s ends.acting ends.fit
+  program-sound name event place scene s h =
+      let d : Document = scene.document in
+      end-sound name event
+      (run_at (map program_of d.programs) place d.globals d.heap most_steps) scene s h
+      (stay.places (is_good_in d) 0 (map program_of d.programs) place d.globals d.heap most_steps
+      (own-pass d.tree.items (limit_of d)) (world-fit d s.document))
+
+  function-sound : (name function : List ℕ) (scene : Scene) → IsSoundScene scene
+      → IsSoundScene (run_function name function scene).scene
+  unfolding run_function
+  function-sound name function scene s =
+      let d : Document = scene.document in
+      end-sound name no_event
+      (global_run (map program_of d.programs) function d.globals d.heap most_steps) scene s refl
+      (stay.globals (is_good_in d) 0 (map program_of d.programs) function d.globals d.heap
+      most_steps (own-pass d.tree.items (limit_of d)) (world-fit d s.document))
 
   -- ---- events
 
@@ -134,125 +211,148 @@ module _ (laws : TreeLaws) (stay : PlacesStay) where
       → has_target items (record { event = Some event; target = node }) ≡ true
   node-target items event node h = lt-ltb node (length items) h
 
-  handler-sound : (event : Event) (node : ℕ) (d : Document) → IsSoundDocument d
-      → node < length d.tree.items → IsSoundDocument (run_handler event node d).document
-  handler-sound event node d s h = by (option_and_then (handler_in d.handlers node) (kind_of event))
+  handler-sound : (event : Event) (node : ℕ) (scene : Scene) → IsSoundScene scene
+      → node < length (items_of scene) → IsSoundScene (run_handler event node scene).scene
+  handler-sound event node scene s h =
+      by (option_and_then (handler_in scene.document.handlers node) (kind_of event))
     where
-      by : (place : Option ℕ) → IsSoundDocument (option_map_or
+      by : (place : Option ℕ) → IsSoundScene (option_map_or
           (λ place. run_program (name_of event) (record { event = Some event; target = node })
-          place d) place (nothing_done d)).document
+          place scene) place (nothing_done scene)).scene
       by None = s
-      by (Some place) = program-sound (name_of event) _ place d s (node-target d.tree.items event node h)
+      by (Some place) =
+          program-sound (name_of event) _ place scene s
+          (node-target (items_of scene) event node h)
 
-  handled_at-sound : (node : Option ℕ) (event : Event) (d : Document) → IsSoundDocument d
-      → IsBelow (length d.tree.items) node → IsSoundDocument (handled_at node event d).document
-  handled_at-sound None event d s h = s
-  handled_at-sound (Some node) event d s h = handler-sound event node d s h
+  handled_at-sound : (node : Option ℕ) (event : Event) (scene : Scene) → IsSoundScene scene
+      → IsBelow (length (items_of scene)) node
+      → IsSoundScene (handled_at node event scene).scene
+  handled_at-sound None event scene s h = s
+  handled_at-sound (Some node) event scene s h = handler-sound event node scene s h
 
   body-below : (items : List Item) → IsBelow (length items) (body_of items)
   unfolding body_of
   body-below items =
       first-below (length items) (places is_body items) (places-below is_body items)
 
-  focus-below : (d : Document) → IsSoundDocument d → IsBelow (length d.tree.items) (focus_of d)
-  focus-below d s = place-below d.tree.items (focus_of d) s.focus
+  focus-below : (scene : Scene) → IsSoundScene scene
+      → IsBelow (length (items_of scene)) (focus_of scene)
+  focus-below scene s = place-below (items_of scene) (focus_of scene) s.document.focus
 
-  deactivated-sound : (d : Document) → IsSoundDocument d → IsSoundDocument (deactivated d)
-  deactivated-sound d s = record {
-    tree = s.tree;
-    focus = s.focus;
-    active = refl;
-    room = s.room;
-    events = s.events;
-    handlers = s.handlers;
-    globals = s.globals;
-    properties = s.properties;
-    live = s.live;
-    objects = s.objects;
+  deactivated-sound : (scene : Scene) → IsSoundScene scene
+      → IsSoundScene (record scene { document = deactivated scene.document })
+  deactivated-sound scene s = record {
+    document = record {
+      tree = s.document.tree;
+      focus = s.document.focus;
+      active = refl;
+      room = s.document.room;
+      events = s.document.events;
+      handlers = s.document.handlers;
+      globals = s.document.globals;
+      properties = s.document.properties;
+      live = s.document.live;
+      objects = s.document.objects;
+    };
+    timers = s.timers;
   }
 
-  default-sound : (key : ℕ) (d : Document) → IsSoundDocument d
-      → IsSoundDocument (done (acted (action_of d.tree key)) d).document
-  default-sound key d s =
-      done-sound (acted (action_of d.tree key)) d s
-      (λ h. acted-sound laws d.tree.items (action_of d.tree key)
-      (acting_in no_event d) (action-good d.tree key s.focus) h)
+  default-sound : (key : ℕ) (scene : Scene) → IsSoundScene scene
+      → IsSoundScene (default_action key scene).scene
+  default-sound key scene s =
+      let tree : StyledTree = scene.document.tree in
+      done-sound (acted (action_of tree key)) scene s
+      (λ h. acted-sound laws tree.items (action_of tree key)
+      (acting_in no_event scene) (action-good tree key s.document.focus) h)
+
+  taken-sound : (number : ℕ) (scene : Scene) → IsSoundScene scene
+      → IsSoundScene (timer_taken number scene)
+  taken-sound number scene s = record {
+    document = s.document;
+    timers = with_settled-sound number scene.browser.timers s.timers;
+  }
+
+  timer-sound : (number : ℕ) (scene : Scene) → IsSoundScene scene
+      → IsSoundScene (timer_effect number scene).scene
+  timer-sound number scene s = by (timer_of number scene.browser.timers)
+    where
+      by : (timer : Option Timer) → IsSoundScene (option_map_or
+          (λ timer. run_function (name_of (events.Timer number)) timer.function
+          (timer_taken number scene)) timer (nothing_done scene)).scene
+      by None = s
+      by (Some timer) =
+          function-sound (name_of (events.Timer number)) timer.function
+          (timer_taken number scene) (taken-sound number scene s)
 
   -- the node that an event names
-  named-node : (d : Document) (node : ℕ) → is_good_place d.tree.items (Some node) ≡ true
-      → node < length d.tree.items
-  named-node d node h = place-below d.tree.items (Some node) h
+  named-node : (scene : Scene) (node : ℕ) → is_good_place (items_of scene) (Some node) ≡ true
+      → node < length (items_of scene)
+  named-node scene node h = place-below (items_of scene) (Some node) h
 
-  pub handled-sound : (event : Event) (d : Document) → IsSoundDocument d
-      → is_good_event d.tree.items event ≡ true → IsSoundDocument (handled event d).document
+  pub handled-sound : (event : Event) (scene : Scene) → IsSoundScene scene
+      → is_good_event (items_of scene) event ≡ true → IsSoundScene (handled event scene).scene
   unfolding handled
-  handled-sound events.Load d s h =
-      handled_at-sound (body_of d.tree.items) events.Load d s (body-below d.tree.items)
-  handled-sound events.Unload d s h =
-      handled_at-sound (body_of d.tree.items) events.Unload d s (body-below d.tree.items)
-  handled-sound (events.Focus node) d s h =
-      handler-sound (events.Focus node) node d s (named-node d node h)
-  handled-sound (events.Blur node) d s h =
-      handler-sound (events.Blur node) node d s (named-node d node h)
-  handled-sound (events.Click node) d s h =
-      handler-sound (events.Click node) node d s (named-node d node h)
-  handled-sound (events.KeyDown key) d s h =
-      handled_at-sound (focus_of d) (events.KeyDown key) d s (focus-below d s)
-  handled-sound (events.KeyUp key) d s h = by (key == key_number Enter)
+  handled-sound events.Load scene s h =
+      handled_at-sound (body_in scene) events.Load scene s (body-below (items_of scene))
+  handled-sound events.Unload scene s h =
+      handled_at-sound (body_in scene) events.Unload scene s (body-below (items_of scene))
+  handled-sound (events.Focus node) scene s h =
+      handler-sound (events.Focus node) node scene s (named-node scene node h)
+  handled-sound (events.Blur node) scene s h =
+      handler-sound (events.Blur node) node scene s (named-node scene node h)
+  handled-sound (events.Click node) scene s h =
+      handler-sound (events.Click node) node scene s (named-node scene node h)
+  handled-sound (events.KeyDown key) scene s h =
+      handled_at-sound (focus_of scene) (events.KeyDown key) scene s (focus-below scene s)
+  handled-sound (events.KeyUp key) scene s h = by (key == key_number Enter)
     where
-      by : (enter : Bool) → IsSoundDocument (handled_at (focus_of d) (events.KeyUp key)
-          (if enter then deactivated d else d)).document
+      by : (enter : Bool) → IsSoundScene (handled_at (focus_of scene) (events.KeyUp key)
+          (if enter then record scene { document = deactivated scene.document } else scene)).scene
       by true =
-          handled_at-sound (focus_of d) (events.KeyUp key) (deactivated d) (deactivated-sound d s)
-          (focus-below d s)
-      by false = handled_at-sound (focus_of d) (events.KeyUp key) d s (focus-below d s)
-  handled-sound (events.Default key) d s h = default-sound key d s
+          handled_at-sound (focus_of scene) (events.KeyUp key) _ (deactivated-sound scene s)
+          (focus-below scene s)
+      by false = handled_at-sound (focus_of scene) (events.KeyUp key) scene s (focus-below scene s)
+  handled-sound (events.Default key) scene s h = default-sound key scene s
+  handled-sound (events.Timer number) scene s h = timer-sound number scene s
 
-  -- ---- keys
+  -- ---- keys and moments
 
-  pub key-sound : (key : ℕ) (down : Bool) (d : Document) → IsSoundDocument d
-      → IsSoundDocument (key_effect key down d).document
+  pub key-sound : (key : ℕ) (down : Bool) (scene : Scene) → IsSoundScene scene
+      → IsSoundScene (key_effect key down scene).scene
   unfolding key_effect
-  key-sound key down d s = by (passes key d)
+  key-sound key down scene s = by (passes key scene.document)
     where
-      by : (t : Bool)
-          → IsSoundDocument (if t then done (key_posts down key) d else nothing_done d).document
+      by : (t : Bool) → IsSoundScene
+          (if t then done (key_posts down key) scene else nothing_done scene).scene
       by true =
-          done-sound (key_posts down key) d s
-          (λ h. keys-sound laws d.tree.items down key (acting_in no_event d) h)
+          done-sound (key_posts down key) scene s
+          (λ h. keys-sound laws (items_of scene) down key (acting_in no_event scene) h)
       by false = s
+
+  pub due_effect-sound : (moment : ℕ) (scene : Scene) → IsSoundScene scene
+      → IsSoundScene (due_effect moment scene).scene
+  unfolding due_effect
+  due_effect-sound moment scene s =
+      let later : Scene = record scene { now = moment } in
+      done-sound (due_posted moment) later (record { document = s.document; timers = s.timers })
+      (λ h. due-sound laws (items_of scene) moment (acting_in no_event later) h)
 
   -- ---- loads
 
-  opened-sound : (read : Reader) (draft : DraftState) → IsTree draft.items
-      → IsSoundDocument (opened read draft)
-  opened-sound read draft tree = record {
-    tree = tree;
-    focus = refl;
-    active = refl;
-    room = omega arith;
-    events = All-nil (λ event. is_good_event draft.items event ≡ true);
-    handlers = read-handlers read draft;
-    globals = All-nil (λ (global : List ℕ × Value). is_good_in (opened read draft) global.1 ≡ true);
-    properties = All-nil (ObjectPasses (is_good_in (opened read draft)));
-    live = All-nil (λ (global : List ℕ × Value). heaps.IsLive [] global.1);
-    objects = All-nil (heaps.AreLiveAmong 0);
-  }
+  scripts-sound : (places : List ℕ) (scene : Scene) → IsSoundScene scene
+      → IsSoundScene (run_scripts places scene).scene
+  scripts-sound [] scene s = s
+  scripts-sound (place ∷ places) scene s =
+      then-sound (run_scripts places) (scripts-sound places) _
+      (program-sound _ no_event place scene s refl)
 
-  scripts-sound : (places : List ℕ) (d : Document) → IsSoundDocument d
-      → IsSoundDocument (run_scripts places d).document
-  scripts-sound [] d s = s
-  scripts-sound (place ∷ places) d s =
-      scripts-sound places _ (program-sound _ no_event place d s refl)
+  begin-sound : (scene : Scene) → IsSoundScene scene → IsSoundScene (begin scene).scene
+  begin-sound scene s =
+      done-sound (λ a. begun (first_focus a) a) scene s
+      (λ h. begun-sound laws (items_of scene) (acting_in no_event scene) h)
 
-  begin-sound : (d : Document) → IsSoundDocument d → IsSoundDocument (begin d).document
-  begin-sound d s =
-      done-sound (λ a. begun (first_focus a) a) d s
-      (λ h. begun-sound laws d.tree.items (acting_in no_event d) h)
-
-  pub loaded-sound : (read : Reader) (draft : DraftState) → IsTree draft.items
-      → IsSoundDocument (load_effect (opened read draft)).document
+  pub load_effect-sound : (scene : Scene) → IsSoundScene scene
+      → IsSoundScene (load_effect scene).scene
   unfolding load_effect
-  loaded-sound read draft tree =
-      let d : Document = opened read draft in
-      begin-sound _ (scripts-sound (script_places d) d (opened-sound read draft tree))
+  load_effect-sound scene s =
+      then-sound begin begin-sound _ (scripts-sound (script_places scene.document) scene s)

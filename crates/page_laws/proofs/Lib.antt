@@ -3,6 +3,8 @@ pub mod ItemLemmas
 pub mod ReadLemmas
 pub mod TargetLemmas
 pub mod QueueLemmas
+pub mod TimerLemmas
+pub mod BrowserLemmas
 pub mod ActingLemmas
 pub mod RunLemmas
 pub mod HandlerLemmas
@@ -10,3 +12,10 @@ pub mod DocumentLemmas
 pub mod PageLemmas
 pub mod ReceiverLemmas
 pub mod TurnLemmas
+pub mod ClockLemmas
+pub mod LaterLemmas
+pub mod LaterActingLemmas
+pub mod LaterSceneLemmas
+pub mod DueLemmas
+pub mod LaterPageLemmas
+pub mod TickLemmas

@@ -1,5 +1,5 @@
 -- Pages stay sound: loads, dispatches and turns, and what comes beside them.
-use Rattle.std.proofs.Common.{◌≡◌, ◌↔◌, ℕ, zero, suc, Bool, true, false, List, [], ◌∷◌, Option, Some, None, refl, arith, length-drop}
+use Rattle.std.proofs.Common.{◌≡◌, ◌↔◌, ℕ, zero, suc, Bool, true, false, List, [], ◌∷◌, Option, Some, None, refl, sym, ◌∙◌, ap, arith, length-drop}
 use Rattle.std.specs.Prelude.{All, IfSome, Result, Ok, Err, if◌then◌else◌, option_and_then, option_map}
 use Rattle.std.specs.Option.{option_map_or, option_or}
 use Rattle.std.proofs.lemmas.List.Elements.{All-drop, All-head}
@@ -13,21 +13,26 @@ use Rattle.module_store.specs.Resources.{Resource, look}
 use Rattle.module_store.specs.Resources.Resource.{Found, Waiting, Missing}
 use Rattle.module_store.specs.Store.{Stored}
 use Rattle.event_queue.specs.Queues.{first_of}
+use Rattle.event_queue.specs.Timers.{no_timers}
 use Rattle.event_queue.specs.declared.events.Event.{Event}
+use Rattle.es_reader.specs.Readers.{Reader}
 use Rattle.document_load.specs.Drafts.{DraftState}
 use Rattle.document_load.specs.Needs.{needs_of}
 use Rattle.page.specs.Dispatches.{dispatch, dispatches, event_in, load_at, most_dispatches, next_and, next_event, next_load, turn}
-use Rattle.acting_documents.specs.Handling.{without_first}
+use Rattle.acting_documents.specs.Beginnings.{load_effect}
 use Rattle.acting_documents.specs.Documents.{Document}
-use Rattle.acting_documents.specs.Handling.{handled, key_effect}
-use Rattle.page.specs.Inputs.{changes_step, key_step}
-use Rattle.page.specs.Loading.{are_settled, given_draft, load, loadable_reading, once_settled, reading_in, wanted_path}
-use Rattle.page.specs.State.{State, Step, step_of, still}
-use Rattle.page_laws.specs.Soundness.{IsSound, IsSoundDocument, is_good_event}
+use Rattle.acting_documents.specs.Handling.{due_effect, handled, key_effect, without_first}
+use Rattle.acting_documents.specs.Runs.{Effect, Scene}
+use Rattle.page.specs.Inputs.{changes_step, due_step, key_step, with_clock, with_random}
+use Rattle.page.specs.Loading.{are_settled, given_draft, load, loadable_reading, once_settled, opened, reading_in, wanted_path}
+use Rattle.page.specs.State.{State, Step, opening, scene_in, stays_or_goes, step_of, still}
+use Rattle.page.specs.State.Wanted.{NoDocument}
+use Rattle.page_laws.specs.Soundness.{AreTimers, IsSound, IsSoundDocument, is_good_event}
 use Rattle.page_laws.proofs.ActingLemmas.{TreeLaws}
-use Rattle.page_laws.proofs.DocumentLemmas.{handled-sound, key-sound, loaded-sound}
+use Rattle.page_laws.proofs.DocumentLemmas.{IsSoundScene, due_effect-sound, handled-sound, key-sound, load_effect-sound, opened-sound}
 use Rattle.page_laws.proofs.ItemLemmas.{OneIsTree, read-tree}
-use Rattle.page_laws.proofs.RunLemmas.{PlacesStay}
+use Rattle.page_laws.proofs.RunLemmas.{RunsStay}
+use Rattle.page_laws.proofs.TimerLemmas.{none-sound}
 
 -- what is known of what pages stand on
 pub record Laws : Type 0 where
@@ -35,7 +40,7 @@ pub record Laws : Type 0 where
   pub one : OneIsTree
   pub readings : (bytes : List ℕ) (reading : Result (List Item) DocFault)
       → (reading_of bytes ≡ reading) ↔ IsReading bytes reading
-  pub programs : PlacesStay
+  pub programs : RunsStay
 
 -- a step that is there or not leaves a sound state
 abbrev pub MaySound : Option Step → Type 0
@@ -46,6 +51,37 @@ abbrev HasTree : Option (Result DraftState DocFault) → Type 0
 HasTree None = Unit {0}
 HasTree (Some (Ok draft)) = IsTree draft.items
 HasTree (Some (Err fault)) = Unit {0}
+
+-- ---- what changes neither the document nor its timers
+
+pub opening-sound : (read : Reader) (area : List ℕ) → IsSound (opening read area)
+opening-sound read area = record {
+  document = tt;
+  timers = none-sound;
+  none_without = λ same. refl;
+  wanted = tt;
+}
+
+pub with_clock-sound : (moment : ℕ) (s : State) → IsSound s → IsSound (with_clock moment s)
+with_clock-sound moment s h = record {
+  document = h.document;
+  timers = h.timers;
+  none_without = h.none_without;
+  wanted = h.wanted;
+}
+
+pub with_random-sound : (word : ℕ) (s : State) → IsSound s → IsSound (with_random word s)
+with_random-sound word s h = record {
+  document = h.document;
+  timers = h.timers;
+  none_without = h.none_without;
+  wanted = h.wanted;
+}
+
+pub changes-sound : (changes : List (ℕ × Change)) (s : State) → IsSound s
+    → IsSound (changes_step changes s).state
+changes-sound [] s h = h
+changes-sound (change ∷ changes) s h = changes-sound changes s h
 
 module _ (laws : Laws) where
   -- ---- loads
@@ -69,21 +105,61 @@ module _ (laws : Laws) where
   reading-tree stored path Waiting = tt
   reading-tree stored path Missing = tt
 
-  load-sound : (s : State) (path : Path) (reading : Option (Result DraftState DocFault))
-      → HasTree reading → MaySound (option_map (load s path) reading)
-  load-sound s path None h = tt
-  load-sound s path (Some (Ok draft)) h = loaded-sound laws.trees laws.programs s.read draft h
-  load-sound s path (Some (Err fault)) h = tt
-
-  next_load-sound : (stored : Stored) (s : State) → MaySound (next_load stored s)
-  unfolding next_load
-  next_load-sound stored s = by (wanted_path s.wanted stored)
+  -- what becomes of a document
+  step-sound : (s : State) (e : Effect) → s.wanted ≡ NoDocument → IsSoundScene e.scene
+      → IsSound (step_of s e).state
+  step-sound s e none h = by e.launched
     where
-      by : (path : Option Path) → MaySound (option_and_then (load_at stored s) path)
-      by None = tt
-      by (Some path) =
+      by : (launched : Option Path) → IsSound (stays_or_goes launched s e.scene).state
+      by None = record {
+        document = h.document;
+        timers = h.timers;
+        none_without = λ same. absurd (cc same);
+        wanted = none;
+      }
+      by (Some path) = record {
+        document = tt;
+        timers = none-sound;
+        none_without = λ same. refl;
+        wanted = tt;
+      }
+
+  -- where a document is wanted there is none, and no timer
+  no-timers : (stored : Stored) (path : Path) (s : State) → IsSound s
+      → wanted_path s.wanted stored ≡ Some path → s.browser.timers ≡ no_timers
+  no-timers stored path s h e = by s.document refl h.wanted
+    where
+      by : (document : Option Document) → s.document ≡ document
+          → IfSome document (λ d. s.wanted ≡ NoDocument) → s.browser.timers ≡ no_timers
+      by None same wanted = h.none_without same
+      by (Some d) same wanted = absurd (cc (sym e ∙ ap (λ w. wanted_path w stored) wanted))
+
+  load-sound : (s : State) (path : Path) (reading : Option (Result DraftState DocFault))
+      → HasTree reading → AreTimers s.browser.timers → s.browser.timers ≡ no_timers
+      → MaySound (option_map (load s path) reading)
+  load-sound s path None h timers none = tt
+  load-sound s path (Some (Ok draft)) h timers none =
+      let d : Document = opened s.read path draft in
+      step-sound (record s { wanted = NoDocument }) (load_effect (scene_in s d)) refl
+      (load_effect-sound laws.trees laws.programs (scene_in s d)
+      (record { document = opened-sound s.read path draft h; timers = timers }))
+  load-sound s path (Some (Err fault)) h timers none = record {
+    document = tt;
+    timers = timers;
+    none_without = λ same. none;
+    wanted = tt;
+  }
+
+  next_load-sound : (stored : Stored) (s : State) → IsSound s → MaySound (next_load stored s)
+  unfolding next_load
+  next_load-sound stored s h = by (wanted_path s.wanted stored) refl
+    where
+      by : (path : Option Path) → wanted_path s.wanted stored ≡ path
+          → MaySound (option_and_then (load_at stored s) path)
+      by None e = tt
+      by (Some path) e =
           load-sound s path (loadable_reading stored path)
-          (reading-tree stored path (look stored path))
+          (reading-tree stored path (look stored path)) h.timers (no-timers stored path s h e)
 
   -- ---- events
 
@@ -92,39 +168,55 @@ module _ (laws : Laws) where
   first-good P [] all = tt
   first-good P (event ∷ queue) all = All-head P event queue all
 
-  without_first-sound : (d : Document) → IsSoundDocument d → IsSoundDocument (without_first d)
-  without_first-sound d s = record {
-    tree = s.tree;
-    focus = s.focus;
-    active = s.active;
-    room = omega (arith, length-drop 1 d.queue, s.room);
-    events = All-drop (λ event. is_good_event d.tree.items event ≡ true) 1 d.queue s.events;
-    handlers = s.handlers;
-    globals = s.globals;
-    properties = s.properties;
-    live = s.live;
-    objects = s.objects;
-  }
+  without_first-sound : (scene : Scene) → IsSoundScene scene
+      → IsSoundScene (without_first scene)
+  without_first-sound scene s =
+      let d : Document = scene.document in
+      record {
+        document = record {
+          tree = s.document.tree;
+          focus = s.document.focus;
+          active = s.document.active;
+          room = omega (arith, length-drop 1 d.queue, s.document.room);
+          events = All-drop (λ event. is_good_event d.tree.items event ≡ true) 1 d.queue
+              s.document.events;
+          handlers = s.document.handlers;
+          globals = s.document.globals;
+          properties = s.document.properties;
+          live = s.document.live;
+          objects = s.document.objects;
+        };
+        timers = s.timers;
+      }
 
-  event-sound : (s : State) (d : Document) → IsSoundDocument d → MaySound (event_in s d)
-  event-sound s d h =
+  -- a document that is there, with what it acts on beside itself
+  scene-sound : (s : State) (d : Document) → IsSound s → IsSoundDocument d
+      → IsSoundScene (scene_in s d)
+  scene-sound s d h good = record { document = good; timers = h.timers }
+
+  event-sound : (s : State) (d : Document) → IsSound s → IsSoundDocument d
+      → s.wanted ≡ NoDocument → MaySound (event_in s d)
+  event-sound s d h good none =
       by (first_of d.queue)
-      (first-good (λ event. is_good_event d.tree.items event ≡ true) d.queue h.events)
+      (first-good (λ event. is_good_event d.tree.items event ≡ true) d.queue good.events)
     where
       by : (event : Option Event) → IfSome event (λ e. is_good_event d.tree.items e ≡ true)
-          → MaySound (option_map (λ event. step_of s (handled event (without_first d))) event)
-      by None good = tt
-      by (Some event) good =
-          handled-sound laws.trees laws.programs event (without_first d)
-          (without_first-sound d h) good
+          → MaySound (option_map (λ event. step_of s
+          (handled event (without_first (scene_in s d)))) event)
+      by None may = tt
+      by (Some event) may =
+          step-sound s (handled event (without_first (scene_in s d))) none
+          (handled-sound laws.trees laws.programs event (without_first (scene_in s d))
+          (without_first-sound (scene_in s d) (scene-sound s d h good)) may)
 
   next_event-sound : (s : State) → IsSound s → MaySound (next_event s)
-  next_event-sound s h = by s.document h
+  next_event-sound s h = by s.document h.document h.wanted
     where
       by : (document : Option Document) → IfSome document IsSoundDocument
+          → IfSome document (λ d. s.wanted ≡ NoDocument)
           → MaySound (option_and_then (event_in s) document)
-      by None h = tt
-      by (Some d) h = event-sound s d h
+      by None good none = tt
+      by (Some d) good none = event-sound s d h good none
 
   -- ---- turns
 
@@ -136,7 +228,7 @@ module _ (laws : Laws) where
   dispatch-sound : (stored : Stored) (s : State) → IsSound s → MaySound (dispatch stored s)
   unfolding dispatch
   dispatch-sound stored s h =
-      either-sound (next_load stored s) (next_event s) (next_load-sound stored s)
+      either-sound (next_load stored s) (next_event s) (next_load-sound stored s h)
       (next_event-sound s h)
 
   and-sound : (more : State → Step) → ((s : State) → IsSound s → IsSound (more s).state)
@@ -161,14 +253,26 @@ module _ (laws : Laws) where
 
   pub key_step-sound : (key : ℕ) (down : Bool) (s : State) → IsSound s
       → IsSound (key_step key down s).state
-  key_step-sound key down s h = by s.document h
+  key_step-sound key down s h = by s.document h.document h.wanted
     where
-      by : (document : Option Document) → IfSome document IsSoundDocument → IsSound
-          (option_map_or (λ d. step_of s (key_effect key down d)) document (still s)).state
-      by None good = h
-      by (Some d) good = key-sound laws.trees laws.programs key down d good
+      by : (document : Option Document) → IfSome document IsSoundDocument
+          → IfSome document (λ d. s.wanted ≡ NoDocument) → IsSound (option_map_or
+          (λ d. step_of s (key_effect key down (scene_in s d))) document (still s)).state
+      by None good none = h
+      by (Some d) good none =
+          step-sound s (key_effect key down (scene_in s d)) none
+          (key-sound laws.trees laws.programs key down (scene_in s d) (scene-sound s d h good))
 
-pub changes-sound : (changes : List (ℕ × Change)) (s : State) → IsSound s
-    → IsSound (changes_step changes s).state
-changes-sound [] s h = h
-changes-sound (change ∷ changes) s h = changes-sound changes s h
+  pub due_step-sound : (moment : ℕ) (s : State) → IsSound s
+      → IsSound (due_step moment s).state
+  due_step-sound moment s h = by s.document h.document h.wanted
+    where
+      by : (document : Option Document) → IfSome document IsSoundDocument
+          → IfSome document (λ d. s.wanted ≡ NoDocument) → IsSound (option_map_or
+          (λ d. step_of (with_clock moment s) (due_effect moment (scene_in s d))) document
+          (still (with_clock moment s))).state
+      by None good none = with_clock-sound moment s h
+      by (Some d) good none =
+          step-sound (with_clock moment s) (due_effect moment (scene_in s d)) none
+          (due_effect-sound laws.trees laws.programs moment (scene_in s d)
+          (scene-sound s d h good))

@@ -1,5 +1,5 @@
 -- The run of a script leaves what it acts on sound, and the world of the scripts.
-use Rattle.std.proofs.Common.{◌≡◌, ℕ, Bool, true, List, refl, ap, arith}
+use Rattle.std.proofs.Common.{◌≡◌, ℕ, Bool, true, List, refl, sym, ap, subst, arith}
 use Rattle.std.specs.Prelude.{◌||◌}
 use Rattle.std.specs.List.{list_any}
 use Rattle.dom_tree.specs.Items.{Item}
@@ -13,26 +13,29 @@ use Rattle.es_values.specs.Conversions.{text_of}
 use Rattle.es_values.specs.Hosts.{IsAnswer, KeepsHeap}
 use Rattle.es_values.specs.Objects.{ObjectState}
 use Rattle.es_values.specs.Values.{is_function}
-use Rattle.es_eval.specs.Evaluation.{run_at}
+use Rattle.es_eval.specs.Evaluation.{global_run, run_at}
 use Rattle.script_laws.specs.Soundness.{function_limit}
 use Rattle.es_shapes.specs.Syntax.{Program}
 use Rattle.es_eval.specs.Worlds.{Run}
 use Rattle.es_eval.specs.Worlds.Run.{Over, Reads, Writes, Calls}
 use Rattle.script_laws.specs.Passing.{PassesOwn, is_named}
-use Rattle.script_laws.specs.Staying.{AnswerPasses, AreFit, StaysWithin}
+use Rattle.script_laws.specs.Staying.{AnswerPasses, AreFit, IsFit, StaysWithin}
 use Rattle.document_stages.specs.Acting.{Acting, called, read_by, written}
 use Rattle.acting_documents.specs.Runs.{End, ended}
 use Rattle.page_laws.specs.Soundness.{is_good, names_well}
 use Rattle.page_laws.proofs.ActingLemmas.{IsGivenAnswer, IsSoundActing, TreeLaws, called-sound, read-given, written-sound}
 use Rattle.page_laws.proofs.ReadLemmas.{IsGiven, given-good, given-plain}
 
--- that what programs hand over and leave passes
-abbrev pub PlacesStay : Type 0
-PlacesStay =
-    (good : Value → Bool) (least : ℕ) (programs : List Program) (place : ℕ)
-    (globals : List (List ℕ × Value)) (heap : List ObjectState) (budget : ℕ)
-    → PassesOwn (function_limit programs) good → AreFit good least globals heap
-    → StaysWithin good least (run_at programs place globals heap budget)
+-- that what programs and called globals hand over and leave passes
+pub record RunsStay : Type 0 where
+  pub places : (good : Value → Bool) (least : ℕ) (programs : List Program) (place : ℕ)
+      (globals : List (List ℕ × Value)) (heap : List ObjectState) (budget : ℕ)
+      → PassesOwn (function_limit programs) good → AreFit good least globals heap
+      → StaysWithin good least (run_at programs place globals heap budget)
+  pub globals : (good : Value → Bool) (least : ℕ) (programs : List Program) (name : List ℕ)
+      (globals : List (List ℕ × Value)) (heap : List ObjectState) (budget : ℕ)
+      → PassesOwn (function_limit programs) good → AreFit good least globals heap
+      → StaysWithin good least (global_run programs name globals heap budget)
 
 -- ---- answers
 
@@ -81,11 +84,13 @@ run-sound laws items limit least (Writes base name value heap go) a stays s =
     run-sound laws items limit least go (written a base name (text_of heap value)) stays.4
     (written-sound laws items a s base name (text_of heap value))
 run-sound laws items limit least (Calls base name arguments heap go) a stays s =
-    let r = called-sound laws items a s base name arguments heap in
-    let answer = (called a base name arguments heap).answer in
-    run-sound laws items limit least (go answer heap) (called a base name arguments heap).acting
-    (stays.2 answer heap (answer-is items heap answer r.answer) (same-heap heap arguments)
-    (answer-passes items limit answer r.answer) stays.1.fit) r.acting
+    let r = called-sound laws items heap a s base name arguments in
+    let c = called a base name arguments heap in
+    run-sound laws items limit least (go c.answer c.heap) c.acting
+    (stays.2 c.answer c.heap (answer-is items c.heap c.answer r.answer)
+    (subst (KeepsHeap heap arguments) (sym r.heap_is) (same-heap heap arguments))
+    (answer-passes items limit c.answer r.answer)
+    (subst (IsFit (is_good items limit)) (sym r.heap_is) stays.1.fit)) r.acting
 
 -- ---- programs
 

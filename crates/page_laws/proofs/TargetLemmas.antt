@@ -19,7 +19,7 @@ use Rattle.page_laws.specs.Soundness.{has_element, is_good_place}
 
 -- ---- tests of elements
 
-both-first : (a b : Bool) → (a && b) ≡ true → a ≡ true
+pub both-first : (a b : Bool) → (a && b) ≡ true → a ≡ true
 both-first true b h = refl
 both-first false b h = h
 

@@ -1,6 +1,8 @@
 -- What a page keeps names what is there: nodes of its document, objects of its heap, functions of
--- its programs. (This project's own.)
-use Rattle.std.specs.Prelude.{◌≡◌, ℕ, nat_lt, ◌<◌, ◌≤◌, Bool, false, true, is_some, List, length, All, IfSome, Option, map}
+-- its programs; and its timers and the document that is wanted fit the one that is there. (This
+-- project's own.)
+use Rattle.std.specs.Prelude.{◌≡◌, ℕ, nat_lt, ◌<◌, ◌≤◌, Bool, false, true, is_some, List, length, All, IfSome, Option, None, map}
+use Rattle.std.specs.List.{AllPairs}
 use Rattle.std.specs.Option.{option_map_or}
 use Rattle.dom_tree.specs.Items.{Item, tag_of}
 use Rattle.dom_tree.specs.NodeNumbers.{number_of}
@@ -14,12 +16,14 @@ use Rattle.es_values.specs.Heaps as heaps
 use Rattle.script_laws.specs.Soundness.{function_limit}
 use Rattle.es_shapes.specs.Sources.{program_of}
 use Rattle.event_queue.specs.Queues.{most_events}
+use Rattle.event_queue.specs.Timers.{TimersState, most_timers, no_timers}
 use Rattle.event_queue.specs.declared.events.Event.{Event}
 use Rattle.event_queue.specs.declared.events.Event.TheVariants as events
 use Rattle.document_load.specs.Scripts.{HandlerState}
 use Rattle.script_laws.specs.Passing.{HeapPasses}
 use Rattle.acting_documents.specs.Documents.{Document}
 use Rattle.page.specs.State.{State}
+use Rattle.page.specs.State.Wanted.{NoDocument}
 
 -- a node of the document, and an element of it
 abbrev pub has_node : List Item → ℕ → Bool
@@ -41,8 +45,8 @@ is_good items limit (Host reference) = names_well items reference
 is_good items limit (Function number) = nat_lt number limit
 is_good items limit other = true
 
--- what happens to the focus, and a click, happens to an element; nothing posts `unload`, as no document is left
--- for another
+-- What happens to the focus, and a click, happens to an element. Nothing posts `unload`, which is handled where a
+-- document gives way.
 abbrev pub is_good_event : List Item → Event → Bool
 is_good_event items (events.Focus node) = has_element items node
 is_good_event items (events.Blur node) = has_element items node
@@ -83,6 +87,17 @@ pub record IsSoundDocument (d : Document) : Type 0 where
   pub live : All (λ global. IsLive d.heap global.1) d.globals
   pub objects : heaps.IsSound d.heap
 
--- without a document there is nothing that could name something
-abbrev pub IsSound : State → Type 0
-IsSound s = IfSome s.document IsSoundDocument
+-- the timers that stand, and the number of the next one
+pub record AreTimers (s : TimersState) : Type 0 where
+  -- their numbers ascend, and the next one is above them
+  pub ascend : AllPairs (λ one other. one.number < other.number) s.timers
+  pub below : All (λ timer. timer.number < s.next) s.timers
+  pub most : length s.timers ≤ most_timers
+
+-- Without a document there is nothing that could name something, and the timers are as where one
+-- begins. With one no other is wanted.
+pub record IsSound (s : State) : Type 0 where
+  pub document : IfSome s.document IsSoundDocument
+  pub timers : AreTimers s.browser.timers
+  pub none_without : s.document ≡ None → s.browser.timers ≡ no_timers
+  pub wanted : IfSome s.document (λ d. s.wanted ≡ NoDocument)

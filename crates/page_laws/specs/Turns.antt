@@ -1,5 +1,5 @@
 -- How far a turn goes. (This project's own, after ARIB STD-B24 volume 2.)
-use Rattle.std.specs.Prelude.{◌≡◌, ◌≤◌, ◌⊎◌, ℕ, zero, suc, Option, Some, None}
+use Rattle.std.specs.Prelude.{◌≡◌, ◌≤◌, ◌⊎◌, ℕ, zero, suc, Some, None}
 use Rattle.module_store.specs.Store.{Stored}
 use Rattle.page.specs.Dispatches.{dispatch, most_dispatches}
 use Rattle.page.specs.State.{State, Step}

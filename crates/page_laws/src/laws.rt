@@ -1,17 +1,26 @@
 //! What holds of pages. Each function is a law: its contract is what it is for, and it does nothing
 //! when it runs.
 
-ghost use Rattle.std.specs.Prelude.{ℕ, Bool, List};
+ghost use Rattle.std.specs.Prelude.{◌≡◌, ℕ, ◌+◌, ◌≤◌, Bool, List, IfSome};
 ghost use Rattle.carousel_blocks.specs.declared.changes.Change.{Change};
 ghost use Rattle.module_store.specs.Store.{Stored};
 ghost use Rattle.es_reader.specs.Readers.{Reader};
 ghost use Rattle.page.specs.Dispatches.{turn};
-ghost use Rattle.page.specs.Inputs.{changes_step, key_step, with_clock, with_random};
+ghost use Rattle.page.specs.Inputs.{
+  changes_step,
+  due_next,
+  due_step,
+  key_step,
+  with_clock,
+  with_random,
+};
 ghost use Rattle.page.specs.State.{State, opening};
 ghost use Rattle.psi_tables.specs.declared.services.Selection.{Selection};
-ghost use Rattle.receiver_core.specs.Outputs.{Input, state_behind};
+ghost use Rattle.receiver_core.specs.Outputs.{Input, state_after, state_behind, time_passes};
+ghost use Rattle.receiver_core.specs.Outputs.Input.{Tick};
 ghost use Rattle.receiver_core.specs.State as receiver;
 ghost use Rattle.page_laws.specs.Soundness.{IsSound};
+ghost use Rattle.page_laws.specs.Times.{AreLater};
 ghost use Rattle.page_laws.specs.Turns.{Turned};
 
 use bml_reader::law_of_readings;
@@ -21,7 +30,8 @@ use dom_tree::{
 use script_laws::law_of_passing_values;
 
 /// A page is sound before anything came. Behind each turn, each change in modules, each key, each
-/// move of the clock and each random word it is sound where it was so before.
+/// moment when timers are due, each move of the clock and each random word it is sound where it was
+/// so before.
 pub fn law_of_soundness()
     ensures opening { (read : Reader) (area : List ℕ) → IsSound (opening read area) }
     ensures turn { (stored : Stored) (s : State) → IsSound s → IsSound (turn stored s).state }
@@ -29,6 +39,7 @@ pub fn law_of_soundness()
         → IsSound (changes_step changes s).state }
     ensures keys { (key : ℕ) (down : Bool) (s : State) → IsSound s
         → IsSound (key_step key down s).state }
+    ensures due { (moment : ℕ) (s : State) → IsSound s → IsSound (due_step moment s).state }
     ensures clock { (moment : ℕ) (s : State) → IsSound s → IsSound (with_clock moment s) }
     ensures random { (word : ℕ) (s : State) → IsSound s → IsSound (with_random word s) }
 {
@@ -53,3 +64,38 @@ pub fn law_of_sound_receivers()
 pub fn law_of_turns()
     ensures { (stored : Stored) (s : State) → Turned stored s (turn stored s).state }
 {}
+
+/// A turn leaves the clock as it is.
+pub fn law_of_clocks()
+    ensures { (stored : Stored) (s : State) → (turn stored s).state.clock ≡ s.clock }
+{}
+
+/// No timer of a page is overdue: each is due later than the clock. It is so before anything came.
+/// Behind each turn, each change in modules, each key and each random word it is so where it was so
+/// before. A moment before which nothing was due may come too: what is due then fires, and comes
+/// later. A tick moves the clock of a receiver on by as much as it says, and behind it no timer is
+/// overdue. As many rounds as milliseconds are enough for it: more rounds change nothing. So no timer
+/// is overdue, whatever came to a receiver.
+pub fn law_of_time()
+    ensures opening { (read : Reader) (area : List ℕ) → AreLater (opening read area) }
+    ensures turn { (stored : Stored) (s : State) → AreLater s → AreLater (turn stored s).state }
+    ensures changes { (changes : List (ℕ × Change)) (s : State) → AreLater s
+        → AreLater (changes_step changes s).state }
+    ensures keys { (key : ℕ) (down : Bool) (s : State) → AreLater s
+        → AreLater (key_step key down s).state }
+    ensures random { (word : ℕ) (s : State) → AreLater s → AreLater (with_random word s) }
+    ensures due { (moment : ℕ) (s : State) → IsSound s → AreLater s
+        → IfSome (due_next s) (λ due. moment ≤ due) → AreLater (due_step moment s).state }
+    ensures ticks { (count : ℕ) (s : receiver.State) → IsSound s.page → AreLater s.page
+        → AreLater (state_after (Tick count) s).page }
+    ensures clock { (count : ℕ) (s : receiver.State)
+        → (state_after (Tick count) s).page.clock ≡ s.page.clock + count }
+    ensures bound { (count more : ℕ) (s : receiver.State) → IsSound s.page → AreLater s.page
+        → time_passes (count + more) (s.page.clock + count) s
+        ≡ time_passes count (s.page.clock + count) s }
+    ensures receivers { (read : Reader) (selection : Selection) (area : List ℕ)
+        (inputs : List Input)
+        → AreLater (state_behind (receiver.opening read selection area) inputs).page }
+{
+    law_of_soundness();
+}

@@ -1,4 +1,4 @@
-use Rattle.page_laws.proofs.PageLemmas.{Laws, changes-sound, key_step-sound, turn-sound}
+use Rattle.page_laws.proofs.PageLemmas.{Laws, changes-sound, due_step-sound, key_step-sound, opening-sound, turn-sound, with_clock-sound, with_random-sound}
 use Rattle.page_laws.proofs.laws.law_of_soundness.Goals as goal
 
 pub returns : goal.returns
@@ -12,13 +12,17 @@ returns c =
       };
       one = c.law_of_nested_nodes.ensures.tree;
       readings = c.law_of_readings.ensures;
-      programs = c.law_of_passing_values.ensures.places;
+      programs = record {
+        places = c.law_of_passing_values.ensures.places;
+        globals = c.law_of_passing_values.ensures.globals;
+      };
     } in
     record {
-      opening = λ read area. tt;
+      opening = opening-sound;
       turn = turn-sound laws;
       changes = changes-sound;
       keys = key_step-sound laws;
-      clock = λ moment s h. h;
-      random = λ word s h. h;
+      due = due_step-sound laws;
+      clock = with_clock-sound;
+      random = with_random-sound;
     }

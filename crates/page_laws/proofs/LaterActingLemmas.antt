@@ -1,0 +1,156 @@
+-- What handlers act on goes on to have timers that are due later than the clock.
+use Rattle.std.proofs.Common.{◌≡◌, ℕ, Bool, true, false, List, Option, Some, None, sym, subst}
+use Rattle.std.specs.Prelude.{codes, if◌then◌else◌, is_some}
+use Rattle.bml_bytes.specs.Words.{is_same}
+use Rattle.dom_tree.specs.Items.{tag_of}
+use Rattle.dom_tree.specs.NodeNumbers.{number_of}
+use Rattle.multipart_entities.specs.declared.paths.Path.{Path}
+use Rattle.style_cascade.specs.States.{is_node}
+use Rattle.focus_keys.specs.Defaults.{Action}
+use Rattle.focus_keys.specs.Defaults.Action.{NoAction, Moves, Activates, Accesses}
+use Rattle.focus_keys.specs.Targets.{can_have_focus}
+use Rattle.es_values.specs.declared.values.HostRef.{HostRef}
+use Rattle.es_values.specs.declared.values.HostRef.TheVariants as ref
+use Rattle.es_values.specs.declared.values.Value.{Value}
+use Rattle.es_values.specs.Conversions.{text_of}
+use Rattle.es_values.specs.Objects.{ObjectState}
+use Rattle.es_eval.specs.Worlds.{Run}
+use Rattle.es_eval.specs.Worlds.Run.{Over, Reads, Writes, Calls}
+use Rattle.event_queue.specs.declared.events.Event.{Event}
+use Rattle.event_queue.specs.declared.events.Event.TheVariants as events
+use Rattle.browser_objects.specs.Calls.{BrowserParts, Called, call_of}
+use Rattle.browser_objects.specs.declared.effects.Effect as of_browser
+use Rattle.browser_objects.specs.declared.effects.Effect.TheVariants as effects
+use Rattle.document_stages.specs.Acting.{Acting, Answered, acted, begun, browser_call, called, done_for, element_call, focus_on, focused, is_unload, key_posts, launch, left_by, moved_to, posted_for, read_by, with_browser, with_focus, written}
+use Rattle.acting_documents.specs.Runs.{ended}
+use Rattle.page_laws.proofs.LaterLemmas.{LaterThan, call-later}
+
+-- the time is that of the clock, and these timers of the browser are due later
+pub record IsTimely (clock now : ℕ) (browser : BrowserParts) : Type 0 where
+  pub is_now : now ≡ clock
+  pub timers : LaterThan clock browser.timers
+
+abbrev pub ActsTimely : ℕ → Acting → Type 0
+ActsTimely clock a = IsTimely clock a.now a.browser
+
+module _ (clock : ℕ) where
+  either : {A : Type 0} (P : A → Type 0) (t : Bool) (one other : A) → P one → P other
+      → P (if t then one else other)
+  either P true one other h more = h
+  either P false one other h more = more
+
+  -- ---- the focus, default actions, keys and beginnings
+
+  posted-timely : (event : ℕ → Event) (node : Option ℕ) (a : Acting) → ActsTimely clock a
+      → ActsTimely clock (posted_for event node a)
+  posted-timely event None a h = h
+  posted-timely event (Some node) a h = h
+
+  moved-timely : (node : ℕ) (a : Acting) → ActsTimely clock a
+      → ActsTimely clock (moved_to node a)
+  unfolding moved_to
+  moved-timely node a h =
+      either (ActsTimely clock) (is_node node a.tree.focus.focus) a _ h
+      (posted-timely events.Blur (number_of a.tree.focus.focus) (with_focus (focus_on node) a) h)
+
+  left-timely : (node : ℕ) (a : Acting) → ActsTimely clock a → ActsTimely clock (left_by node a)
+  unfolding left_by
+  left-timely node a h = either (ActsTimely clock) (is_node node a.tree.focus.focus) _ a h h
+
+  focused-timely : (node : ℕ) (a : Acting) → ActsTimely clock a
+      → ActsTimely clock (focused node a)
+  focused-timely node a h =
+      either (ActsTimely clock) (can_have_focus a.tree node) _ a (moved-timely node a h) h
+
+  pub acted-timely : (action : Action) (a : Acting) → ActsTimely clock a
+      → ActsTimely clock (acted action a)
+  acted-timely NoAction a h = h
+  acted-timely (Moves node) a h = moved-timely node a h
+  acted-timely (Activates node) a h = h
+  acted-timely (Accesses node) a h = moved-timely node a h
+
+  pub keys-timely : (down : Bool) (key : ℕ) (a : Acting) → ActsTimely clock a
+      → ActsTimely clock (key_posts down key a)
+  keys-timely true key a h = h
+  keys-timely false key a h = h
+
+  pub begun-timely : (node : Option ℕ) (a : Acting) → ActsTimely clock a
+      → ActsTimely clock (begun node a)
+  begun-timely None a h = h
+  begun-timely (Some node) a h = h
+
+  -- ---- what scripts write
+
+  written-timely : (a : Acting) (base : HostRef) (name text : List ℕ) → ActsTimely clock a
+      → ActsTimely clock (written a base name text)
+  written-timely a ref.Ureg name text h = record { is_now = h.is_now; timers = h.timers }
+  written-timely a ref.Greg name text h = record { is_now = h.is_now; timers = h.timers }
+  written-timely a ref.Browser name text h = h
+  written-timely a ref.Document name text h = h
+  written-timely a ref.Event name text h = h
+  written-timely a (ref.Node node) name text h = h
+  written-timely a (ref.Style node state) name text h = h
+
+  -- ---- what scripts call
+
+  abbrev AnswersTimely : Answered → Type 0
+  AnswersTimely r = ActsTimely clock r.acting
+
+  element-timely : (a : Acting) (node : ℕ) (name : List ℕ) (heap : List ObjectState)
+      → ActsTimely clock a → AnswersTimely (element_call a node name heap)
+  element-timely a node name heap h =
+      either AnswersTimely (is_same name (codes "focus")) _ _ (focused-timely node a h)
+      (either AnswersTimely (is_same name (codes "blur")) _ _ (left-timely node a h) h)
+
+  launch-timely : (path : Path) (a : Acting) (heap : List ObjectState) → ActsTimely clock a
+      → AnswersTimely (launch path a heap)
+  launch-timely path a heap h = either AnswersTimely (is_unload a.event.event) _ _ h h
+
+  done-timely : (effect : of_browser.Effect) (value : Value) (a : Acting)
+      (heap : List ObjectState) → ActsTimely clock a → AnswersTimely (done_for effect value a heap)
+  done-timely effects.Nothing value a heap h = h
+  done-timely (effects.Sound sound) value a heap h = h
+  done-timely (effects.Kept slot size) value a heap h = h
+  done-timely (effects.Launch path) value a heap h = launch-timely path a heap h
+  done-timely (effects.Lock path) value a heap h = h
+  done-timely (effects.Unlock path) value a heap h = h
+
+  browser-timely : (a : Acting) (name : List ℕ) (arguments : List Value)
+      (heap : List ObjectState) → ActsTimely clock a
+      → AnswersTimely (browser_call a name arguments heap)
+  browser-timely a name arguments heap h =
+      let call : Called = call_of name a.path a.now arguments heap a.browser in
+      let all : LaterThan a.now a.browser.timers =
+      subst (λ (n : ℕ). LaterThan n a.browser.timers) (sym h.is_now) h.timers in
+      done-timely call.effect call.value (with_browser call.state a) heap
+      (record {
+        is_now = h.is_now;
+        timers = subst (λ (n : ℕ). LaterThan n call.state.timers) h.is_now
+            (call-later a.now a.browser all name a.path arguments heap);
+      })
+
+  called-timely : (a : Acting) (base : HostRef) (name : List ℕ) (arguments : List Value)
+      (heap : List ObjectState) → ActsTimely clock a
+      → AnswersTimely (called a base name arguments heap)
+  unfolding called
+  called-timely a ref.Document name arguments heap h =
+      either AnswersTimely (is_same name (codes "getElementById")) _ _ h h
+  called-timely a (ref.Node node) name arguments heap h =
+      either AnswersTimely (is_some (tag_of a.tree.items node)) _ _
+      (element-timely a node name heap h) h
+  called-timely a ref.Browser name arguments heap h = browser-timely a name arguments heap h
+  called-timely a _ name arguments heap h = h
+
+  -- ---- runs
+
+  pub run-timely : (run : Run) (a : Acting) → ActsTimely clock a
+      → ActsTimely clock (ended run a).acting
+  unfolding ended
+  run-timely (Over outcome w) a h = h
+  run-timely (Reads base name go) a h = run-timely (go (read_by a base name)) a h
+  run-timely (Writes base name value heap go) a h =
+      run-timely go (written a base name (text_of heap value))
+      (written-timely a base name (text_of heap value) h)
+  run-timely (Calls base name arguments heap go) a h =
+      let c = called a base name arguments heap in
+      run-timely (go c.answer c.heap) c.acting (called-timely a base name arguments heap h)

@@ -1,0 +1,184 @@
+-- The timers of a page are due later than its clock: turns and what comes beside them.
+use Rattle.std.proofs.Common.{◌≡◌, ℕ, zero, suc, ◌≤◌, Bool, List, [], ◌∷◌, Option, Some, None, refl, sym, subst}
+use Rattle.std.specs.Prelude.{IfSome, Result, Ok, Err, option_and_then, option_map}
+use Rattle.std.specs.Option.{option_map_or, option_or}
+use Rattle.std.proofs.lemmas.List.Elements.{All-nil}
+use Rattle.bml_reader.specs.declared.faults.DocFault.{DocFault}
+use Rattle.carousel_blocks.specs.declared.changes.Change.{Change}
+use Rattle.multipart_entities.specs.declared.paths.Path.{Path}
+use Rattle.module_store.specs.Store.{Stored}
+use Rattle.es_reader.specs.Readers.{Reader}
+use Rattle.event_queue.specs.Queues.{first_of}
+use Rattle.event_queue.specs.Timers.{TimersState, no_timers}
+use Rattle.event_queue.specs.declared.events.Event.{Event}
+use Rattle.document_load.specs.Drafts.{DraftState}
+use Rattle.acting_documents.specs.Beginnings.{load_effect}
+use Rattle.acting_documents.specs.Documents.{Document}
+use Rattle.acting_documents.specs.Handling.{due_effect, handled, key_effect, without_first}
+use Rattle.acting_documents.specs.Runs.{Effect, Scene}
+use Rattle.page.specs.Dispatches.{dispatch, dispatches, event_in, load_at, most_dispatches, next_and, next_event, next_load, turn}
+use Rattle.page.specs.Inputs.{changes_step, due_next, due_step, key_step, with_clock}
+use Rattle.page.specs.Loading.{load, loadable_reading, opened, wanted_path}
+use Rattle.page.specs.State.{State, Step, opening, scene_in, stays_or_goes, step_of, still}
+use Rattle.page.specs.State.Wanted.{NoDocument}
+use Rattle.page_laws.specs.Soundness.{IsSound}
+use Rattle.page_laws.specs.Times.{AreLater, IsLater}
+use Rattle.page_laws.proofs.DueLemmas.{due-later, least-near}
+use Rattle.page_laws.proofs.LaterActingLemmas.{IsTimely}
+use Rattle.page_laws.proofs.LaterLemmas.{LaterThan}
+use Rattle.page_laws.proofs.LaterSceneLemmas.{handled-timely, key-timely, load-timely}
+
+-- the time is this, and the timers are due later
+abbrev pub PageTimely : ℕ → State → Type 0
+PageTimely clock s = IsTimely clock s.clock s.browser
+
+pub page-timely : (s : State) → AreLater s → PageTimely s.clock s
+page-timely s h = record { is_now = refl; timers = h }
+
+pub timely-later : (clock : ℕ) (s : State) → PageTimely clock s → AreLater s
+timely-later clock s h =
+    subst (λ (n : ℕ). LaterThan n s.browser.timers) (sym h.is_now) h.timers
+
+-- a step that is there or not leaves such a page
+abbrev MayTimely : ℕ → Option Step → Type 0
+MayTimely clock step = IfSome step (λ t. PageTimely clock t.state)
+
+none-later : (clock : ℕ) → LaterThan clock no_timers
+none-later clock = All-nil (IsLater clock)
+
+pub opening-later : (read : Reader) (area : List ℕ) → AreLater (opening read area)
+opening-later read area = none-later 0
+
+pub changes-later : (changes : List (ℕ × Change)) (s : State) → AreLater s
+    → AreLater (changes_step changes s).state
+changes-later [] s h = h
+changes-later (change ∷ changes) s h = changes-later changes s h
+
+module _ (clock : ℕ) where
+  -- what becomes of a document
+  step-timely : (s : State) (e : Effect) → s.clock ≡ clock
+      → LaterThan clock e.scene.browser.timers → PageTimely clock (step_of s e).state
+  step-timely s e same h = by e.launched
+    where
+      by : (launched : Option Path) → PageTimely clock (stays_or_goes launched s e.scene).state
+      by None = record { is_now = same; timers = h }
+      by (Some path) = record { is_now = same; timers = none-later clock }
+
+  -- ---- dispatches
+
+  load-may : (s : State) (path : Path) (reading : Option (Result DraftState DocFault))
+      → PageTimely clock s → MayTimely clock (option_map (load s path) reading)
+  load-may s path None h = tt
+  load-may s path (Some (Ok draft)) h =
+      let scene : Scene = scene_in s (opened s.read path draft) in
+      step-timely (record s { wanted = NoDocument }) (load_effect scene) h.is_now
+      (load-timely clock scene h).timers
+  load-may s path (Some (Err fault)) h = h
+
+  next_load-may : (stored : Stored) (s : State) → PageTimely clock s
+      → MayTimely clock (next_load stored s)
+  unfolding next_load
+  next_load-may stored s h = by (wanted_path s.wanted stored)
+    where
+      by : (path : Option Path) → MayTimely clock (option_and_then (load_at stored s) path)
+      by None = tt
+      by (Some path) = load-may s path (loadable_reading stored path) h
+
+  next_event-may : (s : State) → PageTimely clock s → MayTimely clock (next_event s)
+  next_event-may s h = by s.document
+    where
+      of : (d : Document) (event : Option Event) → MayTimely clock (option_map
+          (λ event. step_of s (handled event (without_first (scene_in s d)))) event)
+      of d None = tt
+      of d (Some event) =
+          let scene : Scene = without_first (scene_in s d) in
+          step-timely s (handled event scene) h.is_now (handled-timely clock event scene h).timers
+
+      by : (document : Option Document)
+          → MayTimely clock (option_and_then (event_in s) document)
+      by None = tt
+      by (Some d) = of d (first_of d.queue)
+
+  dispatch-may : (stored : Stored) (s : State) → PageTimely clock s
+      → MayTimely clock (dispatch stored s)
+  unfolding dispatch
+  dispatch-may stored s h =
+      either (next_load stored s) (next_event s) (next_load-may stored s h) (next_event-may s h)
+    where
+      either : (one other : Option Step) → MayTimely clock one → MayTimely clock other
+          → MayTimely clock (option_or one other)
+      either None other h more = more
+      either (Some step) other h more = h
+
+  -- ---- turns
+
+  and-timely : (more : State → Step)
+      → ((s : State) → PageTimely clock s → PageTimely clock (more s).state) → (s : State)
+      → PageTimely clock s → (step : Option Step) → MayTimely clock step
+      → PageTimely clock (next_and more s step).state
+  and-timely more keeps s h None may = h
+  and-timely more keeps s h (Some t) may = keeps t.state may
+
+  dispatches-timely : (count : ℕ) (stored : Stored) (s : State) → PageTimely clock s
+      → PageTimely clock (dispatches count stored s).state
+  unfolding dispatches
+  dispatches-timely zero stored s h = h
+  dispatches-timely (suc count) stored s h =
+      and-timely (dispatches count stored) (dispatches-timely count stored) s h (dispatch stored s)
+      (dispatch-may stored s h)
+
+  pub turn-timely : (stored : Stored) (s : State) → PageTimely clock s
+      → PageTimely clock (turn stored s).state
+  unfolding turn
+  turn-timely stored s h = dispatches-timely most_dispatches stored s h
+
+  -- ---- keys
+
+  pub key_step-timely : (key : ℕ) (down : Bool) (s : State) → PageTimely clock s
+      → PageTimely clock (key_step key down s).state
+  key_step-timely key down s h = by s.document
+    where
+      by : (document : Option Document) → PageTimely clock (option_map_or
+          (λ d. step_of s (key_effect key down (scene_in s d))) document (still s)).state
+      by None = h
+      by (Some d) =
+          step-timely s (key_effect key down (scene_in s d)) h.is_now
+          (key-timely clock key down (scene_in s d) h).timers
+
+-- ---- moments
+
+-- Nothing is due before the moment: what is due then fires, and comes later.
+pub due_step-timely : (moment : ℕ) (s : State) → IsSound s → AreLater s
+    → IfSome (due_next s) (λ due. moment ≤ due) → PageTimely moment (due_step moment s).state
+due_step-timely moment s sound h reached = by s.document refl
+  where
+    by : (document : Option Document) → s.document ≡ document
+        → PageTimely moment (option_map_or
+        (λ d. step_of (with_clock moment s) (due_effect moment (scene_in s d))) document
+        (still (with_clock moment s))).state
+    by None e = record {
+      is_now = refl;
+      timers = subst (λ (timers : TimersState). LaterThan moment timers)
+          (sym (sound.none_without e)) (none-later moment);
+    }
+    by (Some d) e =
+        step-timely moment (with_clock moment s) (due_effect moment (scene_in s d)) refl
+        (due-later moment (scene_in s d)
+        (least-near s.clock moment s.browser.timers.timers h reached) sound.timers.most)
+
+-- ---- the clauses
+
+pub turn-later : (stored : Stored) (s : State) → AreLater s → AreLater (turn stored s).state
+turn-later stored s h =
+    timely-later s.clock (turn stored s).state (turn-timely s.clock stored s (page-timely s h))
+
+pub key_step-later : (key : ℕ) (down : Bool) (s : State) → AreLater s
+    → AreLater (key_step key down s).state
+key_step-later key down s h =
+    timely-later s.clock (key_step key down s).state
+    (key_step-timely s.clock key down s (page-timely s h))
+
+pub due_step-later : (moment : ℕ) (s : State) → IsSound s → AreLater s
+    → IfSome (due_next s) (λ due. moment ≤ due) → AreLater (due_step moment s).state
+due_step-later moment s sound h reached =
+    timely-later moment (due_step moment s).state (due_step-timely moment s sound h reached)
