@@ -9,6 +9,8 @@
 #[cfg(test)]
 mod drafts;
 #[cfg(test)]
+mod items;
+#[cfg(test)]
 mod objects;
 #[cfg(test)]
 mod small_documents;
