@@ -53,6 +53,9 @@ def record_of(dice):
     for _ in range(dice.choice((0, 1, 3, 10, 30))):
         key = dice.choice((1, 2, 3, 4, 18, 18, 19, 21, 22, 23, 24, *KEYS))
         lines += [f"key {key}"] + [f"release {key}"] * (dice.random() < 0.7)
+        if dice.random() < 0.3:
+            lines.append(f"tick {dice.choice((1, 99, 100, 200))}")
+    lines[:0] = [f"random {dice.getrandbits(32)}" for _ in range(dice.choice((0, 0, 2)))]
     return "\n".join([*lines, "show", ""]).encode("ascii")
 
 
@@ -345,6 +348,7 @@ LITERALS = [b"0", b"1", b"2147483647", b"2147483648", b"017", b"08", b"0x1F", b"
 BLANKS = [b" ", b"\n", b"\t", b"\r", b"/* a */", b"/*\n*/", b"// a\n", b"/*", b"*/", b"//", b"\x0b", b"\x00", b"\xa4\xa2", b"#", b"@", b"\\"]
 NAMES_OF_HOSTS = "document browser currentEvent currentFocus getElementById parentNode firstChild lastChild previousSibling nextSibling data length"
 NAMES_OF_HOSTS += " tagName id className accessKey normalStyle focusStyle activeStyle focus blur value type target keyCode epgTune writePersistentArray"
+NAMES_OF_HOSTS += " browser Ureg Greg setInterval clearTimer launchDocument random playRomSound lockModuleOnMemory"
 BUILT_IN = "Object Array String Number Boolean isNaN parseInt fromCharCode charAt charCodeAt indexOf lastIndexOf substring split toString valueOf"
 BUILT_IN += " join reverse sort NaN MAX_VALUE MIN_VALUE prototype constructor"
 OWN_NAMES = "a b c d e f g i n o s x"
@@ -360,12 +364,14 @@ METHODS = {
     b"o": [b"f"],
     b"n": [b"focus", b"blur"],
     b"d": [b"getElementById"],
+    b"browser": [b"setInterval", b"clearTimer", b"launchDocument", b"random", b"playRomSound"],
     b"i": [b"toString", b"valueOf"],
     b"String": [b"fromCharCode"],
 }
-FUNCTIONS = [b"f", b"g", b"o.f", b"String", b"Number", b"Boolean", b"parseInt", b"isNaN", b"Object", b"Array", b"d.getElementById"]
+FUNCTIONS = [b"timer", b"browser.random", b"f", b"g", b"o.f", b"String", b"Number", b"Boolean", b"parseInt", b"isNaN", b"Object", b"Array", b"d.getElementById"]
 PRELUDE = b"""var s = "ab", i = 0, a = new Array(3, "1", 2), o = new Object(), n = document.getElementById("x"), b = "", c = 7, e = n, x = 1, d = document;
 function f(x) { return x + 1; } function g(x, y) { return f(x) + this; } o.f = f; o["1"] = a; a.o = o;
+function timer(x) { browser.Ureg[x] = x; return browser.setInterval("fired", x, x); } function fired() { b = b + 1; typeof h == "undefined" ? 0 : h(); }
 """
 
 
@@ -489,11 +495,13 @@ def calling(dice):
 ENDLESS = [b"while (true) ;", b"for (;;) { }", b"for (;;) s += s;", b"while (1) a[i++] = i;", b"while (1) o['n' + i++] = new Object();"]
 ENDLESS += [b"for (;;) a.sort();", b"for (;;) a.reverse();", b"for (;;) s = s.split('');", b"for (;;) s = a.join(s);", b"for (;;) a = new Array(a, a);"]
 ENDLESS += [b"for (;;) { a.length = a.length * 2 + 1; }", b"for (;;) for (s in a) ;", b"for (;;) n.firstChild.data += 'text';", b"for (;;) n.focus();"]
+ENDLESS += [b"for (;;) browser.setInterval('f', 1, 0);", b"for (;;) browser.random(i++);", b"for (;;) browser.Greg[3] += 'text';"]
+ENDLESS += [b"function fired() { for (;;) n.focus(); } for (;;) browser.setInterval('fired()', 100, 0);", b"browser.launchDocument('/40/0000');"]
 ENDLESS += [b"for (;;) n.normalStyle.left = i++ + 'px';", b"for (;;) d.getElementById(s += 'x');", b"for (;;) { delete o[i]; o[++i] = 1; }"]
 # (a script may declare `h`, `k` and `l`)
 H, K, L = (b"typeof %b == 'undefined' ? 0 : %b();" % (name, name) for name in (b"h", b"k", b"l"))
-PAGE = b"""<body id="b" onload="%b"><p id="x" style="nav-index:0;nav-down:1" onfocus="%b" onkeydown="%b" onclick="%b">t</p>\
-<p id="y" style="nav-index:1;nav-up:0" onblur="%b" accesskey="R"/></body>""" % (L, H, K, H, H)
+PAGE = b"""<body id="b" onload="%b" onunload="%b"><p id="x" style="nav-index:0;nav-down:1" onfocus="%b" onkeydown="%b" onclick="%b">t</p>\
+<p id="y" style="nav-index:1;nav-up:0" onblur="%b" accesskey="R"/></body>""" % (L, K, H, K, H, H)
 
 
 def script_case(dice):

@@ -100,7 +100,8 @@ READS = [
     ("document.currentFocus", NULL),
     ("document.getElementById", UNDEFINED),
     ("document.firstChild", UNDEFINED),
-    ("browser.Ureg", UNDEFINED),
+    ("browser.Ureg", "object [object]"),
+    ("browser.Areg", UNDEFINED),
 ]
 
 # What is written, an expression, and what it is then.
