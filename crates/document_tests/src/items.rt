@@ -1,7 +1,8 @@
-//! A test of `event_items`: the items of a small document are read.
+//! Tests of `event_items` and `event_messages`: the items of a small document, and what they fire for.
 
 use crate::small_documents::{tree_of, word};
 use event_items::*;
+use event_messages::*;
 use multipart_entities::Path;
 
 #[test]
@@ -15,4 +16,22 @@ fn items_of_a_document(rt: HostRuntime) {
     let tree = tree_of(&rt, alloc, b"<bml><beitem type='ModuleUpdated'/></bml>");
     let items = event_items(alloc, &path, &tree).expect(&rt, "memory");
     assert!(rt; items.len() == 1);
+}
+
+#[test]
+fn messages_are_noted(rt: HostRuntime) {
+    let alloc = rt.alloc();
+    let section = [0x3D, 0xB0, 9, 0, 0, 0, 0, 0, 0, 0, 0, 0];
+    assert!(rt; read_messages(alloc, &section).is_ok());
+    let message = Message {
+        group: 1,
+        kind: 0,
+        id: 7,
+        version: 3,
+        extra: word(&rt, alloc, b""),
+    };
+    let mut firings = Firings::new(alloc);
+    assert!(rt; firings.note(&message).is_ok());
+    let mut fired = Fired::new(alloc);
+    assert!(rt; fired.note(0, &message).is_ok());
 }

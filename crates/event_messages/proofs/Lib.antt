@@ -1,4 +1,6 @@
 pub mod FieldLemmas
 pub mod MessageLemmas
 pub mod FiringLemmas
+pub mod ItemFiringLemmas
+pub mod ItemFiringLaws
 pub mod KeptLemmas

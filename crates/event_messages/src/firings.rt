@@ -1,74 +1,26 @@
-//! Which version of which message each item fired for last.
+//! The firings of all items of a document.
 
-ghost use Rattle.std.specs.Prelude.{◌≡◌, ◌==◌, ◌&&◌, ◌∷◌, ◌++◌, [], if◌then◌else◌, ℕ, List, Some, OnOk, OnErr};
-ghost use Rattle.std.specs.Map.{lookup};
+ghost use Rattle.std.specs.Prelude.{◌≡◌, ◌∷◌, ◌++◌, [], List, OnOk, OnErr};
 ghost use Rattle.event_messages.specs.Firings.{Happening, fires, firing_of};
-ghost use Rattle.event_messages.specs.Kept.{IsNoted, StandsFor, is_key};
+ghost use Rattle.event_messages.specs.Kept.{StandsFor};
 
+use crate::item_firings::Firings;
 use crate::messages::Message;
 use bml_bytes::NoMemory;
 use indexmap::IndexMap;
 use std::alloc::Global;
 use std::marker::Model;
 
-// What messages have in common that differ by their versions alone.
-#[derive(Clone, Copy, Drop, PartialEq, Eq, Hash)]
-struct MessageKey {
-    group: u16,
-    id: u8,
-}
-
-// The versions of the messages that one item fired for last, by group and id.
-#[derive(Drop)]
-struct Versions {
-    by_message: IndexMap<MessageKey, u8>,
-}
-
-impl Model for Versions {
-    ghost use Rattle.std.specs.Prelude.{List, ℕ};
-    ghost use Rattle.event_messages.specs.declared.firings.MessageKey.{MessageKey};
-
-    ghost Value = { List (MessageKey × ℕ) };
-
-    ghost view = { λ versions. versions.by_message.entries };
-}
-
-impl Versions {
-    fn new(alloc: Global) -> Versions
-        ensures { result ≡ [] }
-    {
-        Versions {
-            by_message: IndexMap::new(alloc),
-        }
-    }
-
-    // The version of the message of this group and id that the item fired for last.
-    fn last(&self, group: u16, id: u8) -> Option<u8>
-        ensures { result ≡ lookup (is_key group id) self.now }
-    {
-        self.by_message.get(&MessageKey { group, id }).copied()
-    }
-
-    // Notes the version of the message that the item fires for.
-    fn note(&mut self, group: u16, id: u8, version: u8) -> Result<(), NoMemory>
-        ensures ok { OnOk result (IsNoted group id version self.old self.new) }
-        ensures err { OnErr result (self.new ≡ self.old) }
-    {
-        self.by_message.insert(MessageKey { group, id }, version)?;
-        Ok(())
-    }
-}
-
 /// The firings of the items of a document: for each item, the version of the last message of each group and id that
 /// it fired for since its firings were forgotten last. It stands for the list of all that happened to them.
 #[derive(Drop)]
 pub struct Fired {
-    items: IndexMap<u32, Versions>,
+    items: IndexMap<u32, Firings>,
 }
 
 impl Model for Fired {
     ghost use Rattle.std.specs.Prelude.{List, ℕ};
-    ghost use Rattle.event_messages.specs.declared.firings.MessageKey.{MessageKey};
+    ghost use Rattle.event_messages.specs.declared.item_firings.MessageKey.{MessageKey};
 
     ghost Value = { List (ℕ × List (MessageKey × ℕ)) };
 
@@ -93,10 +45,7 @@ impl Fired {
     {
         match self.items.get(&item) {
             None => true,
-            Some(versions) => match versions.last(message.group, message.id) {
-                None => true,
-                Some(version) => version != message.version,
-            },
+            Some(firings) => firings.would_fire(message),
         }
     }
 
@@ -107,12 +56,12 @@ impl Fired {
         ensures err { OnErr result ((happenings : List Happening) → StandsFor self.old happenings
             → StandsFor self.new happenings) }
     {
-        if let Some(versions) = self.items.get_mut(&item) {
-            return versions.note(message.group, message.id, message.version);
+        if let Some(firings) = self.items.get_mut(&item) {
+            return firings.note(message);
         }
-        let mut versions = Versions::new(*self.items.allocator());
-        versions.note(message.group, message.id, message.version)?;
-        self.items.insert(item, versions)?;
+        let mut firings = Firings::new(*self.items.allocator());
+        firings.note(message)?;
+        self.items.insert(item, firings)?;
         Ok(())
     }
 
@@ -121,6 +70,6 @@ impl Fired {
         ensures { (happenings : List Happening) → StandsFor self.old happenings
             → StandsFor self.new (happenings ++ Happening.Forgets item ∷ []) }
     {
-        let _versions = self.items.swap_remove(&item);
+        let _firings = self.items.swap_remove(&item);
     }
 }

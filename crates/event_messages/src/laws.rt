@@ -6,6 +6,7 @@ ghost use Rattle.event_messages.specs.declared.messages.Message.{Message};
 ghost use Rattle.event_messages.specs.Messages.{descriptor_table, HasMessages};
 ghost use Rattle.event_messages.specs.Reading.{messages_in};
 ghost use Rattle.event_messages.specs.Firings.{Happening, IsLastFiring, fires, firing_of, last_version};
+ghost use Rattle.event_messages.specs.ItemFirings.{AreAlike, FiredFor, IsLastAlike, KeptFirings, fires_again, kept_behind, no_firings, with_firing};
 
 use bml_bytes::{TableFault, law_of_fields};
 use table_fields::law_of_descriptors;
@@ -54,4 +55,25 @@ pub fn law_of_firings()
         → fires item message (happenings ++ firing_of item message ∷ []) ≡ false }
     ensures anew { (item : ℕ) (message : Message) (happenings : List Happening)
         → fires item message (happenings ++ Happening.Forgets item ∷ []) ≡ true }
+{}
+
+/// Say that an item fired for some messages, in their order, since its firings were forgotten. It doesn't fire for a
+/// message exactly where the last of them with the message's group and id has its version. So a message that is repeated
+/// doesn't fire again, and a firing for another group or id changes nothing. What one item keeps so says the same as all
+/// that happened to the items of a document.
+pub fn law_of_item_firings()
+    ensures last { (message : Message) (messages : List Message)
+        → (fires_again message (kept_behind messages) ≡ false)
+        ↔ ((last : Message) × IsLastAlike message messages last
+        × (last.version ≡ message.version)) }
+    ensures first { (message : Message) → fires_again message no_firings ≡ true }
+    ensures repeated { (message : Message) (kept : KeptFirings)
+        → fires_again message (with_firing message kept) ≡ false }
+    ensures others { (message other : Message) (kept : KeptFirings) → ¬ AreAlike other message
+        → fires_again message (with_firing other kept) ≡ fires_again message kept }
+    ensures agrees { (item : ℕ) (message : Message) (happenings : List Happening)
+        (messages : List Message) → FiredFor item happenings messages
+        → fires item message happenings ≡ fires_again message (kept_behind messages) }
+    ensures each { (item : ℕ) (happenings : List Happening)
+        → (messages : List Message) × FiredFor item happenings messages }
 {}

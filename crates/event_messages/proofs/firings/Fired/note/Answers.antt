@@ -9,8 +9,8 @@ returns-in-Some-clause-ok c =
     let new = (c.get_mut.follows.lender c.note.new.self).entries in
     let written = ((c.get_mut.follows.holds c.note.new.self).3 (search rules)).0 in
     let sets : Sets c.args.item (Some c.note.new.self) old new = λ other. written other ∙ ap (λ entries. cond (nat_eq c.args.item other) (Some c.note.new.self) (lookup (nat_eq other) entries)) c.self.view_is in
-    let stood : lookup (nat_eq c.args.item) old ≡ Some c.in-Some.versions.now = search rules in
-    on-ok c.note.result (λ noted. stands-fired c.args.item c.args.message.now.group c.args.message.now.id c.args.message.now.version old new c.in-Some.versions.now c.note.new.self sets (noted-again (lookup (nat_eq c.args.item) old) c.in-Some.versions.now stood) noted) c.note.ensures.ok
+    let stood : lookup (nat_eq c.args.item) old ≡ Some c.in-Some.firings.now = search rules in
+    on-ok c.note.result (λ noted. stands-fired c.args.item c.args.message.now old new c.in-Some.firings.now c.note.new.self sets (noted-again (lookup (nat_eq c.args.item) old) c.in-Some.firings.now stood) noted) c.note.ensures.ok
 
 pub returns-clause-ok : goal.returns-clause-ok
 returns-clause-ok c =
@@ -18,4 +18,4 @@ returns-clause-ok c =
     let new = c.insert.new.self.entries in
     let sets : Sets c.args.item (Some c.note-2.new.self) old new = λ other. search rules in
     let stood : lookup (nat_eq c.args.item) old ≡ None = search rules in
-    stands-fired c.args.item c.args.message.now.group c.args.message.now.id c.args.message.now.version old new [] c.note-2.new.self sets (noted-first (lookup (nat_eq c.args.item) old) stood) (search rules)
+    stands-fired c.args.item c.args.message.now old new [] c.note-2.new.self sets (noted-first (lookup (nat_eq c.args.item) old) stood) (search rules)
