@@ -44,7 +44,7 @@ MADE = {
     "carousel_blocks": "`modules: in order`",
     "multipart_entities": "`entities: found`",
     "module_store": "`modules: in order`, `entities: found`",
-    "event_messages": "`carousel_tests`",
+    "event_messages": "`document_tests`: messages_are_noted",
     "event_items": "`document_tests`: items_of_a_document",
     "event_queue": "`pages: scripts, then load, then focus`",
     "dom_tree": "`documents: not well formed`, `scripts: the value of an input`",
