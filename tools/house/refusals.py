@@ -130,7 +130,7 @@ def kept_by(crate, call, head):
         if of == crate and re.fullmatch(calls, call):
             return words
     parameters = head[head.index("("):].split("->")[0]
-    lent = re.findall(r"(\w+)?:? ?&(?:'\w+ )?mut (\w+)", parameters)
+    lent = re.findall(r"(\w+)?:? ?&(?:'\w+ )?mut \[?(\w+)", parameters)
     spent = [name for name, text in names if name in ("spends", "spent") or "Spends" in text]
     if spent:
         return "it is spent (" + ", ".join(f"`{name}`" for name in spent) + ")" + (", and what `out` held stays at its beginning" if "out" in dict(lent) else "")
