@@ -19,9 +19,9 @@ use Rattle.receiver_core.specs.declared.broadcast.Input.TheVariants as handed
 use Rattle.receiver_core.specs.Fronts.{IsFront}
 use Rattle.receiver_core.specs.Outputs.{Input, Piece, input_of, outcome_of, outputs, piece_of, pieces_of, pieces_of_turns, sections_by}
 use Rattle.receiver_core.specs.Outputs.{state_after, state_behind, state_behind_turns, with_packet}
-use Rattle.receiver_core.specs.Receiving.{Answers, Gives, IsIdle, IsOver, MakesTurn, PassesDamaged, ReceiverState, StandsFor, Takes}
+use Rattle.receiver_core.specs.Receiving.{Answers, Gives, IsIdle, IsOver, MakesTurn, PassesDamaged, ReceiverState, StandsFor, Stays, Takes}
 use Rattle.receiver_core.specs.State.{State, opening, services}
-use Rattle.receiver_core.specs.Outputs.Input.{Packet}
+use Rattle.receiver_core.specs.Outputs.Input.{Packet, Show}
 use Rattle.receiver_core.specs.Turns.{turn}
 use Rattle.receiver_core.specs.State as state_of
 use Rattle.receiver_core.proofs.OutputLaws.{behind_one_more, no_outputs, outputs_one_more}
@@ -131,6 +131,25 @@ answers handed_in d b c spent still before after unspent made = record {
         };
       };
 }
+
+-- the wish to see the display leaves what the receiver stands for, also while sections wait
+pub stays_shown : (input : HandedIn) (d : DemultiplexerState) (b c : BroadcastState) (spent still : Bool)
+    (before after : List ℕ) → still ≡ false → MakesOutcome (outcome_of (input_of input)) b c before after
+    → input_of input ≡ Show → Stays (seen d b spent) (seen d c still)
+stays_shown handed_in d b c spent still before after unspent made shows read selection area inputs given s =
+    let stands : broadcasts.StandsFor c s.now =
+    subst (λ (input : Input). broadcasts.StandsFor c (state_after input s.now)) shows
+    (made.gives s.now s.kept.broadcast).stands in
+    record {
+      now = s.now;
+      left = s.left;
+      pieces = s.pieces;
+      services_are = services_are c s.now stands;
+      clock_is = stands.page.clock;
+      area_is = area_kept c s.now stands;
+      unspent = unspent;
+      kept = record { broadcast = stands; sections = s.kept.sections; assembled = s.kept.assembled };
+    }
 
 -- one that gives no piece
 pub takes_silent : (input : Input) (old new : ReceiverState) (before after : List ℕ)

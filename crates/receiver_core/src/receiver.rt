@@ -56,7 +56,7 @@ impl Model for Receiver {
 impl Receiver {
     ghost use Rattle.receiver_core.specs.Receiving.{Answers, ForState, IsIdle, IsOver, IsSilent};
     ghost use Rattle.receiver_core.specs.Receiving.{MakesTurn, PassesDamaged, Spends, StandsFor};
-    ghost use Rattle.receiver_core.specs.Receiving.{Takes, sections_left};
+    ghost use Rattle.receiver_core.specs.Receiving.{Stays, Takes, sections_left};
     ghost use Rattle.receiver_core.specs.Outputs.{input_of, milliseconds_of};
     ghost use Rattle.receiver_core.specs.Outputs.Input.{Key, Random, Release, Show, Tick};
 
@@ -166,6 +166,7 @@ impl Receiver {
             → self.old.clock + milliseconds_of (input_of input) < 2 ^ 62 }
         ensures answers { OnOk result
             (Answers (input_of input) self.old self.new out.old.items out.new.items) }
+        ensures stays { OnOk result (input_of input ≡ Show → Stays self.old self.new) }
         ensures waiting { self.new.waiting ≡ self.old.waiting }
         ensures idle { IsIdle self.old → IsIdle self.new }
         ensures clock { OnOk result
@@ -243,10 +244,12 @@ impl Receiver {
     }
 
     /// Appends the display list: `show` with the time, and the boxes, texts and pictures of the
-    /// document, where there is one, and its focus.
+    /// document, where there is one, and its focus. All else stays, also while turns are still to
+    /// come.
     pub fn show(&mut self, out: &mut Vec<u8>) -> Result<(), NoMemory>
         ensures answers { OnOk result
             (Answers Show self.old self.new out.old.items out.new.items) }
+        ensures stays { OnOk result (Stays self.old self.new) }
         ensures waiting { self.new.waiting ≡ self.old.waiting }
         ensures idle { IsIdle self.old → IsIdle self.new }
         ensures clock { OnOk result (self.new.clock ≡ self.old.clock) }
