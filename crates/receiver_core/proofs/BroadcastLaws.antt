@@ -57,7 +57,7 @@ stands_first services before new page selection area same stands first sets fres
 abbrev pub with_page : BroadcastState → PageState → BroadcastState
 with_page state page = record { services = state.services; store = state.store; page = page }
 
-stands_with : (state : BroadcastState) (page : PageState) (s : State) (t : paging.State) → StandsFor state s → pages.StandsFor page s.store t → StandsFor (with_page state page) (record s { page = t })
+pub stands_with : (state : BroadcastState) (page : PageState) (s : State) (t : paging.State) → StandsFor state s → pages.StandsFor page s.store t → StandsFor (with_page state page) (record s { page = t })
 stands_with state page s t stands its = record {
   selection = stands.selection;
   services = stands.services;

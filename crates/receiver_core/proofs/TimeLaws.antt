@@ -1,17 +1,19 @@
 -- What becomes of a broadcast as time passes.
-use Rattle.std.proofs.Common.{◌≡◌, ◌<◌, ℕ, ◌+◌, zero, suc, List, [], ◌∷◌, ◌++◌, refl, sym, ap, ap₂, ◌∙◌, append-nil, append_assoc, arith}
+use Rattle.std.proofs.Common.{◌≡◌, ◌<◌, ℕ, ◌+◌, zero, suc, List, [], ◌∷◌, ◌++◌, refl, sym, ap, ap₂, ◌∙◌, subst, append-nil, append_assoc, arith}
 use Rattle.std.specs.Prelude.{Option, Some, None, option_and_then}
 use Rattle.std.specs.List.{concat}
 use Rattle.std.specs.Option.{option_map_or}
 use Rattle.std.proofs.lemmas.List.{map-append}
 use Rattle.std.proofs.lemmas.List.Folds.{concat-append}
 use Rattle.event_queue.specs.Timers.{least_moment}
-use Rattle.page.specs.Standing.{page_area}
-use Rattle.receiver_core.specs.Broadcasts.{BroadcastState, Makes, MakesFirst, StandsFor, due_in, with_pieces}
+use Rattle.page.specs.Inputs.{with_clock}
+use Rattle.page.specs.Standing.{PageState, page_area}
+use Rattle.page.specs.Standing as pages
+use Rattle.receiver_core.specs.Broadcasts.{BroadcastState, HasOutcome, Makes, MakesFirst, MakesOutcome, StandsFor, due_in, with_pieces}
 use Rattle.receiver_core.specs.Outputs.{Outcome, Piece, due_by, not_after, texts_of, time_passes, waits_until, with_first}
 use Rattle.receiver_core.specs.State.{State}
 use Rattle.receiver_core.specs.Turns.{Step, due_turn}
-use Rattle.receiver_core.proofs.BroadcastLaws.{area_kept, due_packets}
+use Rattle.receiver_core.proofs.BroadcastLaws.{area_kept, due_packets, stands_with, with_page}
 
 -- ---- the first pieces of an outcome
 
@@ -71,6 +73,46 @@ one_more outcome rest next step old mid new before between after comes made step
   where
     with_piece_first : Piece → Outcome → Outcome
     with_piece_first p outcome = record { state = outcome.state; pieces = p ∷ outcome.pieces }
+
+-- ---- the clock
+
+clock_gone : (state : BroadcastState) (page : PageState) (s : State) (end : ℕ) → page ≡ record state.page { clock = end } → StandsFor state s
+    → StandsFor (with_page state page) (record s { page = with_clock end s.page })
+clock_gone state page s end is stands =
+    stands_with state page s (with_clock end s.page) stands
+    (subst (λ (p : PageState). pages.StandsFor p s.store (with_clock end s.page)) (sym is)
+    (record {
+      reader = stands.page.reader;
+      document = stands.page.document;
+      wanted = stands.page.wanted;
+      current = stands.page.current;
+      clock = refl;
+      browser = stands.page.browser;
+    }))
+
+-- nothing but the clock is still to come, and it goes on
+pub all_made : (outcome : State → Outcome) (old new : BroadcastState) (page : PageState) (end : ℕ) (before after : List ℕ) → page ≡ record new.page { clock = end }
+    → MakesFirst outcome (waits_until end) old new before after → MakesOutcome outcome old (with_page new page) before after
+all_made outcome old new page end before after is made = record {
+  pieces = made.pieces;
+  printed = made.printed;
+  gives = λ s stands.
+      let first = made.gives s stands in
+      record {
+        stands = subst (λ (o : Outcome). StandsFor (with_page new page) o.state) (sym first.outcome_is) (clock_gone new page first.now end is first.stands);
+        pieces_are = sym (append-nil made.pieces) ∙ ap (λ (o : Outcome). o.pieces) (sym first.outcome_is);
+      };
+}
+
+-- the end is so many milliseconds later
+pub until_later : (count end : ℕ) (old new : BroadcastState) (before after : List ℕ) → end ≡ old.page.clock + count
+    → MakesOutcome (time_passes count end) old new before after → MakesOutcome (λ s. time_passes count (s.page.clock + count) s) old new before after
+until_later count end old new before after is made = record {
+  pieces = made.pieces;
+  printed = made.printed;
+  gives = λ s stands.
+      subst (λ (n : ℕ). HasOutcome new made.pieces (time_passes count n s)) (is ∙ ap (λ (n : ℕ). n + count) stands.page.clock) (made.gives s stands);
+}
 
 -- ---- due moments
 
