@@ -1,6 +1,6 @@
 #!/usr/bin/env python3
 """Lists each public call that can refuse: with want of memory, a fault or another error. For each it says which clause tells what stays as it
-was behind a refusal, and where the call is made with enough memory.
+was behind a refusal. Where the calls of a crate are made with enough memory is written here by hand, crate by crate, and nothing checks it.
 
     tools/house/refusals.py                prints the list
     tools/house/refusals.py --check FILE   says whether FILE holds just that list, and ends with 1 if it doesn't
@@ -180,8 +180,9 @@ def page(found):
     text = [
         "# Refusals",
         "",
-        "Each public call that can refuse, with what it refuses with, and what stays as it was behind a refusal. `NoMemory` is want of memory. The last column says where the call is",
-        "made with enough memory: a test, a row of `tables/` or `script_tests`, or an example. The list is made of the sources by `tools/house/refusals.py`, which ends with an error where a line would have an empty place.",
+        "Each public call that can refuse, with what it refuses with, and what stays as it was behind a refusal. `NoMemory` is want of memory. The calls, their errors and the names of the clauses",
+        "are read from the sources by `tools/house/refusals.py`, which ends with an error where a call has no such clause and is no exception. Two things are written by hand there, and nothing checks them: the exceptions, and where the calls",
+        "of a crate are made with enough memory, which is said for the crate and not for each call.",
         "",
         f"There are {count} such calls in {len(found)} crates.",
     ]
