@@ -10,7 +10,7 @@ use Rattle.event_messages.specs.ItemFirings.{AreAlike, FiredFor, KeptFirings, fi
 use Rattle.event_messages.proofs.ItemFiringLemmas.{AreOthers, Last, for-alike, for-last, for-other, last-for, lookup-with_firing, step, version_for}
 
 -- whether a message of this version fires, by the version that is found
-abbrev is_new : ℕ → Option ℕ → Bool
+abbrev pub is_new : ℕ → Option ℕ → Bool
 is_new version last = option_map_or (λ l. not (nat_eq l version)) last true
 
 is-last : (version : ℕ) (last : Option ℕ) → is_new version last ≡ false → last ≡ Some version
@@ -89,12 +89,15 @@ versions-agree item message happenings messages (inr (before, e)) =
     ∙ ap (λ b. version_after item message.group message.id b (map (firing_of item) messages)) (forgotten item message.group message.id (last_version item message.group message.id before))
     ∙ firings-agree item message no_firings messages
 
-pub agree : (item : ℕ) (message : Message) (happenings : List Happening) (messages : List Message) → FiredFor item happenings messages → fires item message happenings ≡ fires_again message (kept_behind messages)
-agree item message happenings messages for = by (last_version item message.group message.id happenings) refl ∙ ap (is_new message.version) (versions-agree item message happenings messages for)
+pub fires-by-last : (item : ℕ) (message : Message) (happenings : List Happening) → fires item message happenings ≡ is_new message.version (last_version item message.group message.id happenings)
+fires-by-last item message happenings = by (last_version item message.group message.id happenings) refl
   where
     by : (last : Option ℕ) → last_version item message.group message.id happenings ≡ last → fires item message happenings ≡ is_new message.version last
     by None e = rw e refl
     by (Some version) e = rw e refl
+
+pub agree : (item : ℕ) (message : Message) (happenings : List Happening) (messages : List Message) → FiredFor item happenings messages → fires item message happenings ≡ fires_again message (kept_behind messages)
+agree item message happenings messages for = fires-by-last item message happenings ∙ ap (is_new message.version) (versions-agree item message happenings messages for)
 
 -- ---- each list of happenings
 

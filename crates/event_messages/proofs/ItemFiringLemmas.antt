@@ -32,11 +32,11 @@ pair-sym a b c d =
     (λ e. let is = pair-is a b c d e in is-pair c d a b (sym is.0) (sym is.1))
     (λ e. let is = pair-is c d a b e in is-pair a b c d (sym is.0) (sym is.1))
 
-twice : {A : Type 0} (test : Bool) (x y z : A) → cond test x z ≡ cond test x (cond test y z)
+pub twice : {A : Type 0} (test : Bool) (x y z : A) → cond test x z ≡ cond test x (cond test y z)
 twice true x y z = refl
 twice false x y z = refl
 
-turn : {A : Type 0} (s t : Bool) (x y z : A) → (s ≡ true → t ≡ true → x ≡ y) → cond s x (cond t y z) ≡ cond t y (cond s x z)
+pub turn : {A : Type 0} (s t : Bool) (x y z : A) → (s ≡ true → t ≡ true → x ≡ y) → cond s x (cond t y z) ≡ cond t y (cond s x z)
 turn true true x y z same = same refl refl
 turn true false x y z same = refl
 turn false true x y z same = refl

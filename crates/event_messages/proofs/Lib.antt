@@ -4,3 +4,4 @@ pub mod FiringLemmas
 pub mod ItemFiringLemmas
 pub mod ItemFiringLaws
 pub mod KeptLemmas
+pub mod KeptFiringLaws

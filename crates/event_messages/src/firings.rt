@@ -2,7 +2,7 @@
 
 ghost use Rattle.std.specs.Prelude.{◌≡◌, ◌∷◌, ◌++◌, [], List, OnOk, OnErr};
 ghost use Rattle.event_messages.specs.Firings.{Happening, fires, firing_of};
-ghost use Rattle.event_messages.specs.Kept.{StandsFor};
+ghost use Rattle.event_messages.specs.Kept.{StandsFor, item_fires, with_forgotten, with_noted};
 
 use crate::item_firings::Firings;
 use crate::messages::Message;
@@ -30,7 +30,8 @@ impl Model for Fired {
 impl Fired {
     /// No item has fired yet. This takes no memory.
     pub fn new(alloc: Global) -> Fired
-        ensures { StandsFor result [] }
+        ensures none { result ≡ [] }
+        ensures stands { StandsFor result [] }
     {
         Fired {
             items: IndexMap::new(alloc),
@@ -40,7 +41,8 @@ impl Fired {
     /// Whether an item that a message matches fires for it: its last firing for the message's group and id had another
     /// version, or there is none since its firings were forgotten. This takes no memory.
     pub fn would_fire(&self, item: u32, message: &Message) -> bool
-        ensures { (happenings : List Happening) → StandsFor self.now happenings
+        ensures kept { result ≡ item_fires item message.now self.now }
+        ensures fires { (happenings : List Happening) → StandsFor self.now happenings
             → result ≡ fires item message.now happenings }
     {
         match self.items.get(&item) {
@@ -51,10 +53,10 @@ impl Fired {
 
     /// Notes that an item fires for a message. Where memory runs out, nothing is noted.
     pub fn note(&mut self, item: u32, message: &Message) -> Result<(), NoMemory>
+        ensures noted { OnOk result (self.new ≡ with_noted item message.now self.old) }
         ensures ok { OnOk result ((happenings : List Happening) → StandsFor self.old happenings
             → StandsFor self.new (happenings ++ firing_of item message.now ∷ [])) }
-        ensures err { OnErr result ((happenings : List Happening) → StandsFor self.old happenings
-            → StandsFor self.new happenings) }
+        ensures err { OnErr result (self.new ≡ self.old) }
     {
         if let Some(firings) = self.items.get_mut(&item) {
             return firings.note(message);
@@ -67,9 +69,12 @@ impl Fired {
 
     /// Forgets all firings of an item. This takes no memory.
     pub fn forget(&mut self, item: u32)
-        ensures { (happenings : List Happening) → StandsFor self.old happenings
+        ensures forgotten { self.new ≡ with_forgotten item self.old }
+        ensures stands { (happenings : List Happening) → StandsFor self.old happenings
             → StandsFor self.new (happenings ++ Happening.Forgets item ∷ []) }
     {
-        let _firings = self.items.swap_remove(&item);
+        if let Some(firings) = self.items.get_mut(&item) {
+            firings.forget();
+        }
     }
 }

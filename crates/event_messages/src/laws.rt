@@ -6,6 +6,7 @@ ghost use Rattle.event_messages.specs.declared.messages.Message.{Message};
 ghost use Rattle.event_messages.specs.Messages.{descriptor_table, HasMessages};
 ghost use Rattle.event_messages.specs.Reading.{messages_in};
 ghost use Rattle.event_messages.specs.Firings.{Happening, IsLastFiring, fires, firing_of, last_version};
+ghost use Rattle.event_messages.specs.Kept.{FiringsOfItems, StandsFor, item_fires, with_forgotten, with_noted};
 ghost use Rattle.event_messages.specs.ItemFirings.{AreAlike, FiredFor, IsLastAlike, KeptFirings, fires_again, kept_behind, no_firings, with_firing};
 
 use bml_bytes::{TableFault, law_of_fields};
@@ -76,4 +77,20 @@ pub fn law_of_item_firings()
         → fires item message happenings ≡ fires_again message (kept_behind messages) }
     ensures each { (item : ℕ) (happenings : List Happening)
         → (messages : List Message) × FiredFor item happenings messages }
+{}
+
+/// What is kept of the firings of a document's items stands for all that happened to them: behind a
+/// firing that is noted and behind one item's forgetting it stands for one happening more. By it an item
+/// fires for a message exactly where it fires by the happenings.
+pub fn law_of_kept_firings()
+    ensures none { StandsFor [] [] }
+    ensures noted { (item : ℕ) (message : Message) (kept : FiringsOfItems)
+        (happenings : List Happening) → StandsFor kept happenings
+        → StandsFor (with_noted item message kept) (happenings ++ firing_of item message ∷ []) }
+    ensures forgotten { (item : ℕ) (kept : FiringsOfItems) (happenings : List Happening)
+        → StandsFor kept happenings
+        → StandsFor (with_forgotten item kept) (happenings ++ Happening.Forgets item ∷ []) }
+    ensures fires { (item : ℕ) (message : Message) (kept : FiringsOfItems)
+        (happenings : List Happening) → StandsFor kept happenings
+        → item_fires item message kept ≡ fires item message happenings }
 {}

@@ -14,5 +14,5 @@ mod messages;
 
 pub use crate::firings::Fired;
 pub use crate::item_firings::Firings;
-pub use crate::laws::{law_of_firings, law_of_item_firings, law_of_messages};
+pub use crate::laws::{law_of_firings, law_of_item_firings, law_of_kept_firings, law_of_messages};
 pub use crate::messages::{Message, read_messages};

@@ -38,6 +38,21 @@ pub struct Message {
     pub extra: Text,
 }
 
+impl Message {
+    /// The same message once more.
+    pub fn share(&self) -> Result<Message, NoMemory>
+        ensures { IfOk result (λ message. message ≡ self.now) }
+    {
+        Ok(Message {
+            group: self.group,
+            kind: self.kind,
+            id: self.id,
+            version: self.version,
+            extra: self.extra.share()?,
+        })
+    }
+}
+
 // The fields of a message, with its private bytes as they stand in the section.
 #[derive(Clone, Copy)]
 struct Fields<'a> {
