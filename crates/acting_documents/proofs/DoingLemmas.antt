@@ -23,6 +23,7 @@ use Rattle.es_eval.specs.Worlds.Run.{Over}
 use Rattle.es_reader.specs.Statements.{Item as ProgramItem}
 use Rattle.es_shapes.specs.Sources.{program_of}
 use Rattle.es_eval.specs.Worlds.{World, Run}
+use Rattle.event_items.specs.Subscriptions.{ItemsState}
 use Rattle.event_queue.specs.Events.{name_of}
 use Rattle.event_queue.specs.Timers.{Timer, timer_of}
 use Rattle.event_queue.specs.declared.events.Event.{Event}
@@ -50,6 +51,7 @@ use Rattle.acting_documents.proofs.EndedLemmas.{Stays, ended-stays, ends_as, sta
 pub record Parts (kept : KeptDocument) (d : Document) : Type 0 where
   pub path : kept.path ≡ d.path
   pub tree : kept.tree ≡ d.tree
+  pub items : kept.items ≡ d.items
   pub queue : kept.queue ≡ d.queue
   pub handlers : kept.handlers ≡ d.handlers
   pub globals : kept.globals ≡ d.globals
@@ -60,6 +62,7 @@ pub parts_of_kept : (kept : KeptDocument) (d : Document) → IsDocument kept d �
 parts_of_kept kept d k = record {
   path = ap (λ (x : KeptDocument). x.path) k.others;
   tree = ap (λ (x : KeptDocument). x.tree) k.others;
+  items = ap (λ (x : KeptDocument). x.items) k.others;
   queue = ap (λ (x : KeptDocument). x.queue) k.others;
   handlers = ap (λ (x : KeptDocument). x.handlers) k.others;
   globals = ap (λ (x : KeptDocument). x.globals) k.others;
@@ -67,16 +70,16 @@ parts_of_kept kept d k = record {
   body = ap (λ (x : KeptDocument). x.body) k.others;
 }
 
-kept_parts : (path path' : Path) (tree tree' : StyledTree) (queue queue' : List Event) (programs : List ToldProgram) (handlers handlers' : List HandlerState) (globals globals' : List (List ℕ × Value)) (heap heap' : List ObjectState) (body body' : Option ℕ) (worked : ℕ) (lent : BrowserParts) (now : ℕ) (launched : Option Path)
-    → path ≡ path' → tree ≡ tree' → queue ≡ queue' → handlers ≡ handlers' → globals ≡ globals' → heap ≡ heap' → body ≡ body'
-    → (let x : KeptDocument = record { path = path; tree = tree; queue = queue; programs = programs; handlers = handlers; globals = globals; heap = heap; body = body; worked = worked; lent = lent; now = now; launched = launched } in x)
-    ≡ record { path = path'; tree = tree'; queue = queue'; programs = programs; handlers = handlers'; globals = globals'; heap = heap'; body = body'; worked = worked; lent = lent; now = now; launched = launched }
-kept_parts path path' tree tree' queue queue' programs handlers handlers' globals globals' heap heap' body body' worked lent now launched a b c d e f g = cc
+kept_parts : (path path' : Path) (tree tree' : StyledTree) (items items' : ItemsState) (queue queue' : List Event) (programs : List ToldProgram) (handlers handlers' : List HandlerState) (globals globals' : List (List ℕ × Value)) (heap heap' : List ObjectState) (body body' : Option ℕ) (worked : ℕ) (lent : BrowserParts) (now : ℕ) (launched : Option Path)
+    → path ≡ path' → tree ≡ tree' → items ≡ items' → queue ≡ queue' → handlers ≡ handlers' → globals ≡ globals' → heap ≡ heap' → body ≡ body'
+    → (let x : KeptDocument = record { path = path; tree = tree; items = items; queue = queue; programs = programs; handlers = handlers; globals = globals; heap = heap; body = body; worked = worked; lent = lent; now = now; launched = launched } in x)
+    ≡ record { path = path'; tree = tree'; items = items'; queue = queue'; programs = programs; handlers = handlers'; globals = globals'; heap = heap'; body = body'; worked = worked; lent = lent; now = now; launched = launched }
+kept_parts path path' tree tree' items items' queue queue' programs handlers handlers' globals globals' heap heap' body body' worked lent now launched a b c d e f g h = cc
 
 pub kept_of_parts : (kept : KeptDocument) (d : Document) → AllZip Tells d.programs kept.programs → Parts kept d → IsDocument kept d
 kept_of_parts kept d z p = record {
   programs = z;
-  others = kept_parts kept.path d.path kept.tree d.tree kept.queue d.queue kept.programs kept.handlers d.handlers kept.globals d.globals kept.heap d.heap kept.body (body_of d.tree.items) kept.worked kept.lent kept.now kept.launched p.path p.tree p.queue p.handlers p.globals p.heap p.body;
+  others = kept_parts kept.path d.path kept.tree d.tree kept.items d.items kept.queue d.queue kept.programs kept.handlers d.handlers kept.globals d.globals kept.heap d.heap kept.body (body_of d.tree.items) kept.worked kept.lent kept.now kept.launched p.path p.tree p.items p.queue p.handlers p.globals p.heap p.body;
 }
 
 scene_same : (d : Document) (b b' : BrowserParts) (n n' : ℕ) → b ≡ b' → n ≡ n' → (let x : Scene = record { document = d; browser = b; now = n } in x) ≡ record { document = d; browser = b'; now = n' }
@@ -157,6 +160,7 @@ does_later moment effect old new before after x = record {
       x.does d (kept_of_parts (record old { now = moment }) d k.programs (record {
         path = p.path;
         tree = p.tree;
+        items = p.items;
         queue = p.queue;
         handlers = p.handlers;
         globals = p.globals;
@@ -171,6 +175,7 @@ abbrev pub acting_of : KeptDocument → CurrentEvent → Acting
 acting_of old event = record {
   path = old.path;
   tree = old.tree;
+  items = old.items;
   queue = old.queue;
   browser = old.lent;
   now = old.now;
@@ -180,18 +185,19 @@ acting_of old event = record {
 }
 
 acting_is : (old : KeptDocument) (event : CurrentEvent) (d : Document) → Parts old d → acting_of old event ≡ acting_in event (scene_of old d)
-acting_is old event d p = same old.path d.path old.tree d.tree old.queue d.queue p.path p.tree p.queue
+acting_is old event d p = same old.path d.path old.tree d.tree old.items d.items old.queue d.queue p.path p.tree p.items p.queue
   where
-    acts : Path → StyledTree → List Event → Acting
-    acts path tree queue = record { path = path; tree = tree; queue = queue; browser = old.lent; now = old.now; event = event; launched = None; text = [] }
+    acts : Path → StyledTree → ItemsState → List Event → Acting
+    acts path tree items queue = record { path = path; tree = tree; items = items; queue = queue; browser = old.lent; now = old.now; event = event; launched = None; text = [] }
 
-    same : (x x' : Path) (t t' : StyledTree) (q q' : List Event) → x ≡ x' → t ≡ t' → q ≡ q' → acts x t q ≡ acts x' t' q'
-    same x x' t t' q q' a b c = cc
+    same : (x x' : Path) (t t' : StyledTree) (i i' : ItemsState) (q q' : List Event) → x ≡ x' → t ≡ t' → i ≡ i' → q ≡ q' → acts x t i q ≡ acts x' t' i' q'
+    same x x' t t' i i' q q' a b c d = cc
 
 -- what is kept now is what was acted on, and what was kept before
 pub record Leaves (told : List ToldProgram) (kept : List HandlerState) (node : Option ℕ) (new : KeptDocument) (last : Acting) : Type 0 where
   pub path : new.path ≡ last.path
   pub tree : new.tree ≡ last.tree
+  pub items : new.items ≡ last.items
   pub queue : new.queue ≡ last.queue
   pub lent : new.lent ≡ last.browser
   pub now : new.now ≡ last.now
@@ -205,6 +211,7 @@ abbrev pub kept_in : StageState → List ToldProgram → List HandlerState → L
 kept_in stage programs handlers globals heap body = record {
   path = stage.acting.path;
   tree = stage.acting.tree;
+  items = stage.acting.items;
   queue = stage.acting.queue;
   programs = programs;
   handlers = handlers;
@@ -223,6 +230,7 @@ pub leaves_in : (given : StageState) (last : Acting) (programs : List ToldProgra
 leaves_in given last programs handlers globals heap body e = record {
   path = ap (λ (a : Acting). a.path) e;
   tree = ap (λ (a : Acting). a.tree) e;
+  items = ap (λ (a : Acting). a.items) e;
   queue = ap (λ (a : Acting). a.queue) e;
   lent = ap (λ (a : Acting). a.browser) e;
   now = ap (λ (a : Acting). a.now) e;
@@ -237,7 +245,7 @@ leaves_in given last programs handlers globals heap body e = record {
 abbrev effect_left : Scene → Acting → List (List ℕ × Value) → List ObjectState → List ℕ → Effect
 effect_left s last globals heap text = record {
   scene = record s {
-    document = record s.document { tree = last.tree; queue = last.queue; globals = globals; heap = heap };
+    document = record s.document { tree = last.tree; items = last.items; queue = last.queue; globals = globals; heap = heap };
     browser = last.browser;
   };
   launched = last.launched;
@@ -253,6 +261,7 @@ left_done old new d last globals heap text z p stays left globals_are heap_is = 
   is = kept_of_parts new (effect_left (scene_of old d) last globals heap text).scene.document (subst (λ (t : List ToldProgram). AllZip Tells d.programs t) (sym left.programs) z) (record {
     path = left.path ∙ ap (λ (s : Stays). s.path) stays;
     tree = left.tree;
+    items = left.items;
     queue = left.queue;
     handlers = left.handlers ∙ p.handlers;
     globals = globals_are;
@@ -393,13 +402,14 @@ run_scripts-append (place ∷ places) more s =
     ∙ and_then-assoc (run_scripts places) (run_scripts more) e.scene e.launched e.text
 
 -- one more of them runs
-pub does_scripts-more : (places : List ℕ) (place : ℕ) (old middle new : KeptDocument) (before between after : List ℕ) → is_some middle.launched ≡ false → Does (run_scripts places) old middle before between → Does (run_program (codes "script") no_event place) middle new between after → Does (run_scripts (places ++ place ∷ [])) old new before after
-does_scripts-more places place old middle new before between after none x y =
+pub does_scripts-more : (places : List ℕ) (place : ℕ) (event : CurrentEvent) (old middle new : KeptDocument) (before between after : List ℕ) → event ≡ no_event → is_some middle.launched ≡ false → Does (run_scripts places) old middle before between → Does (run_program (codes "script") event place) middle new between after → Does (run_scripts (places ++ place ∷ [])) old new before after
+does_scripts-more places place event old middle new before between after outside none x y =
     does_as (λ s. and_then (run_scripts (place ∷ [])) (run_scripts places s)) (run_scripts (places ++ place ∷ [])) old new before after
     (λ d k. run_scripts-append places (place ∷ []) (scene_of old d))
     (does_then (run_scripts places) (run_scripts (place ∷ [])) old middle new before between after none x
     (does_as (run_program (codes "script") no_event place) (run_scripts (place ∷ [])) middle new between after
-    (λ d k. let e = run_program (codes "script") no_event place (scene_of middle d) in and_then-nothing e.scene e.launched e.text) y))
+    (λ d k. let e = run_program (codes "script") no_event place (scene_of middle d) in and_then-nothing e.scene e.launched e.text)
+    (subst (λ (e : CurrentEvent). Does (run_program (codes "script") e place) middle new between after) outside y)))
 
 -- one of them launched another document, and so those behind it don't run
 pub does_scripts-stopped : (places more : List ℕ) (old new : KeptDocument) (before after : List ℕ) → is_some new.launched ≡ true → Does (run_scripts places) old new before after → Does (run_scripts (places ++ more)) old new before after
@@ -417,6 +427,10 @@ does_scripts places old new before after is x =
     ∙ ap (λ (h : List HandlerState). unnamed_places (length d.programs) h) (parts_of_kept old d k).handlers)))) x
 
 -- ---- the documents that are kept in parts
+
+-- what is acted on outside of handlers, before anything is done
+pub prepared : (stage first : StageState) (event : CurrentEvent) → event ≡ no_event → first.acting ≡ record stage.acting { event = event; launched = None; text = [] } → first.acting ≡ record stage.acting { event = no_event; launched = None; text = [] }
+prepared stage first event none prepares = subst (λ (e : CurrentEvent). first.acting ≡ record stage.acting { event = e; launched = None; text = [] }) none prepares
 
 -- what is done outside of handlers, behind which the text is given
 pub gives : {T E : Type 0} (r : Result T E) (change : Acting → Acting) (old : KeptDocument) (stage first last given : StageState) (programs : List ToldProgram) (handlers : List HandlerState) (globals : List (List ℕ × Value)) (heap : List ObjectState) (body : Option NodeId) (before after : List ℕ)
@@ -522,6 +536,7 @@ still_document old middle d same k =
     subst (λ (x : KeptDocument). IsDocument x d) (sym same) (kept_of_parts (record old { worked = middle.worked }) d k.programs (record {
       path = p.path;
       tree = p.tree;
+      items = p.items;
       queue = p.queue;
       handlers = p.handlers;
       globals = p.globals;

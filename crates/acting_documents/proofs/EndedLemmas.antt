@@ -1,31 +1,40 @@
 -- What the run of a script comes to, where each question is answered by the rows of the document and of the browser object.
-use Rattle.std.proofs.Common.{◌≡◌, ℕ, zero, suc, Bool, true, false, List, Option, Some, None, refl, sym, ap, ◌∙◌, subst}
-use Rattle.std.specs.Prelude.{codes, if◌then◌else◌, is_some, nat_lt, length}
+use Rattle.std.proofs.Common.{◌≡◌, ℕ, zero, suc, Bool, true, false, eqb, List, [], ◌∷◌, Option, Some, None, refl, sym, ap, ◌∙◌, subst}
+use Rattle.std.specs.Prelude.{codes, fold, if◌then◌else◌, is_some, nat_lt, length}
 use Rattle.std.specs.Option.{option_map_or}
 use Rattle.bml_bytes.specs.Words.{is_same}
 use Rattle.dom_tree.specs.Items.{tag_of}
+use Rattle.carousel_blocks.specs.declared.changes.Change.{Change}
 use Rattle.multipart_entities.specs.declared.paths.Path.{Path}
 use Rattle.focus_keys.specs.Defaults.{Action}
 use Rattle.focus_keys.specs.Defaults.Action.{NoAction, Moves, Activates, Accesses}
+use Rattle.focus_keys.specs.KeyTables.{key_number}
 use Rattle.focus_keys.specs.Targets.{can_have_focus}
+use Rattle.focus_keys.specs.declared.keys.Key.TheVariants.{Data}
 use Rattle.es_values.specs.declared.hosts.HostAnswer.{HostAnswer}
 use Rattle.es_values.specs.declared.values.HostRef.{HostRef}
 use Rattle.es_values.specs.declared.values.HostRef.TheVariants as host
 use Rattle.es_values.specs.declared.values.Value.{Value}
 use Rattle.es_values.specs.Conversions.{text_of}
 use Rattle.es_values.specs.Objects.{ObjectState}
+use Rattle.es_values.specs.Values.{truth_of}
 use Rattle.es_eval.specs.declared.outcomes.Outcome.{Outcome}
 use Rattle.es_eval.specs.Endings.{MayEnd}
 use Rattle.es_eval.specs.Worlds.{World, Run}
 use Rattle.es_eval.specs.Worlds.Run.{Over, Reads, Writes, Calls}
+use Rattle.event_items.specs.EventItems.{EventItem}
+use Rattle.event_items.specs.Subscriptions.{fires_for_message, fires_for_button, fires_for_module, with_firing, with_subscribed}
+use Rattle.event_messages.specs.declared.messages.Message.{Message}
 use Rattle.event_queue.specs.Queues.{most_events}
 use Rattle.event_queue.specs.Timers.{first_due, most_timers, with_fired}
+use Rattle.event_queue.specs.declared.events.Event.{Event}
 use Rattle.event_queue.specs.declared.events.Event.TheVariants as events
+use Rattle.event_queue.specs.declared.item_kinds.ItemKind.TheVariants as kinds
 use Rattle.browser_objects.specs.Calls.{Called, call_of}
 use Rattle.browser_objects.specs.declared.effects.Effect as of_browser
 use Rattle.browser_objects.specs.declared.effects.Effect.TheVariants as effects
 use Rattle.dom_objects.specs.Writes.{change_of}
-use Rattle.document_stages.specs.Acting.{Acting, Answered, acted, acting_with_timers, browser_done, called, done_for, due_posted, element_call, focus_on, focused, focused_node, has_focus, is_unload, launch, left_by, moved_to, no_focus, posted, posted_for, read_by, timer_fired, timer_posted, timer_settled, timers_fired, with_browser, with_focus, written}
+use Rattle.document_stages.specs.Acting.{Acting, Answered, acted, acting_with_timers, begun, browser_done, button_posts, button_post, called, change_posts, done_for, due_posted, each_item, element_call, fired, focus_on, focused, focused_node, has_focus, has_room, is_subscription, is_unload, key_posts, launch, left_by, message_posts, message_post, module_post, moved_to, no_focus, node_written, posted, posted_for, posted_where, pressed, read_by, text_written, timer_fired, timer_posted, timer_settled, timers_fired, with_browser, with_focus, written}
 use Rattle.acting_documents.specs.Documents.{body_of}
 use Rattle.acting_documents.specs.Runs.{End, ended}
 use Rattle.document_stages.specs.Stages.{HasCalled, HasRead, HasWritten, StageState}
@@ -99,20 +108,87 @@ called-stays a _ name arguments heap = refl
 
 -- ---- by writes
 
-written-stays : (a : Acting) (base : HostRef) (name text : List ℕ) → stays_of (written a base name text) ≡ stays_of a
-written-stays a host.Ureg name text = refl
-written-stays a host.Greg name text = refl
-written-stays a base name text =
+text_written-stays : (a : Acting) (base : HostRef) (name text : List ℕ) → stays_of (text_written a base name text) ≡ stays_of a
+text_written-stays a host.Ureg name text = refl
+text_written-stays a host.Greg name text = refl
+text_written-stays a base name text =
     ap (λ (b : Option ℕ). let s : Stays = record { path = a.path; now = a.now; body = b } in s)
     (body-changed (change_of a.tree.items base name text) a.tree.items)
 
--- ---- by default actions and by timers that fire
+node_written-stays : (a : Acting) (node : ℕ) (name : List ℕ) (value : Value) (heap : List ObjectState) → stays_of (node_written a node name value heap) ≡ stays_of a
+node_written-stays a node name value heap = go (is_subscription a node name)
+  where
+    go : (subscription : Bool) → stays_of (if subscription then record a { items = with_subscribed node (truth_of value) a.items } else text_written a (host.Node node) name (text_of heap value)) ≡ stays_of a
+    go true = refl
+    go false = text_written-stays a (host.Node node) name (text_of heap value)
+
+written-stays : (a : Acting) (base : HostRef) (name : List ℕ) (value : Value) (heap : List ObjectState) → stays_of (written a base name value heap) ≡ stays_of a
+written-stays a (host.Node node) name value heap = node_written-stays a node name value heap
+written-stays a base name value heap = text_written-stays a base name (text_of heap value)
+
+-- ---- by what event items are told
+
+posted_where-stays : (test : Bool) (event : Event) (a : Acting) → stays_of (posted_where test event a) ≡ stays_of a
+posted_where-stays true event a = refl
+posted_where-stays false event a = refl
+
+items-stay : (step : EventItem → Acting → Acting) → ((item : EventItem) (a : Acting) → stays_of (step item a) ≡ stays_of a) → (items : List EventItem) (a : Acting) → stays_of (fold (λ acting item. step item acting) a items) ≡ stays_of a
+items-stay step keeps [] a = refl
+items-stay step keeps (item ∷ items) a = items-stay step keeps items (step item a) ∙ keeps item a
+
+fired-stays : (component : ℕ) (message : Message) (node : ℕ) (a : Acting) → stays_of (fired component message node a) ≡ stays_of a
+fired-stays component message node a = go (has_room a)
+  where
+    go : (room : Bool) → stays_of (let after = posted (events.Fired node component message) a in if room then record after { items = with_firing node message a.items } else after) ≡ stays_of a
+    go true = refl
+    go false = refl
+
+message_post-stays : (component : ℕ) (message : Message) (item : EventItem) (a : Acting) → stays_of (message_post component message item a) ≡ stays_of a
+message_post-stays component message item a = go (fires_for_message component message a.items item)
+  where
+    go : (fires_now : Bool) → stays_of (if fires_now then fired component message item.node a else a) ≡ stays_of a
+    go true = fired-stays component message item.node a
+    go false = refl
+
+pub message_posts-stays : (component : ℕ) (message : Message) (a : Acting) → stays_of (message_posts component message a) ≡ stays_of a
+unfolding message_posts
+message_posts-stays component message a = items-stay (message_post component message) (message_post-stays component message) a.items.items a
+
+module_post-stays : (component number status : ℕ) (item : EventItem) (a : Acting) → stays_of (module_post component number status item a) ≡ stays_of a
+module_post-stays component number status item a =
+    posted_where-stays (fires_for_module kinds.ModuleUpdated component number a.items item) (events.Updated item.node status) a
+
+pub change_posts-stays : (component : ℕ) (change : Change) (a : Acting) → stays_of (change_posts component change a) ≡ stays_of a
+unfolding change_posts
+change_posts-stays component change a = go change.status
+  where
+    go : (told : Option ℕ) → stays_of (option_map_or (λ status. each_item (module_post component change.«module» status) a) told a) ≡ stays_of a
+    go None = refl
+    go (Some status) = items-stay (module_post component change.«module» status) (module_post-stays component change.«module» status) a.items.items a
+
+button_posts-stays : (a : Acting) → stays_of (button_posts a) ≡ stays_of a
+unfolding button_posts
+button_posts-stays a = items-stay button_post (λ item a. posted_where-stays (fires_for_button a.items item) (events.Button item.node) a) a.items.items a
+
+-- ---- by keys, default actions, the first focus and timers that fire
+
+pub key_posts-stays : (down : Bool) (key : ℕ) (a : Acting) → stays_of (key_posts down key a) ≡ stays_of a
+key_posts-stays true key a = go (eqb key (key_number Data))
+  where
+    go : (data_button : Bool) → stays_of (if data_button then button_posts (pressed key a) else pressed key a) ≡ stays_of a
+    go true = button_posts-stays (pressed key a)
+    go false = refl
+key_posts-stays false key a = refl
 
 pub acted-stays : (action : Action) (a : Acting) → stays_of (acted action a) ≡ stays_of a
 acted-stays NoAction a = refl
 acted-stays (Moves node) a = moved_to-stays node a
 acted-stays (Activates node) a = refl
 acted-stays (Accesses node) a = moved_to-stays node a
+
+pub begun-stays : (first : Option ℕ) (a : Acting) → stays_of (begun first a) ≡ stays_of a
+begun-stays None a = refl
+begun-stays (Some node) a = refl
 
 timer_posted-stays : (number : ℕ) (a : Acting) → stays_of (timer_posted number a) ≡ stays_of a
 timer_posted-stays number a = go (nat_lt (length a.queue) most_events)
@@ -142,7 +218,7 @@ unfolding ended
 ended-stays (Over outcome w) a = refl
 ended-stays (Reads base name go) a = ended-stays (go (read_by a base name)) a
 ended-stays (Writes base name value heap go) a =
-    ended-stays go (written a base name (text_of heap value)) ∙ written-stays a base name (text_of heap value)
+    ended-stays go (written a base name value heap) ∙ written-stays a base name value heap
 ended-stays (Calls base name arguments heap go) a =
     ended-stays (go (called a base name arguments heap).answer (called a base name arguments heap).heap) (called a base name arguments heap).acting
     ∙ called-stays a base name arguments heap
@@ -160,8 +236,8 @@ ends_as (Reads base name go) h outcome w last a m e =
     (m.2.value_is ∙ ap (λ (x : Acting). read_by x base name) e)
     (ends_as (go m.0) m.1 outcome w last a m.4 (m.2.same ∙ e))
 ends_as (Writes base name value heap go) h outcome w last a m e =
-    ends_as go m.0 outcome w last (written a base name (text_of heap value)) m.2
-    (m.1 ∙ ap (λ (x : Acting). written x base name (text_of heap value)) e)
+    ends_as go m.0 outcome w last (written a base name value heap) m.2
+    (m.1 ∙ ap (λ (x : Acting). written x base name value heap) e)
 ends_as (Calls base name arguments heap go) h outcome w last a m e =
     let told = called a base name arguments heap in
     subst (λ (v : HostAnswer). ended (go v told.heap) told.acting ≡ record { outcome = outcome; world = w; acting = last.acting })

@@ -15,6 +15,7 @@ use Rattle.focus_keys.specs.Targets.{normal_value}
 use Rattle.es_values.specs.declared.values.Value.{Value}
 use Rattle.es_values.specs.Objects.{ObjectState}
 use Rattle.es_reader.specs.Statements.{Item as ProgramItem}
+use Rattle.event_items.specs.Subscriptions.{ItemsState}
 use Rattle.event_queue.specs.declared.events.Event.{Event}
 use Rattle.document_load.specs.HandlerKinds.{handler_name}
 use Rattle.document_load.specs.Scripts.{HandlerState}
@@ -27,6 +28,8 @@ pub record Document : Type 0 where
   pub path : Path
   -- the nodes, what their styles come from, and which of them have the focus and are active
   pub tree : StyledTree
+  -- its event items, with which of them are subscribed and what they fired for
+  pub items : ItemsState
   -- the events that wait for their dispatch, the one that waits longest in front
   pub queue : List Event
   -- the programs of the scripts in document order, and which of them are handlers

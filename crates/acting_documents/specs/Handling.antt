@@ -9,11 +9,13 @@ use Rattle.focus_keys.specs.KeyTables.{key_number}
 use Rattle.focus_keys.specs.declared.keys.Key.TheVariants.{Enter}
 use Rattle.document_load.specs.declared.handler_kinds.HandlerKind.{HandlerKind}
 use Rattle.document_load.specs.declared.handler_kinds.HandlerKind.TheVariants as kinds
+use Rattle.carousel_blocks.specs.declared.changes.Change.{Change}
+use Rattle.event_messages.specs.declared.messages.Message.{Message}
 use Rattle.event_queue.specs.Events.{name_of}
 use Rattle.event_queue.specs.declared.events.Event.{Event}
 use Rattle.event_queue.specs.declared.events.Event.TheVariants as events
 use Rattle.event_queue.specs.Timers.{timer_of, with_settled}
-use Rattle.document_stages.specs.Acting.{acted, due_posted, key_posts, with_timers}
+use Rattle.document_stages.specs.Acting.{acted, change_posts, due_posted, key_posts, message_posts, with_timers}
 use Rattle.acting_documents.specs.Documents.{Document, body_of, handler_in, passes}
 use Rattle.acting_documents.specs.Runs.{Effect, Scene, done, nothing_done, run_function, run_program}
 
@@ -28,6 +30,10 @@ kind_of (events.KeyDown key) = Some kinds.KeyDown
 kind_of (events.KeyUp key) = Some kinds.KeyUp
 kind_of (events.Default key) = None
 kind_of (events.Timer number) = None
+kind_of (events.Fired item component message) = Some kinds.Occur
+kind_of (events.Updated item status) = Some kinds.Occur
+kind_of (events.Locked item status) = Some kinds.Occur
+kind_of (events.Button item) = Some kinds.Occur
 
 -- the handler that a node has for an event runs, where it has one, with the event as the current one
 abbrev pub run_handler : Event → ℕ → Scene → Effect
@@ -87,8 +93,8 @@ abbrev pub released : ℕ → Scene → Scene
 released key s =
     if key == key_number Enter then record s { document = deactivated s.document } else s
 
--- Events of the focus and clicks go to the node that they name, those of keys to the focus as it is now, and
--- those of a document to its body.
+-- Events of the focus, clicks and what items are told go to the node that they name, those of keys to the focus as it is
+-- now, and those of a document to its body.
 unfoldable pub handled : Event → Scene → Effect
 handled events.Load s = handled_at (body_in s) events.Load s
 handled events.Unload s = handled_at (body_in s) events.Unload s
@@ -99,6 +105,21 @@ handled (events.KeyDown key) s = handled_at (focus_of s) (events.KeyDown key) s
 handled (events.KeyUp key) s = handled_at (focus_of s) (events.KeyUp key) (released key s)
 handled (events.Default key) s = default_action key s
 handled (events.Timer number) s = timer_effect number s
+handled (events.Fired item component message) s =
+    run_handler (events.Fired item component message) item s
+handled (events.Updated item status) s = run_handler (events.Updated item status) item s
+handled (events.Locked item status) s = run_handler (events.Locked item status) item s
+handled (events.Button item) s = run_handler (events.Button item) item s
+
+-- ---- messages and modules
+
+-- a message of a component comes to the event items
+unfoldable pub message_effect : ℕ → Message → Scene → Effect
+message_effect component message s = done (message_posts component message) s
+
+-- so does a change in a module of a component
+unfoldable pub change_effect : ℕ → Change → Scene → Effect
+change_effect component change s = done (change_posts component change) s
 
 -- ---- keys
 

@@ -10,6 +10,7 @@ use Rattle.es_values.specs.Objects.{ObjectState}
 use Rattle.es_reader.specs.Programs.{Tells, ToldProgram}
 use Rattle.es_shapes.specs.Codes.{declared_by}
 use Rattle.es_eval.specs.Worlds.{IsNamedLive}
+use Rattle.event_items.specs.Subscriptions.{ItemsState, first_items}
 use Rattle.event_queue.specs.declared.events.Event.{Event}
 use Rattle.document_load.specs.Scripts.{HandlerState, unnamed_places}
 use Rattle.browser_objects.specs.Calls.{BrowserParts}
@@ -22,6 +23,7 @@ use Rattle.acting_documents.specs.Runs.{no_event}
 pub record KeptDocument : Type 0 where
   pub path : Path
   pub tree : StyledTree
+  pub items : ItemsState
   pub queue : List Event
   pub programs : List ToldProgram
   pub handlers : List HandlerState
@@ -41,6 +43,7 @@ kept_as kept d =
     record kept {
       path = d.path;
       tree = d.tree;
+      items = d.items;
       queue = d.queue;
       handlers = d.handlers;
       globals = d.globals;
@@ -60,6 +63,7 @@ staged_first path items rules lent now =
       acting = record {
         path = path;
         tree = first_tree items rules;
+        items = first_items path items;
         queue = [];
         browser = lent;
         now = now;
@@ -77,6 +81,7 @@ kept_first path items rules programs handlers lent now =
     record {
       path = path;
       tree = first_tree items rules;
+      items = first_items path items;
       queue = [];
       programs = programs;
       handlers = handlers;

@@ -1,7 +1,6 @@
 -- What the run of a script comes to in a document. A run is a tree of what it asks of its host; here each
 -- question is answered by the rows of the document and of the browser object. (This project's own.)
 use Rattle.std.specs.Prelude.{ℕ, List, [], ◌++◌, Option, Some, None, map}
-use Rattle.es_values.specs.Conversions.{text_of}
 use Rattle.es_eval.specs.declared.outcomes.Outcome.{Outcome}
 use Rattle.es_eval.specs.Evaluation.{global_run, run_at}
 use Rattle.es_shapes.specs.Sources.{program_of}
@@ -23,7 +22,7 @@ pub record End : Type 0 where
 unfoldable pub ended : Run → Acting → End
 ended (Over outcome w) a = record { outcome = outcome; world = w; acting = a }
 ended (Reads base name go) a = ended (go (read_by a base name)) a
-ended (Writes base name value heap go) a = ended go (written a base name (text_of heap value))
+ended (Writes base name value heap go) a = ended go (written a base name value heap)
 ended (Calls base name arguments heap go) a =
     ended (go (called a base name arguments heap).answer (called a base name arguments heap).heap)
     (called a base name arguments heap).acting
@@ -64,6 +63,7 @@ acting_in event s =
     record {
       path = s.document.path;
       tree = s.document.tree;
+      items = s.document.items;
       queue = s.document.queue;
       browser = s.browser;
       now = s.now;
@@ -76,7 +76,7 @@ acting_in event s =
 abbrev pub with_acting : Acting → Scene → Scene
 with_acting a s =
     record s {
-      document = record s.document { tree = a.tree; queue = a.queue };
+      document = record s.document { tree = a.tree; items = a.items; queue = a.queue };
       browser = a.browser;
     }
 

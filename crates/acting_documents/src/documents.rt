@@ -1,17 +1,19 @@
 //! A document that acts.
 
 ghost use Rattle.std.specs.Io.{StartsWith};
-ghost use Rattle.std.specs.Prelude.{◌≡◌, ◌<◌, ◌^◌, ◌++◌, ℕ, List, [], None, map, length, IfOk, OnOk};
+ghost use Rattle.std.specs.Prelude.{◌≡◌, ◌<◌, ◌^◌, ◌++◌, ℕ, List, [], None, drop, map, length, IfOk, OnOk};
 ghost use Rattle.document_load.specs.Scripts.{HavePlaces, unnamed_places};
 ghost use Rattle.document_load.specs.ScriptViews.{told_handler};
 ghost use Rattle.es_shapes.specs.Codes.{declared_by};
+ghost use Rattle.event_items.specs.Subscriptions.{first_items};
 ghost use Rattle.event_queue.specs.Queues.{first_of};
+ghost use Rattle.event_queue.specs.Events.{target_of};
 ghost use Rattle.dom_tree.specs.NodeNumbers.{number_of};
 ghost use Rattle.document_stages.specs.Acting.{key_posts};
 ghost use Rattle.acting_documents.specs.Handling.{without_first};
 ghost use Rattle.acting_documents.specs.Documents.{Document as TheDocument, body_of as spec_body_of, passes as spec_passes};
 ghost use Rattle.acting_documents.specs.Doings.{Changes, Does};
-ghost use Rattle.acting_documents.specs.Handling.{default_action, due_effect, focus_of, handled as spec_handled, handled_at, key_effect, released, run_handler as spec_run_handler, timer_effect, timer_taken};
+ghost use Rattle.acting_documents.specs.Handling.{change_effect, default_action, due_effect, focus_of, handled as spec_handled, handled_at, key_effect, message_effect, released, run_handler as spec_run_handler, timer_effect, timer_taken};
 ghost use Rattle.acting_documents.specs.Documents.{document_lines};
 ghost use Rattle.acting_documents.specs.Kept.{IsDocument, kept_first, staged_first};
 ghost use Rattle.acting_documents.specs.Beginnings.{begin as spec_begin, load_effect, run_scripts as spec_run_scripts, script_places, unload_effect, without_waiting};
@@ -21,13 +23,16 @@ use crate::handlers::Handlers;
 use crate::stop_lines::push_stop_line;
 use bml_bytes::{NoMemory, Text};
 use browser_objects::BrowserState;
+use carousel_blocks::Change;
 use document_load::{Document, Handler};
-use document_stages::{NO_EVENT, Stage};
+use document_stages::Stage;
 use dom_objects::CurrentEvent;
 use dom_tree::{NodeId, Tree};
 use es_eval::{Globals, are_few_functions, run, run_global};
 use es_reader::Program;
 use es_values::Heap;
+use event_items::Items;
+use event_messages::Message;
 use event_queue::Event;
 use focus_keys::Key;
 use multipart_entities::Path;
@@ -63,6 +68,7 @@ impl Model for ActingDocument {
     ghost view = { λ d. record {
       path = d.stage.acting.path;
       tree = d.stage.acting.tree;
+      items = d.stage.acting.items;
       queue = d.stage.acting.queue;
       programs = d.programs.items;
       handlers = d.handlers;
@@ -93,6 +99,7 @@ impl ActingDocument {
         if are_few_functions(&document.programs) {
             ActingDocument::of(alloc, path, document)
         } else {
+            drop((path, document));
             Err(NoMemory)
         }
     }
@@ -167,7 +174,7 @@ impl ActingDocument {
             (Does spec_begin self.old self.new out.old.items out.new.items) }
         ensures grows { StartsWith out.new.items out.old.items }
     {
-        self.stage.prepare(NO_EVENT);
+        self.stage.prepare(CurrentEvent::none());
         self.stage.begin()?;
         self.stage.give_text(out)
     }
@@ -211,7 +218,7 @@ impl ActingDocument {
             if self.stage.has_launched() {
                 return Ok(());
             }
-            self.run_program("script", NO_EVENT, *place as usize, out)?;
+            self.run_program("script", CurrentEvent::none(), *place as usize, out)?;
         }
         Ok(())
     }
@@ -276,7 +283,7 @@ impl ActingDocument {
     fn do_nothing(&mut self)
         ensures { (before : List ℕ) → Does nothing_done self.old self.new before before }
     {
-        self.stage.prepare(NO_EVENT);
+        self.stage.prepare(CurrentEvent::none());
     }
 
     // Calls the global of a name, for the event of that other name.
@@ -290,7 +297,7 @@ impl ActingDocument {
             self.old self.new out.old.items out.new.items) }
         ensures grows { StartsWith out.new.items out.old.items }
     {
-        self.stage.prepare(NO_EVENT);
+        self.stage.prepare(CurrentEvent::none());
         let outcome = run_global(
             self.programs.as_slice(),
             function,
@@ -306,13 +313,14 @@ impl ActingDocument {
     /// Takes the event that waits longest.
     pub fn take_event(&mut self) -> Option<Event>
         ensures event { result ≡ first_of self.old.queue }
+        ensures kept { self.new ≡ record self.old { queue = drop 1 self.old.queue } }
         ensures changes { Changes without_first self.old self.new }
     {
         self.stage.take_event()
     }
 
-    /// Handles an event that was taken: its target's handler runs, or the default action of a key
-    /// is made.
+    /// Handles an event that was taken: its target's handler runs, the default action of a key is
+    /// made, or the function of a timer is called.
     #[tactic(auto, unfolding(crate::specs::Handling::handled))]
     pub fn handle(&mut self, event: Event, out: &mut Vec<u8>) -> Result<(), NoMemory>
         ensures does { OnOk result
@@ -330,11 +338,19 @@ impl ActingDocument {
                 let body = self.body;
                 self.handle_at(body, event, out)
             }
-            Event::Focus(node) | Event::Blur(node) | Event::Click(node) => {
-                self.run_handler(event, NodeId(node), out)
-            }
             Event::Timer(number) => self.handle_timer(number, out),
+            _ => self.handle_at_node(event, out),
         }
+    }
+
+    // Runs the handler of an event at the node that it names, where it names one.
+    fn handle_at_node(&mut self, event: Event, out: &mut Vec<u8>) -> Result<(), NoMemory>
+        ensures does { OnOk result (Does (handled_at (target_of event) event)
+            self.old self.new out.old.items out.new.items) }
+        ensures grows { StartsWith out.new.items out.old.items }
+    {
+        let node = event.node().map(NodeId);
+        self.handle_at(node, event, out)
     }
 
     // Calls the function of a timer that fired, where a timer has the number still.
@@ -403,15 +419,17 @@ impl ActingDocument {
             self.old self.new out.old.items out.new.items) }
         ensures grows { StartsWith out.new.items out.old.items }
     {
-        let Some(place) = self.handlers.program_of(node, event) else {
+        let Some(place) = self.handlers.program_of(node, &event) else {
+            drop(event);
             self.do_nothing();
             return Ok(());
         };
+        let name = event.name();
         let current = CurrentEvent {
             event: Some(event),
             target: node.0,
         };
-        self.run_program(event.name(), current, place as usize, out)
+        self.run_program(name, current, place as usize, out)
     }
 
     // Makes the default action of a key.
@@ -420,7 +438,7 @@ impl ActingDocument {
             (Does (default_action key) self.old self.new out.old.items out.new.items) }
         ensures grows { StartsWith out.new.items out.old.items }
     {
-        self.stage.prepare(NO_EVENT);
+        self.stage.prepare(CurrentEvent::none());
         self.stage.act_by_default(key)?;
         self.stage.give_text(out)
     }
@@ -460,8 +478,40 @@ impl ActingDocument {
             (Does (done (key_posts down key)) self.old self.new out.old.items out.new.items) }
         ensures grows { StartsWith out.new.items out.old.items }
     {
-        self.stage.prepare(NO_EVENT);
+        self.stage.prepare(CurrentEvent::none());
         self.stage.post_key(key, down)?;
+        self.stage.give_text(out)
+    }
+
+    /// A message of a component comes to the event items: those that fire for it post their events.
+    pub fn post_message(
+        &mut self,
+        component: u8,
+        message: &Message,
+        out: &mut Vec<u8>,
+    ) -> Result<(), NoMemory>
+        ensures does { OnOk result (Does (message_effect component message.now)
+            self.old self.new out.old.items out.new.items) }
+        ensures grows { StartsWith out.new.items out.old.items }
+    {
+        self.stage.prepare(CurrentEvent::none());
+        self.stage.post_message(component, message)?;
+        self.stage.give_text(out)
+    }
+
+    /// A module of a component changed: the event items that are told of it post their events.
+    pub fn post_change(
+        &mut self,
+        component: u8,
+        change: &Change,
+        out: &mut Vec<u8>,
+    ) -> Result<(), NoMemory>
+        ensures does { OnOk result (Does (change_effect component change.now)
+            self.old self.new out.old.items out.new.items) }
+        ensures grows { StartsWith out.new.items out.old.items }
+    {
+        self.stage.prepare(CurrentEvent::none());
+        self.stage.post_change(component, change)?;
         self.stage.give_text(out)
     }
 
@@ -472,7 +522,7 @@ impl ActingDocument {
             (Does (due_effect moment) self.old self.new out.old.items out.new.items) }
         ensures grows { StartsWith out.new.items out.old.items }
     {
-        self.stage.prepare(NO_EVENT);
+        self.stage.prepare(CurrentEvent::none());
         self.stage.post_due(moment)?;
         self.stage.give_text(out)
     }
@@ -481,6 +531,7 @@ impl ActingDocument {
     pub fn show(&mut self, out: &mut Vec<u8>) -> Result<(), NoMemory>
         ensures shown { OnOk result ((d : TheDocument) → IsDocument self.old d
             → out.new.items ≡ out.old.items ++ document_lines d) }
+        ensures kept { self.new ≡ record self.old { worked = self.new.worked } }
         ensures same { Changes (λ s. s) self.old self.new }
         ensures grows { StartsWith out.new.items out.old.items }
     {
@@ -524,7 +575,10 @@ fn with_handlers(
 {
     match handlers_of(alloc, handlers) {
         Ok((handlers, globals)) => Ok((stage, handlers, globals)),
-        Err(NoMemory) => Err(NoMemory),
+        Err(NoMemory) => {
+            drop(stage);
+            Err(NoMemory)
+        }
     }
 }
 
@@ -543,8 +597,34 @@ fn stage_of(alloc: Global, path: Path, tree: Tree, rules: Rules) -> Result<Stage
     ensures { IfOk result (λ stage. stage
         ≡ staged_first path tree rules stage.acting.browser stage.acting.now) }
 {
-    let styles = Styles::new(alloc, &tree, rules)?;
-    Ok(Stage::new(alloc, path, tree, styles))
+    match Items::new(alloc, &path, &tree) {
+        Ok(items) => stage_with(alloc, path, tree, rules, items),
+        Err(NoMemory) => {
+            drop((path, tree, rules));
+            Err(NoMemory)
+        }
+    }
+}
+
+// The same with its event items.
+fn stage_with(
+    alloc: Global,
+    path: Path,
+    tree: Tree,
+    rules: Rules,
+    items: Items,
+) -> Result<Stage, NoMemory>
+    requires { items ≡ first_items path tree }
+    ensures { IfOk result (λ stage. stage
+        ≡ staged_first path tree rules stage.acting.browser stage.acting.now) }
+{
+    match Styles::new(alloc, &tree, rules) {
+        Ok(styles) => Ok(Stage::new(alloc, path, tree, styles, items)),
+        Err(NoMemory) => {
+            drop((path, tree, items));
+            Err(NoMemory)
+        }
+    }
 }
 
 // The first `body` of a document.

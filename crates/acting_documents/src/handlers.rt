@@ -54,8 +54,8 @@ impl Handlers {
 
     /// The place of the program of a node's handler of an event, and None where the node has none.
     /// It costs one look-up by hash.
-    pub fn program_of(&self, node: NodeId, event: Event) -> Option<u32>
-        ensures { result ≡ option_and_then (handler_in self.now node.0) (spec_kind_of event) }
+    pub fn program_of(&self, node: NodeId, event: &Event) -> Option<u32>
+        ensures { result ≡ option_and_then (handler_in self.now node.0) (spec_kind_of event.now) }
     {
         let kind = kind_of(event)?;
         self.places.get(&HandlerKey { node, kind }).copied()
@@ -63,8 +63,8 @@ impl Handlers {
 }
 
 // The kind of the handlers of an event; there is none for `default` and for timers.
-fn kind_of(event: Event) -> Option<HandlerKind>
-    ensures { result ≡ spec_kind_of event }
+fn kind_of(event: &Event) -> Option<HandlerKind>
+    ensures { result ≡ spec_kind_of event.now }
 {
     match event {
         Event::Load => Some(HandlerKind::Load),
@@ -74,6 +74,9 @@ fn kind_of(event: Event) -> Option<HandlerKind>
         Event::Click(_) => Some(HandlerKind::Click),
         Event::KeyDown(_) => Some(HandlerKind::KeyDown),
         Event::KeyUp(_) => Some(HandlerKind::KeyUp),
+        Event::Fired { .. } | Event::Updated { .. } | Event::Locked { .. } | Event::Button(_) => {
+            Some(HandlerKind::Occur)
+        }
         Event::Default(_) | Event::Timer(_) => None,
     }
 }

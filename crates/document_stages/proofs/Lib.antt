@@ -1,3 +1,4 @@
 mod CallLemmas
+mod ItemLemmas
 mod StyleLemmas
 mod TimerLemmas

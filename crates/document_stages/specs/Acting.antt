@@ -2,32 +2,40 @@
 -- rows of what scripts read, write and call of the document and of the browser object (after the events, the
 -- navigation, the DOM interfaces and the browser object of BML, ARIB STD-B24 volume 2, in this project's own
 -- profile).
-use Rattle.std.specs.Prelude.{ℕ, zero, suc, nat_lt, pos, Bool, true, false, if◌then◌else◌, List, [], ◌∷◌, ◌++◌, length, Option, Some, None, codes, is_some}
+use Rattle.std.specs.Prelude.{ℕ, zero, suc, nat_lt, ◌==◌, ◌&&◌, pos, Bool, true, false, if◌then◌else◌, List, [], ◌∷◌, ◌++◌, fold, length, slice_get, Option, Some, None, codes, is_some}
 use Rattle.std.specs.Option.{option_map_or}
 use Rattle.bml_bytes.specs.Words.{is_same}
 use Rattle.dom_tree.specs.Items.{tag_of}
 use Rattle.dom_tree.specs.NodeNumbers.{number_of}
 use Rattle.dom_tree.specs.Walks.{node_of_id}
+use Rattle.carousel_blocks.specs.declared.changes.Change.{Change}
 use Rattle.multipart_entities.specs.declared.paths.Path.{Path}
 use Rattle.style_cascade.specs.States.{is_node}
 use Rattle.style_cascade.specs.StyledTrees.{StyledTree}
 use Rattle.style_cascade.specs.declared.states.Focus.{Focus}
 use Rattle.focus_keys.specs.Defaults.{Action}
 use Rattle.focus_keys.specs.Defaults.Action.{NoAction, Moves, Activates, Accesses}
+use Rattle.focus_keys.specs.KeyTables.{key_number}
 use Rattle.focus_keys.specs.Targets.{can_have_focus, nav_target_of}
+use Rattle.focus_keys.specs.declared.keys.Key.TheVariants.{Data}
 use Rattle.es_values.specs.declared.hosts.HostAnswer.{HostAnswer}
 use Rattle.es_values.specs.declared.hosts.HostAnswer.TheVariants.{Value as Answer, Ended, NotCallable}
 use Rattle.es_values.specs.declared.numbers.Num.TheVariants.{NotANumber}
 use Rattle.es_values.specs.declared.values.HostRef.{HostRef}
 use Rattle.es_values.specs.declared.values.HostRef.TheVariants.{Browser, Document as TheDocument, Greg, Node, Ureg}
 use Rattle.es_values.specs.declared.values.Value.{Value}
-use Rattle.es_values.specs.declared.values.Value.TheVariants.{Host, Number, Str, Undefined}
+use Rattle.es_values.specs.declared.values.Value.TheVariants.{Bool as Truth, Host, Number, Str, Undefined}
 use Rattle.es_values.specs.Conversions.{text_of}
+use Rattle.es_values.specs.Values.{truth_of}
 use Rattle.es_values.specs.Objects.{ObjectState}
+use Rattle.event_messages.specs.declared.messages.Message.{Message}
+use Rattle.event_items.specs.EventItems.{EventItem, is_event_item}
+use Rattle.event_items.specs.Subscriptions.{ItemsState, fires_for_message, fires_for_button, is_subscribed, fires_for_module, with_firing, with_subscribed}
 use Rattle.event_queue.specs.Queues.{most_events, with_posted}
 use Rattle.event_queue.specs.Timers.{TimersState, first_due, most_timers, no_timers, with_fired, with_settled}
 use Rattle.event_queue.specs.declared.events.Event.{Event}
 use Rattle.event_queue.specs.declared.events.Event.TheVariants as events
+use Rattle.event_queue.specs.declared.item_kinds.ItemKind.TheVariants as kinds
 use Rattle.browser_objects.specs.Calls.{BrowserParts, Called, call_of}
 use Rattle.browser_objects.specs.Registers.{empty_registers, register_text, with_register}
 use Rattle.browser_objects.specs.declared.effects.Effect as of_browser
@@ -58,17 +66,25 @@ with_timers timers browser = record browser { timers = timers }
 abbrev pub word_added : ℕ → BrowserParts → BrowserParts
 word_added word browser = record browser { random = browser.random ++ word ∷ [] }
 
--- the document at a path, with its styles and its focus, and the events that wait; the registers, the persistent area
--- and the random words, which belong to the receiver, and the timers; the time in milliseconds; the event whose handler
--- runs; the path of the document that a script launched, which ends this one; and what was printed since this began
+-- what handlers and default actions act on
 pub record Acting : Type 0 where
+  -- the path of the document
   pub path : Path
+  -- its nodes with their styles, and which of them have the focus and are active
   pub tree : StyledTree
+  -- its event items, with which of them are subscribed and what they fired for
+  pub items : ItemsState
+  -- the events that wait for their dispatch, the one that waits longest in front
   pub queue : List Event
+  -- the registers, the persistent area and the random words, which belong to the receiver; and the timers
   pub browser : BrowserParts
+  -- the time in milliseconds
   pub now : ℕ
+  -- the event whose handler runs
   pub event : CurrentEvent
+  -- the path of the document that a script launched, which ends this one
   pub launched : Option Path
+  -- what was printed since this began
   pub text : List ℕ
 
 abbrev pub node_id : ℕ → NodeId
@@ -87,11 +103,15 @@ focused_node a = number_of a.tree.focus.focus
 abbrev pub has_focus : ℕ → Acting → Bool
 has_focus node a = is_node node a.tree.focus.focus
 
--- these have the focus and are active, which nothing tells
+-- these have the focus and are active; no event is posted
 abbrev pub with_focus : Focus → Acting → Acting
 with_focus focus a = record a { tree = record a.tree { focus = focus } }
 
 -- ---- posts and the focus
+
+-- a place is left for one more event
+abbrev pub has_room : Acting → Bool
+has_room a = nat_lt (length a.queue) most_events
 
 -- an event that is posted waits behind the others; where no place is left it is lost, which is told
 abbrev pub told_loss : Event → List Event → List ℕ
@@ -136,7 +156,7 @@ timer_settled number a =
 -- a timer fired: its event is posted, and where it is lost it is no longer out
 abbrev pub timer_posted : ℕ → Acting → Acting
 timer_posted number a =
-    if nat_lt (length a.queue) most_events then posted (events.Timer number) a
+    if has_room a then posted (events.Timer number) a
     else timer_settled number (posted (events.Timer number) a)
 
 -- the first timer that is due at a moment fires
@@ -157,24 +177,75 @@ timers_fired (suc more) moment a =
 abbrev pub due_posted : ℕ → Acting → Acting
 due_posted moment a = timers_fired most_timers moment a
 
+-- ---- event items
+
+-- something is done for each item of the document, in document order
+abbrev pub each_item : (EventItem → Acting → Acting) → Acting → Acting
+each_item step a = fold (λ acting item. step item acting) a a.items.items
+
+abbrev pub posted_where : Bool → Event → Acting → Acting
+posted_where test event a = if test then posted event a else a
+
+-- An item fires for a message: its event is posted, and where it is not lost the firing is noted.
+abbrev pub fired : ℕ → Message → ℕ → Acting → Acting
+fired component message node a =
+    let after = posted (events.Fired node component message) a in
+    if has_room a then record after { items = with_firing node message a.items } else after
+
+-- EventMessageFired for an item, where it fires for the message of a component
+abbrev pub message_post : ℕ → Message → EventItem → Acting → Acting
+message_post component message item a =
+    if fires_for_message component message a.items item then fired component message item.node a else a
+
+-- and for each item of the document
+unfoldable pub message_posts : ℕ → Message → Acting → Acting
+message_posts component message a = each_item (message_post component message) a
+
+-- ModuleUpdated for an item, with what became of the module: 0 where its entry changed, 1 where it went, 2 where it
+-- appeared
+abbrev pub module_post : ℕ → ℕ → ℕ → EventItem → Acting → Acting
+module_post component number status item a =
+    posted_where (fires_for_module kinds.ModuleUpdated component number a.items item)
+    (events.Updated item.node status) a
+
+-- A change in a module of a component posts ModuleUpdated for each item that fires for the module. A change without a
+-- status, by which only the module's last block came, posts nothing.
+unfoldable pub change_posts : ℕ → Change → Acting → Acting
+change_posts component change a =
+    option_map_or (λ status. each_item (module_post component change.«module» status) a)
+    change.status a
+
+-- DataButtonPressed for an item
+abbrev pub button_post : EventItem → Acting → Acting
+button_post item a = posted_where (fires_for_button a.items item) (events.Button item.node) a
+
+unfoldable pub button_posts : Acting → Acting
+button_posts a = each_item button_post a
+
 -- ---- default actions, keys and the first focus
 
--- what has the focus becomes active and is clicked
+-- what has the focus becomes active, and `click` is posted for it
 abbrev pub activated : ℕ → Acting → Acting
 activated node a =
     posted (events.Click node)
     (with_focus (record a.tree.focus { active = Some (node_id node) }) a)
 
--- the focus moves; or what has it becomes active and is clicked; or an element is given it and clicked
+-- The focus moves; or what has it becomes active, and `click` is posted for it; or an element is given the focus, and
+-- `click` is posted for it.
 abbrev pub acted : Action → Acting → Acting
 acted NoAction a = a
 acted (Moves node) a = moved_to node a
 acted (Activates node) a = activated node a
 acted (Accesses node) a = posted (events.Click node) (moved_to node a)
 
--- a key that is pressed posts `keydown` and then `default`, and one that is released `keyup`
+-- A key that is pressed posts `keydown` and then `default`, and the data button then DataButtonPressed for its items. A
+-- key that is released posts `keyup`.
+abbrev pub pressed : ℕ → Acting → Acting
+pressed key a = posted (events.Default key) (posted (events.KeyDown key) a)
+
 abbrev pub key_posts : Bool → ℕ → Acting → Acting
-key_posts true key a = posted (events.Default key) (posted (events.KeyDown key) a)
+key_posts true key a =
+    if key == key_number Data then button_posts (pressed key a) else pressed key a
 key_posts false key a = posted (events.KeyUp key) a
 
 -- where no element has the focus, that with the nav-index 0 gets it first
@@ -201,24 +272,48 @@ browser_value name =
 abbrev pub register_value : List (List ℕ) → List ℕ → Value
 register_value registers name = option_map_or Str (register_text registers name) Undefined
 
+-- the node is an event item, and the name is that of its subscription
+abbrev pub is_subscription : Acting → ℕ → List ℕ → Bool
+is_subscription a node name =
+    is_same name (codes "subscribe")
+    && option_map_or is_event_item (slice_get a.tree.items node) false
+
+abbrev pub node_read : Acting → ℕ → List ℕ → Value
+node_read a node name =
+    if is_subscription a node name then Truth (is_subscribed node a.items)
+    else read_value (parts_of a) (Node node) name
+
 abbrev pub read_by : Acting → HostRef → List ℕ → Value
 read_by a Browser name = browser_value name
 read_by a Ureg name = register_value a.browser.ureg name
 read_by a Greg name = register_value a.browser.greg name
+read_by a (Node node) name = node_read a node name
 read_by a other name = read_value (parts_of a) other name
 
 abbrev pub with_browser : BrowserParts → Acting → Acting
 with_browser browser a = record a { browser = browser }
 
-abbrev pub written : Acting → HostRef → List ℕ → List ℕ → Acting
-written a Ureg name text =
+-- a text is written under a name of a reference
+abbrev pub text_written : Acting → HostRef → List ℕ → List ℕ → Acting
+text_written a Ureg name text =
     let browser = a.browser in
     with_browser (record browser { ureg = with_register name text browser.ureg }) a
-written a Greg name text =
+text_written a Greg name text =
     let browser = a.browser in
     with_browser (record browser { greg = with_register name text browser.greg }) a
-written a base name text =
+text_written a base name text =
     record a { tree = changed_tree (change_of a.tree.items base name text) a.tree }
+
+-- a subscription is written as a truth, and all else as text
+abbrev pub node_written : Acting → ℕ → List ℕ → Value → List ObjectState → Acting
+node_written a node name value heap =
+    if is_subscription a node name
+    then record a { items = with_subscribed node (truth_of value) a.items }
+    else text_written a (Node node) name (text_of heap value)
+
+abbrev pub written : Acting → HostRef → List ℕ → Value → List ObjectState → Acting
+written a (Node node) name value heap = node_written a node name value heap
+written a base name value heap = text_written a base name (text_of heap value)
 
 -- ---- what scripts call
 

@@ -8,8 +8,11 @@ use Rattle.event_queue.specs.Events.{name_of}
 use Rattle.event_queue.specs.declared.events.Event.{Event}
 
 -- an event was posted where no place was left for it
+abbrev pub lost_line_of : List ℕ → List ℕ
+lost_line_of name = codes "lost " ++ (name ++ codes "\n")
+
 abbrev pub lost_line : Event → List ℕ
-lost_line event = codes "lost " ++ (name_of event ++ codes "\n")
+lost_line event = lost_line_of (name_of event)
 
 -- a script launched the document at this path
 abbrev pub launch_line : Path → List ℕ

@@ -5,7 +5,6 @@ use Rattle.dom_tree.specs.declared.node_ids.NodeId.{NodeId}
 use Rattle.style_cascade.specs.Keeping.{StylesState}
 use Rattle.style_cascade.specs.StyledTrees.{AreStylesOf}
 use Rattle.style_cascade.specs.declared.states.Focus.{Focus}
-use Rattle.es_values.specs.Conversions.{text_of}
 use Rattle.es_values.specs.Objects.{ObjectState}
 use Rattle.es_values.specs.declared.hosts.HostAnswer.{HostAnswer}
 use Rattle.es_values.specs.declared.values.HostRef.{HostRef}
@@ -37,7 +36,7 @@ pub record HasRead (old : StageState) (base : HostRef) (name : List ℕ) (value 
 abbrev pub HasWritten : StageState → HostRef → List ℕ → Value → List ObjectState → StageState
     → Type 0
 HasWritten old base name value heap new =
-    new.acting ≡ written old.acting base name (text_of heap value)
+    new.acting ≡ written old.acting base name value heap
 
 pub record HasCalled (old : StageState) (base : HostRef) (name : List ℕ) (arguments : List Value)
     (heap : List ObjectState) (answer : HostAnswer) (new : StageState)

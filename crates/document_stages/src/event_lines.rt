@@ -4,20 +4,19 @@
 ghost use Rattle.std.specs.Io.{StartsWith};
 ghost use Rattle.std.specs.Prelude.{◌≡◌, ◌++◌, OnOk, codes};
 ghost use Rattle.bml_bytes.specs.Numerals.{decimal_digits};
-ghost use Rattle.document_stages.specs.EventLines.{kept_line, launch_line, lost_line, sound_line};
+ghost use Rattle.document_stages.specs.EventLines.{kept_line, launch_line, lost_line_of, sound_line};
 
 use bml_bytes::{NoMemory, law_of_fronts, push_decimal, push_line_end, push_word};
-use event_queue::Event;
 use multipart_entities::Path;
 
-/// Appends the line that tells that an event was posted where no place was left for it.
-pub fn push_lost_line(event: Event, out: &mut Vec<u8>) -> Result<(), NoMemory>
-    ensures ok { OnOk result (out.new.items ≡ out.old.items ++ lost_line event) }
+/// Appends the line that tells that an event of this name was posted where no place was left for it.
+pub fn push_lost_line(name: &'static str, out: &mut Vec<u8>) -> Result<(), NoMemory>
+    ensures ok { OnOk result (out.new.items ≡ out.old.items ++ lost_line_of name.now) }
     ensures grows { StartsWith out.new.items out.old.items }
 {
     law_of_fronts();
     push_word("lost ", out)?;
-    push_word(event.name(), out)?;
+    push_word(name, out)?;
     push_line_end(out)
 }
 

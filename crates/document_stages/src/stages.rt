@@ -15,11 +15,12 @@ ghost use Rattle.focus_keys.specs.Targets.{normal_value};
 ghost use Rattle.style_reader.specs.declared.properties.Property.TheVariants as property;
 ghost use Rattle.event_queue.specs.Queues.{first_of};
 ghost use Rattle.event_queue.specs.Timers.{first_due, timer_of};
-ghost use Rattle.document_stages.specs.Acting.{activated, acted, begun, due_posted, first_focus, focused, has_focus as spec_has_focus, key_posts, left_by, moved_to, no_focus, posted, timer_fired, timer_posted, timer_settled, with_focus, with_timers};
+ghost use Rattle.document_stages.specs.Acting.{activated, acted, begun, due_posted, first_focus, focused, has_focus as spec_has_focus, has_room, key_posts, left_by, moved_to, no_focus, posted, timer_fired, timer_posted, timer_settled, with_focus, with_timers};
 ghost use Rattle.document_stages.specs.Displays.{tree_lines};
 ghost use Rattle.document_stages.specs.Stages.{IsElementOf};
 
 mod hosts;
+mod item_events;
 
 use crate::event_lines::push_lost_line;
 use bml_bytes::{AreaBytes, NoMemory, Text, law_of_fronts};
@@ -27,6 +28,7 @@ use browser_objects::BrowserState;
 use display_list::Shower;
 use dom_objects::CurrentEvent;
 use dom_tree::{NodeId, Tree};
+use event_items::Items;
 use event_queue::{Event, Queue, TIMER_LIMIT, Timers};
 use focus_keys::{KeyDefault, default_of, is_focusable, nav_target, passes};
 use multipart_entities::Path;
@@ -43,15 +45,10 @@ pub const NO_FOCUS: Focus = Focus {
     active: None,
 };
 
-/// Outside of handlers there is no current event.
-pub const NO_EVENT: CurrentEvent = CurrentEvent {
-    event: None,
-    target: 0,
-};
-
-/// The parts of a document that its scripts see, what belongs to the receiver, the event whose handler
-/// runs, the path of the document that was launched, and what was printed since it began. It is the
-/// host of the scripts. Contracts see it as `Acting`, and how many values its styles worked out.
+/// The parts of a document that its scripts see, its event items, what belongs to the receiver, the
+/// event whose handler runs, the path of the document that was launched, and what was printed since
+/// it began. It is the host of the scripts. Contracts see it as `Acting`, and how many values its
+/// styles worked out.
 #[derive(Drop)]
 pub struct Stage {
     alloc: Global,
@@ -59,6 +56,7 @@ pub struct Stage {
     tree: Tree,
     styles: Styles,
     focus: Focus,
+    items: Items,
     queue: Queue,
     browser: BrowserState,
     time: u64,
@@ -78,6 +76,7 @@ impl Model for Stage {
       acting = record {
         path = s.path;
         tree = styled_tree s.tree s.styles s.focus;
+        items = s.items;
         queue = s.queue;
         browser = s.browser;
         now = s.time;
@@ -93,12 +92,13 @@ impl Model for Stage {
 
 impl Stage {
     /// The document at a path, in which nothing happened yet. It isn't lent anything yet.
-    pub fn new(alloc: Global, path: Path, tree: Tree, styles: Styles) -> Stage
+    pub fn new(alloc: Global, path: Path, tree: Tree, styles: Styles, items: Items) -> Stage
         requires { (states : ℕ → State) → IsRight tree states styles }
         ensures { result ≡ record {
           acting = record {
             path = path;
             tree = styled_tree tree styles no_focus;
+            items = items;
             queue = [];
             browser = result.acting.browser;
             now = 0;
@@ -115,10 +115,11 @@ impl Stage {
             tree,
             styles,
             focus: NO_FOCUS,
+            items,
             queue: Queue::new(),
             browser: placeholder(alloc),
             time: 0,
-            event: NO_EVENT,
+            event: CurrentEvent::none(),
             launched: None,
             text: Vec::new(alloc),
         }
@@ -142,10 +143,22 @@ impl Stage {
         ensures posted { OnOk result (self.new.acting ≡ posted event self.old.acting) }
         ensures worked { self.new.worked ≡ self.old.worked }
     {
+        self.post_or_lose(event)?;
+        Ok(())
+    }
+
+    // The same, and tells whether it was posted.
+    fn post_or_lose(&mut self, event: Event) -> Result<bool, NoMemory>
+        ensures posted { OnOk result (self.new.acting ≡ posted event self.old.acting) }
+        ensures kept { IfOk result (λ kept. kept ≡ has_room self.old.acting) }
+        ensures worked { self.new.worked ≡ self.old.worked }
+    {
+        let name = event.name();
         if self.queue.post(event) {
-            return Ok(());
+            return Ok(true);
         }
-        push_lost_line(event, &mut self.text)
+        push_lost_line(name, &mut self.text)?;
+        Ok(false)
     }
 
     /// Moves the focus to an element: `blur` tells that which had it, and then `focus` this one. No
@@ -324,11 +337,9 @@ impl Stage {
         ensures posted { OnOk result (self.new.acting ≡ timer_posted number self.old.acting) }
         ensures worked { self.new.worked ≡ self.old.worked }
     {
-        if self.queue.post(Event::Timer(number)) {
-            return Ok(());
+        if !self.post_or_lose(Event::Timer(number))? {
+            self.settle_timer(number);
         }
-        push_lost_line(Event::Timer(number), &mut self.text)?;
-        self.settle_timer(number);
         Ok(())
     }
 
@@ -443,15 +454,16 @@ impl Stage {
         passes(list, key)
     }
 
-    /// Posts what a key does that passes: `keydown` and then `default` where it is pressed, and
-    /// `keyup` where it is released.
+    /// Posts what a key does that passes: `keydown` and then `default` where it is pressed, behind
+    /// which the data button is told to the items, and `keyup` where it is released.
     pub fn post_key(&mut self, key: u8, down: bool) -> Result<(), NoMemory>
         ensures posted { OnOk result (self.new.acting ≡ key_posts down key self.old.acting) }
         ensures worked { self.new.worked ≡ self.old.worked }
     {
         if down {
             self.post(Event::KeyDown(key))?;
-            self.post(Event::Default(key))
+            self.post(Event::Default(key))?;
+            self.tell_button(key)
         } else {
             self.post(Event::KeyUp(key))
         }

@@ -16,13 +16,19 @@ fn items_of_a_document(rt: HostRuntime) {
     let tree = tree_of(&rt, alloc, b"<bml><beitem type='ModuleUpdated'/></bml>");
     let items = event_items(alloc, &path, &tree).expect(&rt, "memory");
     assert!(rt; items.len() == 1);
+    assert!(rt; Items::new(alloc, &path, &tree).is_ok());
 }
 
 #[test]
 fn messages_are_noted(rt: HostRuntime) {
     let alloc = rt.alloc();
-    let section = [0x3D, 0xB0, 9, 0, 0, 0, 0, 0, 0, 0, 0, 0];
-    assert!(rt; read_messages(alloc, &section).is_ok());
+    // One descriptor of a message, of group 1, id 7 and version 3.
+    let section = [
+        0x3D, 0xB0, 22, 0, 0, 0xC1, 0, 0, 0x40, 11, 0, 0x1F, 0, 0, 0, 0, 0, 0, 0, 7, 3, 0, 0, 0, 0,
+    ];
+    let messages = read_messages(alloc, &section).ok().expect(&rt, "memory");
+    assert!(rt; messages.len() == 1);
+    assert!(rt; messages[0].share().is_ok());
     let message = Message {
         group: 1,
         kind: 0,

@@ -1,17 +1,23 @@
--- What is printed of a value of a style is ASCII.
-use Rattle.std.proofs.Common.{◌≡◌, ℕ, ◌<◌, Bool, true, false, List, ℤ, pos, negsuc, suc, refl, arith}
+-- The names of events, and what is printed of a value of a style or of a component, are ASCII.
+use Rattle.std.proofs.Common.{◌≡◌, ℕ, zero, suc, ◌<◌, ◌/◌, ◌%◌, ◌^◌, Bool, true, false, List, ℤ, pos, negsuc, refl, arith}
 use Rattle.std.specs.Prelude.{All, codes, nat_lt, ◌++◌}
 use Rattle.std.specs.List.{AllPass, join_with_byte, list_all}
 use Rattle.std.proofs.lemmas.Bool.Decides.{nat_tests}
-use Rattle.std.proofs.lemmas.List.Elements.{All-append, All-cons, All-weaker}
+use Rattle.std.proofs.lemmas.List.Elements.{All-append, All-cons, All-nil, All-weaker}
 use Rattle.std.proofs.lemmas.List.Sums.{AllPass-from_list_all}
-use Rattle.bml_bytes.specs.Numerals.{decimal_digits, is_decimal_digit, signed_decimal_digits}
+use Rattle.std.proofs.lemmas.Nat.{mod_below}
+use Rattle.bml_bytes.specs.Numbers.{digits_in}
+use Rattle.bml_bytes.specs.Numerals.{decimal_digits, digit_character, hex_digits, is_decimal_digit, signed_decimal_digits}
 use Rattle.style_reader.specs.Properties.{Values, values_of}
 use Rattle.style_reader.specs.Properties.Values.{Pixels, Numbers, NumbersOrNone, VisibleOrHidden, KeyGroups}
 use Rattle.style_reader.specs.Values.{group_words, has_group, printed, unit_behind, word_if}
 use Rattle.style_reader.specs.declared.properties.Property.{Property}
 use Rattle.style_reader.specs.declared.properties.StyleValue.{StyleValue}
 use Rattle.style_reader.specs.declared.properties.StyleValue.TheVariants.{Whole, NoValue, Visible, Hidden, Keys}
+use Rattle.event_queue.specs.Events.{name_of}
+use Rattle.event_queue.specs.declared.events.Event.{Event}
+use Rattle.event_queue.specs.declared.events.Event.TheVariants as events
+use Rattle.dom_objects.specs.Reads.{component_text}
 
 abbrev is_ascii : ℕ → Bool
 is_ascii byte = nat_lt byte 128
@@ -40,6 +46,41 @@ ascii-number : ((number : ℕ) → AllPass is_decimal_digit (decimal_digits numb
 ascii-number digits (pos number) = ascii-digits (decimal_digits number) (digits number)
 ascii-number digits (negsuc number) =
     All-cons (λ (byte : ℕ). byte < 128) 45 (decimal_digits (suc number)) (omega arith) (ascii-digits (decimal_digits (suc number)) (digits (suc number)))
+
+-- digits in base sixteen
+
+below-character : (digit : ℕ) → digit < 16 → digit_character digit < 128
+below-character digit h = grind (arith, nat_tests)
+
+ascii-hex : (count number : ℕ) → AreAscii (hex_digits count number)
+unfolding digits_in
+ascii-hex zero number = All-nil (λ (byte : ℕ). byte < 128)
+ascii-hex (suc count) number =
+    let digit : ℕ = number / 16 ^ count % 16 in
+    All-cons (λ (byte : ℕ). byte < 128) (digit_character digit) (hex_digits count number) (below-character digit (mod_below (number / 16 ^ count) 16 (omega arith))) (ascii-hex count number)
+
+pub ascii-component : (component : ℕ) → All (λ byte. byte < 128) (component_text component)
+ascii-component component = All-cons (λ (byte : ℕ). byte < 128) 47 (hex_digits 2 component) (omega arith) (ascii-hex 2 component)
+
+-- names of events
+
+tested-name : (event : Event) → list_all is_ascii (name_of event) ≡ true
+tested-name events.Load = refl
+tested-name events.Unload = refl
+tested-name (events.Focus node) = refl
+tested-name (events.Blur node) = refl
+tested-name (events.Click node) = refl
+tested-name (events.KeyDown key) = refl
+tested-name (events.KeyUp key) = refl
+tested-name (events.Default key) = refl
+tested-name (events.Timer number) = refl
+tested-name (events.Fired item component message) = refl
+tested-name (events.Updated item status) = refl
+tested-name (events.Locked item status) = refl
+tested-name (events.Button item) = refl
+
+pub ascii-name : (event : Event) → All (λ byte. byte < 128) (name_of event)
+ascii-name event = ascii-tested (name_of event) (tested-name event)
 
 -- words
 

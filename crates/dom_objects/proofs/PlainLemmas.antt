@@ -20,7 +20,7 @@ use Rattle.event_queue.specs.declared.events.Event.{Event as TheEvent}
 use Rattle.event_queue.specs.declared.events.Event.TheVariants as events
 use Rattle.dom_objects.specs.Parts.{Parts, state_of_number}
 use Rattle.dom_objects.specs.declared.current_events.CurrentEvent.{CurrentEvent}
-use Rattle.dom_objects.specs.Reads.{ElementRow, ElementTable, Rows, document_rows, element_rows, element_table, element_value, event_rows, key_rows, node_rows, node_value, own_rows, own_table, property_named, read_in, read_value, row_of, table_rows, style_read, style_text, text_rows, walk_rows}
+use Rattle.dom_objects.specs.Reads.{ElementRow, ElementTable, Rows, document_rows, element_rows, element_table, element_value, event_rows, own_event_rows, node_rows, node_value, own_rows, own_table, property_named, read_in, read_value, row_of, table_rows, style_read, style_text, text_rows, walk_rows}
 use Rattle.dom_objects.specs.Reads.ElementRow.{Tag, Attribute, StyleFor}
 
 abbrev are_plain : Rows → Bool
@@ -88,23 +88,27 @@ plain-document focus current = by current.event (number_of focus.focus)
     by (Some event) None = refl
     by (Some event) (Some node) = refl
 
-plain-keys : (event : TheEvent) → are_plain (key_rows event) ≡ true
-plain-keys events.Load = refl
-plain-keys events.Unload = refl
-plain-keys (events.Focus node) = refl
-plain-keys (events.Blur node) = refl
-plain-keys (events.Click node) = refl
-plain-keys (events.Timer node) = refl
-plain-keys (events.KeyDown key) = refl
-plain-keys (events.KeyUp key) = refl
-plain-keys (events.Default key) = refl
+plain-own : (items : List Item) (event : TheEvent) → are_plain (own_event_rows items event) ≡ true
+plain-own items events.Load = refl
+plain-own items events.Unload = refl
+plain-own items (events.Focus node) = refl
+plain-own items (events.Blur node) = refl
+plain-own items (events.Click node) = refl
+plain-own items (events.Timer node) = refl
+plain-own items (events.KeyDown key) = refl
+plain-own items (events.KeyUp key) = refl
+plain-own items (events.Default key) = refl
+plain-own items (events.Fired item component message) = refl
+plain-own items (events.Updated item status) = refl
+plain-own items (events.Locked item status) = refl
+plain-own items (events.Button item) = refl
 
-plain-events : (current : CurrentEvent) → are_plain (event_rows current) ≡ true
-plain-events current = by current.event
+plain-events : (items : List Item) (current : CurrentEvent) → are_plain (event_rows items current) ≡ true
+plain-events items current = by current.event
   where
-    by : (event : Option TheEvent) → are_plain (event_rows (record current { event = event })) ≡ true
+    by : (event : Option TheEvent) → are_plain (event_rows items (record current { event = event })) ≡ true
     by None = refl
-    by (Some event) = plain-keys event
+    by (Some event) = plain-own items event
 
 -- ---- styles
 
@@ -125,6 +129,6 @@ plain-value parts Document name = plain-read (document_rows parts.tree.focus par
 plain-value parts Browser name = refl
 plain-value parts Ureg name = refl
 plain-value parts Greg name = refl
-plain-value parts Event name = plain-read (event_rows parts.event) (plain-events parts.event) name
+plain-value parts Event name = plain-read (event_rows parts.tree.items parts.event) (plain-events parts.tree.items parts.event) name
 plain-value parts (Node node) name = plain-read (node_rows parts.tree.items node) (plain-nodes parts.tree.items node) name
 plain-value parts (Style node number) name = plain-styles parts.tree node number name

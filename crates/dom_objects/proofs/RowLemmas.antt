@@ -1,17 +1,17 @@
 -- Rows of lists behind one another, the rows of nodes, and styles that are read.
 use Rattle.std.proofs.Common.{◌≡◌, ℕ, ◌<◌, ◌≤◌, Bool, true, false, cond, List, [], ◌∷◌, ◌++◌, length, Option, Some, None, refl, ap, ◌∙◌, arith}
-use Rattle.std.specs.Prelude.{is_some, option_and_then}
+use Rattle.std.specs.Prelude.{is_some, option_and_then, unwrap_or}
 use Rattle.std.specs.Option.{option_map_or}
 use Rattle.std.proofs.lemmas.Option.{slice_get_past}
 use Rattle.bml_bytes.specs.Words.{is_same}
-use Rattle.dom_tree.specs.Items.{Item, tag_in, tag_of, text_in, text_of}
+use Rattle.dom_tree.specs.Items.{Item, attributes_in, tag_in, tag_of, text_in, text_of, value_in}
 use Rattle.style_cascade.specs.declared.states.State.{State}
 use Rattle.style_reader.specs.declared.properties.Property.{Property}
 use Rattle.es_values.specs.declared.values.Value.{Value}
-use Rattle.es_values.specs.declared.values.Value.TheVariants.{Undefined}
+use Rattle.es_values.specs.declared.values.Value.TheVariants.{Str, Undefined}
 use Rattle.style_cascade.specs.StyledTrees.{StyledTree}
 use Rattle.dom_objects.specs.Parts.{state_of_number}
-use Rattle.dom_objects.specs.Reads.{Rows, element_rows, node_rows, own_rows, property_named, row_of, style_read, style_text, text_rows, walk_rows}
+use Rattle.dom_objects.specs.Reads.{Rows, attribute_value, element_rows, node_rows, own_rows, property_named, row_of, style_read, style_text, text_rows, walk_rows}
 
 -- ---- lists of rows behind one another
 
@@ -49,6 +49,11 @@ pub node_rows-outside : (items : List Item) (node : ℕ) → length items ≤ no
 unfolding node_rows rows_by
 node_rows-outside items node h =
     ap (λ (item : Option Item). rows_by items node (option_and_then (λ i. tag_in i.content) item) (option_and_then (λ i. text_in i.content) item)) (slice_get_past items node h)
+
+-- a node that isn't there has no attribute
+pub attribute-outside : (items : List Item) (node : ℕ) (name : List ℕ) → length items ≤ node → attribute_value items node name ≡ Str []
+attribute-outside items node name h =
+    ap (λ (item : Option Item). Str (unwrap_or (value_in (option_map_or (λ i. attributes_in i.content) item []) name) [])) (slice_get_past items node h)
 
 -- ---- styles
 

@@ -23,7 +23,9 @@ use Rattle.es_values.specs.declared.values.Value.{Value}
 use Rattle.es_values.specs.declared.values.Value.TheVariants.{Undefined, Null, Number, Str, Host}
 use Rattle.event_queue.specs.Events.{name_of}
 use Rattle.event_queue.specs.declared.events.Event.{Event as TheEvent}
-use Rattle.event_queue.specs.declared.events.Event.TheVariants.{KeyDown, KeyUp, Default}
+use Rattle.event_queue.specs.declared.events.Event.TheVariants as events
+use Rattle.event_messages.specs.declared.messages.Message.{Message}
+use Rattle.bml_bytes.specs.Numerals.{hex_digits}
 use Rattle.dom_objects.specs.Parts.{Parts, state_number, state_of_number}
 use Rattle.dom_objects.specs.declared.current_events.CurrentEvent.{CurrentEvent}
 
@@ -133,18 +135,47 @@ document_rows focus current =
     (codes "currentEvent", option_map_or (λ event. Host Event) current.event Null)
     ∷ (codes "currentFocus", node_value (number_of focus.focus)) ∷ []
 
--- the number of a key, which only events of keys have
-abbrev pub key_rows : TheEvent → Rows
-key_rows (KeyDown key) = (codes "keyCode", Number (Whole (pos key))) ∷ []
-key_rows (KeyUp key) = (codes "keyCode", Number (Whole (pos key))) ∷ []
-key_rows (Default key) = (codes "keyCode", Number (Whole (pos key))) ∷ []
-key_rows other = []
+abbrev pub count_value : ℕ → Value
+count_value number = Number (Whole (pos number))
 
-abbrev pub event_rows : CurrentEvent → Rows
-event_rows current =
+-- the number of a key
+abbrev pub key_rows : ℕ → Rows
+key_rows key = (codes "keyCode", count_value key) ∷ []
+
+-- how a module changed, and the module that the item names, as its attribute says it
+abbrev pub module_rows : List Item → ℕ → ℕ → Rows
+module_rows items item status =
+    (codes "status", count_value status)
+    ∷ (codes "moduleRef", attribute_value items item (codes "module_ref")) ∷ []
+
+-- the path of a component
+abbrev pub component_text : ℕ → List ℕ
+component_text component = codes "/" ++ hex_digits 2 component
+
+-- the component of a message, its group, id and version, and the text of its private bytes
+abbrev pub message_rows : ℕ → Message → Rows
+message_rows component message =
+    (codes "esRef", Str (component_text component))
+    ∷ (codes "messageGroupId", count_value message.group)
+    ∷ (codes "messageId", count_value message.id)
+    ∷ (codes "messageVersion", count_value message.version)
+    ∷ (codes "privateData", Str message.extra) ∷ []
+
+-- what only events of some kinds have: those of keys, of modules and of messages
+abbrev pub own_event_rows : List Item → TheEvent → Rows
+own_event_rows items (events.KeyDown key) = key_rows key
+own_event_rows items (events.KeyUp key) = key_rows key
+own_event_rows items (events.Default key) = key_rows key
+own_event_rows items (events.Updated item status) = module_rows items item status
+own_event_rows items (events.Locked item status) = module_rows items item status
+own_event_rows items (events.Fired item component message) = message_rows component message
+own_event_rows items other = []
+
+abbrev pub event_rows : List Item → CurrentEvent → Rows
+event_rows items current =
     option_map_or
     (λ event. (codes "type", Str (name_of event))
-    ∷ (codes "target", Host (Node current.target)) ∷ key_rows event)
+    ∷ (codes "target", Host (Node current.target)) ∷ own_event_rows items event)
     current.event []
 
 -- ---- styles
@@ -168,7 +199,7 @@ style_read tree node number name =
 
 unfoldable pub read_value : Parts → HostRef → List ℕ → Value
 read_value parts Document name = read_in (document_rows parts.tree.focus parts.event) name
-read_value parts Event name = read_in (event_rows parts.event) name
+read_value parts Event name = read_in (event_rows parts.tree.items parts.event) name
 read_value parts (Node node) name = read_in (node_rows parts.tree.items node) name
 read_value parts (Style node number) name = style_read parts.tree node number name
 read_value parts other name = Undefined

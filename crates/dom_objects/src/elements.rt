@@ -117,6 +117,24 @@ fn text_row(text: &Text) -> Result<Option<Value>, NoMemory>
     Ok(Some(Value::Str(text.share()?)))
 }
 
+/// The value of an attribute whose name is ASCII, of a node of this number: the empty text where there
+/// is no such node, or it lacks the attribute.
+pub fn attribute_of(
+    alloc: Global,
+    tree: &Tree,
+    node: NodeId,
+    name: &[u8],
+) -> Result<Value, NoMemory>
+    requires ascii { All (λ byte. byte < 128) name.now }
+    ensures { IfOk result (λ value. value ≡ spec_attribute_value tree.now node.0 name.now) }
+{
+    if !tree.contains(node) {
+        return Ok(Value::Str(Text::of_codes(alloc, &[])?));
+    }
+    let name = ascii_text(alloc, name)?;
+    attribute_value(alloc, tree, node, &name)
+}
+
 // A row that gives an attribute whose name is ASCII.
 fn attribute_row(
     alloc: Global,

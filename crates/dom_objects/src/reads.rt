@@ -43,7 +43,7 @@ pub fn get_node(
 {
     match base {
         HostRef::Document => Ok(document_value(focus, event, name)),
-        HostRef::Event => event_value(alloc, event, name),
+        HostRef::Event => event_value(alloc, tree, event, name),
         HostRef::Node(number) => node_value(alloc, tree, NodeId(number), name),
         HostRef::Style(number, state) => {
             style_value(alloc, tree, styles, focus, NodeId(number), state, name)

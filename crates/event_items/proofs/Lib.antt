@@ -2,3 +2,4 @@ pub mod DigitLemmas
 pub mod ItemLemmas
 pub mod MatchLemmas
 pub mod NodeLemmas
+pub mod SubscriptionLemmas

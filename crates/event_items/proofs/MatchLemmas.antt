@@ -9,9 +9,10 @@ use Rattle.event_items.specs.declared.asked.Asked.{Asked}
 use Rattle.event_items.specs.declared.asked.Asked.TheVariants.{Anything, Exactly, NoNumber}
 use Rattle.event_items.specs.declared.asked.AskedComponent.{AskedComponent}
 use Rattle.event_items.specs.declared.asked.AskedComponent.TheVariants.{AnyComponent, NoComponent}
-use Rattle.event_items.specs.declared.kinds.ItemKind.{ItemKind}
-use Rattle.event_items.specs.declared.kinds.ItemKind.TheVariants as kinds
-use Rattle.event_items.specs.EventItems.{EventItem, all_kinds, answers, answers_or_any, any_id, is_component, is_kind, kind_name, kind_named, matches_message, matches_module}
+use Rattle.event_queue.specs.declared.item_kinds.ItemKind.{ItemKind}
+use Rattle.event_queue.specs.declared.item_kinds.ItemKind.TheVariants as kinds
+use Rattle.event_queue.specs.ItemKinds.{all_kinds, kind_name, kind_named}
+use Rattle.event_items.specs.EventItems.{EventItem, answers, answers_or_any, any_id, is_component, is_kind, matches_message, matches_module}
 
 -- ---- kinds
 

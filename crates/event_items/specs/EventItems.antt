@@ -1,6 +1,6 @@
--- The event items of a document: its elements `beitem`, what their attributes say, and what they fire for (after beitem
--- of BML, ARIB STD-B24 volume 2; which attributes count, and how, is this project's own profile).
-use Rattle.std.specs.Prelude.{ℕ, suc, ◌==◌, ◌&&◌, ◌||◌, Bool, true, false, if◌then◌else◌, List, [], ◌∷◌, ◌++◌, Option, Some, None, codes, find, option_map, option_and_then}
+-- The event items of a document: its elements `beitem`, what their attributes ask, and what they match (after beitem of
+-- BML, ARIB STD-B24 volume 2; which attributes count, and how, is this project's own profile).
+use Rattle.std.specs.Prelude.{ℕ, suc, ◌==◌, ◌&&◌, ◌||◌, Bool, true, false, if◌then◌else◌, List, [], ◌∷◌, ◌++◌, Option, Some, None, codes, option_map, option_and_then}
 use Rattle.std.specs.Option.{option_map_or}
 use Rattle.bml_bytes.specs.Numerals.{decimal_field}
 use Rattle.bml_bytes.specs.Words.{is_same}
@@ -12,31 +12,14 @@ use Rattle.event_items.specs.declared.asked.Asked.{Asked}
 use Rattle.event_items.specs.declared.asked.Asked.TheVariants.{Anything, Exactly, NoNumber}
 use Rattle.event_items.specs.declared.asked.AskedComponent.{AskedComponent}
 use Rattle.event_items.specs.declared.asked.AskedComponent.TheVariants.{AnyComponent, Component, NoComponent}
-use Rattle.event_items.specs.declared.kinds.ItemKind.{ItemKind}
-use Rattle.event_items.specs.declared.kinds.ItemKind.TheVariants as kinds
-
--- ---- kinds
-
--- the value of the attribute `type`, and what scripts and lines call the event
-abbrev pub kind_name : ItemKind → List ℕ
-kind_name kinds.EventMessageFired = codes "EventMessageFired"
-kind_name kinds.ModuleUpdated = codes "ModuleUpdated"
-kind_name kinds.ModuleLocked = codes "ModuleLocked"
-kind_name kinds.DataButtonPressed = codes "DataButtonPressed"
-
-abbrev pub all_kinds : List ItemKind
-all_kinds =
-    kinds.EventMessageFired ∷ kinds.ModuleUpdated ∷ kinds.ModuleLocked
-    ∷ kinds.DataButtonPressed ∷ []
-
--- names compare by case; an item of any other type never fires
-abbrev pub kind_named : List ℕ → Option ItemKind
-kind_named name = find (λ kind. is_same name (kind_name kind)) all_kinds
+use Rattle.event_queue.specs.declared.item_kinds.ItemKind.{ItemKind}
+use Rattle.event_queue.specs.declared.item_kinds.ItemKind.TheVariants as kinds
+use Rattle.event_queue.specs.ItemKinds.{kind_name, kind_named}
 
 -- ---- what attributes ask of a message
 
--- What an attribute asks of a number: nothing, this number, or what no number is. A text of one to ten decimal digits asks
--- for its number; where there is no attribute nothing is asked.
+-- What an attribute asks of a number. Where there is no attribute, any number will do. A text of one to ten decimal digits
+-- asks for its number. Any other text asks for what no number is, so the item matches no message.
 abbrev pub asked_by : Option (List ℕ) → Asked
 asked_by None = Anything
 asked_by (Some text) = option_map_or Exactly (decimal_field text) NoNumber
@@ -67,8 +50,8 @@ is_component NoComponent tag = false
 
 -- ---- an item
 
--- the node, of which kind it is, what it asks of a message, which module of which component it is about, and whether it
--- is subscribed at first
+-- The node; its kind, and none where its type is none of the four; what it asks of a message; and the component and the
+-- module that its `module_ref` names, none where that is no path.
 pub record EventItem : Type 0 where
   pub node : ℕ
   pub kind : Option ItemKind
@@ -77,7 +60,6 @@ pub record EventItem : Type 0 where
   pub id : Asked
   pub version : Asked
   pub about : Option (ℕ × ℕ)
-  pub subscribed : Bool
 
 abbrev pub attribute_of : Item → List ℕ → Option (List ℕ)
 attribute_of item name = value_in (attributes_in item.content) name
@@ -99,8 +81,6 @@ item_of base node item =
       about = option_map module_of
           (option_and_then (λ text. path_of_text text base)
           (attribute_of item (codes "module_ref")));
-      subscribed = option_map_or (λ text. is_same text (codes "subscribe"))
-          (attribute_of item (codes "subscribe")) false;
     }
 
 -- ---- the items of a document
@@ -121,7 +101,7 @@ items_from base node (item ∷ items) = item_at base node item ++ items_from bas
 unfoldable pub event_items : Path → List Item → List EventItem
 event_items base items = items_from base 0 items
 
--- ---- what they fire for
+-- ---- what they match
 
 abbrev pub is_kind : ItemKind → EventItem → Bool
 is_kind kind item = option_map_or (λ its. is_same (kind_name its) (kind_name kind)) item.kind false

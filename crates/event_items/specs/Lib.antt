@@ -1,1 +1,2 @@
 pub mod EventItems
+pub mod Subscriptions

@@ -1,17 +1,17 @@
 //! The event items of a document.
 
-ghost use Rattle.std.specs.Prelude.{◌≡◌, ◌<◌, ◌++◌, [], IfOk, OnOk, Some, codes, false, length, option_and_then, option_copied, option_map, slice_get};
+ghost use Rattle.std.specs.Prelude.{◌≡◌, ◌<◌, ◌++◌, [], IfOk, OnOk, Some, false, length, option_and_then, option_copied, option_map, slice_get};
 ghost use Rattle.std.specs.Option.{option_map_or};
-ghost use Rattle.bml_bytes.specs.Words.{is_same};
 ghost use Rattle.multipart_entities.specs.Paths.{path_of_text};
-ghost use Rattle.event_items.specs.EventItems.{event_items as spec_event_items, is_event_item as spec_is_event_item, item_at, item_of as spec_item_of, kind_named, matches_message, matches_module, module_of as spec_module_of};
+ghost use Rattle.event_queue.specs.ItemKinds.{kind_named};
+ghost use Rattle.event_items.specs.EventItems.{event_items as spec_event_items, is_event_item as spec_is_event_item, item_at, item_of as spec_item_of, matches_message, matches_module, module_of as spec_module_of};
 
 use crate::asked::{Asked, AskedComponent};
-use crate::kinds::ItemKind;
 use crate::names::AttributeNames;
 use bml_bytes::{NoMemory, Text};
 use dom_tree::{NodeId, Tree};
 use event_messages::Message;
+use event_queue::ItemKind;
 use multipart_entities::Path;
 use std::alloc::Global;
 use std::marker::Model;
@@ -26,7 +26,6 @@ pub struct EventItem {
     id: Asked,
     version: Asked,
     about: Option<(u8, u16)>,
-    subscribed: bool,
 }
 
 impl Model for EventItem {
@@ -42,7 +41,6 @@ impl Model for EventItem {
       id = item.id;
       version = item.version;
       about = item.about;
-      subscribed = item.subscribed;
     } };
 }
 
@@ -61,13 +59,6 @@ impl EventItem {
         ensures { result ≡ self.now.kind }
     {
         self.kind
-    }
-
-    /// Whether it is subscribed at first.
-    pub fn is_subscribed(&self) -> bool
-        ensures { result ≡ self.now.subscribed }
-    {
-        self.subscribed
     }
 
     /// Whether it matches a message of a component.
@@ -92,7 +83,8 @@ impl EventItem {
             }
     }
 
-    fn is_kind(&self, kind: ItemKind) -> bool
+    /// Whether it is of this kind.
+    pub fn is_kind(&self, kind: ItemKind) -> bool
         ensures { result ≡ is_kind kind self.now }
     {
         match self.kind {
@@ -155,11 +147,11 @@ fn item_of(
         id: Asked::by_value(tree.attribute(node, &names.message.id)),
         version: Asked::by_value(tree.attribute(node, &names.message.version)),
         about,
-        subscribed: says_subscribe(tree.attribute(node, &names.subscribe)),
     })
 }
 
-fn is_event_item(tree: &Tree, node: NodeId) -> bool
+/// Whether a node is an event item: an element `beitem`.
+pub fn is_event_item(tree: &Tree, node: NodeId) -> bool
     requires { node.0 < length tree.now }
     ensures { result ≡ option_map_or spec_is_event_item (slice_get tree.now node.0) false }
 {
@@ -175,17 +167,6 @@ fn kind_of(value: Option<&Text>) -> Option<ItemKind>
     match value {
         Some(text) => ItemKind::of_name(text),
         None => None,
-    }
-}
-
-// Whether the value of the attribute `subscribe` says so.
-fn says_subscribe(value: Option<&Text>) -> bool
-    ensures { result ≡ option_map_or (λ text. is_same text (codes "subscribe"))
-        (option_copied value.entry) false }
-{
-    match value {
-        Some(text) => text.is_word("subscribe"),
-        None => false,
     }
 }
 

@@ -6,11 +6,12 @@ ghost use Rattle.std.specs.List.Sorted.{IsStrictlyIncreasing};
 ghost use Rattle.dom_tree.specs.Items.{Item, tag_of};
 ghost use Rattle.event_messages.specs.declared.messages.Message.{Message};
 ghost use Rattle.multipart_entities.specs.declared.paths.Path.{Path};
-ghost use Rattle.event_items.specs.EventItems.{EventItem, any_id, event_items, item_of, kind_name, kind_named, matches_message, matches_module};
+ghost use Rattle.event_queue.specs.ItemKinds.{kind_name, kind_named};
+ghost use Rattle.event_items.specs.EventItems.{EventItem, any_id, event_items, item_of, matches_message, matches_module};
 
 use crate::asked::{Asked, AskedComponent};
-use crate::kinds::ItemKind;
 use bml_bytes::law_of_same_texts;
+use event_queue::ItemKind;
 
 /// The event items of a document are its elements `beitem`, each once and in ascending number, and each is what its own
 /// element says.

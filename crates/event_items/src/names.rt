@@ -10,11 +10,9 @@ use std::alloc::Global;
 pub struct AttributeNames {
     pub kind: Text,
     pub module_ref: Text,
-    pub subscribe: Text,
     pub message: MessageNames,
     ghost kind_is: { kind ≡ codes "type" },
     ghost module_ref_is: { module_ref ≡ codes "module_ref" },
-    ghost subscribe_is: { subscribe ≡ codes "subscribe" },
 }
 
 /// The names of those that ask something of a message.
@@ -35,11 +33,9 @@ impl AttributeNames {
         let message = MessageNames::new(alloc)?;
         let kind = Text::of_bytes(alloc, b"type")?;
         let module_ref = Text::of_bytes(alloc, b"module_ref")?;
-        let subscribe = Text::of_bytes(alloc, b"subscribe")?;
         Ok(AttributeNames {
             kind,
             module_ref,
-            subscribe,
             message,
         })
     }

@@ -1,3 +1,4 @@
+pub mod ItemKinds
 pub mod Events
 pub mod Queues
 pub mod Timers

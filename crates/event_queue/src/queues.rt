@@ -12,7 +12,7 @@ pub const EVENT_LIMIT: usize = 256;
 
 /// The events that wait for their dispatch. Contracts see the list of them, the one that waits
 /// longest in front; it has at most 256.
-#[derive(Debug, Drop)]
+#[derive(Drop)]
 pub struct Queue {
     events: ArrayVec<Event, EVENT_LIMIT>,
 }

@@ -1,19 +1,80 @@
--- Keys and timers launch no document.
-use Rattle.std.proofs.Common.{◌≡◌, ◌∙◌, ℕ, zero, suc, Bool, true, false, cond, refl, nat_lt, length}
-use Rattle.std.specs.Prelude.{Option, Some, None}
+-- Keys, messages, changes in modules and timers launch no document.
+use Rattle.std.proofs.Common.{◌≡◌, ◌∙◌, ℕ, zero, suc, Bool, true, false, cond, List, [], ◌∷◌, refl, nat_lt, length}
+use Rattle.std.specs.Prelude.{Option, Some, None, fold}
 use Rattle.std.specs.Option.{option_map_or}
+use Rattle.carousel_blocks.specs.declared.changes.Change.{Change}
+use Rattle.event_items.specs.EventItems.{EventItem}
+use Rattle.event_items.specs.Subscriptions.{fires_for_message, fires_for_button, fires_for_module, with_firing}
+use Rattle.event_messages.specs.declared.messages.Message.{Message}
 use Rattle.event_queue.specs.Queues.{most_events}
 use Rattle.event_queue.specs.Timers.{first_due, most_timers, with_fired}
+use Rattle.event_queue.specs.declared.events.Event.{Event}
 use Rattle.event_queue.specs.declared.events.Event.TheVariants as events
-use Rattle.document_stages.specs.Acting.{Acting, acting_with_timers, key_posts, posted, timer_fired, timer_settled, timers_fired}
+use Rattle.event_queue.specs.declared.item_kinds.ItemKind.TheVariants as kinds
+use Rattle.document_stages.specs.Acting.{Acting, acting_with_timers, button_posts, button_post, change_posts, each_item, fired, has_room, key_posts, message_posts, message_post, module_post, posted, posted_where, pressed, timer_fired, timer_settled, timers_fired}
 use Rattle.acting_documents.specs.Documents.{passes}
-use Rattle.acting_documents.specs.Handling.{due_effect, key_effect}
+use Rattle.acting_documents.specs.Handling.{change_effect, due_effect, key_effect, message_effect}
 use Rattle.acting_documents.specs.Runs.{Scene, acting_in, done, no_event, nothing_done}
+
+-- ---- event items
+
+items_launch : (step : EventItem → Acting → Acting) → ((item : EventItem) (a : Acting) → (step item a).launched ≡ a.launched) → (items : List EventItem) (a : Acting) → (fold (λ acting item. step item acting) a items).launched ≡ a.launched
+items_launch step keeps [] a = refl
+items_launch step keeps (item ∷ items) a = items_launch step keeps items (step item a) ∙ keeps item a
+
+where_launches : (test : Bool) (event : Event) (a : Acting) → (posted_where test event a).launched ≡ a.launched
+where_launches true event a = refl
+where_launches false event a = refl
+
+-- ---- messages
+
+firing_launches : (component : ℕ) (message : Message) (node : ℕ) (a : Acting) → (fired component message node a).launched ≡ a.launched
+firing_launches component message node a = by (has_room a)
+  where
+    by : (b : Bool) → (let after = posted (events.Fired node component message) a in cond b (record after { items = with_firing node message a.items }) after).launched ≡ a.launched
+    by true = refl
+    by false = refl
+
+told_launches : (component : ℕ) (message : Message) (item : EventItem) (a : Acting) → (message_post component message item a).launched ≡ a.launched
+told_launches component message item a = by (fires_for_message component message a.items item)
+  where
+    by : (b : Bool) → (cond b (fired component message item.node a) a).launched ≡ a.launched
+    by true = firing_launches component message item.node a
+    by false = refl
+
+pub message_launches : (component : ℕ) (message : Message) (s : Scene) → (message_effect component message s).launched ≡ None
+unfolding message_effect message_posts
+message_launches component message s = items_launch (message_post component message) (told_launches component message) s.document.items.items (acting_in no_event s)
+
+-- ---- changes in modules
+
+module_launches : (component number status : ℕ) (item : EventItem) (a : Acting) → (module_post component number status item a).launched ≡ a.launched
+module_launches component number status item a = where_launches (fires_for_module kinds.ModuleUpdated component number a.items item) (events.Updated item.node status) a
+
+change_posts_launch : (component : ℕ) (change : Change) (a : Acting) → (change_posts component change a).launched ≡ a.launched
+unfolding change_posts
+change_posts_launch component change a = by change.status
+  where
+    by : (told : Option ℕ) → (option_map_or (λ status. each_item (module_post component change.«module» status) a) told a).launched ≡ a.launched
+    by None = refl
+    by (Some status) = items_launch (module_post component change.«module» status) (module_launches component change.«module» status) a.items.items a
+
+pub change_launches : (component : ℕ) (change : Change) (s : Scene) → (change_effect component change s).launched ≡ None
+unfolding change_effect
+change_launches component change s = change_posts_launch component change (acting_in no_event s)
 
 -- ---- keys
 
+button_launches : (a : Acting) → (button_posts a).launched ≡ a.launched
+unfolding button_posts
+button_launches a = items_launch button_post (λ item a. where_launches (fires_for_button a.items item) (events.Button item.node) a) a.items.items a
+
+either_launches : (b : Bool) (one other : Acting) → one.launched ≡ other.launched → (cond b one other).launched ≡ other.launched
+either_launches true one other same = same
+either_launches false one other same = refl
+
 key_posts_launch : (down : Bool) (key : ℕ) (a : Acting) → (key_posts down key a).launched ≡ a.launched
-key_posts_launch true key a = refl
+key_posts_launch true key a = either_launches _ (button_posts (pressed key a)) (pressed key a) (button_launches (pressed key a))
 key_posts_launch false key a = refl
 
 pub key_launches : (key : ℕ) (down : Bool) (s : Scene) → (key_effect key down s).launched ≡ None

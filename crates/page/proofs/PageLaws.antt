@@ -5,11 +5,13 @@ use Rattle.std.specs.Option.{option_map_or, option_or}
 use Rattle.std.specs.Io.{StartsWith}
 use Rattle.std.proofs.lemmas.List.{take-append-drop}
 use Rattle.bml_reader.specs.declared.faults.DocFault.{DocFault}
+use Rattle.carousel_blocks.specs.declared.changes.Change.{Change}
 use Rattle.browser_objects.specs.Calls.{BrowserParts}
 use Rattle.display_list.specs.Show.{clock_line}
 use Rattle.document_load.specs.Drafts.{DraftState}
 use Rattle.document_stages.specs.Acting.{with_timers}
 use Rattle.event_queue.specs.Timers.{no_timers}
+use Rattle.module_store.specs.Lines.{line_of_change}
 use Rattle.module_store.specs.Resources.{start_path}
 use Rattle.module_store.specs.Standing.{ForStored, StoreState}
 use Rattle.module_store.specs.Store.{Stored}
@@ -17,29 +19,30 @@ use Rattle.multipart_entities.specs.declared.paths.Path.{Path}
 use Rattle.acting_documents.specs.Beginnings.{load_effect}
 use Rattle.acting_documents.specs.Documents.{Document, document_lines}
 use Rattle.acting_documents.specs.Doings.{Changes}
-use Rattle.acting_documents.specs.Handling.{due_effect}
+use Rattle.acting_documents.specs.Handling.{change_effect, due_effect}
 use Rattle.acting_documents.specs.Kept.{IsDocument, KeptDocument}
 use Rattle.acting_documents.specs.Runs.{Effect, Scene}
-use Rattle.page.specs.Acts.{HasActed, scene_with}
+use Rattle.page.specs.Acts.{Acts, HasActed, HasStayed, scene_with}
 use Rattle.page.specs.Dispatches.{dispatch, dispatches, load_at, most_dispatches, next_and, next_event, next_load, turn}
-use Rattle.page.specs.Inputs.{display_of, due_step, with_clock}
+use Rattle.page.specs.Inputs.{change_step, display_of, document_step, due_step, with_clock}
 use Rattle.page.specs.Loading.{load, loadable_reading, opened, wanted_path}
-use Rattle.page.specs.Pendings.{Loads, wanted_at, wanted_of}
-use Rattle.page.specs.Standing.{AreDocuments, Begins, HasMade, HasMadeOf, Makes, MakesWith, MayMake, MayMakeHere, PageState, StandsFor, TakesLoad, behind_launch, with_document}
+use Rattle.page.specs.Pendings.{Loads, loading_behind, wanted_at, wanted_of}
+use Rattle.page.specs.Standing.{AreDocuments, Begins, HasMade, HasMadeAmid, HasMadeOf, Makes, MakesAmid, MakesWith, MayMake, MayMakeHere, PageState, Posts, StandsAmid, StandsFor, TakesLoad, behind_change, behind_launch, with_document}
 use Rattle.page.specs.State.{State, Step, Wanted, scene_in, stays_or_goes, step_behind, step_of, still}
 use Rattle.page.specs.State.Wanted.{NoDocument}
 use Rattle.page.specs.declared.loading.Load.{Load}
 use Rattle.page.specs.declared.loading.Load.TheVariants as came
 use Rattle.page.specs.declared.loading.Loading.{Loading}
 use Rattle.page.specs.declared.loading.Loading.TheVariants as kept
+use Rattle.page.proofs.StandingLaws.{stands_followed}
 
 -- ---- pages that differ in what stands for no part of a state
 
 abbrev pub with_spent : Bool → PageState → PageState
 with_spent spent page = record page { spent = spent }
 
-pub spent_stands : (page : PageState) (spent : Bool) (stored : Stored) (s : State) → StandsFor page stored s → StandsFor (with_spent spent page) stored s
-spent_stands page spent stored s stands = record {
+spent_stands : (page : PageState) (spent : Bool) (stored : Stored) (changes : List (ℕ × Change)) (s : State) → StandsAmid page stored changes s → StandsAmid (with_spent spent page) stored changes s
+spent_stands page spent stored changes s stands = record {
   reader = stands.reader;
   document = stands.document;
   wanted = stands.wanted;
@@ -54,7 +57,7 @@ makes_spent step old new before after spent made = record {
   printed = made.printed;
   makes = λ stored s stands.
       let has = made.makes stored s stands in
-      record { stands = spent_stands new spent stored (step s).state has.stands; text_is = has.text_is };
+      record { stands = spent_stands new spent stored [] (step s).state has.stands; text_is = has.text_is };
 }
 
 -- the same of a call that spends the page where it found no memory
@@ -70,15 +73,15 @@ abbrev pub with_loading : Loading → PageState → PageState
 with_loading loading page = record page { loading = loading }
 
 -- where a document is kept, it is that of the state
-document_there : (page : PageState) (stored : Stored) (s : State) (k : KeptDocument) → page.document ≡ Some k → StandsFor page stored s → (d : Document) × (s.document ≡ Some d) × IsDocument k d
-document_there page stored s k is stands = by s.document refl (subst (λ (x : Option KeptDocument). AreDocuments x s.document) is stands.document)
+document_there : (page : PageState) (s : State) (k : KeptDocument) → page.document ≡ Some k → AreDocuments page.document s.document → (d : Document) × (s.document ≡ Some d) × IsDocument k d
+document_there page s k is are = by s.document refl (subst (λ (x : Option KeptDocument). AreDocuments x s.document) is are)
   where
     by : (o : Option Document) → s.document ≡ o → AreDocuments (Some k) o → (d : Document) × (s.document ≡ Some d) × IsDocument k d
     by None e are = absurd are
     by (Some d) e are = (d, e, are)
 
-none_there : (page : PageState) (stored : Stored) (s : State) → page.document ≡ None → StandsFor page stored s → s.document ≡ None
-none_there page stored s is stands = by s.document refl (subst (λ (x : Option KeptDocument). AreDocuments x s.document) is stands.document)
+none_there : (page : PageState) (s : State) → page.document ≡ None → AreDocuments page.document s.document → s.document ≡ None
+none_there page s is are = by s.document refl (subst (λ (x : Option KeptDocument). AreDocuments x s.document) is are)
   where
     by : (o : Option Document) → s.document ≡ o → AreDocuments None o → s.document ≡ None
     by None e are = e
@@ -86,21 +89,28 @@ none_there page stored s is stands = by s.document refl (subst (λ (x : Option K
 
 -- ---- what documents do
 
+-- the page behind what its document did where it launched none, amid changes that are still to be posted
+stayed_amid : (page : PageState) (stored : Stored) (changes : List (ℕ × Change)) (s : State) (k : KeptDocument) (browser : BrowserParts) (text : List ℕ) (e : Effect) → StandsAmid page stored changes s → HasStayed k browser text e
+    → HasMadeAmid (with_document k browser page) stored changes text (step_of s e)
+stayed_amid page stored changes s k browser text e stands stayed =
+    subst (λ (o : Option Path). HasMadeAmid (with_document k browser page) stored changes text (step_behind e.text (stays_or_goes o s e.scene))) (sym stayed.launched_is) (record {
+      stands = record {
+        reader = stands.reader;
+        document = stayed.is;
+        wanted = stands.wanted;
+        current = stands.current;
+        clock = stands.clock;
+        browser = stayed.given_back_is;
+      };
+      text_is = stayed.text_is ∙ sym (append-nil e.text);
+    })
+
 -- the page behind what its document did, and launched or not
 pub made_of : (launched : Option Path) (page : PageState) (stored : Stored) (s : State) (k : KeptDocument) (browser : BrowserParts) (text : List ℕ) (e : Effect) → StandsFor page stored s → HasActed launched k browser text e
     → HasMade (behind_launch launched (with_document k browser page)) stored text (step_of s e)
 made_of None page stored s k browser text e stands acted =
-    subst (λ (o : Option Path). HasMade (with_document k browser page) stored text (step_behind e.text (stays_or_goes o s e.scene))) (sym acted.launched_is) (record {
-      stands = record {
-        reader = stands.reader;
-        document = acted.is;
-        wanted = stands.wanted;
-        current = stands.current;
-        clock = stands.clock;
-        browser = acted.given_back_is;
-      };
-      text_is = acted.text_is ∙ sym (append-nil e.text);
-    })
+    let made = stayed_amid page stored [] s k browser text e stands acted in
+    record { stands = made.stands; text_is = made.text_is }
 made_of (Some path) page stored s k browser text e stands acted =
     subst (λ (o : Option Path). HasMade (behind_launch (Some path) (with_document k browser page)) stored text (step_behind e.text (stays_or_goes o s e.scene))) (sym acted.launched_is) (record {
       stands = record {
@@ -125,7 +135,7 @@ time_passed moment page before is = record {
   text = [];
   printed = sym (append-nil before);
   makes = λ stored s stands.
-      subst (HasMade (record page { clock = moment }) stored []) (sym (due_without moment s (none_there page stored s is stands))) (record {
+      subst (HasMade (record page { clock = moment }) stored []) (sym (due_without moment s (none_there page s is stands.document))) (record {
         stands = record {
           reader = stands.reader;
           document = stands.document;
@@ -137,6 +147,77 @@ time_passed moment page before is = record {
         text_is = refl;
       });
 }
+
+-- ---- changes in modules
+
+-- their line is told, and then the document does what it does
+abbrev told_step : List ℕ → (Scene → Effect) → State → Step
+told_step line effect s = step_behind line (document_step effect s)
+
+step_without : (line : List ℕ) (effect : Scene → Effect) (s : State) → s.document ≡ None → told_step line effect s ≡ record { state = s; text = line ++ [] }
+step_without line effect s e = ap (λ (o : Option Document). step_behind line (option_map_or (λ d. step_of s (effect (scene_in s d))) o (still s))) e
+
+step_with : (line : List ℕ) (effect : Scene → Effect) (s : State) (d : Document) → s.document ≡ Some d → told_step line effect s ≡ step_behind line (step_of s (effect (scene_in s d)))
+step_with line effect s d e = ap (λ (o : Option Document). step_behind line (option_map_or (λ d. step_of s (effect (scene_in s d))) o (still s))) e
+
+-- where there is no document nothing more is done
+told_without : (line : List ℕ) (effect : Scene → Effect) (page : PageState) (before after : List ℕ) → page.document ≡ None → after ≡ before ++ line → MakesAmid (told_step line effect) page page before after
+told_without line effect page before after is printed = record {
+  text = line;
+  printed = printed;
+  makes = λ stored changes s stands.
+      subst (HasMadeAmid page stored changes line) (sym (step_without line effect s (none_there page s is stands.document)))
+      (record { stands = stands; text_is = sym (append-nil line) });
+}
+
+told_with : (line : List ℕ) (effect : Scene → Effect) (page : PageState) (k new : KeptDocument) (browser : BrowserParts) (before between after : List ℕ) → page.document ≡ Some k → between ≡ before ++ line
+    → Acts effect None page.clock k new page.browser browser between after → MakesAmid (told_step line effect) page (with_document new browser page) before after
+told_with line effect page k new browser before between after is printed acts = record {
+  text = line ++ acts.text;
+  printed = acts.printed ∙ ap (λ (l : List ℕ). l ++ acts.text) printed ∙ append_assoc before line acts.text;
+  makes = λ stored changes s stands.
+      let there = document_there page s k is stands.document in
+      let scene : scene_with page.browser page.clock there.0 ≡ scene_in s there.0 = ap₂ (λ (b : BrowserParts) (n : ℕ). scene_with b n there.0) stands.browser stands.clock in
+      let stayed = subst (λ (x : Scene). HasStayed new browser acts.text (effect x)) scene (acts.acts there.0 there.2) in
+      let made = stayed_amid page stored changes s new browser acts.text (effect (scene_in s there.0)) stands stayed in
+      subst (HasMadeAmid (with_document new browser page) stored changes (line ++ acts.text)) (sym (step_with line effect s there.0 there.1))
+      (record { stands = made.stands; text_is = ap (λ (l : List ℕ). line ++ l) made.text_is });
+}
+
+-- the same of a call that may find no memory
+pub change_as : {A E : Type 0} (component : ℕ) (change : Change) (old page new : PageState) (k document : KeptDocument) (browser : BrowserParts) (before between after : List ℕ) (result : Result A E) → page ≡ old → page.document ≡ Some k → new ≡ with_document document browser page
+    → between ≡ before ++ line_of_change component change → OnOk result (Acts (change_effect component change) None page.clock k document page.browser browser between after) → OnOk result (MakesAmid (change_step component change) old new before after)
+change_as component change old page new k document browser before between after (Err fault) view is same printed acts = tt
+change_as component change old page new k document browser before between after (Ok done) view is same printed acts =
+    subst (λ (p : PageState). MakesAmid (change_step component change) p new before after) view
+    (subst (λ (p : PageState). MakesAmid (change_step component change) page p before after) (sym same)
+    (told_with (line_of_change component change) (change_effect component change) page k document browser before between after is printed acts))
+
+-- a change is followed, and then told
+posts_change : (component : ℕ) (change : Change) (page now : PageState) (before after : List ℕ) (spent : Bool) → MakesAmid (change_step component change) (behind_change component change page) now before after
+    → Posts ((component, change) ∷ []) page (with_spent spent now) before after
+posts_change component change page now before after spent made = record {
+  text = made.text;
+  printed = made.printed;
+  makes = λ stored changes s stands.
+      let has = made.makes stored changes s (stands_followed component change changes page stored s stands) in
+      record {
+        stands = spent_stands now spent stored changes (change_step component change s).state has.stands;
+        text_is = has.text_is ∙ sym (append-nil (change_step component change s).text);
+      };
+}
+
+-- the same of a call that spends the page where it found no memory
+pub posts_after : {A E : Type 0} (component : ℕ) (change : Change) (old page told now : PageState) (loading : Loading) (before after : List ℕ) (called result : Result A E) → page ≡ old → loading ≡ loading_behind component change page.loading
+    → OnOk called (MakesAmid (change_step component change) (with_loading loading page) told before after) → result ≡ called → now ≡ with_spent (is_err called) told → OnOk result (Posts ((component, change) ∷ []) old now before after)
+posts_after {A} {E} component change old page told now loading before after (Err fault) result view follows made same spent =
+    subst (λ (r : Result A E). OnOk r (Posts ((component, change) ∷ []) old now before after)) (sym same) tt
+posts_after {A} {E} component change old page told now loading before after (Ok done) result view follows made same spent =
+    subst (λ (r : Result A E). OnOk r (Posts ((component, change) ∷ []) old now before after)) (sym same)
+    (subst (λ (p : PageState). Posts ((component, change) ∷ []) p now before after) view
+    (subst (λ (p : PageState). Posts ((component, change) ∷ []) page p before after) (sym spent)
+    (posts_change component change page told before after false
+    (subst (λ (l : Loading). MakesAmid (change_step component change) (with_loading l page) told before after) follows made))))
 
 -- ---- what is shown
 
@@ -153,7 +234,7 @@ shown_without page before after is printed = record {
   printed = printed;
   makes = λ stored s stands. record {
     stands = stands;
-    text_is = ap clock_line stands.clock ∙ sym (append-nil (clock_line s.clock)) ∙ sym (display_with s None (none_there page stored s is stands));
+    text_is = ap clock_line stands.clock ∙ sym (append-nil (clock_line s.clock)) ∙ sym (display_with s None (none_there page s is stands.document));
   };
 }
 
@@ -175,7 +256,7 @@ shown_with page k new before between after is printed shown same grows = record 
   text = clock_line page.clock ++ drop (length between) after;
   printed = rest_after after between grows ∙ ap (λ (l : List ℕ). l ++ drop (length between) after) printed ∙ append_assoc before (clock_line page.clock) (drop (length between) after);
   makes = λ stored s stands.
-      let there = document_there page stored s k is stands in
+      let there = document_there page s k is stands.document in
       let lines = same_behind between (drop (length between) after) (document_lines there.0) (sym (rest_after after between grows) ∙ shown there.0 there.2) in
       record {
         stands = record {

@@ -13,25 +13,12 @@ use Rattle.module_store.specs.Staying.{tells_of, is_gone}
 use Rattle.module_store.specs.Store.{Stored, changes_by, with_section, gone_by, with_map}
 use Rattle.page.specs.declared.loading.Loading.{Loading}
 use Rattle.page.specs.declared.loading.Loading.TheVariants as kept
-use Rattle.page.specs.Pendings.{IsCurrent, loading_behind, unread, wanted_at, wanted_of}
+use Rattle.page.specs.Pendings.{IsCurrent, loading_behind, loading_behind_all, unread, wanted_at, wanted_of}
 use Rattle.page.specs.PendingStates.{IsFound, IsStartPath, PendingState}
-use Rattle.page.specs.Standing.{PageState, StandsFor, behind_all, behind_change}
+use Rattle.page.specs.Standing.{PageState, StandsAmid, StandsFor, behind_change}
 use Rattle.page.specs.State.{State}
 
--- ---- what several changes leave
-
--- of a document that is wanted
-abbrev pub loading_behind_all : List (ℕ × Change) → Loading → Loading
-loading_behind_all [] loading = loading
-loading_behind_all (change ∷ changes) loading = loading_behind_all changes (loading_behind change.0 change.1 loading)
-
-abbrev with_loading : PageState → Loading → PageState
-with_loading page loading = record page { loading = loading }
-
--- they change nothing else of a page
-behind_all_is : (changes : List (ℕ × Change)) (page : PageState) → behind_all changes page ≡ with_loading page (loading_behind_all changes page.loading)
-behind_all_is [] page = refl
-behind_all_is (change ∷ changes) page = behind_all_is changes (behind_change change.0 change.1 page)
+-- ---- what is wanted stays so
 
 wanted_unread : (is_start : Bool) (path : Path) → wanted_of (unread is_start path) ≡ wanted_at is_start path
 wanted_unread true path = refl
@@ -47,9 +34,19 @@ wanted_behind component change (kept.At path) = refl
 wanted_behind component change (kept.Pending pending) = wanted_anew (eqb pending.path.component component && eqb change.«module» pending.path.«module») pending
 wanted_behind component change kept.Nothing = refl
 
-wanted_behind_all : (changes : List (ℕ × Change)) (loading : Loading) → wanted_of (loading_behind_all changes loading) ≡ wanted_of loading
-wanted_behind_all [] loading = refl
-wanted_behind_all (change ∷ changes) loading = wanted_behind_all changes (loading_behind change.0 change.1 loading) ∙ wanted_behind change.0 change.1 loading
+-- behind a change, the page is in the same state, and those behind it are still to be posted
+pub stands_followed : (component : ℕ) (change : Change) (changes : List (ℕ × Change)) (page : PageState) (stored : Stored) (s : State) → StandsAmid page stored ((component, change) ∷ changes) s
+    → StandsAmid (behind_change component change page) stored changes s
+stands_followed component change changes page stored s stands = record {
+  reader = stands.reader;
+  document = stands.document;
+  wanted = wanted_behind component change page.loading ∙ stands.wanted;
+  current = stands.current;
+  clock = stands.clock;
+  browser = stands.browser;
+}
+
+-- ---- what several changes leave of a document that is wanted
 
 -- only what was read changes
 still_start : (changes : List (ℕ × Change)) → loading_behind_all changes kept.Start ≡ kept.Start
@@ -191,24 +188,24 @@ current_in_maps found start stored components kept.Nothing apart is = subst (λ 
 
 -- ---- the page
 
--- with another store, and what it leaves current of the document that is wanted
-stands_behind : (changes : List (ℕ × Change)) (page : PageState) (one other : Stored) (s : State) → StandsFor page one s → IsCurrent other (loading_behind_all changes page.loading) → StandsFor (behind_all changes page) other s
-stands_behind changes page one other s stands current = subst (λ (p : PageState). StandsFor p other s) (sym (behind_all_is changes page)) (record {
+-- with another store, and what is current there of the document that is wanted once these changes are posted
+stands_behind : (changes : List (ℕ × Change)) (page : PageState) (one other : Stored) (s : State) → StandsFor page one s → IsCurrent other (loading_behind_all changes page.loading) → StandsAmid page other changes s
+stands_behind changes page one other s stands current = record {
   reader = stands.reader;
   document = stands.document;
-  wanted = wanted_behind_all changes page.loading ∙ stands.wanted;
+  wanted = stands.wanted;
   current = current;
   clock = stands.clock;
   browser = stands.browser;
-})
+}
 
 pub stands_in_sections : FoundInSections → StartInSections → (page : PageState) (stored : Stored) (s : State) (component : ℕ) (section : List ℕ) → StandsFor page stored s
-    → StandsFor (behind_all (map (λ change. (component, change)) (changes_by component section stored)) page) (with_section component section stored) s
+    → StandsAmid page (with_section component section stored) (map (λ change. (component, change)) (changes_by component section stored)) s
 stands_in_sections found start page stored s component section stands =
     stands_behind (map (λ change. (component, change)) (changes_by component section stored)) page stored (with_section component section stored) s stands
     (current_in_sections found start stored component section page.loading stands.current)
 
 pub stands_in_maps : FoundInMaps → StartInMaps → (page : PageState) (stored : Stored) (s : State) (components : List Component) → AllPairs AreApart components → StandsFor page stored s
-    → StandsFor (behind_all (gone_by components stored) page) (with_map components stored) s
+    → StandsAmid page (with_map components stored) (gone_by components stored) s
 stands_in_maps found start page stored s components apart stands =
     stands_behind (gone_by components stored) page stored (with_map components stored) s stands (current_in_maps found start stored components page.loading apart stands.current)

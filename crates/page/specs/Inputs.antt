@@ -1,31 +1,48 @@
--- What comes to a page beside its turns: changes of modules, keys, moments and random words; and what it
+-- What comes to a page beside its turns: changes of modules, messages, keys, moments and random words; and what it
 -- shows. (This project's own, after ARIB STD-B24, volume 2.)
 use Rattle.std.specs.Prelude.{ℕ, Bool, List, [], ◌∷◌, ◌++◌, Option}
 use Rattle.std.specs.Option.{option_map_or}
 use Rattle.carousel_blocks.specs.declared.changes.Change.{Change}
 use Rattle.display_list.specs.Show.{clock_line}
+use Rattle.event_messages.specs.declared.messages.Message.{Message}
 use Rattle.acting_documents.specs.Documents.{document_lines}
 use Rattle.event_queue.specs.Timers.{least_moment}
 use Rattle.document_stages.specs.Acting.{word_added}
-use Rattle.acting_documents.specs.Handling.{due_effect, key_effect}
+use Rattle.acting_documents.specs.Handling.{change_effect, due_effect, key_effect, message_effect}
+use Rattle.acting_documents.specs.Runs.{Effect, Scene}
 use Rattle.module_store.specs.Lines.{line_of_change}
 use Rattle.page.specs.State.{State, Step, scene_in, step_behind, step_of, still}
 
--- a change in a module is told, and changes nothing of the page
+-- steps for several things, one behind the other
+abbrev pub each_step : {A : Type 0} → (A → State → Step) → List A → State → Step
+each_step step [] s = still s
+each_step step (one ∷ others) s =
+    step_behind (step one s).text (each_step step others (step one s).state)
+
+-- what the document does, where there is one
+abbrev pub document_step : (Scene → Effect) → State → Step
+document_step effect s = option_map_or (λ d. step_of s (effect (scene_in s d))) s.document (still s)
+
+-- a change in a module of a component is told, and posted to the document's event items
 abbrev pub change_step : ℕ → Change → State → Step
-change_step component change s = record { state = s; text = line_of_change component change }
+change_step component change s =
+    step_behind (line_of_change component change) (document_step (change_effect component change) s)
 
 -- changes in modules, each with its component, one behind the other
 abbrev pub changes_step : List (ℕ × Change) → State → Step
-changes_step [] s = still s
-changes_step (change ∷ changes) s =
-    step_behind (change_step change.0 change.1 s).text
-    (changes_step changes (change_step change.0 change.1 s).state)
+changes_step changes s = each_step (λ change. change_step change.0 change.1) changes s
+
+-- an event message of a component is posted to the document's event items that fire for it
+abbrev pub message_step : ℕ → Message → State → Step
+message_step component message s = document_step (message_effect component message) s
+
+-- messages of a component, one behind the other
+abbrev pub messages_step : ℕ → List Message → State → Step
+messages_step component messages s = each_step (message_step component) messages s
 
 -- a key is pressed or released; without a document nothing is posted
 abbrev pub key_step : ℕ → Bool → State → Step
-key_step key down s =
-    option_map_or (λ d. step_of s (key_effect key down (scene_in s d))) s.document (still s)
+key_step key down s = document_step (key_effect key down) s
 
 -- the moment when a timer is due next
 abbrev pub due_next : State → Option ℕ

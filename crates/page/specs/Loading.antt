@@ -15,6 +15,7 @@ use Rattle.document_load.specs.Drafts.{DraftState, draft_of, with_gifts}
 use Rattle.document_load.specs.Needs.{needs_of}
 use Rattle.document_load.specs.Scripts.{bad_numbers, handlers_by, programs_by, sources_of}
 use Rattle.document_load.specs.StyleTexts.{document_rules}
+use Rattle.event_items.specs.Subscriptions.{first_items}
 use Rattle.acting_documents.specs.Documents.{Document, first_tree}
 use Rattle.acting_documents.specs.Beginnings.{load_effect}
 use Rattle.page.specs.Lines.{load_lines, refuse_line}
@@ -76,6 +77,7 @@ opened read path draft =
     record {
       path = path;
       tree = first_tree draft.items (document_rules draft);
+      items = first_items path draft.items;
       queue = [];
       programs = programs_by read (sources_of draft);
       handlers = handlers_by read (sources_of draft);

@@ -1,6 +1,6 @@
 -- A device of the proofs: what is kept of a document that is wanted, and what comes of its load, whatever the
 -- store stands for.
-use Rattle.std.specs.Prelude.{◌≡◌, ◌==◌, ◌&&◌, Bool, true, false, if◌then◌else◌, ℕ, List, [], ◌++◌, slice_get, Option, Some, None, Result, Ok, Err}
+use Rattle.std.specs.Prelude.{◌≡◌, ◌==◌, ◌&&◌, Bool, true, false, if◌then◌else◌, ℕ, List, [], ◌∷◌, ◌++◌, slice_get, Option, Some, None, Result, Ok, Err}
 use Rattle.bml_reader.specs.declared.faults.DocFault.{DocFault}
 use Rattle.carousel_blocks.specs.declared.changes.Change.{Change}
 use Rattle.multipart_entities.specs.declared.paths.Path.{Path}
@@ -59,6 +59,12 @@ wanted_anew loading = loading
 abbrev pub loading_behind : ℕ → Change → Loading → Loading
 loading_behind component change loading =
     if is_told_by component change loading then wanted_anew loading else loading
+
+-- and so behind several changes, each with its component
+abbrev pub loading_behind_all : List (ℕ × Change) → Loading → Loading
+loading_behind_all [] loading = loading
+loading_behind_all (change ∷ changes) loading =
+    loading_behind_all changes (loading_behind change.0 change.1 loading)
 
 -- ---- a load
 

@@ -12,7 +12,8 @@ use Rattle.acting_documents.specs.Documents.{Document}
 use Rattle.acting_documents.specs.Kept.{IsDocument, KeptDocument}
 use Rattle.acting_documents.specs.Beginnings.{load_effect}
 use Rattle.page.specs.Acts.{Acts}
-use Rattle.page.specs.Pendings.{IsCurrent, loading_behind, wanted_of}
+use Rattle.page.specs.Inputs.{changes_step}
+use Rattle.page.specs.Pendings.{IsCurrent, loading_behind, loading_behind_all, wanted_of}
 use Rattle.page.specs.State.{State, Step, still}
 use Rattle.page.specs.declared.loading.Load.{Load}
 use Rattle.page.specs.declared.loading.Load.TheVariants as came
@@ -38,14 +39,20 @@ AreDocuments (Some kept) (Some d) = IsDocument kept d
 AreDocuments None (Some d) = ⊥
 AreDocuments (Some kept) None = ⊥
 
--- The page is in this state. What it has read of a document that waits is what the store has of it.
-pub record StandsFor (page : PageState) (stored : Stored) (s : State) : Type 0 where
+-- The page is in this state, and these changes in the store, each with its component, are still to be posted to it. What
+-- it has read of a document that waits is what the store has of it, unless one of them is of its module.
+pub record StandsAmid (page : PageState) (stored : Stored) (changes : List (ℕ × Change)) (s : State)
+    : Type 0 where
   pub reader : IsReader s.read
   pub document : AreDocuments page.document s.document
   pub wanted : wanted_of page.loading ≡ s.wanted
-  pub current : IsCurrent stored page.loading
+  pub current : IsCurrent stored (loading_behind_all changes page.loading)
   pub clock : page.clock ≡ s.clock
   pub browser : page.browser ≡ s.browser
+
+-- The page is in this state, and each change in the store was posted.
+abbrev pub StandsFor : PageState → Stored → State → Type 0
+StandsFor page stored s = StandsAmid page stored [] s
 
 -- the persistent area
 abbrev pub page_area : PageState → List ℕ
@@ -69,6 +76,29 @@ pub record Makes (step : State → Step) (old new : PageState) (before after : L
   pub printed : after ≡ before ++ text
   pub makes : (stored : Stored) (s : State) → StandsFor old stored s
       → HasMade new stored text (step s)
+
+-- The same amid changes that are still to be posted, and are so behind it.
+pub record HasMadeAmid (page : PageState) (stored : Stored) (changes : List (ℕ × Change))
+    (text : List ℕ) (t : Step) : Type 0 where
+  pub stands : StandsAmid page stored changes t.state
+  pub text_is : text ≡ t.text
+
+pub record MakesAmid (step : State → Step) (old new : PageState) (before after : List ℕ)
+    : Type 0 where
+  pub text : List ℕ
+  pub printed : after ≡ before ++ text
+  pub makes : (stored : Stored) (changes : List (ℕ × Change)) (s : State)
+      → StandsAmid old stored changes s → HasMadeAmid new stored changes text (step s)
+
+-- A text was printed, and whatever state the page was in, with these changes and others behind them still to be posted,
+-- it has made the steps of these, and the others are still to be posted.
+pub record Posts (posted : List (ℕ × Change)) (old new : PageState) (before after : List ℕ)
+    : Type 0 where
+  pub text : List ℕ
+  pub printed : after ≡ before ++ text
+  pub makes : (stored : Stored) (changes : List (ℕ × Change)) (s : State)
+      → StandsAmid old stored (posted ++ changes) s
+      → HasMadeAmid new stored changes text (changes_step posted s)
 
 -- The same of a step that looks at what the store has.
 pub record MakesWith (store : StoreState) (step : Stored → State → Step) (old new : PageState)
@@ -146,8 +176,3 @@ TakesLoad (came.Loaded first) made old new before after =
 abbrev pub behind_change : ℕ → Change → PageState → PageState
 behind_change component change page =
     record page { loading = loading_behind component change page.loading }
-
--- and behind several, each with its component
-abbrev pub behind_all : List (ℕ × Change) → PageState → PageState
-behind_all [] page = page
-behind_all (change ∷ changes) page = behind_all changes (behind_change change.0 change.1 page)

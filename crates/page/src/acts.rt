@@ -4,13 +4,15 @@
 ghost use Rattle.std.specs.Io.{StartsWith};
 ghost use Rattle.std.specs.Prelude.{◌≡◌, ◌<◌, ◌^◌, None, IfOk, OnOk};
 ghost use Rattle.acting_documents.specs.Beginnings.{load_effect};
-ghost use Rattle.acting_documents.specs.Handling.{due_effect, handled, key_effect};
+ghost use Rattle.acting_documents.specs.Handling.{change_effect, due_effect, handled, key_effect, message_effect};
 ghost use Rattle.page.specs.Acts.{Acts, ActsLent, GivesWay};
 
 use acting_documents::ActingDocument;
 use bml_bytes::NoMemory;
 use browser_objects::BrowserState;
+use event_messages::Message;
 use event_queue::Event;
+use module_store::Change;
 use multipart_entities::Path;
 
 /// Begins a document that was loaded. Answers the path of the document that it launched, if it
@@ -106,6 +108,48 @@ pub fn post_key(
 {
     document.exchange(browser, clock);
     let posted = document.post_key(code, down, out);
+    document.exchange(browser, clock);
+    posted
+}
+
+/// A message of a component comes to the event items of a document.
+#[tactic(auto, using(crate::proofs::ActLemmas::message_launches))]
+pub fn post_message(
+    document: &mut ActingDocument,
+    browser: &mut BrowserState,
+    clock: u64,
+    component: u8,
+    message: &Message,
+    out: &mut Vec<u8>,
+) -> Result<(), NoMemory>
+    requires { clock < 2 ^ 62 }
+    ensures acts { OnOk result (Acts (message_effect component message.now) None clock
+        document.old document.new browser.old browser.new out.old.items out.new.items) }
+    ensures grows { StartsWith out.new.items out.old.items }
+{
+    document.exchange(browser, clock);
+    let posted = document.post_message(component, message, out);
+    document.exchange(browser, clock);
+    posted
+}
+
+/// A module of a component changed, of which the event items of a document are told.
+#[tactic(auto, using(crate::proofs::ActLemmas::change_launches))]
+pub fn post_change(
+    document: &mut ActingDocument,
+    browser: &mut BrowserState,
+    clock: u64,
+    component: u8,
+    change: &Change,
+    out: &mut Vec<u8>,
+) -> Result<(), NoMemory>
+    requires { clock < 2 ^ 62 }
+    ensures acts { OnOk result (Acts (change_effect component change.now) None clock
+        document.old document.new browser.old browser.new out.old.items out.new.items) }
+    ensures grows { StartsWith out.new.items out.old.items }
+{
+    document.exchange(browser, clock);
+    let posted = document.post_change(component, change, out);
     document.exchange(browser, clock);
     posted
 }

@@ -1,22 +1,22 @@
 //! The page: what becomes of the documents that come, and of keys and the clock.
 
 ghost use Rattle.std.specs.Io.{StartsWith};
-ghost use Rattle.std.specs.Prelude.{◌≡◌, ◌<◌, ◌^◌, ◌++◌, ℕ, List, [], false, true, IfOk, IsErr, OnErr, OnOk, is_err};
+ghost use Rattle.std.specs.Prelude.{◌≡◌, ◌<◌, ◌^◌, ◌∷◌, ◌++◌, ℕ, List, [], false, true, IfOk, IsErr, OnErr, OnOk, is_err};
 ghost use Rattle.es_reader.specs.Readers.{Reader, IsReader};
 ghost use Rattle.event_queue.specs.Timers.{least_moment};
 ghost use Rattle.module_store.specs.Store.{Stored};
 ghost use Rattle.page.specs.Dispatches.{dispatch as spec_dispatch, next_event, next_load, turn as spec_turn};
-ghost use Rattle.page.specs.Inputs.{display_of, due_step, key_step, with_random};
-ghost use Rattle.module_store.specs.Lines.{line_of_change};
-ghost use Rattle.page.specs.Standing.{Begins, IsSpent, Makes, MakesWith, MayMake, MayMakeHere, StandsFor, TakesLoad, behind_change, behind_launch, page_area};
+ghost use Rattle.page.specs.Inputs.{change_step, display_of, due_step, key_step, message_step, with_random};
+ghost use Rattle.page.specs.Standing.{Begins, IsSpent, Makes, MakesAmid, MakesWith, MayMake, MayMakeHere, Posts, StandsFor, TakesLoad, behind_launch, page_area};
 ghost use Rattle.page.specs.State.{State, opening};
 
-use crate::acts::{begin, handle, post_due, post_key};
+use crate::acts::{begin, handle, post_change, post_due, post_key, post_message};
 use crate::loading::{Load, Loading};
 use acting_documents::ActingDocument;
 use bml_bytes::{AreaBytes, NoMemory, law_of_fronts};
 use browser_objects::BrowserState;
 use display_list::push_clock_line;
+use event_messages::Message;
 use event_queue::Timers;
 use module_store::{Change, Store, push_change_line};
 use multipart_entities::Path;
@@ -83,19 +83,19 @@ impl Page {
         })
     }
 
-    /// Takes a change in a module of a component, and appends its line. Nothing is posted for it.
+    /// Takes a change in a module of a component: appends its line, and posts the events of the event
+    /// items that are told of it. Those behind it are still to be posted.
     pub fn post_change(
         &mut self,
         component: u8,
         change: &Change,
         out: &mut Vec<u8>,
     ) -> Result<(), NoMemory>
-        ensures told { OnOk result
-            (out.new.items ≡ out.old.items ++ line_of_change component change.now) }
-        ensures behind { OnOk result (self.new ≡ behind_change component change.now self.old) }
+        ensures posted { OnOk result (Posts ((component, change.now) ∷ [])
+            self.old self.new out.old.items out.new.items) }
         ensures clock { self.new.clock ≡ self.old.clock }
-        ensures browser { self.new.browser ≡ self.old.browser }
         ensures grows { StartsWith out.new.items out.old.items }
+        ensures unspent { OnOk result (self.new.spent ≡ false) }
         ensures spent { OnErr result (IsSpent self.new) }
         ensures after_spent { IsSpent self.old → IsErr result }
     {
@@ -103,13 +103,76 @@ impl Page {
             return Err(NoMemory);
         }
         self.loading.follow(component, change);
-        let told = push_change_line(component, change, out);
+        let told = self.tell_change(component, change, out);
         self.spent_by(told)
     }
 
+    // Appends the line of a change, and posts the events of the event items that are told of it.
+    fn tell_change(
+        &mut self,
+        component: u8,
+        change: &Change,
+        out: &mut Vec<u8>,
+    ) -> Result<(), NoMemory>
+        ensures told { OnOk result (MakesAmid (change_step component change.now)
+            self.old self.new out.old.items out.new.items) }
+        ensures clock { self.new.clock ≡ self.old.clock }
+        ensures spent { self.new.spent ≡ self.old.spent }
+        ensures grows { StartsWith out.new.items out.old.items }
+    {
+        law_of_fronts();
+        push_change_line(component, change, out)?;
+        match &mut self.document {
+            Some(document) => post_change(
+                document,
+                &mut self.browser,
+                self.clock,
+                component,
+                change,
+                out,
+            ),
+            None => Ok(()),
+        }
+    }
+
+    /// Posts the events of the event items of the document that fire for a message of a component, in
+    /// document order. A post where 256 events wait is lost, which a line tells, and its firing isn't
+    /// noted. Nothing is dispatched.
+    pub fn post_message(
+        &mut self,
+        component: u8,
+        message: &Message,
+        out: &mut Vec<u8>,
+    ) -> Result<(), NoMemory>
+        ensures posted { OnOk result (Makes (message_step component message.now)
+            self.old self.new out.old.items out.new.items) }
+        ensures clock { self.new.clock ≡ self.old.clock }
+        ensures grows { StartsWith out.new.items out.old.items }
+        ensures unspent { OnOk result (self.new.spent ≡ false) }
+        ensures spent { OnErr result (IsSpent self.new) }
+        ensures after_spent { IsSpent self.old → IsErr result }
+    {
+        if self.spent {
+            return Err(NoMemory);
+        }
+        let Some(document) = &mut self.document else {
+            return Ok(());
+        };
+        let posted = post_message(
+            document,
+            &mut self.browser,
+            self.clock,
+            component,
+            message,
+            out,
+        );
+        self.spent_by(posted)
+    }
+
     /// Posts what a key does that is pressed (`down`) or released: where the used-key-list of the
-    /// document's body has the key's group, `keydown` and then `default`, or `keyup`. A post where
-    /// 256 events wait is lost, which a line tells. Nothing is dispatched.
+    /// document's body has the key's group, `keydown` and then `default`, or `keyup`; and behind the
+    /// data button the events of the event items that are told of it. A post where 256 events wait is
+    /// lost, which a line tells. Nothing is dispatched.
     pub fn post_key(&mut self, code: u8, down: bool, out: &mut Vec<u8>) -> Result<(), NoMemory>
         ensures posted { OnOk result
             (Makes (key_step code down) self.old self.new out.old.items out.new.items) }

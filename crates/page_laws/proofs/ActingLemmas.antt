@@ -19,13 +19,15 @@ use Rattle.es_values.specs.declared.hosts.HostAnswer.TheVariants.{Value as Answe
 use Rattle.es_values.specs.declared.values.HostRef.{HostRef}
 use Rattle.es_values.specs.declared.values.HostRef.TheVariants as ref
 use Rattle.es_values.specs.declared.values.Value.{Value}
-use Rattle.es_values.specs.declared.values.Value.TheVariants.{Undefined, Host, Str}
+use Rattle.es_values.specs.declared.values.Value.TheVariants.{Bool as Truth, Undefined, Host, Str}
 use Rattle.es_values.specs.Conversions.{text_of}
 use Rattle.es_values.specs.Objects.{ObjectState}
+use Rattle.es_values.specs.Values.{truth_of}
 use Rattle.event_queue.specs.Queues.{most_events}
 use Rattle.event_queue.specs.Timers.{TimersState, first_due, most_timers, with_fired, with_settled}
 use Rattle.event_queue.specs.declared.events.Event.{Event}
 use Rattle.event_queue.specs.declared.events.Event.TheVariants as events
+use Rattle.event_items.specs.Subscriptions.{is_subscribed, with_subscribed}
 use Rattle.browser_objects.specs.Calls.{BrowserParts, Called, call_of}
 use Rattle.browser_objects.specs.Registers.{register_text}
 use Rattle.browser_objects.specs.declared.effects.Effect as of_browser
@@ -34,10 +36,11 @@ use Rattle.dom_objects.specs.Reads.{read_value}
 use Rattle.dom_objects.specs.Writes.{Change, change_of, changed_items, changed_tree}
 use Rattle.dom_objects.specs.Writes.Change.{NoChange, ChangesText, ChangesAttribute, ChangesStyle}
 use Rattle.dom_objects.specs.declared.current_events.CurrentEvent.{CurrentEvent}
-use Rattle.document_stages.specs.Acting.{Acting, Answered, acted, acting_with_timers, activated, begun, browser_call, browser_value, called, document_call, done_for, due_posted, element_call, first_argument, first_focus, focus_on, focused, gives, is_unload, key_posts, launch, left_by, moved_to, no_focus, node_id, not_callable, parts_of, posted, posted_for, read_by, register_value, timer_fired, timer_posted, timer_settled, timers_fired, with_browser, with_focus, with_line, written}
+use Rattle.document_stages.specs.Acting.{Acting, Answered, acted, acting_with_timers, activated, begun, browser_call, browser_value, called, document_call, done_for, due_posted, element_call, first_argument, first_focus, focus_on, focused, gives, is_subscription, is_unload, launch, left_by, moved_to, no_focus, node_id, node_read, node_written, not_callable, parts_of, posted, posted_for, read_by, register_value, text_written, timer_fired, timer_posted, timer_settled, timers_fired, with_browser, with_focus, with_line, written}
 use Rattle.document_stages.specs.EventLines.{kept_line, launch_line, sound_line}
 use Rattle.page_laws.specs.Soundness.{AreTimers, has_element, has_node, is_good, is_good_event, is_good_place, names_well}
 use Rattle.page_laws.proofs.BrowserLemmas.{call-good}
+use Rattle.page_laws.proofs.EventItemLemmas.{AreGoodItems, subscribed-good}
 use Rattle.page_laws.proofs.ItemLemmas.{changed-tree}
 use Rattle.page_laws.proofs.QueueLemmas.{posted-all, posted-room}
 use Rattle.page_laws.proofs.ReadLemmas.{HangBefore, IsGiven, has_target, id-given, is_given, value-given}
@@ -73,6 +76,7 @@ pub record IsGoodQueue (items : List Item) (queue : List Event) : Type 0 where
 pub record IsSoundActing (items : List Item) (a : Acting) : Type 0 where
   pub nodes : AreAsFirst items a.tree.items
   pub focus : IsGoodFocus items a.tree.focus
+  pub event_items : AreGoodItems items a.items
   pub queue : IsGoodQueue items a.queue
   pub timers : AreTimers a.browser.timers
   pub target : has_target items a.event ≡ true
@@ -136,6 +140,10 @@ pub event-same : (items now : List Item) → AreAsFirst items now → (event : E
 event-same items now n (events.Focus node) = element-same items now n node
 event-same items now n (events.Blur node) = element-same items now n node
 event-same items now n (events.Click node) = element-same items now n node
+event-same items now n (events.Fired node component message) = element-same items now n node
+event-same items now n (events.Updated node status) = element-same items now n node
+event-same items now n (events.Locked node status) = element-same items now n node
+event-same items now n (events.Button node) = element-same items now n node
 event-same items now n _ = refl
 
 module _ (laws : TreeLaws) (items : List Item) where
@@ -149,6 +157,7 @@ module _ (laws : TreeLaws) (items : List Item) where
   posted-sound event a h s = record {
     nodes = s.nodes;
     focus = s.focus;
+    event_items = s.event_items;
     queue = record {
       room = posted-room event a.queue s.queue.room;
       events = posted-all (λ e. is_good_event items e ≡ true) event a.queue h s.queue.events;
@@ -163,6 +172,7 @@ module _ (laws : TreeLaws) (items : List Item) where
       record {
         nodes = s.nodes;
         focus = h;
+        event_items = s.event_items;
         queue = s.queue;
         timers = s.timers;
         target = s.target;
@@ -226,12 +236,6 @@ module _ (laws : TreeLaws) (items : List Item) where
   acted-sound (Accesses node) a h s =
       posted-sound (events.Click node) (moved_to node a) h (moved-sound node a h s)
 
-  pub keys-sound : (down : Bool) (key : ℕ) (a : Acting) → IsSoundActing items a
-      → IsSoundActing items (key_posts down key a)
-  keys-sound true key a s =
-      posted-sound (events.Default key) _ refl (posted-sound (events.KeyDown key) a refl s)
-  keys-sound false key a s = posted-sound (events.KeyUp key) a refl s
-
   -- ---- timers
 
   timers-sound : (timers : TimersState) (a : Acting) → AreTimers timers → IsSoundActing items a
@@ -239,6 +243,7 @@ module _ (laws : TreeLaws) (items : List Item) where
   timers-sound timers a h s = record {
     nodes = s.nodes;
     focus = s.focus;
+    event_items = s.event_items;
     queue = s.queue;
     timers = h;
     target = s.target;
@@ -331,6 +336,12 @@ module _ (laws : TreeLaws) (items : List Item) where
       by None = refl
       by (Some text) = refl
 
+  node_read-given : (a : Acting) → IsSoundActing items a → (node : ℕ) (name : List ℕ)
+      → IsGiven items (node_read a node name)
+  node_read-given a s node name =
+      either-given (is_subscription a node name) (Truth (is_subscribed node a.items))
+      (read_value (parts_of a) (ref.Node node) name) refl (part-given a s (ref.Node node) name)
+
   pub read-given : (a : Acting) → IsSoundActing items a → (base : HostRef) (name : List ℕ)
       → IsGiven items (read_by a base name)
   read-given a s ref.Browser name = browser-given name
@@ -338,7 +349,7 @@ module _ (laws : TreeLaws) (items : List Item) where
   read-given a s ref.Greg name = register-given a.browser.greg name
   read-given a s ref.Document name = part-given a s ref.Document name
   read-given a s ref.Event name = part-given a s ref.Event name
-  read-given a s (ref.Node node) name = part-given a s (ref.Node node) name
+  read-given a s (ref.Node node) name = node_read-given a s node name
   read-given a s (ref.Style node state) name = part-given a s (ref.Style node state) name
 
   changed-nodes : (f : Item → Item) (place : ℕ)
@@ -365,6 +376,7 @@ module _ (laws : TreeLaws) (items : List Item) where
   browser-sound browser a h s = record {
     nodes = s.nodes;
     focus = s.focus;
+    event_items = s.event_items;
     queue = s.queue;
     timers = h;
     target = s.target;
@@ -376,21 +388,61 @@ module _ (laws : TreeLaws) (items : List Item) where
   tree-sound a s base name text = record {
     nodes = written-nodes (change_of a.tree.items base name text) a.tree.items s.nodes;
     focus = s.focus;
+    event_items = s.event_items;
     queue = s.queue;
     timers = s.timers;
     target = s.target;
   }
 
-  pub written-sound : (a : Acting) → IsSoundActing items a → (base : HostRef)
-      (name text : List ℕ) → IsSoundActing items (written a base name text)
-  written-sound a s ref.Ureg name text = browser-sound _ a s.timers s
-  written-sound a s ref.Greg name text = browser-sound _ a s.timers s
-  written-sound a s ref.Browser name text = tree-sound a s ref.Browser name text
-  written-sound a s ref.Document name text = tree-sound a s ref.Document name text
-  written-sound a s ref.Event name text = tree-sound a s ref.Event name text
-  written-sound a s (ref.Node node) name text = tree-sound a s (ref.Node node) name text
-  written-sound a s (ref.Style node state) name text =
+  text-sound : (a : Acting) → IsSoundActing items a → (base : HostRef) (name text : List ℕ)
+      → IsSoundActing items (text_written a base name text)
+  text-sound a s ref.Ureg name text = browser-sound _ a s.timers s
+  text-sound a s ref.Greg name text = browser-sound _ a s.timers s
+  text-sound a s ref.Browser name text = tree-sound a s ref.Browser name text
+  text-sound a s ref.Document name text = tree-sound a s ref.Document name text
+  text-sound a s ref.Event name text = tree-sound a s ref.Event name text
+  text-sound a s (ref.Node node) name text = tree-sound a s (ref.Node node) name text
+  text-sound a s (ref.Style node state) name text =
       tree-sound a s (ref.Style node state) name text
+
+  subscribed-sound : (node : ℕ) (truth : Bool) (a : Acting) → IsSoundActing items a
+      → IsSoundActing items (record a { items = with_subscribed node truth a.items })
+  subscribed-sound node truth a s = record {
+    nodes = s.nodes;
+    focus = s.focus;
+    event_items = subscribed-good items node truth a.items s.event_items;
+    queue = s.queue;
+    timers = s.timers;
+    target = s.target;
+  }
+
+  node-sound : (a : Acting) → IsSoundActing items a → (node : ℕ) (name : List ℕ)
+      (value : Value) (heap : List ObjectState)
+      → IsSoundActing items (node_written a node name value heap)
+  node-sound a s node name value heap = by (is_subscription a node name)
+    where
+      by : (t : Bool) → IsSoundActing items
+          (if t then record a { items = with_subscribed node (truth_of value) a.items }
+          else text_written a (ref.Node node) name (text_of heap value))
+      by true = subscribed-sound node (truth_of value) a s
+      by false = text-sound a s (ref.Node node) name (text_of heap value)
+
+  pub written-sound : (a : Acting) → IsSoundActing items a → (base : HostRef) (name : List ℕ)
+      (value : Value) (heap : List ObjectState)
+      → IsSoundActing items (written a base name value heap)
+  written-sound a s (ref.Node node) name value heap = node-sound a s node name value heap
+  written-sound a s ref.Ureg name value heap =
+      text-sound a s ref.Ureg name (text_of heap value)
+  written-sound a s ref.Greg name value heap =
+      text-sound a s ref.Greg name (text_of heap value)
+  written-sound a s ref.Browser name value heap =
+      text-sound a s ref.Browser name (text_of heap value)
+  written-sound a s ref.Document name value heap =
+      text-sound a s ref.Document name (text_of heap value)
+  written-sound a s ref.Event name value heap =
+      text-sound a s ref.Event name (text_of heap value)
+  written-sound a s (ref.Style node state) name value heap =
+      text-sound a s (ref.Style node state) name (text_of heap value)
 
   -- ---- what scripts call
 
@@ -444,6 +496,7 @@ module _ (laws : TreeLaws) (items : List Item) where
     line-sound line launched a s = record {
       nodes = s.nodes;
       focus = s.focus;
+      event_items = s.event_items;
       queue = s.queue;
       timers = s.timers;
       target = s.target;

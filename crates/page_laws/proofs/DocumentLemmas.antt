@@ -6,6 +6,7 @@ use Rattle.std.proofs.lemmas.Bool.{lt-ltb}
 use Rattle.std.proofs.lemmas.List.Elements.{All-nil, All-weaker}
 use Rattle.dom_tree.specs.Items.{Item}
 use Rattle.dom_tree.specs.Walks.{IsTree, places}
+use Rattle.carousel_blocks.specs.declared.changes.Change.{Change}
 use Rattle.multipart_entities.specs.declared.paths.Path.{Path}
 use Rattle.style_cascade.specs.StyledTrees.{StyledTree}
 use Rattle.focus_keys.specs.Defaults.{action_of}
@@ -17,6 +18,7 @@ use Rattle.es_values.specs.Objects.{ObjectState}
 use Rattle.es_eval.specs.Evaluation.{global_run, run_at, world}
 use Rattle.es_shapes.specs.Sources.{program_of}
 use Rattle.es_eval.specs.Worlds.{Run, World}
+use Rattle.event_messages.specs.declared.messages.Message.{Message}
 use Rattle.event_queue.specs.Events.{name_of}
 use Rattle.event_queue.specs.Timers.{Timer, timer_of}
 use Rattle.event_queue.specs.declared.events.Event.{Event}
@@ -26,15 +28,17 @@ use Rattle.dom_objects.specs.declared.current_events.CurrentEvent.{CurrentEvent}
 use Rattle.es_reader.specs.Readers.{Reader}
 use Rattle.script_laws.specs.Passing.{HeapPasses, ObjectPasses}
 use Rattle.script_laws.specs.Staying.{AreFit, StaysWithin}
-use Rattle.document_stages.specs.Acting.{Acting, acted, begun, due_posted, first_focus, key_posts}
+use Rattle.document_stages.specs.Acting.{Acting, acted, begun, change_posts, due_posted, first_focus, key_posts, message_posts}
 use Rattle.acting_documents.specs.Documents.{Document, body_of, handler_in, is_body, passes}
-use Rattle.acting_documents.specs.Handling.{body_in, deactivated, default_action, due_effect, focus_of, handled, handled_at, key_effect, kind_of, run_handler, timer_effect, timer_taken}
+use Rattle.acting_documents.specs.Handling.{body_in, change_effect, deactivated, default_action, due_effect, focus_of, handled, handled_at, key_effect, kind_of, message_effect, run_handler, timer_effect, timer_taken}
 use Rattle.acting_documents.specs.Beginnings.{begin, load_effect, run_scripts, script_places}
 use Rattle.page.specs.Loading.{opened}
 use Rattle.acting_documents.specs.Runs.{Effect, Scene, acting_in, and_then, done, effect_of_end, ended, most_steps, no_event, nothing_done, run_function, run_program, unless_launched, with_acting, with_world}
 use Rattle.page_laws.specs.Soundness.{AreTimers, IsGoodHandler, IsSoundDocument, is_good, is_good_event, is_good_in, is_good_place, limit_of}
-use Rattle.page_laws.proofs.ActingLemmas.{IsSoundActing, TreeLaws, acted-sound, begun-sound, due-sound, element-same, event-same, good-same, keys-sound, place-same}
+use Rattle.page_laws.proofs.ActingLemmas.{IsSoundActing, TreeLaws, acted-sound, begun-sound, due-sound, element-same, event-same, good-same, place-same}
+use Rattle.page_laws.proofs.EventItemLemmas.{AreGoodItems, ItemNodes, first-good, moved-good}
 use Rattle.page_laws.proofs.HandlerLemmas.{read-handlers}
+use Rattle.page_laws.proofs.ItemPostLemmas.{changes-sound, keys-sound, messages-sound}
 use Rattle.page_laws.proofs.ReadLemmas.{has_target, place-below}
 use Rattle.page_laws.proofs.RunLemmas.{EndsSound, RunsStay, own-pass, run-sound}
 use Rattle.page_laws.proofs.TargetLemmas.{action-good}
@@ -65,12 +69,17 @@ items_of scene = scene.document.tree.items
 abbrev is_good_here : Scene → Value → Bool
 is_good_here scene = is_good_in scene.document
 
+-- what it keeps of its event items
+items-first : (d : Document) → IsSoundDocument d → AreGoodItems d.tree.items d.items
+items-first d s = record { items = s.items; subscribed = s.subscribed; fired = s.fired }
+
 acting-first : (scene : Scene) (event : CurrentEvent) → IsSoundScene scene
     → has_target (items_of scene) event ≡ true
     → IsSoundActing (items_of scene) (acting_in event scene)
 acting-first scene event s h = record {
   nodes = record { tree = s.document.tree; count = refl; tags = λ node. refl };
   focus = record { has = s.document.focus; active = s.document.active };
+  event_items = items-first scene.document s.document;
   queue = record { room = s.document.room; events = s.document.events };
   timers = s.timers;
   target = h;
@@ -94,6 +103,9 @@ document-left : (scene : Scene) (a : Acting) (w : World) → IsSoundDocument sce
 document-left scene a w before s fit =
     let d : Document = scene.document in
     let same = λ (value : Value). good-same d.tree.items a.tree.items s.nodes (limit_of d) value in
+    let kept : AreGoodItems a.tree.items a.items =
+    moved-good d.tree.items a.tree.items s.nodes.count
+    (element-same d.tree.items a.tree.items s.nodes) a.items s.event_items in
     record {
       tree = s.nodes.tree;
       focus = place-same d.tree.items a.tree.items s.nodes _ ∙ s.focus.has;
@@ -102,6 +114,9 @@ document-left scene a w before s fit =
       events = All-weaker (λ event. is_good_event d.tree.items event ≡ true)
           (λ event. is_good_event a.tree.items event ≡ true)
           (λ event h. event-same d.tree.items a.tree.items s.nodes event ∙ h) a.queue s.queue.events;
+      items = kept.items;
+      subscribed = kept.subscribed;
+      fired = kept.fired;
       handlers = All-weaker (IsGoodHandler d.tree.items (length d.programs))
           (IsGoodHandler a.tree.items (length d.programs))
           (λ handler good. record {
@@ -152,16 +167,20 @@ then-sound more keeps e s = by e.launched
     by (Some path) = s
 
 -- a document before its scripts run
-pub opened-sound : (read : Reader) (path : Path) (draft : DraftState) → IsTree draft.items
-    → IsSoundDocument (opened read path draft)
-opened-sound read path draft tree =
+pub opened-sound : ItemNodes → (read : Reader) (path : Path) (draft : DraftState)
+    → IsTree draft.items → IsSoundDocument (opened read path draft)
+opened-sound law read path draft tree =
     let d : Document = opened read path draft in
+    let kept : AreGoodItems draft.items d.items = first-good law path draft.items in
     record {
       tree = tree;
       focus = refl;
       active = refl;
       room = omega arith;
       events = All-nil (λ event. is_good_event draft.items event ≡ true);
+      items = kept.items;
+      subscribed = kept.subscribed;
+      fired = kept.fired;
       handlers = read-handlers read draft;
       globals = All-nil (λ (global : List ℕ × Value). is_good_in d global.1 ≡ true);
       properties = All-nil (ObjectPasses (is_good_in d));
@@ -248,6 +267,9 @@ module _ (laws : TreeLaws) (stay : RunsStay) where
       active = refl;
       room = s.document.room;
       events = s.document.events;
+      items = s.document.items;
+      subscribed = s.document.subscribed;
+      fired = s.document.fired;
       handlers = s.document.handlers;
       globals = s.document.globals;
       properties = s.document.properties;
@@ -314,8 +336,30 @@ module _ (laws : TreeLaws) (stay : RunsStay) where
       by false = handled_at-sound (focus_of scene) (events.KeyUp key) scene s (focus-below scene s)
   handled-sound (events.Default key) scene s h = default-sound key scene s
   handled-sound (events.Timer number) scene s h = timer-sound number scene s
+  handled-sound (events.Fired item component message) scene s h =
+      handler-sound (events.Fired item component message) item scene s (named-node scene item h)
+  handled-sound (events.Updated item status) scene s h =
+      handler-sound (events.Updated item status) item scene s (named-node scene item h)
+  handled-sound (events.Locked item status) scene s h =
+      handler-sound (events.Locked item status) item scene s (named-node scene item h)
+  handled-sound (events.Button item) scene s h =
+      handler-sound (events.Button item) item scene s (named-node scene item h)
 
-  -- ---- keys and moments
+  -- ---- messages, changes of modules, keys and moments
+
+  pub message-sound : (component : ℕ) (message : Message) (scene : Scene) → IsSoundScene scene
+      → IsSoundScene (message_effect component message scene).scene
+  unfolding message_effect
+  message-sound component message scene s =
+      done-sound (message_posts component message) scene s
+      (λ h. messages-sound laws (items_of scene) component message (acting_in no_event scene) h)
+
+  pub change-sound : (component : ℕ) (change : Change) (scene : Scene) → IsSoundScene scene
+      → IsSoundScene (change_effect component change scene).scene
+  unfolding change_effect
+  change-sound component change scene s =
+      done-sound (change_posts component change) scene s
+      (λ h. changes-sound laws (items_of scene) component change (acting_in no_event scene) h)
 
   pub key-sound : (key : ℕ) (down : Bool) (scene : Scene) → IsSoundScene scene
       → IsSoundScene (key_effect key down scene).scene

@@ -1,14 +1,18 @@
 -- What handlers act on goes on to have timers that are due later than the clock.
-use Rattle.std.proofs.Common.{◌≡◌, ℕ, Bool, true, false, List, Option, Some, None, sym, subst}
-use Rattle.std.specs.Prelude.{codes, if◌then◌else◌, is_some}
+use Rattle.std.proofs.Common.{◌≡◌, ℕ, Bool, true, false, List, [], ◌∷◌, Option, Some, None, sym, subst}
+use Rattle.std.specs.Prelude.{◌==◌, codes, if◌then◌else◌, is_some}
+use Rattle.std.specs.Option.{option_map_or}
 use Rattle.bml_bytes.specs.Words.{is_same}
 use Rattle.dom_tree.specs.Items.{tag_of}
 use Rattle.dom_tree.specs.NodeNumbers.{number_of}
+use Rattle.carousel_blocks.specs.declared.changes.Change.{Change}
 use Rattle.multipart_entities.specs.declared.paths.Path.{Path}
 use Rattle.style_cascade.specs.States.{is_node}
 use Rattle.focus_keys.specs.Defaults.{Action}
 use Rattle.focus_keys.specs.Defaults.Action.{NoAction, Moves, Activates, Accesses}
+use Rattle.focus_keys.specs.KeyTables.{key_number}
 use Rattle.focus_keys.specs.Targets.{can_have_focus}
+use Rattle.focus_keys.specs.declared.keys.Key.TheVariants.{Data}
 use Rattle.es_values.specs.declared.values.HostRef.{HostRef}
 use Rattle.es_values.specs.declared.values.HostRef.TheVariants as ref
 use Rattle.es_values.specs.declared.values.Value.{Value}
@@ -16,13 +20,17 @@ use Rattle.es_values.specs.Conversions.{text_of}
 use Rattle.es_values.specs.Objects.{ObjectState}
 use Rattle.es_eval.specs.Worlds.{Run}
 use Rattle.es_eval.specs.Worlds.Run.{Over, Reads, Writes, Calls}
+use Rattle.event_messages.specs.declared.messages.Message.{Message}
 use Rattle.event_queue.specs.declared.events.Event.{Event}
 use Rattle.event_queue.specs.declared.events.Event.TheVariants as events
+use Rattle.event_items.specs.EventItems.{EventItem}
+use Rattle.event_items.specs.Subscriptions.{fires_for_message}
 use Rattle.browser_objects.specs.Calls.{BrowserParts, Called, call_of}
 use Rattle.browser_objects.specs.declared.effects.Effect as of_browser
 use Rattle.browser_objects.specs.declared.effects.Effect.TheVariants as effects
-use Rattle.document_stages.specs.Acting.{Acting, Answered, acted, begun, browser_call, called, done_for, element_call, focus_on, focused, is_unload, key_posts, launch, left_by, moved_to, posted_for, read_by, with_browser, with_focus, written}
+use Rattle.document_stages.specs.Acting.{Acting, Answered, acted, begun, browser_call, button_posts, button_post, called, change_posts, done_for, each_item, element_call, fired, focus_on, focused, has_room, is_subscription, is_unload, key_posts, launch, left_by, message_posts, message_post, module_post, moved_to, node_written, posted, posted_for, posted_where, pressed, read_by, text_written, with_browser, with_focus, written}
 use Rattle.acting_documents.specs.Runs.{ended}
+use Rattle.page_laws.proofs.EventItemLemmas.{told_in_turn}
 use Rattle.page_laws.proofs.LaterLemmas.{LaterThan, call-later}
 
 -- the time is that of the clock, and these timers of the browser are due later
@@ -38,6 +46,57 @@ module _ (clock : ℕ) where
       → P (if t then one else other)
   either P true one other h more = h
   either P false one other h more = more
+
+  -- ---- event items
+
+  abbrev KeepsTimely : (EventItem → Acting → Acting) → Type 0
+  KeepsTimely step =
+      (item : EventItem) (a : Acting) → ActsTimely clock a → ActsTimely clock (step item a)
+
+  in_turn-timely : (step : EventItem → Acting → Acting) → KeepsTimely step
+      → (told : List EventItem) (a : Acting) → ActsTimely clock a
+      → ActsTimely clock (told_in_turn step told a)
+  in_turn-timely step keeps [] a h = h
+  in_turn-timely step keeps (item ∷ told) a h =
+      in_turn-timely step keeps told (step item a) (keeps item a h)
+
+  each-timely : (step : EventItem → Acting → Acting) → KeepsTimely step → (a : Acting)
+      → ActsTimely clock a → ActsTimely clock (each_item step a)
+  each-timely step keeps a h = in_turn-timely step keeps a.items.items a h
+
+  where-timely : (t : Bool) (event : Event) (a : Acting) → ActsTimely clock a
+      → ActsTimely clock (posted_where t event a)
+  where-timely t event a h = either (ActsTimely clock) t (posted event a) a h h
+
+  told-timely : (component : ℕ) (message : Message)
+      → KeepsTimely (message_post component message)
+  told-timely component message item a h =
+      either (ActsTimely clock) (fires_for_message component message a.items item)
+      (fired component message item.node a) a
+      (either (ActsTimely clock) (has_room a) _ _ h h) h
+
+  pub messages-timely : (component : ℕ) (message : Message) (a : Acting) → ActsTimely clock a
+      → ActsTimely clock (message_posts component message a)
+  unfolding message_posts
+  messages-timely component message a h =
+      each-timely (message_post component message) (told-timely component message) a h
+
+  pub changes-timely : (component : ℕ) (change : Change) (a : Acting) → ActsTimely clock a
+      → ActsTimely clock (change_posts component change a)
+  unfolding change_posts
+  changes-timely component change a h = by change.status
+    where
+      by : (status : Option ℕ) → ActsTimely clock (option_map_or
+          (λ status. each_item (module_post component change.«module» status) a) status a)
+      by None = h
+      by (Some status) =
+          each-timely (module_post component change.«module» status)
+          (λ item b h. where-timely _ (events.Updated item.node status) b h) a h
+
+  button-timely : (a : Acting) → ActsTimely clock a → ActsTimely clock (button_posts a)
+  unfolding button_posts
+  button-timely a h =
+      each-timely button_post (λ item b h. where-timely _ (events.Button item.node) b h) a h
 
   -- ---- the focus, default actions, keys and beginnings
 
@@ -71,7 +130,9 @@ module _ (clock : ℕ) where
 
   pub keys-timely : (down : Bool) (key : ℕ) (a : Acting) → ActsTimely clock a
       → ActsTimely clock (key_posts down key a)
-  keys-timely true key a h = h
+  keys-timely true key a h =
+      either (ActsTimely clock) (key == key_number Data) (button_posts (pressed key a))
+      (pressed key a) (button-timely (pressed key a) h) h
   keys-timely false key a h = h
 
   pub begun-timely : (node : Option ℕ) (a : Acting) → ActsTimely clock a
@@ -81,15 +142,38 @@ module _ (clock : ℕ) where
 
   -- ---- what scripts write
 
-  written-timely : (a : Acting) (base : HostRef) (name text : List ℕ) → ActsTimely clock a
-      → ActsTimely clock (written a base name text)
-  written-timely a ref.Ureg name text h = record { is_now = h.is_now; timers = h.timers }
-  written-timely a ref.Greg name text h = record { is_now = h.is_now; timers = h.timers }
-  written-timely a ref.Browser name text h = h
-  written-timely a ref.Document name text h = h
-  written-timely a ref.Event name text h = h
-  written-timely a (ref.Node node) name text h = h
-  written-timely a (ref.Style node state) name text h = h
+  text-timely : (a : Acting) (base : HostRef) (name text : List ℕ) → ActsTimely clock a
+      → ActsTimely clock (text_written a base name text)
+  text-timely a ref.Ureg name text h = record { is_now = h.is_now; timers = h.timers }
+  text-timely a ref.Greg name text h = record { is_now = h.is_now; timers = h.timers }
+  text-timely a ref.Browser name text h = h
+  text-timely a ref.Document name text h = h
+  text-timely a ref.Event name text h = h
+  text-timely a (ref.Node node) name text h = h
+  text-timely a (ref.Style node state) name text h = h
+
+  node-timely : (a : Acting) (node : ℕ) (name : List ℕ) (value : Value)
+      (heap : List ObjectState) → ActsTimely clock a
+      → ActsTimely clock (node_written a node name value heap)
+  node-timely a node name value heap h =
+      either (ActsTimely clock) (is_subscription a node name) _ _ h h
+
+  written-timely : (a : Acting) (base : HostRef) (name : List ℕ) (value : Value)
+      (heap : List ObjectState) → ActsTimely clock a
+      → ActsTimely clock (written a base name value heap)
+  written-timely a (ref.Node node) name value heap h = node-timely a node name value heap h
+  written-timely a ref.Ureg name value heap h =
+      text-timely a ref.Ureg name (text_of heap value) h
+  written-timely a ref.Greg name value heap h =
+      text-timely a ref.Greg name (text_of heap value) h
+  written-timely a ref.Browser name value heap h =
+      text-timely a ref.Browser name (text_of heap value) h
+  written-timely a ref.Document name value heap h =
+      text-timely a ref.Document name (text_of heap value) h
+  written-timely a ref.Event name value heap h =
+      text-timely a ref.Event name (text_of heap value) h
+  written-timely a (ref.Style node state) name value heap h =
+      text-timely a (ref.Style node state) name (text_of heap value) h
 
   -- ---- what scripts call
 
@@ -149,8 +233,8 @@ module _ (clock : ℕ) where
   run-timely (Over outcome w) a h = h
   run-timely (Reads base name go) a h = run-timely (go (read_by a base name)) a h
   run-timely (Writes base name value heap go) a h =
-      run-timely go (written a base name (text_of heap value))
-      (written-timely a base name (text_of heap value) h)
+      run-timely go (written a base name value heap)
+      (written-timely a base name value heap h)
   run-timely (Calls base name arguments heap go) a h =
       let c = called a base name arguments heap in
       run-timely (go c.answer c.heap) c.acting (called-timely a base name arguments heap h)

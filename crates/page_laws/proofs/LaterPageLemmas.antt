@@ -1,5 +1,5 @@
 -- The timers of a page are due later than its clock: turns and what comes beside them.
-use Rattle.std.proofs.Common.{◌≡◌, ℕ, zero, suc, ◌≤◌, Bool, List, [], ◌∷◌, Option, Some, None, refl, sym, subst}
+use Rattle.std.proofs.Common.{◌≡◌, ℕ, zero, suc, ◌≤◌, Bool, List, Option, Some, None, refl, sym, subst}
 use Rattle.std.specs.Prelude.{IfSome, Result, Ok, Err, option_and_then, option_map}
 use Rattle.std.specs.Option.{option_map_or, option_or}
 use Rattle.std.proofs.lemmas.List.Elements.{All-nil}
@@ -8,16 +8,17 @@ use Rattle.carousel_blocks.specs.declared.changes.Change.{Change}
 use Rattle.multipart_entities.specs.declared.paths.Path.{Path}
 use Rattle.module_store.specs.Store.{Stored}
 use Rattle.es_reader.specs.Readers.{Reader}
+use Rattle.event_messages.specs.declared.messages.Message.{Message}
 use Rattle.event_queue.specs.Queues.{first_of}
 use Rattle.event_queue.specs.Timers.{TimersState, no_timers}
 use Rattle.event_queue.specs.declared.events.Event.{Event}
 use Rattle.document_load.specs.Drafts.{DraftState}
 use Rattle.acting_documents.specs.Beginnings.{load_effect}
 use Rattle.acting_documents.specs.Documents.{Document}
-use Rattle.acting_documents.specs.Handling.{due_effect, handled, key_effect, without_first}
+use Rattle.acting_documents.specs.Handling.{change_effect, due_effect, handled, key_effect, message_effect, without_first}
 use Rattle.acting_documents.specs.Runs.{Effect, Scene}
 use Rattle.page.specs.Dispatches.{dispatch, dispatches, event_in, load_at, most_dispatches, next_and, next_event, next_load, turn}
-use Rattle.page.specs.Inputs.{changes_step, due_next, due_step, key_step, with_clock}
+use Rattle.page.specs.Inputs.{change_step, changes_step, document_step, due_next, due_step, key_step, message_step, with_clock}
 use Rattle.page.specs.Loading.{load, loadable_reading, opened, wanted_path}
 use Rattle.page.specs.State.{State, Step, opening, scene_in, stays_or_goes, step_of, still}
 use Rattle.page.specs.State.Wanted.{NoDocument}
@@ -26,7 +27,8 @@ use Rattle.page_laws.specs.Times.{AreLater, IsLater}
 use Rattle.page_laws.proofs.DueLemmas.{due-later, least-near}
 use Rattle.page_laws.proofs.LaterActingLemmas.{IsTimely}
 use Rattle.page_laws.proofs.LaterLemmas.{LaterThan}
-use Rattle.page_laws.proofs.LaterSceneLemmas.{handled-timely, key-timely, load-timely}
+use Rattle.page_laws.proofs.LaterSceneLemmas.{SceneTimely, change-timely, handled-timely, key-timely, load-timely, message-timely}
+use Rattle.page_laws.proofs.StepLemmas.{each_step-kept}
 
 -- the time is this, and the timers are due later
 abbrev pub PageTimely : ℕ → State → Type 0
@@ -48,11 +50,6 @@ none-later clock = All-nil (IsLater clock)
 
 pub opening-later : (read : Reader) (area : List ℕ) → AreLater (opening read area)
 opening-later read area = none-later 0
-
-pub changes-later : (changes : List (ℕ × Change)) (s : State) → AreLater s
-    → AreLater (changes_step changes s).state
-changes-later [] s h = h
-changes-later (change ∷ changes) s h = changes-later changes s h
 
 module _ (clock : ℕ) where
   -- what becomes of a document
@@ -132,18 +129,35 @@ module _ (clock : ℕ) where
   unfolding turn
   turn-timely stored s h = dispatches-timely most_dispatches stored s h
 
-  -- ---- keys
+  -- ---- what a document does
 
-  pub key_step-timely : (key : ℕ) (down : Bool) (s : State) → PageTimely clock s
-      → PageTimely clock (key_step key down s).state
-  key_step-timely key down s h = by s.document
+  document_step-timely : (effect : Scene → Effect)
+      → ((scene : Scene) → SceneTimely clock scene → SceneTimely clock (effect scene).scene)
+      → (s : State) → PageTimely clock s → PageTimely clock (document_step effect s).state
+  document_step-timely effect keeps s h = by s.document
     where
       by : (document : Option Document) → PageTimely clock (option_map_or
-          (λ d. step_of s (key_effect key down (scene_in s d))) document (still s)).state
+          (λ d. step_of s (effect (scene_in s d))) document (still s)).state
       by None = h
       by (Some d) =
-          step-timely s (key_effect key down (scene_in s d)) h.is_now
-          (key-timely clock key down (scene_in s d) h).timers
+          step-timely s (effect (scene_in s d)) h.is_now (keeps (scene_in s d) h).timers
+
+  change_step-timely : (component : ℕ) (change : Change) (s : State) → PageTimely clock s
+      → PageTimely clock (change_step component change s).state
+  change_step-timely component change s h =
+      document_step-timely (change_effect component change)
+      (change-timely clock component change) s h
+
+  message_step-timely : (component : ℕ) (message : Message) (s : State) → PageTimely clock s
+      → PageTimely clock (message_step component message s).state
+  message_step-timely component message s h =
+      document_step-timely (message_effect component message)
+      (message-timely clock component message) s h
+
+  key_step-timely : (key : ℕ) (down : Bool) (s : State) → PageTimely clock s
+      → PageTimely clock (key_step key down s).state
+  key_step-timely key down s h =
+      document_step-timely (key_effect key down) (key-timely clock key down) s h
 
 -- ---- moments
 
@@ -171,6 +185,24 @@ due_step-timely moment s sound h reached = by s.document refl
 pub turn-later : (stored : Stored) (s : State) → AreLater s → AreLater (turn stored s).state
 turn-later stored s h =
     timely-later s.clock (turn stored s).state (turn-timely s.clock stored s (page-timely s h))
+
+change_step-later : (component : ℕ) (change : Change) (s : State) → AreLater s
+    → AreLater (change_step component change s).state
+change_step-later component change s h =
+    timely-later s.clock (change_step component change s).state
+    (change_step-timely s.clock component change s (page-timely s h))
+
+pub changes-later : (changes : List (ℕ × Change)) (s : State) → AreLater s
+    → AreLater (changes_step changes s).state
+changes-later changes s h =
+    each_step-kept AreLater (λ (change : ℕ × Change). change_step change.0 change.1)
+    (λ change s h. change_step-later change.0 change.1 s h) changes s h
+
+pub message_step-later : (component : ℕ) (message : Message) (s : State) → AreLater s
+    → AreLater (message_step component message s).state
+message_step-later component message s h =
+    timely-later s.clock (message_step component message s).state
+    (message_step-timely s.clock component message s (page-timely s h))
 
 pub key_step-later : (key : ℕ) (down : Bool) (s : State) → AreLater s
     → AreLater (key_step key down s).state

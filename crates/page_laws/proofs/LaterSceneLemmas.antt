@@ -3,6 +3,7 @@
 use Rattle.std.proofs.Common.{ℕ, Bool, true, false, List, [], ◌∷◌, Option, Some, None}
 use Rattle.std.specs.Prelude.{◌==◌, if◌then◌else◌, map, option_and_then}
 use Rattle.std.specs.Option.{option_map_or}
+use Rattle.carousel_blocks.specs.declared.changes.Change.{Change}
 use Rattle.multipart_entities.specs.declared.paths.Path.{Path}
 use Rattle.focus_keys.specs.Defaults.{action_of}
 use Rattle.focus_keys.specs.KeyTables.{key_number}
@@ -10,17 +11,18 @@ use Rattle.focus_keys.specs.declared.keys.Key.TheVariants.{Enter}
 use Rattle.es_eval.specs.Evaluation.{global_run, run_at}
 use Rattle.es_eval.specs.Worlds.{Run}
 use Rattle.es_shapes.specs.Sources.{program_of}
+use Rattle.event_messages.specs.declared.messages.Message.{Message}
 use Rattle.event_queue.specs.Events.{name_of}
 use Rattle.event_queue.specs.Timers.{Timer, timer_of}
 use Rattle.event_queue.specs.declared.events.Event.{Event}
 use Rattle.event_queue.specs.declared.events.Event.TheVariants as events
 use Rattle.dom_objects.specs.declared.current_events.CurrentEvent.{CurrentEvent}
-use Rattle.document_stages.specs.Acting.{Acting, acted, begun, first_focus, key_posts}
+use Rattle.document_stages.specs.Acting.{Acting, acted, begun, change_posts, first_focus, key_posts, message_posts}
 use Rattle.acting_documents.specs.Documents.{Document, handler_in, passes}
-use Rattle.acting_documents.specs.Handling.{body_in, deactivated, focus_of, handled, handled_at, key_effect, kind_of, run_handler, timer_effect, timer_taken}
+use Rattle.acting_documents.specs.Handling.{body_in, change_effect, deactivated, focus_of, handled, handled_at, key_effect, kind_of, message_effect, run_handler, timer_effect, timer_taken}
 use Rattle.acting_documents.specs.Beginnings.{begin, load_effect, run_scripts, script_places}
 use Rattle.acting_documents.specs.Runs.{Effect, Scene, acting_in, and_then, done, effect_of_end, ended, most_steps, no_event, nothing_done, run_function, run_program, unless_launched}
-use Rattle.page_laws.proofs.LaterActingLemmas.{ActsTimely, IsTimely, acted-timely, begun-timely, keys-timely, run-timely}
+use Rattle.page_laws.proofs.LaterActingLemmas.{ActsTimely, IsTimely, acted-timely, begun-timely, changes-timely, keys-timely, messages-timely, run-timely}
 use Rattle.page_laws.proofs.LaterLemmas.{with_settled-later}
 
 abbrev pub SceneTimely : ℕ → Scene → Type 0
@@ -119,8 +121,27 @@ module _ (clock : ℕ) where
       done-timely (acted (action_of s.document.tree key)) s
       (acted-timely clock (action_of s.document.tree key)) h
   handled-timely (events.Timer number) s h = timer-timely number s h
+  handled-timely (events.Fired item component message) s h =
+      handler-timely (events.Fired item component message) item s h
+  handled-timely (events.Updated item status) s h =
+      handler-timely (events.Updated item status) item s h
+  handled-timely (events.Locked item status) s h =
+      handler-timely (events.Locked item status) item s h
+  handled-timely (events.Button item) s h = handler-timely (events.Button item) item s h
 
-  -- ---- keys
+  -- ---- messages, changes of modules and keys
+
+  pub message-timely : (component : ℕ) (message : Message) (s : Scene) → SceneTimely clock s
+      → SceneTimely clock (message_effect component message s).scene
+  unfolding message_effect
+  message-timely component message s h =
+      done-timely (message_posts component message) s (messages-timely clock component message) h
+
+  pub change-timely : (component : ℕ) (change : Change) (s : Scene) → SceneTimely clock s
+      → SceneTimely clock (change_effect component change s).scene
+  unfolding change_effect
+  change-timely component change s h =
+      done-timely (change_posts component change) s (changes-timely clock component change) h
 
   pub key-timely : (key : ℕ) (down : Bool) (s : Scene) → SceneTimely clock s
       → SceneTimely clock (key_effect key down s).scene

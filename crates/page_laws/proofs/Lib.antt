@@ -5,10 +5,13 @@ pub mod TargetLemmas
 pub mod QueueLemmas
 pub mod TimerLemmas
 pub mod BrowserLemmas
+pub mod EventItemLemmas
 pub mod ActingLemmas
+pub mod ItemPostLemmas
 pub mod RunLemmas
 pub mod HandlerLemmas
 pub mod DocumentLemmas
+pub mod StepLemmas
 pub mod PageLemmas
 pub mod ReceiverLemmas
 pub mod TurnLemmas
@@ -19,3 +22,4 @@ pub mod LaterSceneLemmas
 pub mod DueLemmas
 pub mod LaterPageLemmas
 pub mod TickLemmas
+pub mod RepeatLemmas

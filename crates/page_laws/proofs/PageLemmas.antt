@@ -12,6 +12,7 @@ use Rattle.multipart_entities.specs.declared.paths.Path.{Path}
 use Rattle.module_store.specs.Resources.{Resource, look}
 use Rattle.module_store.specs.Resources.Resource.{Found, Waiting, Missing}
 use Rattle.module_store.specs.Store.{Stored}
+use Rattle.event_messages.specs.declared.messages.Message.{Message}
 use Rattle.event_queue.specs.Queues.{first_of}
 use Rattle.event_queue.specs.Timers.{no_timers}
 use Rattle.event_queue.specs.declared.events.Event.{Event}
@@ -21,17 +22,19 @@ use Rattle.document_load.specs.Needs.{needs_of}
 use Rattle.page.specs.Dispatches.{dispatch, dispatches, event_in, load_at, most_dispatches, next_and, next_event, next_load, turn}
 use Rattle.acting_documents.specs.Beginnings.{load_effect}
 use Rattle.acting_documents.specs.Documents.{Document}
-use Rattle.acting_documents.specs.Handling.{due_effect, handled, key_effect, without_first}
+use Rattle.acting_documents.specs.Handling.{change_effect, due_effect, handled, key_effect, message_effect, without_first}
 use Rattle.acting_documents.specs.Runs.{Effect, Scene}
-use Rattle.page.specs.Inputs.{changes_step, due_step, key_step, with_clock, with_random}
+use Rattle.page.specs.Inputs.{change_step, changes_step, document_step, due_step, key_step, message_step, with_clock, with_random}
 use Rattle.page.specs.Loading.{are_settled, given_draft, load, loadable_reading, once_settled, opened, reading_in, wanted_path}
 use Rattle.page.specs.State.{State, Step, opening, scene_in, stays_or_goes, step_of, still}
 use Rattle.page.specs.State.Wanted.{NoDocument}
 use Rattle.page_laws.specs.Soundness.{AreTimers, IsSound, IsSoundDocument, is_good_event}
 use Rattle.page_laws.proofs.ActingLemmas.{TreeLaws}
-use Rattle.page_laws.proofs.DocumentLemmas.{IsSoundScene, due_effect-sound, handled-sound, key-sound, load_effect-sound, opened-sound}
+use Rattle.page_laws.proofs.DocumentLemmas.{IsSoundScene, change-sound, due_effect-sound, handled-sound, key-sound, load_effect-sound, message-sound, opened-sound}
+use Rattle.page_laws.proofs.EventItemLemmas.{ItemNodes}
 use Rattle.page_laws.proofs.ItemLemmas.{OneIsTree, read-tree}
 use Rattle.page_laws.proofs.RunLemmas.{RunsStay}
+use Rattle.page_laws.proofs.StepLemmas.{each_step-kept}
 use Rattle.page_laws.proofs.TimerLemmas.{none-sound}
 
 -- what is known of what pages stand on
@@ -40,6 +43,7 @@ pub record Laws : Type 0 where
   pub one : OneIsTree
   pub readings : (bytes : List ℕ) (reading : Result (List Item) DocFault)
       → (reading_of bytes ≡ reading) ↔ IsReading bytes reading
+  pub items : ItemNodes
   pub programs : RunsStay
 
 -- a step that is there or not leaves a sound state
@@ -77,11 +81,6 @@ with_random-sound word s h = record {
   none_without = h.none_without;
   wanted = h.wanted;
 }
-
-pub changes-sound : (changes : List (ℕ × Change)) (s : State) → IsSound s
-    → IsSound (changes_step changes s).state
-changes-sound [] s h = h
-changes-sound (change ∷ changes) s h = changes-sound changes s h
 
 module _ (laws : Laws) where
   -- ---- loads
@@ -142,7 +141,7 @@ module _ (laws : Laws) where
       let d : Document = opened s.read path draft in
       step-sound (record s { wanted = NoDocument }) (load_effect (scene_in s d)) refl
       (load_effect-sound laws.trees laws.programs (scene_in s d)
-      (record { document = opened-sound s.read path draft h; timers = timers }))
+      (record { document = opened-sound laws.items s.read path draft h; timers = timers }))
   load-sound s path (Some (Err fault)) h timers none = record {
     document = tt;
     timers = timers;
@@ -180,6 +179,9 @@ module _ (laws : Laws) where
           room = omega (arith, length-drop 1 d.queue, s.document.room);
           events = All-drop (λ event. is_good_event d.tree.items event ≡ true) 1 d.queue
               s.document.events;
+          items = s.document.items;
+          subscribed = s.document.subscribed;
+          fired = s.document.fired;
           handlers = s.document.handlers;
           globals = s.document.globals;
           properties = s.document.properties;
@@ -251,17 +253,42 @@ module _ (laws : Laws) where
 
   -- ---- what comes beside turns
 
-  pub key_step-sound : (key : ℕ) (down : Bool) (s : State) → IsSound s
-      → IsSound (key_step key down s).state
-  key_step-sound key down s h = by s.document h.document h.wanted
+  document_step-sound : (effect : Scene → Effect)
+      → ((scene : Scene) → IsSoundScene scene → IsSoundScene (effect scene).scene) → (s : State)
+      → IsSound s → IsSound (document_step effect s).state
+  document_step-sound effect keeps s h = by s.document h.document h.wanted
     where
       by : (document : Option Document) → IfSome document IsSoundDocument
           → IfSome document (λ d. s.wanted ≡ NoDocument) → IsSound (option_map_or
-          (λ d. step_of s (key_effect key down (scene_in s d))) document (still s)).state
+          (λ d. step_of s (effect (scene_in s d))) document (still s)).state
       by None good none = h
       by (Some d) good none =
-          step-sound s (key_effect key down (scene_in s d)) none
-          (key-sound laws.trees laws.programs key down (scene_in s d) (scene-sound s d h good))
+          step-sound s (effect (scene_in s d)) none
+          (keeps (scene_in s d) (scene-sound s d h good))
+
+  change_step-sound : (component : ℕ) (change : Change) (s : State) → IsSound s
+      → IsSound (change_step component change s).state
+  change_step-sound component change s h =
+      document_step-sound (change_effect component change)
+      (change-sound laws.trees laws.programs component change) s h
+
+  pub changes-sound : (changes : List (ℕ × Change)) (s : State) → IsSound s
+      → IsSound (changes_step changes s).state
+  changes-sound changes s h =
+      each_step-kept IsSound (λ (change : ℕ × Change). change_step change.0 change.1)
+      (λ change s h. change_step-sound change.0 change.1 s h) changes s h
+
+  pub message_step-sound : (component : ℕ) (message : Message) (s : State) → IsSound s
+      → IsSound (message_step component message s).state
+  message_step-sound component message s h =
+      document_step-sound (message_effect component message)
+      (message-sound laws.trees laws.programs component message) s h
+
+  pub key_step-sound : (key : ℕ) (down : Bool) (s : State) → IsSound s
+      → IsSound (key_step key down s).state
+  key_step-sound key down s h =
+      document_step-sound (key_effect key down)
+      (key-sound laws.trees laws.programs key down) s h
 
   pub due_step-sound : (moment : ℕ) (s : State) → IsSound s
       → IsSound (due_step moment s).state

@@ -24,7 +24,7 @@ use Rattle.event_queue.specs.declared.events.Event.{Event}
 use Rattle.event_queue.specs.declared.events.Event.TheVariants as events
 use Rattle.event_queue.specs.Events.{name_of}
 use Rattle.dom_objects.specs.Parts.{Parts, state_of_number}
-use Rattle.dom_objects.specs.Reads.{ElementRow, ElementTable, Rows, document_rows, element_rows, element_table, element_value, event_rows, key_rows, node_rows, node_value, own_rows, own_table, property_named, read_in, read_value, table_rows, style_read, style_text, text_rows, walk_rows}
+use Rattle.dom_objects.specs.Reads.{ElementRow, ElementTable, Rows, document_rows, element_rows, element_table, element_value, event_rows, node_rows, node_value, own_event_rows, own_rows, own_table, property_named, read_in, read_value, table_rows, style_read, style_text, text_rows, walk_rows}
 use Rattle.dom_objects.specs.Reads.ElementRow.{Tag, Attribute, StyleFor}
 use Rattle.dom_objects.specs.declared.current_events.CurrentEvent.{CurrentEvent}
 use Rattle.page_laws.specs.Soundness.{has_element, has_node, is_good, is_good_place, names_well}
@@ -175,27 +175,33 @@ node_rows-give items hang node = by (tag_of items node) refl (text_of items node
 
 -- ---- the rows of the document, of the current event and of styles
 
-keys-give : (items : List Item) (event : Event) → EachGives items (key_rows event)
-keys-give items (events.KeyDown key) = (refl, tt)
-keys-give items (events.KeyUp key) = (refl, tt)
-keys-give items (events.Default key) = (refl, tt)
-keys-give items _ = tt
+-- what only events of some kinds have are numbers and texts
+own-give : (items : List Item) (event : Event) → EachGives items (own_event_rows items event)
+own-give items (events.KeyDown key) = (refl, tt)
+own-give items (events.KeyUp key) = (refl, tt)
+own-give items (events.Default key) = (refl, tt)
+own-give items (events.Updated item status) = (refl, (refl, tt))
+own-give items (events.Locked item status) = (refl, (refl, tt))
+own-give items (events.Fired item component message) =
+    (refl, (refl, (refl, (refl, (refl, tt)))))
+own-give items _ = tt
 
 -- the target of the current event, if there is one, is a node
 abbrev pub has_target : List Item → CurrentEvent → Bool
 has_target items current = option_map_or (λ event. has_node items current.target) current.event true
 
 events-give : (items : List Item) (current : CurrentEvent) → has_target items current ≡ true
-    → EachGives items (event_rows current)
+    → EachGives items (event_rows items current)
 events-give items current h = by current.event h
   where
     by : (event : Option Event)
         → option_map_or (λ event. has_node items current.target) event true ≡ true
         → EachGives items (option_map_or
         (λ event. (codes "type", Str (name_of event))
-        ∷ (codes "target", Host (ref.Node current.target)) ∷ key_rows event) event [])
+        ∷ (codes "target", Host (ref.Node current.target)) ∷ own_event_rows items event)
+        event [])
     by None h = tt
-    by (Some event) h = (refl, (h, keys-give items event))
+    by (Some event) h = (refl, (h, own-give items event))
 
 document-gives : (items : List Item) (focus : Focus) (current : CurrentEvent)
     → is_good_place items (number_of focus.focus) ≡ true
@@ -240,7 +246,7 @@ value-given parts hang focus event ref.Document name =
     (each-gives items rows (document-gives items parts.tree.focus parts.event focus)) name
 value-given parts hang focus event ref.Event name =
     let items = parts.tree.items in
-    let rows = event_rows parts.event in
+    let rows = event_rows items parts.event in
     read-given items rows (each-gives items rows (events-give items parts.event event)) name
 value-given parts hang focus event (ref.Node node) name =
     let items = parts.tree.items in

@@ -2,25 +2,29 @@
 use Rattle.std.specs.Prelude.{ℕ, zero, suc, ◌+◌, Bool, true, false, if◌then◌else◌, List, [], ◌∷◌, map, Option, Some, None}
 use Rattle.std.specs.Option.{option_map_or}
 use Rattle.ts_packets.specs.Packet.{pid_of}
+use Rattle.event_messages.specs.declared.messages.Message.{Message}
 use Rattle.psi_tables.specs.Components.{tag_in}
 use Rattle.psi_tables.specs.Service.{reads_table}
 use Rattle.carousel_blocks.specs.declared.changes.Change.{Change}
 use Rattle.module_store.specs.Store.{Stored, changes_by, gone_by}
 use Rattle.page.specs.Dispatches as dispatches
-use Rattle.page.specs.Inputs.{changes_step, due_step, key_step, with_clock, with_random}
+use Rattle.page.specs.Inputs.{changes_step, due_step, key_step, message_step, messages_step, with_clock, with_random}
 use Rattle.page.specs.State as page
 use Rattle.receiver_core.specs.Outputs.{Input, due_by, intact_sections, state_after, state_behind, time_passes, waits_until, with_first}
 use Rattle.receiver_core.specs.Outputs.{state_behind_turns, with_packet}
 use Rattle.receiver_core.specs.Outputs.Input.{Packet, Key, Random, Release, Show, Tick}
 use Rattle.receiver_core.specs.State.{State, services, wants}
-use Rattle.receiver_core.specs.Turns.{due_turn, key_turn, step_of_section, step_of_table, step_of_tag, turn, with_handled}
+use Rattle.receiver_core.specs.Turns.{due_turn, key_turn, section_messages, step_of_modules, step_of_section, step_of_table, step_of_tag, turn, with_handled}
 use Rattle.page_laws.specs.Soundness.{IsSound}
+use Rattle.page_laws.proofs.StepLemmas.{each_step-kept}
 
 -- what is known of pages: their steps keep this, where no time passes
 pub record PageLaws (Good : page.State → Type 0) : Type 0 where
   pub turns : (stored : Stored) (s : page.State) → Good s → Good (dispatches.turn stored s).state
   pub changes : (changes : List (ℕ × Change)) (s : page.State) → Good s
       → Good (changes_step changes s).state
+  pub messages : (component : ℕ) (message : Message) (s : page.State) → Good s
+      → Good (message_step component message s).state
   pub keys : (key : ℕ) (down : Bool) (s : page.State) → Good s → Good (key_step key down s).state
   pub random : (word : ℕ) (s : page.State) → Good s → Good (with_random word s)
 
@@ -30,12 +34,23 @@ module _ (Good : page.State → Type 0) (laws : PageLaws Good) where
   table-kept : (s : State) → Good s.page → Good (step_of_table s).state.page
   table-kept s h = laws.changes (gone_by (services s).map s.store) s.page h
 
+  modules-kept : (component : ℕ) (section : List ℕ) (s : State) → Good s.page
+      → Good (step_of_modules component section s).state.page
+  modules-kept component section s h =
+      laws.changes (map (λ change. (component, change)) (changes_by component section s.store))
+      s.page h
+
+  messages-kept : (component : ℕ) (messages : List Message) (s : page.State) → Good s
+      → Good (messages_step component messages s).state
+  messages-kept component messages s h =
+      each_step-kept Good (message_step component) (laws.messages component) messages s h
+
   tag-kept : (tag : Option ℕ) (section : List ℕ) (s : State) → Good s.page
       → Good (step_of_tag tag section s).state.page
   tag-kept None section s h = h
   tag-kept (Some component) section s h =
-      laws.changes (map (λ change. (component, change)) (changes_by component section s.store))
-      s.page h
+      messages-kept component (section_messages section)
+      (step_of_modules component section s).state.page (modules-kept component section s h)
 
   section-kept : (pid : ℕ) (section : List ℕ) (s : State) → Good s.page
       → Good (step_of_section pid section s).state.page

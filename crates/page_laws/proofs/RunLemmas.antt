@@ -9,7 +9,6 @@ use Rattle.es_values.specs.declared.values.HostRef.{HostRef}
 use Rattle.es_values.specs.declared.values.HostRef.TheVariants as ref
 use Rattle.es_values.specs.declared.values.Value.{Value}
 use Rattle.es_values.specs.declared.values.Value.TheVariants.{Host, Function, Object}
-use Rattle.es_values.specs.Conversions.{text_of}
 use Rattle.es_values.specs.Hosts.{IsAnswer, KeepsHeap}
 use Rattle.es_values.specs.Objects.{ObjectState}
 use Rattle.es_values.specs.Values.{is_function}
@@ -81,8 +80,8 @@ run-sound laws items limit least (Reads base name go) a stays s =
     run-sound laws items limit least (go value) a
     (stays.1 value (given-plain items value given) (given-good items limit value given)) s
 run-sound laws items limit least (Writes base name value heap go) a stays s =
-    run-sound laws items limit least go (written a base name (text_of heap value)) stays.4
-    (written-sound laws items a s base name (text_of heap value))
+    run-sound laws items limit least go (written a base name value heap) stays.4
+    (written-sound laws items a s base name value heap)
 run-sound laws items limit least (Calls base name arguments heap go) a stays s =
     let r = called-sound laws items heap a s base name arguments in
     let c = called a base name arguments heap in

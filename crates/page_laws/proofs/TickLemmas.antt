@@ -14,7 +14,7 @@ use Rattle.page_laws.specs.Soundness.{IsSound}
 use Rattle.page_laws.specs.Times.{AreLater, IsLater}
 use Rattle.page_laws.proofs.DueLemmas.{IsNear, least-later, least-near}
 use Rattle.page_laws.proofs.LaterLemmas.{LaterThan}
-use Rattle.page_laws.proofs.LaterPageLemmas.{PageTimely, changes-later, due_step-timely, key_step-later, timely-later, turn-timely, turn-later}
+use Rattle.page_laws.proofs.LaterPageLemmas.{PageTimely, changes-later, due_step-timely, key_step-later, message_step-later, timely-later, turn-timely, turn-later}
 use Rattle.page_laws.proofs.ReceiverLemmas.{PageLaws, SoundLaws, behind-kept, due-sound, tick-sound}
 
 -- ---- the clock
@@ -189,6 +189,8 @@ module _ (laws : SoundLaws) where
   good-steps = record {
     turns = λ stored p h. (laws.steps.turns stored p h.0, turn-later stored p h.1);
     changes = λ changes p h. (laws.steps.changes changes p h.0, changes-later changes p h.1);
+    messages = λ component message p h.
+        (laws.steps.messages component message p h.0, message_step-later component message p h.1);
     keys = λ key down p h. (laws.steps.keys key down p h.0, key_step-later key down p h.1);
     random = λ word p h. (laws.steps.random word p h.0, h.1);
   }

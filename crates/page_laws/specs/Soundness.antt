@@ -45,12 +45,16 @@ is_good items limit (Host reference) = names_well items reference
 is_good items limit (Function number) = nat_lt number limit
 is_good items limit other = true
 
--- What happens to the focus, and a click, happens to an element. Nothing posts `unload`, which is handled where a
--- document gives way.
+-- What happens to the focus, a click, and what an item is told go to an element. Nothing posts `unload`, which is handled
+-- where a document gives way.
 abbrev pub is_good_event : List Item → Event → Bool
 is_good_event items (events.Focus node) = has_element items node
 is_good_event items (events.Blur node) = has_element items node
 is_good_event items (events.Click node) = has_element items node
+is_good_event items (events.Fired node component message) = has_element items node
+is_good_event items (events.Updated node status) = has_element items node
+is_good_event items (events.Locked node status) = has_element items node
+is_good_event items (events.Button node) = has_element items node
 is_good_event items events.Unload = false
 is_good_event items other = true
 
@@ -79,6 +83,10 @@ pub record IsSoundDocument (d : Document) : Type 0 where
   -- the events that wait
   pub room : length d.queue ≤ most_events
   pub events : All (λ event. is_good_event d.tree.items event ≡ true) d.queue
+  -- the event items, for each node whether it is one that is subscribed, and the items that fired
+  pub items : All (λ item. has_element d.tree.items item.node ≡ true) d.items.items
+  pub subscribed : length d.items.subscribed ≡ length d.tree.items
+  pub fired : All (λ firings. has_element d.tree.items firings.0 ≡ true) d.items.fired
   -- the handlers
   pub handlers : All (IsGoodHandler d.tree.items (length d.programs)) d.handlers
   -- the variables and the objects of the scripts

@@ -1,8 +1,9 @@
 //! What holds of pages. Each function is a law: its contract is what it is for, and it does nothing
 //! when it runs.
 
-ghost use Rattle.std.specs.Prelude.{◌≡◌, ℕ, ◌+◌, ◌≤◌, Bool, List, IfSome};
+ghost use Rattle.std.specs.Prelude.{◌≡◌, ℕ, ◌+◌, ◌≤◌, [], Bool, List, IfSome};
 ghost use Rattle.carousel_blocks.specs.declared.changes.Change.{Change};
+ghost use Rattle.event_messages.specs.declared.messages.Message.{Message};
 ghost use Rattle.module_store.specs.Store.{Stored};
 ghost use Rattle.es_reader.specs.Readers.{Reader};
 ghost use Rattle.page.specs.Dispatches.{turn};
@@ -11,10 +12,11 @@ ghost use Rattle.page.specs.Inputs.{
   due_next,
   due_step,
   key_step,
+  message_step,
   with_clock,
   with_random,
 };
-ghost use Rattle.page.specs.State.{State, opening};
+ghost use Rattle.page.specs.State.{State, opening, still};
 ghost use Rattle.psi_tables.specs.declared.services.Selection.{Selection};
 ghost use Rattle.receiver_core.specs.Outputs.{Input, state_after, state_behind, time_passes};
 ghost use Rattle.receiver_core.specs.Outputs.Input.{Tick};
@@ -27,16 +29,20 @@ use bml_reader::law_of_readings;
 use dom_tree::{
     law_of_attribute_changes, law_of_nested_nodes, law_of_parents, law_of_text_changes,
 };
+use event_items::law_of_event_items;
+use event_messages::law_of_item_firings;
 use script_laws::law_of_passing_values;
 
-/// A page is sound before anything came. Behind each turn, each change in modules, each key, each
-/// moment when timers are due, each move of the clock and each random word it is sound where it was
-/// so before.
+/// A page is sound before anything came. Behind each turn, each change in modules, each event
+/// message, each key, each moment when timers are due, each move of the clock and each random word
+/// it is sound where it was so before.
 pub fn law_of_soundness()
     ensures opening { (read : Reader) (area : List ℕ) → IsSound (opening read area) }
     ensures turn { (stored : Stored) (s : State) → IsSound s → IsSound (turn stored s).state }
     ensures changes { (changes : List (ℕ × Change)) (s : State) → IsSound s
         → IsSound (changes_step changes s).state }
+    ensures messages { (component : ℕ) (message : Message) (s : State) → IsSound s
+        → IsSound (message_step component message s).state }
     ensures keys { (key : ℕ) (down : Bool) (s : State) → IsSound s
         → IsSound (key_step key down s).state }
     ensures due { (moment : ℕ) (s : State) → IsSound s → IsSound (due_step moment s).state }
@@ -48,6 +54,7 @@ pub fn law_of_soundness()
     law_of_parents();
     law_of_nested_nodes();
     law_of_readings();
+    law_of_event_items();
     law_of_passing_values();
 }
 
@@ -71,16 +78,18 @@ pub fn law_of_clocks()
 {}
 
 /// No timer of a page is overdue: each is due later than the clock. It is so before anything came.
-/// Behind each turn, each change in modules, each key and each random word it is so where it was so
-/// before. A moment before which nothing was due may come too: what is due then fires, and comes
-/// later. A tick moves the clock of a receiver on by as much as it says, and behind it no timer is
-/// overdue. As many rounds as milliseconds are enough for it: more rounds change nothing. So no timer
-/// is overdue, whatever came to a receiver.
+/// Behind each turn, each change in modules, each event message, each key and each random word it is
+/// so where it was so before. A moment before which nothing was due may come too: what is due then
+/// fires, and comes later. A tick moves the clock of a receiver on by as much as it says, and behind
+/// it no timer is overdue. As many rounds as milliseconds are enough for it: more rounds change
+/// nothing. So no timer is overdue, whatever came to a receiver.
 pub fn law_of_time()
     ensures opening { (read : Reader) (area : List ℕ) → AreLater (opening read area) }
     ensures turn { (stored : Stored) (s : State) → AreLater s → AreLater (turn stored s).state }
     ensures changes { (changes : List (ℕ × Change)) (s : State) → AreLater s
         → AreLater (changes_step changes s).state }
+    ensures messages { (component : ℕ) (message : Message) (s : State) → AreLater s
+        → AreLater (message_step component message s).state }
     ensures keys { (key : ℕ) (down : Bool) (s : State) → AreLater s
         → AreLater (key_step key down s).state }
     ensures random { (word : ℕ) (s : State) → AreLater s → AreLater (with_random word s) }
@@ -98,4 +107,15 @@ pub fn law_of_time()
         → AreLater (state_behind (receiver.opening read selection area) inputs).page }
 {
     law_of_soundness();
+}
+
+/// A message that is repeated fires no item again: where none of its events was lost, the same
+/// message posts nothing, and changes nothing.
+pub fn law_of_repeated_messages()
+    ensures { (component : ℕ) (message : Message) (s : State)
+        → (message_step component message s).text ≡ []
+        → message_step component message (message_step component message s).state
+        ≡ still (message_step component message s).state }
+{
+    law_of_item_firings();
 }

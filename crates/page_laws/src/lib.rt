@@ -5,11 +5,13 @@
 //! that is there (`specs/Soundness.antt`). [`law_of_soundness`] says that it is so at first, and
 //! stays so, and [`law_of_sound_receivers`] that the page of a receiver is sound whatever came to
 //! it. [`law_of_turns`] says how far a turn goes (`specs/Turns.antt`), and [`law_of_clocks`] that it
-//! leaves the clock. [`law_of_time`] says that no timer is overdue (`specs/Times.antt`).
+//! leaves the clock. [`law_of_repeated_messages`] says that a message that is repeated fires no item
+//! again. [`law_of_time`] says that no timer is overdue (`specs/Times.antt`).
 #![tactic(auto)]
 
 mod laws;
 
 pub use crate::laws::{
-    law_of_clocks, law_of_sound_receivers, law_of_soundness, law_of_time, law_of_turns,
+    law_of_clocks, law_of_repeated_messages, law_of_sound_receivers, law_of_soundness, law_of_time,
+    law_of_turns,
 };

@@ -1,7 +1,7 @@
 -- What is kept of a broadcast, behind one step more.
 use Rattle.std.proofs.Common.{◌≡◌, ℕ, Bool, true, false, cond, List, [], ◌∷◌, ◌++◌, refl, sym, ap, ap₂, ◌∙◌, subst, append-nil, append_assoc}
-use Rattle.std.specs.Prelude.{AllPairs, OnOk, Option, Some, None, Result, Ok, Err, map}
-use Rattle.std.specs.List.{flat_map}
+use Rattle.std.specs.Prelude.{◌↔◌, AllPairs, OnOk, Option, Some, None, Result, Ok, Err}
+use Rattle.bml_bytes.specs.declared.refusals.TableFault.{TableFault}
 use Rattle.es_reader.specs.Readers.{Reader, IsReader}
 use Rattle.psi_tables.specs.declared.components.Component.{Component}
 use Rattle.psi_tables.specs.declared.pat.PatEntry.{PatEntry}
@@ -11,20 +11,24 @@ use Rattle.psi_tables.specs.History.{Handled, service_of, map_of}
 use Rattle.psi_tables.specs.Service.{ServicesState, reads_table}
 use Rattle.psi_tables.specs.Service as services_of
 use Rattle.carousel_blocks.specs.declared.changes.Change.{Change}
-use Rattle.module_store.specs.Store.{Stored, at_start, changes_by, with_section, gone_by, with_map}
+use Rattle.event_messages.specs.Messages.{HasMessages}
+use Rattle.event_messages.specs.Reading.{messages_in}
+use Rattle.event_messages.specs.declared.messages.Message.{Message}
+use Rattle.module_store.specs.Store.{Stored, at_start, changes_by, pid_of, with_section, gone_by, with_map}
 use Rattle.module_store.specs.Standing.{StoreState}
 use Rattle.module_store.specs.Standing as store
-use Rattle.page.specs.Inputs.{changes_step, with_random}
-use Rattle.module_store.specs.Lines.{line_of_change}
-use Rattle.page.specs.Standing.{PageState, behind_all, page_area}
+use Rattle.page.specs.Inputs.{messages_step, with_random}
+use Rattle.page.specs.Standing.{PageState, page_area}
 use Rattle.page.specs.Standing as pages
 use Rattle.page.specs.State as paging
 use Rattle.page.specs.State.{area_of}
 use Rattle.receiver_core.specs.Broadcasts.{BroadcastState, HasMade, Makes, MakesOutcome, StandsFor}
 use Rattle.receiver_core.specs.Outputs.{Piece, with_piece, without_piece}
 use Rattle.receiver_core.specs.State.{State, opening, services, wants}
-use Rattle.receiver_core.specs.Turns.{Step, due_turn, key_turn, of_page, page_turn, step_of_component, step_of_section, step_of_table, step_of_tag, turn, with_changes, with_handled, with_turn}
+use Rattle.receiver_core.specs.Turns.{Step, due_turn, key_turn, messages_of_reading, of_page, page_turn, section_messages, step_of_modules, step_of_section, step_of_table, step_of_tag, turn}
+use Rattle.receiver_core.specs.Turns.{with_changes, with_handled, with_messages, with_turn}
 use Rattle.receiver_core.proofs.MapLaws.{IsSameMap, none_gone, pids_of_map, pids_of_section, stands_still}
+use Rattle.receiver_core.proofs.PostingLaws.{in_component, posts_none}
 
 same_services : (a b : ServicesState) → a.selection ≡ b.selection → a.service ≡ b.service → a.map ≡ b.map → a ≡ b
 same_services a b selection service map =
@@ -116,29 +120,15 @@ random_added old page word added s stands = stands_with old page s (with_random 
 
 -- ---- changes in modules
 
-pub clock_behind : (changes : List (ℕ × Change)) (page : PageState) → (behind_all changes page).clock ≡ page.clock
-clock_behind [] page = refl
-clock_behind (change ∷ changes) page = clock_behind changes (pages.behind_change change.0 change.1 page)
-
--- the lines of changes, each with its component
-abbrev pub lines_of : List (ℕ × Change) → List ℕ
-lines_of changes = flat_map (λ change. line_of_change change.0 change.1) changes
-
--- the page prints them, and is as before
-told_changes : (changes : List (ℕ × Change)) (s : paging.State) → changes_step changes s ≡ record { state = s; text = lines_of changes }
-told_changes [] s = refl
-told_changes (change ∷ changes) s = ap (paging.step_behind (line_of_change change.0 change.1)) (told_changes changes s)
-
-told_by : (changes : List (ℕ × Change)) (now : State) → with_changes changes now ≡ record { state = now; text = lines_of changes }
-told_by changes now = ap (of_page now) (told_changes changes now.page)
-
-pub lines_in_component : (component : ℕ) (changes : List Change) → flat_map (line_of_change component) changes ≡ lines_of (map (λ change. (component, change)) changes)
-lines_in_component component [] = refl
-lines_in_component component (change ∷ changes) = ap (λ (l : List ℕ). line_of_change component change ++ l) (lines_in_component component changes)
-
--- the store goes on, and its changes are told
-has_told : (state : BroadcastState) (text : List ℕ) (changes : List (ℕ × Change)) (now : State) → StandsFor state now → text ≡ lines_of changes → HasMade state text (with_changes changes now)
-has_told state text changes now stands is = subst (λ (t : Step). HasMade state text t) (sym (told_by changes now)) (record { stands = stands; text_is = is })
+-- the store went on, and its changes are posted to the page
+has_posted : (state : BroadcastState) (old : PageState) (before after : List ℕ) (changes there : List (ℕ × Change)) (now : State) → changes ≡ there
+    → (posted : pages.Posts changes old state.page before after) → pages.StandsAmid old now.store there now.page
+    → state.services.selection ≡ now.selection → services_of.StandsFor state.services now.handled → store.StandsFor state.store now.store → ((tag : ℕ) → pid_of now.store tag ≡ pid_in state.services.map tag)
+    → HasMade state posted.text (with_changes there now)
+has_posted state old before after changes there now same posted amid selection handled stored pids =
+    let made = posted.makes now.store [] now.page (subst (λ (l : List (ℕ × Change)). pages.StandsAmid old now.store l now.page) (sym (append-nil changes ∙ same)) amid) in
+    let stands : StandsFor state (with_changes changes now).state = record { selection = selection; services = handled; store = stored; pids = pids; page = made.stands } in
+    subst (λ (l : List (ℕ × Change)). HasMade state posted.text (with_changes l now)) same (record { stands = stands; text_is = made.text_is })
 
 -- ---- a section that isn't read as a table
 
@@ -180,42 +170,49 @@ passes passing state pid section before unread none = record {
 
 -- ---- a section of a component
 
--- the page stands for its state with what a section leaves, where its changes are posted
+-- behind what a section leaves in the store, the page is in the same state, and the changes are still to be posted
 abbrev pub StaysInSections : Type 0
 StaysInSections = (page : PageState) (stored : Stored) (s : paging.State) (component : ℕ) (section : List ℕ) → pages.StandsFor page stored s
-    → pages.StandsFor (behind_all (map (λ change. (component, change)) (changes_by component section stored)) page) (with_section component section stored) s
+    → pages.StandsAmid page (with_section component section stored) (in_component component (changes_by component section stored)) s
 
--- and with what a map leaves
+-- and behind what a map leaves
 abbrev pub StaysInMaps : Type 0
 StaysInMaps = (page : PageState) (stored : Stored) (s : paging.State) (components : List Component) → AllPairs AreApart components → pages.StandsFor page stored s
-    → pages.StandsFor (behind_all (gone_by components stored) page) (with_map components stored) s
+    → pages.StandsAmid page (with_map components stored) (gone_by components stored) s
 
-pub data_taken : PassesUnread → StaysInSections → (old : BroadcastState) (new : StoreState) (page : PageState) (changes : List Change) (pid component : ℕ) (section before after : List ℕ)
+-- the changes that it makes
+pub changes_taken : PassesUnread → StaysInSections → (old : BroadcastState) (new : StoreState) (page : PageState) (changes : List Change) (pid component : ℕ) (section before after : List ℕ)
     → reads_table old.services.selection old.services.service pid ≡ false
     → ((stored : Stored) → store.StandsFor old.store stored → store.StandsFor new (with_section component section stored))
     → ((stored : Stored) → store.StandsFor old.store stored → changes ≡ changes_by component section stored)
-    → after ≡ before ++ flat_map (line_of_change component) changes → page ≡ behind_all (map (λ change. (component, change)) changes) old.page
-    → Makes (λ s. step_of_component component section (with_handled pid section s)) old (record { services = old.services; store = new; page = page }) before after
-data_taken passing stays old new page changes pid component section before after unread feeds told printed posted = record {
-  text = flat_map (line_of_change component) changes;
-  printed = printed;
+    → pages.Posts (in_component component changes) old.page page before after
+    → Makes (λ s. step_of_modules component section (with_handled pid section s)) old (record { services = old.services; store = new; page = page }) before after
+changes_taken passing stays old new page changes pid component section before after unread feeds told posted = record {
+  text = posted.text;
+  printed = posted.printed;
   makes = λ s stands.
       let handled = handled_unread passing old s pid section stands unread in
-      let changes_are = told s.store stands.store in
-      has_told (record { services = old.services; store = new; page = page }) (flat_map (line_of_change component) changes) (map (λ change. (component, change)) (changes_by component section s.store))
+      has_posted (record { services = old.services; store = new; page = page }) old.page before after (in_component component changes) (in_component component (changes_by component section s.store))
       (record (with_handled pid section s) { store = with_section component section s.store })
-      (record {
-        selection = handled.selection;
-        services = handled.services;
-        store = feeds s.store stands.store;
-        pids = λ tag. pids_of_section component section s.store tag ∙ stands.pids tag;
-        page =
-            subst (λ (p : PageState). pages.StandsFor p (with_section component section s.store) s.page)
-            (sym (posted ∙ ap (λ (l : List Change). behind_all (map (λ change. (component, change)) l) old.page) changes_are))
-            (stays old.page s.store s.page component section stands.page);
-      })
-      (lines_in_component component changes ∙ ap (λ (l : List Change). lines_of (map (λ change. (component, change)) l)) changes_are);
+      (ap (in_component component) (told s.store stands.store)) posted (stays old.page s.store s.page component section stands.page)
+      handled.selection handled.services (feeds s.store stands.store) (λ tag. pids_of_section component section s.store tag ∙ stands.pids tag);
 }
+
+-- its event messages
+pub messages_taken : (component : ℕ) (section : List ℕ) (messages : List Message) (old : BroadcastState) (page : PageState) (before after : List ℕ) → messages ≡ section_messages section
+    → pages.Makes (messages_step component messages) old.page page before after
+    → Makes (λ s. of_page s (messages_step component (section_messages section) s.page)) old (with_page old page) before after
+messages_taken component section messages old page before after are made =
+    page_made (messages_step component (section_messages section)) old page before after
+    (subst (λ (l : List Message). pages.Makes (messages_step component l) old.page page before after) are made)
+
+-- a section that isn't read as messages has none
+pub none_read : (section : List ℕ) → ((messages : List Message) → HasMessages section messages ↔ (messages_in section ≡ Ok messages)) → ((messages : List Message) → ¬ HasMessages section messages) → [] ≡ section_messages section
+none_read section read none = by (messages_in section) (λ messages is. none messages ((read messages).1 is))
+  where
+    by : (reading : Result (List Message) TableFault) → ((messages : List Message) → ¬ (reading ≡ Ok messages)) → [] ≡ messages_of_reading reading
+    by (Ok messages) unread = absurd (unread messages refl)
+    by (Err fault) unread = refl
 
 -- ---- a table
 
@@ -236,27 +233,20 @@ pub table_taken : HasDistinctTags → StaysInMaps → (old : BroadcastState) (ta
     → tables.selection ≡ old.services.selection → Feeds old.services tables pid section
     → ((stored : Stored) → store.StandsFor old.store stored → store.StandsFor new (with_map tables.map stored))
     → ((stored : Stored) → store.StandsFor old.store stored → went ≡ gone_by tables.map stored)
-    → after ≡ before ++ lines_of went → page ≡ behind_all went old.page
+    → pages.Posts went old.page page before after
     → Makes (λ s. step_of_table (with_handled pid section s)) old (record { services = tables; store = new; page = page }) before after
-table_taken apart stays old tables new page went pid section before after same feeds sets told printed posted = record {
-  text = lines_of went;
-  printed = printed;
+table_taken apart stays old tables new page went pid section before after same feeds sets told posted = record {
+  text = posted.text;
+  printed = posted.printed;
   makes = λ s stands.
       let now = with_handled pid section s in
       let map_is : tables.map ≡ (services now).map = map_behind old tables pid section s same feeds stands in
-      let went_is : went ≡ gone_by (services now).map s.store = told s.store stands.store ∙ ap (λ (map : List Component). gone_by map s.store) map_is in
-      has_told (record { services = tables; store = new; page = page }) (lines_of went) (gone_by (services now).map s.store) (record now { store = with_map (services now).map s.store })
-      (record {
-        selection = same ∙ stands.selection;
-        services = feeds s.handled stands.services;
-        store = subst (λ (map : List Component). store.StandsFor new (with_map map s.store)) map_is (sets s.store stands.store);
-        pids = λ tag. pids_of_map (services now).map s.store tag ∙ ap (λ (l : List Component). pid_in l tag) (sym map_is);
-        page =
-            subst (λ (p : PageState). pages.StandsFor p (with_map (services now).map s.store) s.page)
-            (sym (posted ∙ ap (λ (l : List (ℕ × Change)). behind_all l old.page) went_is))
-            (stays old.page s.store s.page (services now).map (apart s.selection now.handled) stands.page);
-      })
-      (ap lines_of went_is);
+      has_posted (record { services = tables; store = new; page = page }) old.page before after went (gone_by (services now).map s.store) (record now { store = with_map (services now).map s.store })
+      (told s.store stands.store ∙ ap (λ (map : List Component). gone_by map s.store) map_is) posted
+      (stays old.page s.store s.page (services now).map (apart s.selection now.handled) stands.page)
+      (same ∙ stands.selection) (feeds s.handled stands.services)
+      (subst (λ (map : List Component). store.StandsFor new (with_map map s.store)) map_is (sets s.store stands.store))
+      (λ tag. pids_of_map (services now).map s.store tag ∙ ap (λ (l : List Component). pid_in l tag) (sym map_is));
 }
 
 same_map : (old : BroadcastState) (tables : ServicesState) (s now : State) → tables.map ≡ (services now).map → AreSameMap old.services.map tables.map → StandsFor old s → IsSameMap (services now).map s.store
@@ -266,39 +256,47 @@ same_map old tables s now map_is same stands tag = ap (λ (l : List Component). 
 pub table_kept : HasDistinctTags → StaysInMaps → (old : BroadcastState) (tables : ServicesState) (pid : ℕ) (section before : List ℕ) → tables.selection ≡ old.services.selection → Feeds old.services tables pid section
     → AreSameMap old.services.map tables.map
     → Makes (λ s. step_of_table (with_handled pid section s)) old (record { services = tables; store = old.store; page = old.page }) before before
-table_kept apart stays old tables pid section before same feeds unchanged = record {
-  text = [];
-  printed = sym (append-nil before);
+table_kept apart stays old tables pid section before same feeds unchanged =
+    let posted = posts_none old.page before in
+    record {
+      text = posted.text;
+      printed = posted.printed;
+      makes = λ s stands.
+          let now = with_handled pid section s in
+          let map_is : tables.map ≡ (services now).map = map_behind old tables pid section s same feeds stands in
+          let unchanged_now = same_map old tables s now map_is unchanged stands in
+          has_posted (record { services = tables; store = old.store; page = old.page }) old.page before before [] (gone_by (services now).map s.store) (record now { store = with_map (services now).map s.store })
+          (sym (none_gone (services now).map s.store unchanged_now)) posted
+          (stays old.page s.store s.page (services now).map (apart s.selection now.handled) stands.page)
+          (same ∙ stands.selection) (feeds s.handled stands.services)
+          (stands_still old.store s.store (services now).map unchanged_now stands.store)
+          (λ tag. pids_of_map (services now).map s.store tag ∙ ap (λ (l : List Component). pid_in l tag) (sym map_is));
+    }
+
+-- ---- two steps
+
+-- the second step is made behind the first
+abbrev behind_step : (State → Step) → (State → Step) → State → Step
+behind_step step next s = record { state = (next (step s).state).state; text = (step s).text ++ (next (step s).state).text }
+
+made_both : (step next : State → Step) (old mid new : BroadcastState) (before between after : List ℕ) → Makes step old mid before between → Makes next mid new between after → Makes (behind_step step next) old new before after
+made_both step next old mid new before between after first second = record {
+  text = first.text ++ second.text;
+  printed = second.printed ∙ ap (λ (l : List ℕ). l ++ second.text) first.printed ∙ append_assoc before first.text second.text;
   makes = λ s stands.
-      let now = with_handled pid section s in
-      let map_is : tables.map ≡ (services now).map = map_behind old tables pid section s same feeds stands in
-      let unchanged_now = same_map old tables s now map_is unchanged stands in
-      let none = none_gone (services now).map s.store unchanged_now in
-      has_told (record { services = tables; store = old.store; page = old.page }) [] (gone_by (services now).map s.store) (record now { store = with_map (services now).map s.store })
-      (record {
-        selection = same ∙ stands.selection;
-        services = feeds s.handled stands.services;
-        store = stands_still old.store s.store (services now).map unchanged_now stands.store;
-        pids = λ tag. pids_of_map (services now).map s.store tag ∙ ap (λ (l : List Component). pid_in l tag) (sym map_is);
-        page =
-            subst (λ (l : List (ℕ × Change)). pages.StandsFor (behind_all l old.page) (with_map (services now).map s.store) s.page) none
-            (stays old.page s.store s.page (services now).map (apart s.selection now.handled) stands.page);
-      })
-      (ap lines_of (sym none));
+      let one = first.makes s stands in
+      let two = second.makes (step s).state one.stands in
+      record { stands = two.stands; text_is = ap₂ (λ (a b : List ℕ). a ++ b) one.text_is two.text_is };
 }
 
--- ---- turns
+-- a step, and the event messages behind it
+pub made_with_messages : (component : ℕ) (messages : List Message) (step : State → Step) (old mid new : BroadcastState) (before between after : List ℕ) → Makes step old mid before between
+    → Makes (λ s. of_page s (messages_step component messages s.page)) mid new between after → Makes (λ s. with_messages component messages (step s)) old new before after
+made_with_messages component messages step = made_both step (λ s. of_page s (messages_step component messages s.page))
 
 -- a step, and the turn of the page
 pub made_with_turn : (step : State → Step) (old mid new : BroadcastState) (before between after : List ℕ) → Makes step old mid before between → Makes page_turn mid new between after → Makes (λ s. with_turn (step s)) old new before after
-made_with_turn step old mid new before between after made turned = record {
-  text = made.text ++ turned.text;
-  printed = turned.printed ∙ ap (λ (l : List ℕ). l ++ turned.text) made.printed ∙ append_assoc before made.text turned.text;
-  makes = λ s stands.
-      let one = made.makes s stands in
-      let two = turned.makes (step s).state one.stands in
-      record { stands = two.stands; text_is = ap₂ (λ (a b : List ℕ). a ++ b) one.text_is two.text_is };
-}
+made_with_turn step = made_both step page_turn
 
 -- ---- the packets that a turn leaves
 
@@ -331,7 +329,3 @@ due_packets moment s = refl
 pub on_ok : {A E P Q : Type 0} (result : Result A E) → (P → Q) → OnOk result P → OnOk result Q
 on_ok (Ok x) f p = f p
 on_ok (Err e) f p = tt
-
-pub on_ok_both : {A E P Q R : Type 0} (result : Result A E) → (P → Q → R) → OnOk result P → OnOk result Q → OnOk result R
-on_ok_both (Ok x) f p q = f p q
-on_ok_both (Err e) f p q = tt

@@ -103,7 +103,7 @@ abbrev pub with_first : Step → Outcome → Outcome
 with_first step outcome =
     record { state = outcome.state; pieces = piece_of step ∷ outcome.pieces }
 
--- the clock goes to a moment, and nothing is due on the way
+-- the clock goes to the end, without a turn
 abbrev pub waits_until : ℕ → State → Outcome
 waits_until end s = without_piece (record s { page = with_clock end s.page })
 

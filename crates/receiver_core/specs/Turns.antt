@@ -1,11 +1,14 @@
 -- What intact sections, keys and moments change, with the turns that follow. (This project's own.)
-use Rattle.std.specs.Prelude.{ℕ, Bool, if◌then◌else◌, List, [], ◌∷◌, ◌++◌, map, Option, Some, None}
+use Rattle.std.specs.Prelude.{ℕ, Bool, if◌then◌else◌, List, [], ◌∷◌, ◌++◌, map, Option, Some, None, Result, Ok, Err}
+use Rattle.bml_bytes.specs.declared.refusals.TableFault.{TableFault}
 use Rattle.psi_tables.specs.Components.{tag_in}
 use Rattle.psi_tables.specs.Service.{reads_table}
 use Rattle.carousel_blocks.specs.declared.changes.Change.{Change}
+use Rattle.event_messages.specs.Reading.{messages_in}
+use Rattle.event_messages.specs.declared.messages.Message.{Message}
 use Rattle.module_store.specs.Store as store
 use Rattle.page.specs.Dispatches as dispatches
-use Rattle.page.specs.Inputs.{changes_step, due_step, key_step}
+use Rattle.page.specs.Inputs.{changes_step, due_step, key_step, messages_step}
 use Rattle.page.specs.State as page
 use Rattle.receiver_core.specs.State.{State, services, wants}
 
@@ -36,12 +39,31 @@ step_of_table now =
     with_changes (store.gone_by (services now).map now.store)
     (record now { store = store.with_map (services now).map now.store })
 
--- A section of a component: its changes
-abbrev pub step_of_component : ℕ → List ℕ → State → Step
-step_of_component component section now =
+-- the event messages of a section; one of another table, and one that isn't read, has none
+abbrev pub messages_of_reading : Result (List Message) TableFault → List Message
+messages_of_reading (Ok messages) = messages
+messages_of_reading (Err fault) = []
+
+abbrev pub section_messages : List ℕ → List Message
+section_messages section = messages_of_reading (messages_in section)
+
+-- they come to the page behind a step
+abbrev pub with_messages : ℕ → List Message → Step → Step
+with_messages component messages t =
+    let come = of_page t.state (messages_step component messages t.state.page) in
+    record { state = come.state; text = t.text ++ come.text }
+
+-- the changes that a section of a component makes in the modules
+abbrev pub step_of_modules : ℕ → List ℕ → State → Step
+step_of_modules component section now =
     with_changes
     (map (λ change. (component, change)) (store.changes_by component section now.store))
     (record now { store = store.with_section component section now.store })
+
+-- A section of a component: its changes, and then its event messages
+abbrev pub step_of_component : ℕ → List ℕ → State → Step
+step_of_component component section now =
+    with_messages component (section_messages section) (step_of_modules component section now)
 
 abbrev pub step_of_tag : Option ℕ → List ℕ → State → Step
 step_of_tag None section now = record { state = now; text = [] }

@@ -1,23 +1,24 @@
 //! The broadcast that is received, with its tables, its modules and its page; and what comes to it
 //! beside sections.
 
-ghost use Rattle.std.specs.Prelude.{◌≡◌, ◌≤◌, ◌<◌, ◌+◌, ◌^◌, ◌++◌, ℕ, List, false, length, map, IfOk, IfSome, OnOk};
+ghost use Rattle.std.specs.Prelude.{◌≡◌, ◌≤◌, ◌<◌, ◌+◌, ◌^◌, false, length, map, IfOk, IfSome, OnOk};
 ghost use Rattle.std.specs.Io.{StartsWith};
-ghost use Rattle.std.specs.List.{flat_map};
 ghost use Rattle.psi_tables.specs.Service.{reads_table};
 ghost use Rattle.es_reader.specs.Readers.{Reader, IsReader};
-ghost use Rattle.module_store.specs.Lines.{line_of_change};
-ghost use Rattle.page.specs.Standing.{behind_all, page_area};
+ghost use Rattle.page.specs.Inputs.{messages_step};
+ghost use Rattle.page.specs.Standing.{Makes as page_makes, Posts, page_area};
 ghost use Rattle.receiver_core.specs.Broadcasts.{Makes, MakesFirst, MakesOutcome, StandsFor, due_in};
 ghost use Rattle.receiver_core.specs.Outputs.{input_of, milliseconds_of, outcome_of};
 ghost use Rattle.receiver_core.specs.Outputs.{time_passes, waits_until};
 ghost use Rattle.receiver_core.specs.Outputs.Input.{Tick};
 ghost use Rattle.receiver_core.specs.Receiving.{IsSilent};
 ghost use Rattle.receiver_core.specs.State.{opening};
-ghost use Rattle.receiver_core.specs.Turns.{due_turn, key_turn, page_turn, step_of_component};
-ghost use Rattle.receiver_core.specs.Turns.{step_of_section, step_of_table, turn, with_handled};
+ghost use Rattle.receiver_core.specs.Turns.{due_turn, key_turn, of_page, page_turn, section_messages};
+ghost use Rattle.receiver_core.specs.Turns.{step_of_component, step_of_modules, step_of_section, step_of_table};
+ghost use Rattle.receiver_core.specs.Turns.{turn, with_handled};
 
-use bml_bytes::{AreaBytes, NoMemory, law_of_fronts};
+use bml_bytes::{AreaBytes, NoMemory, TableRefusal, law_of_fronts};
+use event_messages::{Message, law_of_messages, read_messages};
 use module_store::{Change, Store};
 use page::{Page, law_of_posted_changes};
 use psi_tables::{Selection, Services, law_of_component_map, law_of_unread_sections};
@@ -42,6 +43,7 @@ pub enum Input {
 /// Makes the turns of intact sections, and takes the other inputs.
 #[derive(Drop)]
 pub struct Broadcast {
+    alloc: Global,
     services: Services,
     store: Store,
     page: Page,
@@ -69,6 +71,7 @@ impl Broadcast {
         store.set_components(&services)?;
         let page = Page::fresh(alloc, area)?;
         Ok(Broadcast {
+            alloc,
             services,
             store,
             page,
@@ -247,7 +250,8 @@ impl Broadcast {
         post_gone(&mut self.page, gone.as_slice(), out)
     }
 
-    // Takes a section of the component on its PID.
+    // Takes a section of the component on its PID: the changes that it makes in the modules, and then
+    // its event messages.
     fn take_data(
         &mut self,
         pid: u16,
@@ -264,10 +268,49 @@ impl Broadcast {
         ensures clock { OnOk result (self.new.page.clock ≡ self.old.page.clock) }
         ensures grows { StartsWith out.new.items out.old.items }
     {
+        self.take_changes(pid, component, section, out)?;
+        self.take_messages(component, section, out)
+    }
+
+    // Posts the changes that a section makes in the modules of its component.
+    fn take_changes(
+        &mut self,
+        pid: u16,
+        component: u8,
+        section: &[u8],
+        out: &mut Vec<u8>,
+    ) -> Result<(), NoMemory>
+        requires section { 12 ≤ length section.now }
+        requires unread { reads_table self.old.services.selection
+            self.old.services.service pid ≡ false }
+        ensures makes { OnOk result (Makes
+            (λ s. step_of_modules component section.now (with_handled pid section.now s))
+            self.old self.new out.old.items out.new.items) }
+        ensures clock { OnOk result (self.new.page.clock ≡ self.old.page.clock) }
+        ensures grows { StartsWith out.new.items out.old.items }
+    {
         law_of_unread_sections();
         law_of_posted_changes();
         let changes = self.store.feed(component, section)?;
         post_changes(&mut self.page, component, changes.as_slice(), out)
+    }
+
+    // Posts the event messages of a section of a component.
+    fn take_messages(
+        &mut self,
+        component: u8,
+        section: &[u8],
+        out: &mut Vec<u8>,
+    ) -> Result<(), NoMemory>
+        requires { 12 ≤ length section.now }
+        ensures makes { OnOk result (Makes
+            (λ s. of_page s (messages_step component (section_messages section.now) s.page))
+            self.old self.new out.old.items out.new.items) }
+        ensures clock { OnOk result (self.new.page.clock ≡ self.old.page.clock) }
+        ensures grows { StartsWith out.new.items out.old.items }
+    {
+        let messages = messages_of(self.alloc, section)?;
+        post_messages(&mut self.page, component, messages.as_slice(), out)
     }
 }
 
@@ -278,10 +321,8 @@ fn post_changes(
     changes: &[Change],
     out: &mut Vec<u8>,
 ) -> Result<(), NoMemory>
-    ensures told { OnOk result
-        (out.new.items ≡ out.old.items ++ flat_map (line_of_change component) changes.now) }
-    ensures behind { OnOk result
-        (page.new ≡ behind_all (map (λ change. (component, change)) changes.now) page.old) }
+    ensures posted { OnOk result (Posts (map (λ change. (component, change)) changes.now)
+        page.old page.new out.old.items out.new.items) }
     ensures clock { OnOk result (page.new.clock ≡ page.old.clock) }
     ensures grows { StartsWith out.new.items out.old.items }
 {
@@ -294,10 +335,8 @@ fn post_changes(
 
 // Posts that modules are gone, each with its component, in their order.
 fn post_gone(page: &mut Page, gone: &[(u8, Change)], out: &mut Vec<u8>) -> Result<(), NoMemory>
-    ensures told { OnOk result
-        (out.new.items
-        ≡ out.old.items ++ flat_map (λ gone. line_of_change gone.0 gone.1) gone.now) }
-    ensures behind { OnOk result (page.new ≡ behind_all gone.now page.old) }
+    ensures posted { OnOk result
+        (Posts gone.now page.old page.new out.old.items out.new.items) }
     ensures clock { OnOk result (page.new.clock ≡ page.old.clock) }
     ensures grows { StartsWith out.new.items out.old.items }
 {
@@ -306,4 +345,36 @@ fn post_gone(page: &mut Page, gone: &[(u8, Change)], out: &mut Vec<u8>) -> Resul
         page.post_change(*component, change, out)?;
     }
     Ok(())
+}
+
+// Posts event messages of a component, in their order.
+fn post_messages(
+    page: &mut Page,
+    component: u8,
+    messages: &[Message],
+    out: &mut Vec<u8>,
+) -> Result<(), NoMemory>
+    ensures posted { OnOk result (page_makes (messages_step component messages.now)
+        page.old page.new out.old.items out.new.items) }
+    ensures clock { OnOk result (page.new.clock ≡ page.old.clock) }
+    ensures grows { StartsWith out.new.items out.old.items }
+{
+    law_of_fronts();
+    'messages: for message in messages {
+        page.post_message(component, message, out)?;
+    }
+    Ok(())
+}
+
+// The event messages of a section; one of another table, and one that isn't read, has none.
+fn messages_of(alloc: Global, section: &[u8]) -> Result<Vec<Message>, NoMemory>
+    requires { 12 ≤ length section.now }
+    ensures { IfOk result (λ messages. messages.items ≡ section_messages section.now) }
+{
+    law_of_messages();
+    match read_messages(alloc, section) {
+        Ok(messages) => Ok(messages),
+        Err(TableRefusal::NoMemory) => Err(NoMemory),
+        Err(TableRefusal::Fault(_)) => Ok(Vec::new(alloc)),
+    }
 }

@@ -1,6 +1,6 @@
 //! The receiver: from what comes to it to what it prints.
 
-ghost use Rattle.std.specs.Prelude.{◌≡◌, ◌⊎◌, ℕ, ◌+◌, ◌^◌, ◌<◌, [], List, true, false, IfOk, OnOk};
+ghost use Rattle.std.specs.Prelude.{◌≡◌, ◌≢◌, ◌⊎◌, ℕ, ◌+◌, ◌^◌, ◌<◌, [], List, true, false, IfOk, OnOk};
 ghost use Rattle.std.specs.Prelude.{Ok, is_err};
 ghost use Rattle.std.specs.Io.{StartsWith};
 ghost use Rattle.ts_packets.specs.Packet.{pid_of};
@@ -162,6 +162,7 @@ impl Receiver {
     /// Takes an input that is handed in whole, and appends what it prints. All but the wish to see
     /// the display ask that no turn is still to come.
     pub fn input(&mut self, input: Input, out: &mut Vec<u8>) -> Result<(), NoMemory>
+        requires idle { input_of input ≢ Show → IsIdle self.old }
         requires within { 0 < milliseconds_of (input_of input)
             → self.old.clock + milliseconds_of (input_of input) < 2 ^ 62 }
         ensures answers { OnOk result

@@ -11,7 +11,8 @@ ghost use Rattle.es_values.specs.declared.hosts.HostAnswer.TheVariants.{Value as
 ghost use Rattle.es_values.specs.declared.numbers.Num.TheVariants.{NotANumber};
 ghost use Rattle.es_values.specs.declared.values.Value.TheVariants.{Number};
 ghost use Rattle.browser_objects.specs.Calls.{Answers, call_of};
-ghost use Rattle.document_stages.specs.Acting.{browser_call, browser_value as spec_browser_value, document_call, done_for, first_argument, launch, node_call, register_value as spec_register_value, with_browser};
+ghost use Rattle.dom_objects.specs.Reads.{read_value};
+ghost use Rattle.document_stages.specs.Acting.{browser_call, browser_value as spec_browser_value, document_call, done_for, first_argument, is_subscription, is_unload, launch, node_call, parts_of, register_value as spec_register_value, text_written, with_browser};
 ghost use Rattle.document_stages.specs.Stages.{HasCalled, HasRead, HasWritten};
 
 use crate::event_lines::{push_kept_line, push_launch_line, push_sound_line};
@@ -21,6 +22,7 @@ use browser_objects::{Effect, call_browser, law_of_plain_answers, register, set_
 use dom_objects::{get_node, set_node};
 use dom_tree::NodeId;
 use es_values::{Heap, Host, HostAnswer, HostRef, Num, Value};
+use event_items::is_event_item;
 use event_queue::Event;
 use multipart_entities::Path;
 
@@ -33,18 +35,13 @@ impl Host for Stage {
 
     fn get(&mut self, base: HostRef, name: &Text) -> Result<Value, NoMemory> {
         match base {
+            HostRef::Node(number) if self.is_subscription(NodeId(number), name) => {
+                Ok(Value::Bool(self.items.is_subscribed(NodeId(number))))
+            }
             HostRef::Browser => Ok(browser_value(name)),
             HostRef::Ureg => register_value(&self.browser.ureg, name),
             HostRef::Greg => register_value(&self.browser.greg, name),
-            _ => get_node(
-                self.alloc,
-                &self.tree,
-                &mut self.styles,
-                &self.focus,
-                &self.event,
-                base,
-                name,
-            ),
+            _ => self.read_part(base, name),
         }
     }
 
@@ -55,11 +52,15 @@ impl Host for Stage {
         value: &Value,
         heap: &Heap,
     ) -> Result<(), NoMemory> {
-        let text = heap.to_text(value)?;
         match base {
-            HostRef::Ureg => set_register(self.alloc, &mut self.browser.ureg, name, &text),
-            HostRef::Greg => set_register(self.alloc, &mut self.browser.greg, name, &text),
-            _ => set_node(&mut self.tree, &mut self.styles, base, name, &text),
+            HostRef::Node(number) if self.is_subscription(NodeId(number), name) => {
+                self.items.subscribe(NodeId(number), value.truth());
+                Ok(())
+            }
+            _ => {
+                let text = heap.to_text(value)?;
+                self.write_text(base, name, &text)
+            }
         }
     }
 
@@ -83,6 +84,43 @@ impl Host for Stage {
 }
 
 impl Stage {
+    // Whether a node is an event item, and the name is that of its subscription.
+    fn is_subscription(&self, node: NodeId, name: &Text) -> bool
+        ensures { result ≡ is_subscription self.now.acting node.0 name.now }
+    {
+        name.is_word("subscribe") && self.tree.contains(node) && is_event_item(&self.tree, node)
+    }
+
+    // The value of a name of the document, of the current event, of a node or of a style.
+    fn read_part(&mut self, base: HostRef, name: &Text) -> Result<Value, NoMemory>
+        ensures value { IfOk result
+            (λ value. value ≡ read_value (parts_of self.old.acting) base name.now) }
+        ensures plain { IfOk result (λ value. is_plain value ≡ true) }
+        ensures same { self.new.acting ≡ self.old.acting }
+    {
+        get_node(
+            self.alloc,
+            &self.tree,
+            &mut self.styles,
+            &self.focus,
+            &self.event,
+            base,
+            name,
+        )
+    }
+
+    // Writes a text under a name of a reference.
+    fn write_text(&mut self, base: HostRef, name: &Text, text: &Text) -> Result<(), NoMemory>
+        ensures { OnOk result
+            (self.new.acting ≡ text_written self.old.acting base name.now text.now) }
+    {
+        match base {
+            HostRef::Ureg => set_register(self.alloc, &mut self.browser.ureg, name, text),
+            HostRef::Greg => set_register(self.alloc, &mut self.browser.greg, name, text),
+            _ => set_node(&mut self.tree, &mut self.styles, base, name, text),
+        }
+    }
+
     // Calls a member of the document: `getElementById` gives the first element with an id, or Null.
     fn call_document(
         &self,
@@ -207,12 +245,19 @@ impl Stage {
             ≡ (launch path self.old.acting heap).acting) }
         ensures safe { (heap : List ObjectState) → IfOk result (λ answer. IsAnswer heap answer) }
     {
-        if let Some(Event::Unload) = self.event.event {
+        if self.is_unloading() {
             return Ok(refusal());
         }
         push_launch_line(&path, &mut self.text)?;
         self.launched = Some(path);
         Ok(HostAnswer::Ended)
+    }
+
+    // Whether the handler of `unload` runs.
+    fn is_unloading(&self) -> bool
+        ensures { result ≡ is_unload self.now.acting.event.event }
+    {
+        matches!(&self.event.event, Some(Event::Unload))
     }
 
     /// Whether there is a node of this number, and it is an element.

@@ -9,6 +9,7 @@ returns c =
       steps = record {
         turns = law.turn;
         changes = law.changes;
+        messages = law.messages;
         keys = law.keys;
         random = law.random;
       };

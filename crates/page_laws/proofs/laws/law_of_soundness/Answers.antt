@@ -1,4 +1,4 @@
-use Rattle.page_laws.proofs.PageLemmas.{Laws, changes-sound, due_step-sound, key_step-sound, opening-sound, turn-sound, with_clock-sound, with_random-sound}
+use Rattle.page_laws.proofs.PageLemmas.{Laws, changes-sound, due_step-sound, key_step-sound, message_step-sound, opening-sound, turn-sound, with_clock-sound, with_random-sound}
 use Rattle.page_laws.proofs.laws.law_of_soundness.Goals as goal
 
 pub returns : goal.returns
@@ -12,6 +12,7 @@ returns c =
       };
       one = c.law_of_nested_nodes.ensures.tree;
       readings = c.law_of_readings.ensures;
+      items = c.law_of_event_items.ensures.nodes;
       programs = record {
         places = c.law_of_passing_values.ensures.places;
         globals = c.law_of_passing_values.ensures.globals;
@@ -20,7 +21,8 @@ returns c =
     record {
       opening = opening-sound;
       turn = turn-sound laws;
-      changes = changes-sound;
+      changes = changes-sound laws;
+      messages = message_step-sound laws;
       keys = key_step-sound laws;
       due = due_step-sound laws;
       clock = with_clock-sound;

@@ -1,5 +1,5 @@
 use Rattle.receiver_core.specs.State.{opening}
-use Rattle.page_laws.proofs.LaterPageLemmas.{changes-later, due_step-later, key_step-later, opening-later, turn-later}
+use Rattle.page_laws.proofs.LaterPageLemmas.{changes-later, due_step-later, key_step-later, message_step-later, opening-later, turn-later}
 use Rattle.page_laws.proofs.ReceiverLemmas.{SoundLaws}
 use Rattle.page_laws.proofs.TickLemmas.{behind-later, bound, tick-clock, tick-later}
 use Rattle.page_laws.proofs.laws.law_of_time.Goals as goal
@@ -11,6 +11,7 @@ returns c =
       steps = record {
         turns = law.turn;
         changes = law.changes;
+        messages = law.messages;
         keys = law.keys;
         random = law.random;
       };
@@ -21,6 +22,7 @@ returns c =
       opening = opening-later;
       turn = turn-later;
       changes = changes-later;
+      messages = message_step-later;
       keys = key_step-later;
       random = λ word s later. later;
       due = due_step-later;

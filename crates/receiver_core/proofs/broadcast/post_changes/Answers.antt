@@ -1,15 +1,25 @@
-use Rattle.std.proofs.Common.{◌∙◌, ℕ, List, ap, drop, sym}
-use Rattle.std.specs.Prelude.{map}
+use Rattle.std.proofs.Common.{◌∙◌, List, refl, subst}
+use Rattle.std.proofs.lemmas.List.{take_all}
 use Rattle.carousel_blocks.specs.declared.changes.Change.{Change}
-use Rattle.page.specs.Standing.{PageState}
-use Rattle.receiver_core.proofs.BroadcastLaws.{clock_behind}
+use Rattle.page.specs.Standing.{Posts}
+use Rattle.receiver_core.proofs.PostingLaws.{in_component, posts_more, posts_none}
 use Rattle.receiver_core.proofs.broadcast.post_changes.Goals as goal
 
--- each with its component
-abbrev in_component : ℕ → List Change → List (ℕ × Change)
-in_component component changes = map (λ change. (component, change)) changes
+pub changes-init : goal.changes-init
+changes-init c = record {
+  posted = posts_none c.args.page.now c.args.out.now.items;
+  clock = refl;
+}
 
-pub returns-clause-clock : goal.returns-clause-clock
-returns-clause-clock c =
-    sym (clock_behind (in_component c.args.component (drop c.changes.change-index c.args.changes.now)) c.changes.page) ∙ ap (λ (p : PageState). p.clock) c.changes.invariant.behind
-    ∙ clock_behind (in_component c.args.component c.args.changes.now) c.args.page.now
+pub changes-preserved : goal.changes-preserved
+changes-preserved c = record {
+  posted =
+      posts_more c.args.component c.args.changes.now c.changes.change-index _ c.args.page.now c.changes.page c.post_change.new.self c.args.out.now.items c.changes.out.items
+      c.post_change.new.out.items c.changes-test.true c.changes.invariant.posted c.in_ok-post_change.ensures.posted;
+  clock = c.post_change.ensures.clock ∙ c.changes.invariant.clock;
+}
+
+pub returns-clause-posted : goal.returns-clause-posted
+returns-clause-posted c =
+    subst (λ (l : List Change). Posts (in_component c.args.component l) c.args.page.now c.changes.page c.args.out.now.items c.changes.out.items)
+    (take_all c.changes.change-index c.args.changes.now c.changes-test.false) c.changes.invariant.posted

@@ -5,7 +5,7 @@ use Rattle.es_reader.specs.Programs.{Tells, ToldProgram}
 use Rattle.acting_documents.specs.Doings.{Does}
 use Rattle.acting_documents.specs.Kept.{KeptDocument}
 use Rattle.acting_documents.specs.Runs.{run_function as spec_run_function}
-use Rattle.acting_documents.proofs.DoingLemmas.{does_function, kept_in, leaves_in, steps-are}
+use Rattle.acting_documents.proofs.DoingLemmas.{does_function, kept_in, leaves_in, prepared, steps-are}
 use Rattle.acting_documents.proofs.documents.ActingDocument.run_function.Goals as goal
 
 pub returns-clause-does : goal.returns-clause-does
@@ -18,7 +18,7 @@ returns-clause-does c =
     on_ok_weaker {Q = Does effect c.args.self.now new c.args.out.now.items after} c.push_stop_line.result (λ told.
     subst (λ (k : KeptDocument). Does effect k new c.args.out.now.items after) c.self.view_is
     (does_function c.args.name.now c.args.function.now 100000 old new c.prepare.new.self c.run_global.new.host c.in_ok-outcome.outcome c.args.out.now.items c.give_text.new.out.items after
-    c.prepare.ensures.acting (λ sources told. c.in_ok-outcome.ensures.ends sources (subst (λ (programs : List ToldProgram). AllZip Tells sources programs) (sym c.as_slice.ensures.value) told)) steps-are
+    (prepared d.stage c.prepare.new.self c.none.result c.none.ensures c.prepare.ensures.acting) (λ sources told. c.in_ok-outcome.ensures.ends sources (subst (λ (programs : List ToldProgram). AllZip Tells sources programs) (sym c.as_slice.ensures.value) told)) steps-are
     (leaves_in c.give_text.new.self c.run_global.new.host.acting d.programs.items d.handlers c.run_global.new.globals c.run_global.new.heap d.body c.in_ok-give_text.ensures.acting)
     c.in_ok-give_text.ensures.given told))
     c.push_stop_line.ensures.ok

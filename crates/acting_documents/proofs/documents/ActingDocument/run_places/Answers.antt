@@ -38,7 +38,7 @@ scripts-preserved c =
     let after = c.run_program.new.out.items in
     let does : Does (spec_run_scripts (take (index + 1) places)) old new before after =
     subst (λ (all : List ℕ). Does (spec_run_scripts all) old new before after) (sym (take_more places index _ (omega arith)))
-    (does_scripts-more (take index places) _ old c.scripts.self new before c.scripts.out.items after
+    (does_scripts-more (take index places) _ c.none.result old c.scripts.self new before c.scripts.out.items after c.none.ensures
     (ap (λ (k : KeptDocument). is_some k.launched) (sym c.self.view_is) ∙ (sym c.has_launched.ensures ∙ c.if-has_launched.false)) c.scripts.invariant.0 c.in_ok-run_program.ensures.does) in
     (does, does_grows (spec_run_scripts (take (index + 1) places)) old new before after does)
 

@@ -7,5 +7,4 @@ invariant_of-result c =
     record {
       kind_is = c.in_ok-kind.ensures {u = tt};
       module_ref_is = c.in_ok-module_ref.ensures {u = tt};
-      subscribe_is = c.in_ok-subscribe.ensures {u = tt};
     }

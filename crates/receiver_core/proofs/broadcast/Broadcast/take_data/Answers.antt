@@ -1,18 +1,13 @@
-use Rattle.std.proofs.Common.{◌≡◌, ◌∙◌, false, subst, sym}
-use Rattle.psi_tables.specs.Service.{reads_table}
-use Rattle.receiver_core.specs.Broadcasts.{BroadcastState}
-use Rattle.receiver_core.proofs.BroadcastLaws.{data_taken, on_ok_both}
+use Rattle.receiver_core.specs.Turns.{section_messages, step_of_modules, with_handled}
+use Rattle.receiver_core.proofs.BroadcastLaws.{made_with_messages, on_ok}
 use Rattle.receiver_core.proofs.broadcast.Broadcast.take_data.Goals as goal
 
 pub returns-clause-makes : goal.returns-clause-makes
 returns-clause-makes c =
-    let inside = c.self.inside in
-    let old : BroadcastState = record { services = inside.services; store = inside.store; page = inside.page } in
-    let fed = c.in_ok-changes.ensures in
-    let posted = c.post_changes.ensures in
-    rw (← c.self.view_is)
-    (on_ok_both c.post_changes.result
-    (data_taken c.law_of_unread_sections.ensures.stands c.law_of_posted_changes.ensures.sections old c.feed.new.self c.post_changes.new.page c.as_slice.result.now c.args.pid c.args.component c.args.section.now
-    c.args.out.now.items c.post_changes.new.out.items
-    (subst (λ (b : BroadcastState). reads_table b.services.selection b.services.service c.args.pid ≡ false) (sym c.self.view_is) c.requires.unread) fed.stands
-    (λ stored stands. c.as_slice.ensures.value ∙ fed.changes stored stands)) posted.told posted.behind)
+    let component = c.args.component in
+    let section = c.args.section.now in
+    on_ok c.take_messages.result
+    (made_with_messages component (section_messages section) (λ s. step_of_modules component section (with_handled c.args.pid section s))
+    c.args.self.now c.take_changes.new.self c.take_messages.new.self c.args.out.now.items c.take_changes.new.out.items c.take_messages.new.out.items
+    c.in_ok-take_changes.ensures.makes)
+    c.take_messages.ensures.makes

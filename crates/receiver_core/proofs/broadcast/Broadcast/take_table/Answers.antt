@@ -1,6 +1,6 @@
 use Rattle.std.proofs.Common.{◌∙◌}
 use Rattle.receiver_core.specs.Broadcasts.{BroadcastState}
-use Rattle.receiver_core.proofs.BroadcastLaws.{on_ok_both, table_kept, table_taken}
+use Rattle.receiver_core.proofs.BroadcastLaws.{on_ok, table_kept, table_taken}
 use Rattle.receiver_core.proofs.broadcast.Broadcast.take_table.Goals as goal
 
 pub returns-clause-makes : goal.returns-clause-makes
@@ -9,11 +9,10 @@ returns-clause-makes c =
     let old : BroadcastState = record { services = inside.services; store = inside.store; page = inside.page } in
     let fed = c.in_ok-feed.ensures in
     let set = c.in_ok-gone.ensures in
-    let posted = c.post_gone.ensures in
     rw (← c.self.view_is)
-    (on_ok_both c.post_gone.result
+    (on_ok c.post_gone.result
     (table_taken c.law_of_component_map.ensures.apart c.law_of_posted_changes.ensures.maps old c.feed.new.self c.set_components.new.self c.post_gone.new.page c.as_slice.result.now c.args.pid c.args.section.now
-    c.args.out.now.items c.post_gone.new.out.items fed.selection fed.stands set.stands (λ stored stands. c.as_slice.ensures.value ∙ set.gone stored stands)) posted.told posted.behind)
+    c.args.out.now.items c.post_gone.new.out.items fed.selection fed.stands set.stands (λ stored stands. c.as_slice.ensures.value ∙ set.gone stored stands)) c.post_gone.ensures.posted)
 
 pub returns-then-not-branch-clause-makes : goal.returns-then-not-branch-clause-makes
 returns-then-not-branch-clause-makes c =

@@ -1,7 +1,7 @@
 //! The kinds of event items.
 
 ghost use Rattle.std.specs.Prelude.{◌≡◌};
-ghost use Rattle.event_items.specs.EventItems.{all_kinds, kind_name, kind_named};
+ghost use Rattle.event_queue.specs.ItemKinds.{all_kinds, kind_name, kind_named};
 
 use bml_bytes::Text;
 
