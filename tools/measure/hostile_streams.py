@@ -5,7 +5,7 @@ tables and messages out of a few numbers, so that they meet; and noise. `stream_
 import functools
 
 from hostile_places import EXAMPLES, TABLES  # (first, so that the others are found)
-from hostile_texts import BML, Case, documents
+from hostile_texts import BML, Case, documents, events_section
 from mutations import Language, about, mutated
 
 import tables
@@ -169,7 +169,8 @@ def generated(dice):
         if dice.random() < 0.2:
             found.append(table(dice))
         else:
-            made = announcement(dice) if dice.random() < 0.3 else block(dice, data)
+            way = dice.random()
+            made = announcement(dice) if way < 0.25 else events_section(dice) if way < 0.4 else block(dice, data)
             found.append((dice.choice(PIDS), lying_section(dice, made) if dice.random() < 0.1 else made))
     return packets_of_sections(found)[0]
 

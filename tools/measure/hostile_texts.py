@@ -1,5 +1,6 @@
 """Hostile documents, entities, styles, scripts and records: some mutated from those of the rows, some made by their grammars, some at
-the limits that docs/FORMATS.md has. For each kind a function draws a case from a source of random numbers.
+the limits that docs/FORMATS.md has. Event messages and other announcements come behind documents and scripts. For each kind a function
+draws a case from a source of random numbers.
 """
 
 import functools
@@ -13,7 +14,17 @@ import document_rows
 import line_rows
 import style_rows
 import tables
-from transport import TYPE_DESCRIPTOR, Module, ddb_section, descriptor, dii_section, packets_of_sections
+from transport import (
+    TYPE_DESCRIPTOR,
+    EventMessage,
+    Module,
+    ddb_section,
+    descriptor,
+    dii_section,
+    event_message,
+    packets_of_sections,
+    stream_descriptors_section,
+)
 
 DATA_PID = 256
 OPTIONS = ["--data-pid", str(DATA_PID)]
@@ -37,13 +48,14 @@ class Case(NamedTuple):
     due: bytes = b""
 
 
-def case_of(modules, record, due=b""):
-    """Returns the case of modules, each with its info and its bytes, from module 0000 on; this one comes last."""
+def case_of(modules, record, due=b"", behind=()):
+    """Returns the case of modules, each with its info and its bytes, from module 0000 on; this one comes last, and behind it these sections."""
     entries = [Module(number, 1, len(data), info) for number, (info, data) in enumerate(modules)]
     sections = [dii_section(1, 1, BLOCK_SIZE, entries)]
     for number, (_, data) in reversed(list(enumerate(modules))):
         blocks = range(0, len(data), BLOCK_SIZE)
         sections += [ddb_section(1, number, 1, at // BLOCK_SIZE, data[at : at + BLOCK_SIZE]) for at in blocks]
+    sections += behind
     return Case(OPTIONS, packets_of_sections((DATA_PID, section) for section in sections)[0], record, due)
 
 
@@ -51,12 +63,47 @@ def record_of(dice):
     """Returns a record that takes all packets, and mostly presses some keys."""
     lines = ["all", "show"]
     for _ in range(dice.choice((0, 1, 3, 10, 30))):
-        key = dice.choice((1, 2, 3, 4, 18, 18, 19, 21, 22, 23, 24, *KEYS))
+        key = dice.choice((1, 2, 3, 4, 18, 18, 19, 20, 20, 21, 22, 23, 24, *KEYS))
         lines += [f"key {key}"] + [f"release {key}"] * (dice.random() < 0.7)
         if dice.random() < 0.3:
             lines.append(f"tick {dice.choice((1, 99, 100, 200))}")
     lines[:0] = [f"random {dice.getrandbits(32)}" for _ in range(dice.choice((0, 0, 2)))]
     return "\n".join([*lines, "show", ""]).encode("ascii")
+
+
+# What comes to event items
+
+
+def events_section(dice):
+    """Returns a section of event messages, mostly of few groups, ids and versions, and now and then of what is none."""
+    made = []
+    for _ in range(dice.choice((0, 1, 1, 2, 5))):
+        group, number, version = dice.choice((0, 1, 1, 255, 4095)), dice.choice((1, 1, 2, 255)), dice.choice((1, 1, 2, 255))
+        private = dice.choice(WELL_FORMED) * dice.choice((0, 1, 3))
+        made.append(event_message(EventMessage(group, number, version, private, dice.choice((0, 9)), dice.choice((0, 0, 0, 0, 1)))))
+    if dice.random() < 0.1:
+        made.append(dice.choice((descriptor(0x40, bytes(10)), descriptor(0x17, bytes(12)), dice.randbytes(2), b"\x40")))
+    return stream_descriptors_section(made)
+
+
+def told_sections(dice):
+    """Returns sections for event items: messages, and other announcements of the modules."""
+    sections = []
+    for _ in range(dice.choice((0, 1, 1, 5, 60))):
+        if dice.random() < 0.8:
+            sections.append(events_section(dice))
+        else:
+            modules = [Module(number, dice.randrange(1, 3), dice.choice((0, 4)), BML) for number in range(dice.randrange(4))]
+            sections.append(dii_section(dice.randrange(1, 9), 1, BLOCK_SIZE, modules))
+    return sections
+
+
+def event_item(dice, handler):
+    """Returns an event item with this handler."""
+    often = {b"id": 0.5, b"type": 0.98, b"subscribe": 0.9}
+    found = {name: dice.choice(values) for name, values in ITEM_ATTRIBUTES.items() if dice.random() < often.get(name, 0.3)}
+    attributes = b"".join(b" " + name + b'="' + value + b'"' for name, value in found.items())
+    return b"<beitem" + attributes + b' onoccur="' + escaped(handler) + b'"/>'
 
 
 def escaped(text):
@@ -137,6 +184,17 @@ WELL_FORMED += [b"&", b"&#", b"&#;", b"&#x;", b"&#0;", b"&#128;", b"&#x7f;", b"&
 WELL_FORMED += [b"<!-- - -->", b"<!---->", b"<??>", b"<![CDATA[ <a> ]]>", b"<![CDATA[]]>"]
 MALFORMED = [b"<!-->", b"<![CDATA[", b"<!DOCTYPE bml>", b"<", b"</p>"]
 HANDLERS = ["onload", "onunload", "onkeydown", "onkeyup", "onclick", "onfocus", "onblur", "onoccur"]
+# The attributes of event items, each with values that it may have.
+ITEM_ATTRIBUTES = {
+    b"id": [b"m", b"x"],
+    b"type": [b"EventMessageFired", b"EventMessageFired", b"ModuleUpdated", b"DataButtonPressed", b"ModuleLocked", b"TimerFired"],
+    b"subscribe": [b"subscribe", b"subscribe", b"subscribe", b""],
+    b"es_ref": [b"/40", b"arib-dc://h/40", b"/41", b""],
+    b"message_group_id": [b"1", b"1", b"255", b"x"],
+    b"message_id": [b"1", b"255", b"2", b""],
+    b"message_version": [b"255", b"1", b"4294967296"],
+    b"module_ref": [b"/40/0001", b"/40/0000", b"../0002/n", b"n", b""],
+}
 PATHS = [b"/40/0001", b"/40/0000", b"/40/0002", b"/41/0000/x", b"arib-dc://h/40/0001", b"../0001/n", b"n", b"", b"a/b", b"/40/0001/" + b"n" * 64]
 DOCUMENT_WORDS = [f"<{tag}>".encode() for tag in TAGS] + [f"</{tag}>".encode() for tag in TAGS] + [f"<{tag}/>".encode() for tag in TAGS]
 DOCUMENT_WORDS += WELL_FORMED + MALFORMED + [b"<bml>", b"</bml>", b"<script>", b"</script>", b"<style>", b"</style>", b"<link href='/40/0001'/>", b"]]>", b"-->", b"?>"]
@@ -166,6 +224,8 @@ class DocumentMaker:
     def element(self, level):
         self.nodes -= 1
         dice = self.dice
+        if dice.random() < 0.03:
+            return event_item(dice, ScriptMaker(dice).statements(2))
         tag = dice.choice(DRAWN if dice.random() < 0.8 else TAGS).encode()
         if dice.random() < 0.002:
             tag = b"n" * about(dice, 50_000)
@@ -253,7 +313,7 @@ def document_case(dice):
         makers = [deep_document, deep_document, wide_document, named_document, attributed_document, referring_document]
         text, due = dice.choice(makers)(dice)
     other = dice.choice([(CSS, sheet(dice, 10)), (ECMASCRIPT, PRELUDE + ScriptMaker(dice).statements(3))])
-    return case_of([(info, text[:MOST_BYTES]), other], record_of(dice), due)
+    return case_of([(info, text[:MOST_BYTES]), other], record_of(dice), due, told_sections(dice))
 
 
 # Entities
@@ -348,10 +408,11 @@ LITERALS = [b"0", b"1", b"2147483647", b"2147483648", b"017", b"08", b"0x1F", b"
 BLANKS = [b" ", b"\n", b"\t", b"\r", b"/* a */", b"/*\n*/", b"// a\n", b"/*", b"*/", b"//", b"\x0b", b"\x00", b"\xa4\xa2", b"#", b"@", b"\\"]
 NAMES_OF_HOSTS = "document browser currentEvent currentFocus getElementById parentNode firstChild lastChild previousSibling nextSibling data length"
 NAMES_OF_HOSTS += " tagName id className accessKey normalStyle focusStyle activeStyle focus blur value type target keyCode epgTune writePersistentArray"
+NAMES_OF_HOSTS += " subscribe status moduleRef esRef messageGroupId messageId messageVersion privateData"
 NAMES_OF_HOSTS += " browser Ureg Greg setInterval clearTimer launchDocument random playRomSound lockModuleOnMemory"
 BUILT_IN = "Object Array String Number Boolean isNaN parseInt fromCharCode charAt charCodeAt indexOf lastIndexOf substring split toString valueOf"
 BUILT_IN += " join reverse sort NaN MAX_VALUE MIN_VALUE prototype constructor"
-OWN_NAMES = "a b c d e f g i n o s x"
+OWN_NAMES = "a b c d e f g i m n o s x"
 ALL_NAMES = [name.encode() for name in [*OWN_NAMES.split(), *NAMES_OF_HOSTS.split(), *BUILT_IN.split(), *NAMES]]
 TOKENS = WORDS.split() + SIGNS.split() + LITERALS + BLANKS + ALL_NAMES
 BINARY = [sign for sign in SIGNS.split() if sign in b"< > <= >= == != + - * / % << >> >>> & | ^ && ||".split()]
@@ -369,7 +430,7 @@ METHODS = {
     b"String": [b"fromCharCode"],
 }
 FUNCTIONS = [b"timer", b"browser.random", b"f", b"g", b"o.f", b"String", b"Number", b"Boolean", b"parseInt", b"isNaN", b"Object", b"Array", b"d.getElementById"]
-PRELUDE = b"""var s = "ab", i = 0, a = new Array(3, "1", 2), o = new Object(), n = document.getElementById("x"), b = "", c = 7, e = n, x = 1, d = document;
+PRELUDE = b"""var s = "ab", i = 0, a = new Array(3, "1", 2), o = new Object(), n = document.getElementById("x"), b = "", c = 7, e = n, x = 1, d = document, m = d.getElementById("m");
 function f(x) { return x + 1; } function g(x, y) { return f(x) + this; } o.f = f; o["1"] = a; a.o = o;
 function timer(x) { browser.Ureg[x] = x; return browser.setInterval("fired", x, x); } function fired() { b = b + 1; typeof h == "undefined" ? 0 : h(); }
 """
@@ -426,7 +487,8 @@ class ScriptMaker:
         dice = self.dice
         if level <= 0 or dice.random() < 0.15:
             return dice.choice([self.own_name, self.own_name, self.literal])()
-        return dice.choice([self.binary, self.unary, self.member, self.call, self.method, self.assignment, self.step, self.test, self.made])(level - 1)
+        ways = [self.binary, self.unary, self.member, self.call, self.method, self.assignment, self.step, self.test, self.made]
+        return dice.choice([*ways, self.subscription] if dice.random() < 0.3 else ways)(level - 1)
 
     def literal(self):
         return self.dice.choice([b"(0)", b"(1)", b"(-1)", b"(2147483647)", b"(0x1F)", b'""', b"'a'", b"'7'", b"null", b"true", b"this", b"'length'", b"NaN"])
@@ -459,6 +521,9 @@ class ScriptMaker:
 
     def assignment(self, level):
         return b"(" + self.target(level) + b" " + self.dice.choice(ASSIGNING) + b" " + self.expression(level) + b")"
+
+    def subscription(self, level):
+        return b"(m.subscribe = " + self.expression(level) + b")"
 
     def step(self, level):
         return b"(" + self.dice.choice([b"++%s", b"--%s", b"%s++", b"%s--"]) % self.target(level) + b")"
@@ -497,11 +562,19 @@ ENDLESS += [b"for (;;) a.sort();", b"for (;;) a.reverse();", b"for (;;) s = s.sp
 ENDLESS += [b"for (;;) { a.length = a.length * 2 + 1; }", b"for (;;) for (s in a) ;", b"for (;;) n.firstChild.data += 'text';", b"for (;;) n.focus();"]
 ENDLESS += [b"for (;;) browser.setInterval('f', 1, 0);", b"for (;;) browser.random(i++);", b"for (;;) browser.Greg[3] += 'text';"]
 ENDLESS += [b"function fired() { for (;;) n.focus(); } for (;;) browser.setInterval('fired()', 100, 0);", b"browser.launchDocument('/40/0000');"]
+ENDLESS += [b"for (;;) m.subscribe = !m.subscribe;", b"function h() { for (;;) s += document.currentEvent.privateData; }"]
 ENDLESS += [b"for (;;) n.normalStyle.left = i++ + 'px';", b"for (;;) d.getElementById(s += 'x');", b"for (;;) { delete o[i]; o[++i] = 1; }"]
 # (a script may declare `h`, `k` and `l`)
 H, K, L = (b"typeof %b == 'undefined' ? 0 : %b();" % (name, name) for name in (b"h", b"k", b"l"))
 PAGE = b"""<body id="b" onload="%b" onunload="%b"><p id="x" style="nav-index:0;nav-down:1" onfocus="%b" onkeydown="%b" onclick="%b">t</p>\
-<p id="y" style="nav-index:1;nav-up:0" onblur="%b" accesskey="R"/></body>""" % (L, K, H, K, H, H)
+<p id="y" style="nav-index:1;nav-up:0" onblur="%b" accesskey="R"/>""" % (L, K, H, K, H, H)
+ITEM = b'<beitem id="m" type="EventMessageFired" subscribe="subscribe" onoccur="%b"/>' % H
+
+
+def page(dice):
+    """Returns the body of a page, with one event item, with several, or with more than events can wait."""
+    several = b"".join(event_item(dice, dice.choice((H, K, L))) for _ in range(3))
+    return PAGE + ITEM + dice.choice((b"", several, several, ITEM * 300)) + b"</body>"
 
 
 def script_case(dice):
@@ -525,10 +598,11 @@ def script_case(dice):
         text, due = PRELUDE + dice.choice(ENDLESS), b""
     text = text[:MOST_BYTES]
     if dice.random() < 0.2:
-        document = b"<bml><head><script>" + escaped(text) + b"</script></head>" + PAGE + b"</bml>"
-        return case_of([(BML, document[:MOST_BYTES])], record_of(dice), due if len(document) <= MOST_BYTES else b"")
-    document = b'<bml><head><script src="/40/0001"/></head>' + PAGE + b"</bml>"
-    return case_of([(BML, document), (ECMASCRIPT, text)], record_of(dice), due)
+        document = b"<bml><head><script>" + escaped(text) + b"</script></head>" + page(dice) + b"</bml>"
+        due = due if len(document) <= MOST_BYTES else b""
+        return case_of([(BML, document[:MOST_BYTES])], record_of(dice), due, told_sections(dice))
+    document = b'<bml><head><script src="/40/0001"/></head>' + page(dice) + b"</bml>"
+    return case_of([(BML, document), (ECMASCRIPT, text)], record_of(dice), due, told_sections(dice))
 
 
 # Records
@@ -551,7 +625,8 @@ def recorded_pages():
         words = (EXAMPLES / name / "args").read_text().split()
         found.append((words[1:-2], (EXAMPLES / name / "stream.ts").read_bytes()))
     handlers = b"var i = 0; function h() { i++; d.getElementById('y').focus(); } function k() { n.firstChild.data = i; } function l() { n.focus(); }"
-    document = b"<bml><head><script><![CDATA[" + PRELUDE + handlers + b"]]></script></head>" + PAGE + b"</bml>"
+    button = b'<beitem id="m" type="DataButtonPressed" subscribe="subscribe" onoccur="%b"/>' % H
+    document = b"<bml><head><script><![CDATA[" + PRELUDE + handlers + b"]]></script></head>" + PAGE + button + b"</body></bml>"
     return [*found, case_of([(BML, document)], b"")[:2]]
 
 

@@ -3,7 +3,8 @@
 
 usage: measure_pages.py PROGRAM [--rounds N]
 
-Module 0000 of a carousel on PID 256 is a document, and the record has keys behind `all`. What the program writes is compared with what
+Module 0000 of a carousel on PID 256 is a document, and the record has keys or ticks behind `all`. Some pages have sections of event messages
+behind the document. What the program writes is compared with what
 is due: a line for the module, `load`, as many lines of lost events and stopped handlers as are said beside each, and `end`. Each is run N
 times (3), of which the best counts. `processor` is in seconds too, and says more than `seconds` where other work shares the machine. Status: 0
 where all was as due, 1 where a run went wrong.
@@ -13,7 +14,17 @@ import sys
 from typing import NamedTuple
 
 from measuring import replayed, words
-from transport import TYPE_DESCRIPTOR, Module, ddb_section, descriptor, dii_section, packets_of_sections
+from transport import (
+    TYPE_DESCRIPTOR,
+    EventMessage,
+    Module,
+    ddb_section,
+    descriptor,
+    dii_section,
+    event_message,
+    packets_of_sections,
+    stream_descriptors_section,
+)
 
 DATA_PID = 256
 OPTIONS = ["--data-pid", str(DATA_PID)]
@@ -21,13 +32,15 @@ BLOCK_SIZE = 4000
 
 
 class Page(NamedTuple):
-    """A document, the lines of the record behind `all`, and how many lines tell of lost events and of stops."""
+    """A document, the lines of the record behind `all`, how many lines tell of lost events and of stops, and the messages of each section
+    behind the document."""
 
     name: str
     document: str
     record: str
     lost: int
     stopped: int
+    messages: tuple = ()
 
 
 def with_script(script, body):
@@ -39,7 +52,32 @@ def many_nodes(count):
     return "".join(f'<a style="nav-index:{place % 32768};nav-down:{(place + 1) % count}" onkeydown="n++;"/>' for place in range(count))
 
 
+def with_items(count, attributes, handler):
+    """A document with so many event items that are subscribed, alike but for their places."""
+    item = f'<beitem type="EventMessageFired" subscribe="subscribe"{attributes} onoccur="{handler}"/>'
+    return with_script("var n = 0;", item * count)
+
+
+def section_of_messages(count, version):
+    """So many messages of different ids and groups in a version."""
+    return tuple(EventMessage(group=number // 256, id=number % 256, version=version) for number in range(count))
+
+
+def item_pages():
+    for count in (2_750, 5_500, 11_000):
+        items = with_items(count, ' message_group_id="9"', "")
+        yield Page(f"100 sections of 300 messages, {count:,} items for none", items, "", 0, 0, (section_of_messages(300, 1),) * 100)
+    items = with_items(240, "", "n++;")
+    versions = tuple(section_of_messages(1, version) for version in range(200))
+    yield Page("200 messages that fire 240 items each", items, "", 0, 0, versions)
+    items = with_items(1, "", "n++;")
+    yield Page("1,000 sections of 300 messages that repeat, an item", items, "", 44, 0, (section_of_messages(300, 1),) * 1_000)
+    timers = "".join('browser.setInterval("f()", 100, 0);' for _ in range(32))
+    yield Page("an hour with 32 timers of 100 ms", with_script("var n = 0; function f() { n++; } " + timers, ""), "tick 3600000\n", 0, 0)
+
+
 def pages():
+    yield from item_pages()
     two = '<p id="x" style="nav-index:0" onfocus="go(\'y\');">-</p><p id="y" style="nav-index:1" onfocus="go(\'x\');">y</p>'
     endless = with_script("function go(i) { document.getElementById(i).focus(); }", two)
     yield Page("10,000 turns of 256 dispatches each", endless, "release 1\n" * 10_000, 0, 0)
@@ -59,12 +97,13 @@ def pages():
     yield Page("100,000 digits over 8,000 elements", with_script("var n = 0;", many_nodes(8_000)), "key 5\n" * 100_000, 0, 0)
 
 
-def sections_of(document):
-    """Returns the sections of the module, each with its PID."""
+def sections_of(document, messages):
+    """Returns the sections of the module and those of the messages, each with its PID."""
     modules = [Module(0, 1, len(document), descriptor(TYPE_DESCRIPTOR, b"text/X-arib-bml"))]
     blocks = range(0, len(document), BLOCK_SIZE)
     sections = [dii_section(1, 1, BLOCK_SIZE, modules)]
     sections += [ddb_section(1, 0, 1, at // BLOCK_SIZE, document[at : at + BLOCK_SIZE]) for at in blocks]
+    sections += [stream_descriptors_section([event_message(it) for it in section]) for section in messages]
     return [(DATA_PID, section) for section in sections]
 
 
@@ -83,7 +122,7 @@ def main():
     print(f"{'page':52} {'seconds':>8} {'processor':>9}")
     for page in pages():
         document = page.document.encode("ascii")
-        stream, packets = packets_of_sections(sections_of(document))
+        stream, packets = packets_of_sections(sections_of(document, page.messages))
         ran, seconds, processor = replayed(program, OPTIONS, stream, ("all\n" + page.record).encode("ascii"), rounds)
         fault = "" if ran.returncode == 0 and is_due(page, document, packets, ran.stdout) else "  not as due"
         faults += bool(fault)

@@ -13,17 +13,20 @@ from transport import (
     PACKET_SIZE,
     TYPE_DESCRIPTOR,
     ElementaryStream,
+    EventMessage,
     Module,
     compression_type,
     counters_from,
     ddb_section,
     descriptor,
     dii_section,
+    event_message,
     packets_taken,
     pat_section,
     place_in_packets,
     pmt_section,
     section_packets,
+    stream_descriptors_section,
 )
 
 TOKEN = re.compile(r'"[^"]*"(?:\*[0-9]+)?|#.*|[^\s"#]+')
@@ -93,6 +96,9 @@ class Fields:
         if value is None:
             raise Fault(f"{name}= is missing")
         return number(value, bits)
+
+    def number_or_0(self, name, bits):
+        return number(self.optional(name) or "0", bits)
 
     def end(self):
         if self.left:
@@ -209,9 +215,7 @@ class Stream:
         self.send(dii_section(*identity, modules), counters)
 
     def ddb(self, words):
-        is_field = [re.match(r"[a-z]+=", word) is not None for word in words]
-        fields = Fields([word for word, named in zip(words, is_field) if named])
-        block = bytes_of([word for word, named in zip(words, is_field) if not named])
+        fields, block = fields_and_bytes(words)
         counters = counters_of(fields)
         identity = [fields.number("download", 32), fields.number("module", 16)]
         identity += [fields.number("version", 8), fields.number("number", 16)]
@@ -228,6 +232,15 @@ class Stream:
         data = self.file(name)
         for at in range(0, len(data), size):
             self.send(ddb_section(*identity, at // size, data[at : at + size]), None)
+
+    def events(self, words):
+        parts = [[]]
+        for word in words:
+            if word == "|":
+                parts.append([])
+            else:
+                parts[-1].append(word)
+        self.send(stream_descriptors_section(stream_descriptor(part) for part in parts), None)
 
     def flip(self, words):
         fields = Fields(words)
@@ -272,6 +285,7 @@ class Stream:
             "dii": self.dii,
             "ddb": self.ddb,
             "blocks": self.blocks,
+            "events": self.events,
             "flip": self.flip,
             "bytes": self.bytes,
         }
@@ -286,6 +300,27 @@ class Stream:
                 self.state(line)
             except (Fault, ValueError) as fault:
                 raise Fault(f"line {at}: {fault}") from None
+
+
+def fields_and_bytes(words):
+    """The fields NAME=VALUE among some words, and the bytes that the others say."""
+    named = [word for word in words if re.match(r"[a-z]+=", word)]
+    return Fields(named), bytes_of([word for word in words if word not in named])
+
+
+def stream_descriptor(words):
+    """Reads a part of a statement `events`: an event message, a descriptor of any tag, or bytes as they are."""
+    fields, data = fields_and_bytes(words)
+    if not fields.left:
+        return data
+    tag = fields.optional("tag")
+    if tag is None:
+        identity = [fields.number("group", 12), fields.number("id", 8), fields.number("version", 8)]
+        made = event_message(EventMessage(*identity, data, fields.number_or_0("type", 8), fields.number_or_0("mode", 8)))
+    else:
+        made = descriptor(number(tag, 8), data)
+    fields.end()
+    return made
 
 
 def stream_of_program(text):

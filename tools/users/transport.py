@@ -1,5 +1,5 @@
-"""Packets and sections of a transport stream (ISO/IEC 13818-1) and the DSM-CC messages DII and DDB (ISO/IEC 13818-6): how they
-are made, and how sections are read.
+"""Packets and sections of a transport stream (ISO/IEC 13818-1), the DSM-CC messages DII and DDB (ISO/IEC 13818-6) and event
+messages (after ARIB STD-B24, volume 3): how they are made, and how sections are read.
 
 Every header field that a caller does not give is 0, reserved bits too. What reads a section answers None where it is of another
 kind, or where its lengths don't fit together.
@@ -18,8 +18,10 @@ TABLE_PAT = 0x00
 TABLE_PMT = 0x02
 MESSAGE_DII = (0x3B, 0x1002)  # table_id and messageId
 MESSAGE_DDB = (0x3C, 0x1003)
+TABLE_STREAM_DESCRIPTORS = 0x3D
 
 TYPE_DESCRIPTOR = 0x01
+EVENT_MESSAGE = 0x40
 STREAM_IDENTIFIER = 0x52
 COMPRESSION_TYPE = 0xC2  # ARIB STD-B24, volume 3
 DATA_COMPONENT = 0xFD
@@ -72,6 +74,17 @@ class Ddb(NamedTuple):
     reserved: bytes = bytes(2)  # the reserved bytes of the message header and behind the version
 
 
+class EventMessage(NamedTuple):
+    """An event message: its group, id and version, its private bytes, its event_msg_type and its time_mode."""
+
+    group: int
+    id: int
+    version: int
+    private: bytes = b""
+    kind: int = 0
+    time_mode: int = 0
+
+
 class Compression(NamedTuple):
     """A CompressionType: the method is None where the descriptor is too short."""
 
@@ -107,6 +120,8 @@ def section(table_id, body, extension=0, current_next=0):
 
 def descriptor(tag, data):
     """Returns a descriptor: its tag, its length and its bytes."""
+    if len(data) > 0xFF:
+        raise ValueError(f"a descriptor of {len(data)} bytes is longer than its length can say")
     return struct.pack(">BB", tag, len(data)) + data
 
 
@@ -154,6 +169,17 @@ def ddb_message(ddb):
 def ddb_section(download, module, version, number, block):
     """Returns the section of a DDB: a block of a module."""
     return section(MESSAGE_DDB[0], ddb_message(Ddb(download, module, version, number, block)))
+
+
+def event_message(message):
+    """Returns the descriptor of an event message."""
+    fields = struct.pack(">HB5xBBB", message.group << 4, message.time_mode, message.kind, message.id, message.version)
+    return descriptor(EVENT_MESSAGE, fields + message.private)
+
+
+def stream_descriptors_section(made):
+    """Returns the section of stream descriptors, as those of event messages."""
+    return section(TABLE_STREAM_DESCRIPTORS, b"".join(made))
 
 
 def compression_type(size):
