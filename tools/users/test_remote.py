@@ -246,7 +246,9 @@ class CommandLine(Served):
         script = SCRIPT.replace('print("end 5")', 'print("load", *sys.argv[1:-1])')
         Path(self.program).write_text(script, encoding="utf-8")
         command = [sys.executable, "-B", TOOL, self.program, "--data-pid", "256", "--program", self.program]
-        with subprocess.Popen(command, stdout=subprocess.PIPE, stderr=subprocess.PIPE) as started:
+        # What is started in the background, as the whole test may be, has SIGINT ignored.
+        heard = {"preexec_fn": lambda: signal.signal(signal.SIGINT, signal.SIG_DFL)}
+        with subprocess.Popen(command, stdout=subprocess.PIPE, stderr=subprocess.PIPE, **heard) as started:
             told = started.stdout.readline().decode()
             port, word = re.fullmatch(r"Open http://127\.0\.0\.1:([0-9]+)/([\w-]+)/ in .*\n", told).groups()
             self.server = mock.Mock(server_address=("127.0.0.1", int(port)), word=word)
