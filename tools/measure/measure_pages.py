@@ -52,9 +52,9 @@ def many_nodes(count):
     return "".join(f'<a style="nav-index:{place % 32768};nav-down:{(place + 1) % count}" onkeydown="n++;"/>' for place in range(count))
 
 
-def with_items(count, attributes, handler):
+def with_items(count, attributes):
     """A document with so many event items that are subscribed, alike but for their places."""
-    item = f'<beitem type="EventMessageFired" subscribe="subscribe"{attributes} onoccur="{handler}"/>'
+    item = f'<beitem type="EventMessageFired" subscribe="subscribe"{attributes}/>'
     return with_script("var n = 0;", item * count)
 
 
@@ -64,13 +64,15 @@ def section_of_messages(count, version):
 
 
 def item_pages():
-    for count in (2_750, 5_500, 11_000):
-        items = with_items(count, ' message_group_id="9"', "")
+    for count in (3_950, 7_900, 15_800):
+        items = with_items(count, ' es_ref=""')
         yield Page(f"100 sections of 300 messages, {count:,} items for none", items, "", 0, 0, (section_of_messages(300, 1),) * 100)
-    items = with_items(240, "", "n++;")
+    # Of 300 times 16,000 posts 256 find a place.
+    yield Page("a section of 300 messages that fire 16,000 items", with_items(16_000, ""), "", 4_799_744, 0, (section_of_messages(300, 1),))
+    items = with_items(240, ' onoccur="n++;"')
     versions = tuple(section_of_messages(1, version) for version in range(200))
     yield Page("200 messages that fire 240 items each", items, "", 0, 0, versions)
-    items = with_items(1, "", "n++;")
+    items = with_items(1, ' onoccur="n++;"')
     yield Page("1,000 sections of 300 messages that repeat, an item", items, "", 44, 0, (section_of_messages(300, 1),) * 1_000)
     timers = "".join('browser.setInterval("f()", 100, 0);' for _ in range(32))
     yield Page("an hour with 32 timers of 100 ms", with_script("var n = 0; function f() { n++; } " + timers, ""), "tick 3600000\n", 0, 0)
