@@ -34,17 +34,21 @@ use Rattle.dom_objects.specs.declared.current_events.CurrentEvent.{CurrentEvent}
 use Rattle.document_stages.specs.Acting.{Acting, key_posts}
 use Rattle.acting_documents.specs.Handling.{key_effect, kind_of, run_handler, timer_effect, timer_taken}
 use Rattle.acting_documents.specs.Documents.{Document, body_of, handler_in, passes}
-use Rattle.acting_documents.specs.Doings.{Changes, Does, HasDone, scene_of}
+use Rattle.acting_documents.specs.Doings.{Changes, Does, DoesApart, HasDone, IsScene, lent_modules}
 use Rattle.acting_documents.specs.Kept.{IsDocument, KeptDocument}
 use Rattle.acting_documents.specs.Beginnings.{run_scripts, script_places}
-use Rattle.acting_documents.specs.Runs.{Effect, End, Scene, acting_in, and_then, done, effect_behind, effect_of_end, ended, most_steps, no_event, nothing_done, run_function, run_program, unless_launched}
-use Rattle.document_stages.specs.Stages.{HasCalled, HasRead, HasWritten, StageState}
+use Rattle.acting_documents.specs.Runs.{Effect, End, Scene, acting_in, and_then, done, effect_behind, effect_of_end, ended, hosted_in, most_steps, no_event, nothing_done, run_function, run_program, unless_launched}
+use Rattle.document_stages.specs.Calling.{HasCalled, HasRead, HasWritten}
+use Rattle.document_stages.specs.Stages.{StageState}
+use Rattle.document_stages.specs.declared.script_hosts.ScriptHost.{ScriptHost}
+use Rattle.module_locks.specs.Locks.{Modules}
+use Rattle.module_locks.specs.Standing.{ModulesState, StandsFor}
 use Rattle.acting_documents.specs.StopLines.{stop_lines}
 use Rattle.focus_keys.specs.KeyTables.{passes_list}
 use Rattle.focus_keys.specs.Targets.{normal_value}
 use Rattle.style_reader.specs.declared.properties.Property.TheVariants.{UsedKeyList}
 use Rattle.acting_documents.proofs.BodyLemmas.{body-element}
-use Rattle.acting_documents.proofs.EndedLemmas.{Stays, ended-stays, ends_as, stays_of}
+use Rattle.acting_documents.proofs.EndedLemmas.{EndsAs, Stays, ended-stays, ends_as, stays_of}
 
 -- ---- part by part
 
@@ -70,51 +74,45 @@ parts_of_kept kept d k = record {
   body = ap (λ (x : KeptDocument). x.body) k.others;
 }
 
-kept_parts : (path path' : Path) (tree tree' : StyledTree) (items items' : ItemsState) (queue queue' : List Event) (programs : List ToldProgram) (handlers handlers' : List HandlerState) (globals globals' : List (List ℕ × Value)) (heap heap' : List ObjectState) (body body' : Option ℕ) (worked : ℕ) (lent : BrowserParts) (now : ℕ) (launched : Option Path)
+kept_parts : (path path' : Path) (tree tree' : StyledTree) (items items' : ItemsState) (queue queue' : List Event) (programs : List ToldProgram) (handlers handlers' : List HandlerState) (globals globals' : List (List ℕ × Value)) (heap heap' : List ObjectState) (body body' : Option ℕ) (worked : ℕ) (lent : BrowserParts) (now : ℕ) (modules : ModulesState) (launched : Option Path)
     → path ≡ path' → tree ≡ tree' → items ≡ items' → queue ≡ queue' → handlers ≡ handlers' → globals ≡ globals' → heap ≡ heap' → body ≡ body'
-    → (let x : KeptDocument = record { path = path; tree = tree; items = items; queue = queue; programs = programs; handlers = handlers; globals = globals; heap = heap; body = body; worked = worked; lent = lent; now = now; launched = launched } in x)
-    ≡ record { path = path'; tree = tree'; items = items'; queue = queue'; programs = programs; handlers = handlers'; globals = globals'; heap = heap'; body = body'; worked = worked; lent = lent; now = now; launched = launched }
-kept_parts path path' tree tree' items items' queue queue' programs handlers handlers' globals globals' heap heap' body body' worked lent now launched a b c d e f g h = cc
+    → (let x : KeptDocument = record { path = path; tree = tree; items = items; queue = queue; programs = programs; handlers = handlers; globals = globals; heap = heap; body = body; worked = worked; lent = lent; now = now; modules = modules; launched = launched } in x)
+    ≡ record { path = path'; tree = tree'; items = items'; queue = queue'; programs = programs; handlers = handlers'; globals = globals'; heap = heap'; body = body'; worked = worked; lent = lent; now = now; modules = modules; launched = launched }
+kept_parts path path' tree tree' items items' queue queue' programs handlers handlers' globals globals' heap heap' body body' worked lent now modules launched a b c d e f g h = cc
 
 pub kept_of_parts : (kept : KeptDocument) (d : Document) → AllZip Tells d.programs kept.programs → Parts kept d → IsDocument kept d
 kept_of_parts kept d z p = record {
   programs = z;
-  others = kept_parts kept.path d.path kept.tree d.tree kept.items d.items kept.queue d.queue kept.programs kept.handlers d.handlers kept.globals d.globals kept.heap d.heap kept.body (body_of d.tree.items) kept.worked kept.lent kept.now kept.launched p.path p.tree p.items p.queue p.handlers p.globals p.heap p.body;
+  others = kept_parts kept.path d.path kept.tree d.tree kept.items d.items kept.queue d.queue kept.programs kept.handlers d.handlers kept.globals d.globals kept.heap d.heap kept.body (body_of d.tree.items) kept.worked kept.lent kept.now kept.modules kept.launched p.path p.tree p.items p.queue p.handlers p.globals p.heap p.body;
 }
-
-scene_same : (d : Document) (b b' : BrowserParts) (n n' : ℕ) → b ≡ b' → n ≡ n' → (let x : Scene = record { document = d; browser = b; now = n } in x) ≡ record { document = d; browser = b'; now = n' }
-scene_same d b b' n n' x y = cc
 
 -- ---- one behind the other
 
 -- the same effect in other words
-pub does_as : (more effect : Scene → Effect) (old new : KeptDocument) (before after : List ℕ) → ((d : Document) → IsDocument old d → effect (scene_of old d) ≡ more (scene_of old d)) → Does more old new before after → Does effect old new before after
+pub does_as : (more effect : Scene → Effect) (old new : KeptDocument) (before after : List ℕ) → ((s : Scene) → IsScene old s → effect s ≡ more s) → Does more old new before after → Does effect old new before after
 does_as more effect old new before after same x = record {
   text = x.text;
   printed = x.printed;
-  does = λ d k. subst (λ (e : Effect). HasDone new x.text e) (sym (same d k)) (x.does d k);
+  does = λ s k. subst (λ (e : Effect). HasDone new x.text e) (sym (same s k)) (x.does s k);
 }
 
 -- nothing was launched, and another thing is done
-both_done : (e : Effect) (more : Scene → Effect) (middle new : KeptDocument) (one two : List ℕ) → middle.launched ≡ None → HasDone middle one e → HasDone new two (more (scene_of middle e.scene.document)) → HasDone new (one ++ two) (and_then more e)
+both_done : (e : Effect) (more : Scene → Effect) (middle new : KeptDocument) (one two : List ℕ) → middle.launched ≡ None → HasDone middle one e → HasDone new two (more e.scene) → HasDone new (one ++ two) (and_then more e)
 both_done e more middle new one two none x y =
     let launched : e.launched ≡ None = sym x.launched_is ∙ none in
-    let z : HasDone new two (more e.scene) = subst (λ (s : Scene). HasDone new two (more s)) (scene_same e.scene.document middle.lent e.scene.browser middle.now e.scene.now x.lent_is x.now_is) y in
     subst (λ (o : Option Path). HasDone new (one ++ two) (unless_launched o more e)) (sym launched) (record {
-      is = z.is;
-      lent_is = z.lent_is;
-      now_is = z.now_is;
-      launched_is = z.launched_is;
-      text_is = ap (λ (t : List ℕ). t ++ two) x.text_is ∙ ap (λ (t : List ℕ). e.text ++ t) z.text_is;
+      is = y.is;
+      launched_is = y.launched_is;
+      text_is = ap (λ (t : List ℕ). t ++ two) x.text_is ∙ ap (λ (t : List ℕ). e.text ++ t) y.text_is;
     })
 
 pub does_then : (first more : Scene → Effect) (old middle new : KeptDocument) (before between after : List ℕ) → is_some middle.launched ≡ false → Does first old middle before between → Does more middle new between after → Does (λ s. and_then more (first s)) old new before after
 does_then first more old middle new before between after none x y = record {
   text = x.text ++ y.text;
   printed = y.printed ∙ (ap (λ (t : List ℕ). t ++ y.text) x.printed ∙ append_assoc before x.text y.text);
-  does = λ d k.
-      let one = x.does d k in
-      both_done (first (scene_of old d)) more middle new x.text y.text (is_none middle.launched none) one (y.does (first (scene_of old d)).scene.document one.is);
+  does = λ s k.
+      let one = x.does s k in
+      both_done (first s) more middle new x.text y.text (is_none middle.launched none) one (y.does (first s).scene one.is);
 }
   where
     is_none : (o : Option Path) → is_some o ≡ false → o ≡ None
@@ -133,21 +131,17 @@ pub does_stopped : (first more : Scene → Effect) (old new : KeptDocument) (bef
 does_stopped first more old new before after some x = record {
   text = x.text;
   printed = x.printed;
-  does = λ d k.
-      let one = x.does d k in
-      subst (λ (e : Effect). HasDone new x.text e) (sym (stopped (first (scene_of old d)) more (sym (ap is_some one.launched_is) ∙ some))) one;
+  does = λ s k.
+      let one = x.does s k in
+      subst (λ (e : Effect). HasDone new x.text e) (sym (stopped (first s) more (sym (ap is_some one.launched_is) ∙ some))) one;
 }
 
 -- something was changed, and then a thing is done
-pub does_changed : (change : Scene → Scene) (effect : Scene → Effect) (old middle new : KeptDocument) (before after : List ℕ) → ((s : Scene) → (change s).now ≡ s.now) → Changes change old middle → Does effect middle new before after → Does (λ s. effect (change s)) old new before after
-does_changed change effect old middle new before after keeps c x = record {
+pub does_changed : (change : Scene → Scene) (effect : Scene → Effect) (old middle new : KeptDocument) (before after : List ℕ) → Changes change old middle → Does effect middle new before after → Does (λ s. effect (change s)) old new before after
+does_changed change effect old middle new before after c x = record {
   text = x.text;
   printed = x.printed;
-  does = λ d k.
-      let s = change (scene_of old d) in
-      subst (λ (t : Scene). HasDone new x.text (effect t))
-      (scene_same s.document middle.lent s.browser middle.now s.now (c.lent_is d k) (c.now_is ∙ sym (keeps (scene_of old d))))
-      (x.does s.document (c.document d k));
+  does = λ s k. x.does (change s) (c.changes s k);
 }
 
 -- the time went on, and then a thing is done
@@ -155,18 +149,23 @@ does_later : (moment : ℕ) (effect : Scene → Effect) (old new : KeptDocument)
 does_later moment effect old new before after x = record {
   text = x.text;
   printed = x.printed;
-  does = λ d k.
-      let p = parts_of_kept old d k in
-      x.does d (kept_of_parts (record old { now = moment }) d k.programs (record {
-        path = p.path;
-        tree = p.tree;
-        items = p.items;
-        queue = p.queue;
-        handlers = p.handlers;
-        globals = p.globals;
-        heap = p.heap;
-        body = p.body;
-      }));
+  does = λ s k.
+      let p = parts_of_kept old s.document k.is in
+      x.does (record s { now = moment }) (record {
+        is = kept_of_parts (record old { now = moment }) s.document k.is.programs (record {
+          path = p.path;
+          tree = p.tree;
+          items = p.items;
+          queue = p.queue;
+          handlers = p.handlers;
+          globals = p.globals;
+          heap = p.heap;
+          body = p.body;
+        });
+        lent_is = k.lent_is;
+        now_is = refl;
+        modules = k.modules;
+      });
 }
 
 -- ---- what is acted on
@@ -184,14 +183,16 @@ acting_of old event = record {
   text = [];
 }
 
-acting_is : (old : KeptDocument) (event : CurrentEvent) (d : Document) → Parts old d → acting_of old event ≡ acting_in event (scene_of old d)
-acting_is old event d p = same old.path d.path old.tree d.tree old.items d.items old.queue d.queue p.path p.tree p.items p.queue
+acting_is : (old : KeptDocument) (event : CurrentEvent) (s : Scene) → IsScene old s → acting_of old event ≡ acting_in event s
+acting_is old event s k =
+    let p = parts_of_kept old s.document k.is in
+    same old.path s.document.path old.tree s.document.tree old.items s.document.items old.queue s.document.queue old.lent s.browser old.now s.now p.path p.tree p.items p.queue k.lent_is k.now_is
   where
-    acts : Path → StyledTree → ItemsState → List Event → Acting
-    acts path tree items queue = record { path = path; tree = tree; items = items; queue = queue; browser = old.lent; now = old.now; event = event; launched = None; text = [] }
+    acts : Path → StyledTree → ItemsState → List Event → BrowserParts → ℕ → Acting
+    acts path tree items queue lent now = record { path = path; tree = tree; items = items; queue = queue; browser = lent; now = now; event = event; launched = None; text = [] }
 
-    same : (x x' : Path) (t t' : StyledTree) (i i' : ItemsState) (q q' : List Event) → x ≡ x' → t ≡ t' → i ≡ i' → q ≡ q' → acts x t i q ≡ acts x' t' i' q'
-    same x x' t t' i i' q q' a b c d = cc
+    same : (x x' : Path) (t t' : StyledTree) (i i' : ItemsState) (q q' : List Event) (l l' : BrowserParts) (n n' : ℕ) → x ≡ x' → t ≡ t' → i ≡ i' → q ≡ q' → l ≡ l' → n ≡ n' → acts x t i q l n ≡ acts x' t' i' q' l' n'
+    same x x' t t' i i' q q' l l' n n' a b c d e f = cc
 
 -- what is kept now is what was acted on, and what was kept before
 pub record Leaves (told : List ToldProgram) (kept : List HandlerState) (node : Option ℕ) (new : KeptDocument) (last : Acting) : Type 0 where
@@ -207,8 +208,8 @@ pub record Leaves (told : List ToldProgram) (kept : List HandlerState) (node : O
   pub body : new.body ≡ node
 
 -- what contracts see of a document that is kept in parts
-abbrev pub kept_in : StageState → List ToldProgram → List HandlerState → List (List ℕ × Value) → List ObjectState → Option NodeId → KeptDocument
-kept_in stage programs handlers globals heap body = record {
+abbrev pub kept_in : StageState → ModulesState → List ToldProgram → List HandlerState → List (List ℕ × Value) → List ObjectState → Option NodeId → KeptDocument
+kept_in stage modules programs handlers globals heap body = record {
   path = stage.acting.path;
   tree = stage.acting.tree;
   items = stage.acting.items;
@@ -221,13 +222,14 @@ kept_in stage programs handlers globals heap body = record {
   worked = stage.worked;
   lent = stage.acting.browser;
   now = stage.acting.now;
+  modules = modules;
   launched = stage.acting.launched;
 }
 
-pub leaves_in : (given : StageState) (last : Acting) (programs : List ToldProgram) (handlers : List HandlerState) (globals : List (List ℕ × Value)) (heap : List ObjectState) (body : Option NodeId)
+pub leaves_in : (given : StageState) (modules : ModulesState) (last : Acting) (programs : List ToldProgram) (handlers : List HandlerState) (globals : List (List ℕ × Value)) (heap : List ObjectState) (body : Option NodeId)
     → given.acting ≡ record last { text = [] }
-    → Leaves programs handlers (number_of body) (kept_in given programs handlers globals heap body) last
-leaves_in given last programs handlers globals heap body e = record {
+    → Leaves programs handlers (number_of body) (kept_in given modules programs handlers globals heap body) last
+leaves_in given modules last programs handlers globals heap body e = record {
   path = ap (λ (a : Acting). a.path) e;
   tree = ap (λ (a : Acting). a.tree) e;
   items = ap (λ (a : Acting). a.items) e;
@@ -242,51 +244,59 @@ leaves_in given last programs handlers globals heap body e = record {
 
 -- ---- what was left of it
 
-abbrev effect_left : Scene → Acting → List (List ℕ × Value) → List ObjectState → List ℕ → Effect
-effect_left s last globals heap text = record {
+abbrev effect_left : Scene → Acting → Modules → List (List ℕ × Value) → List ObjectState → List ℕ → Effect
+effect_left s last modules globals heap text = record {
   scene = record s {
     document = record s.document { tree = last.tree; items = last.items; queue = last.queue; globals = globals; heap = heap };
     browser = last.browser;
+    modules = modules;
   };
   launched = last.launched;
   text = text;
 }
 
-left_done : (old new : KeptDocument) (d : Document) (last : Acting) (globals : List (List ℕ × Value)) (heap : List ObjectState) (text : List ℕ)
-    → AllZip Tells d.programs old.programs → Parts old d
-    → stays_of last ≡ stays_of (acting_in no_event (scene_of old d))
-    → Leaves old.programs old.handlers old.body new last → new.globals ≡ globals → new.heap ≡ heap
-    → HasDone new text (effect_left (scene_of old d) last globals heap text)
-left_done old new d last globals heap text z p stays left globals_are heap_is = record {
-  is = kept_of_parts new (effect_left (scene_of old d) last globals heap text).scene.document (subst (λ (t : List ToldProgram). AllZip Tells d.programs t) (sym left.programs) z) (record {
-    path = left.path ∙ ap (λ (s : Stays). s.path) stays;
-    tree = left.tree;
-    items = left.items;
-    queue = left.queue;
-    handlers = left.handlers ∙ p.handlers;
-    globals = globals_are;
-    heap = heap_is;
-    body = left.body ∙ (p.body ∙ sym (ap (λ (s : Stays). s.body) stays));
-  });
-  lent_is = left.lent;
-  now_is = left.now ∙ ap (λ (s : Stays). s.now) stays;
-  launched_is = left.launched;
-  text_is = refl;
-}
+left_done : (old new : KeptDocument) (s : Scene) (last : Acting) (modules : Modules) (globals : List (List ℕ × Value)) (heap : List ObjectState) (text : List ℕ)
+    → IsScene old s
+    → stays_of last ≡ stays_of (acting_in no_event s)
+    → Leaves old.programs old.handlers old.body new last → StandsFor new.modules modules
+    → new.globals ≡ globals → new.heap ≡ heap
+    → HasDone new text (effect_left s last modules globals heap text)
+left_done old new s last modules globals heap text k stays left stands globals_are heap_is =
+    let p = parts_of_kept old s.document k.is in
+    record {
+      is = record {
+        is = kept_of_parts new (effect_left s last modules globals heap text).scene.document (subst (λ (t : List ToldProgram). AllZip Tells s.document.programs t) (sym left.programs) k.is.programs) (record {
+          path = left.path ∙ ap (λ (x : Stays). x.path) stays;
+          tree = left.tree;
+          items = left.items;
+          queue = left.queue;
+          handlers = left.handlers ∙ p.handlers;
+          globals = globals_are;
+          heap = heap_is;
+          body = left.body ∙ (p.body ∙ sym (ap (λ (x : Stays). x.body) stays));
+        });
+        lent_is = left.lent;
+        now_is = left.now ∙ ap (λ (x : Stays). x.now) stays;
+        modules = stands;
+      };
+      launched_is = left.launched;
+      text_is = refl;
+    }
 
 pub does_done : (change : Acting → Acting) (old new : KeptDocument) (first last : Acting) (before after : List ℕ)
     → first ≡ acting_of old no_event → last ≡ change first → ((a : Acting) → stays_of (change a) ≡ stays_of a)
-    → Leaves old.programs old.handlers old.body new last → new.globals ≡ old.globals → new.heap ≡ old.heap
+    → Leaves old.programs old.handlers old.body new last → new.modules ≡ old.modules → new.globals ≡ old.globals → new.heap ≡ old.heap
     → after ≡ before ++ last.text → Does (done change) old new before after
-does_done change old new first last before after is becomes keeps left globals heap printed = record {
+does_done change old new first last before after is becomes keeps left modules globals heap printed = record {
   text = last.text;
   printed = printed;
-  does = λ d k.
-      let p = parts_of_kept old d k in
-      let s = scene_of old d in
-      let e = becomes ∙ ap change (is ∙ acting_is old no_event d p) in
-      subst (λ (a : Acting). HasDone new last.text (effect_left s a d.globals d.heap a.text)) e
-      (left_done old new d last d.globals d.heap last.text k.programs p (ap stays_of e ∙ keeps (acting_in no_event s)) left (globals ∙ p.globals) (heap ∙ p.heap));
+  does = λ s k.
+      let p = parts_of_kept old s.document k.is in
+      let d = s.document in
+      let e = becomes ∙ ap change (is ∙ acting_is old no_event s k) in
+      subst (λ (a : Acting). HasDone new last.text (effect_left s a s.modules d.globals d.heap a.text)) e
+      (left_done old new s last s.modules d.globals d.heap last.text k (ap stays_of e ∙ keeps (acting_in no_event s)) left
+      (subst (λ (m : ModulesState). StandsFor m s.modules) (sym modules) k.modules) (globals ∙ p.globals) (heap ∙ p.heap));
 }
 
 -- ---- runs
@@ -294,61 +304,74 @@ does_done change old new first last before after is becomes keeps left globals h
 -- the run of the programs, the globals, the objects and so many steps, for the event of this name
 abbrev pub run_effect : (List (List ProgramItem) → List (List ℕ × Value) → List ObjectState → ℕ → Run) → List ℕ → CurrentEvent → Scene → Effect
 run_effect run name event s =
-    effect_of_end name s (ended (run s.document.programs s.document.globals s.document.heap most_steps) (acting_in event s))
+    effect_of_end name s (ended (run s.document.programs s.document.globals s.document.heap most_steps) (hosted_in event s))
 
-run_done : (run : Run) (name : List ℕ) (event : CurrentEvent) (old new : KeptDocument) (d : Document) (w : World) (outcome : Outcome) (last : Acting)
-    → AllZip Tells d.programs old.programs → Parts old d
-    → ended run (acting_in event (scene_of old d)) ≡ record { outcome = outcome; world = w; acting = last }
-    → w.globals ≡ new.globals → w.heap ≡ new.heap → Leaves old.programs old.handlers old.body new last
-    → HasDone new (last.text ++ stop_lines outcome name) (effect_of_end name (scene_of old d) (ended run (acting_in event (scene_of old d))))
-run_done run name event old new d w outcome last z p e globals heap left =
-    let s = scene_of old d in
-    subst (λ (x : End). HasDone new (last.text ++ stop_lines outcome name) (effect_of_end name s x)) (sym e)
-    (left_done old new d last w.globals w.heap (last.text ++ stop_lines outcome name) z p
-    (sym (ap (λ (x : End). stays_of x.acting) e) ∙ ended-stays run (acting_in event s)) left (sym globals) (sym heap))
+-- an end is that of what was acted on then
+end_in : (e : End) (outcome : Outcome) (w : World) (last : ScriptHost) → EndsAs e outcome w last → e ≡ record { outcome = outcome; world = w; hosted = record { acting = last.stage.acting; modules = e.hosted.modules } }
+end_in e outcome w last x = same e.outcome outcome e.world w e.hosted.acting last.stage.acting x.outcome_is x.world_is x.acting_is
+  where
+    ends : Outcome → World → Acting → End
+    ends o v a = record { outcome = o; world = v; hosted = record { acting = a; modules = e.hosted.modules } }
 
-run_in : (run : List (List ProgramItem) → List (List ℕ × Value) → List ObjectState → ℕ → Run) (sources : List (List ProgramItem)) (budget : ℕ) (old : KeptDocument) (d : Document) (x : Acting) (y : End)
+    same : (o p : Outcome) (v w : World) (a b : Acting) → o ≡ p → v ≡ w → a ≡ b → ends o v a ≡ ends p w b
+    same o p v w a b x y z = cc
+
+run_done : (run : Run) (name : List ℕ) (event : CurrentEvent) (old new : KeptDocument) (s : Scene) (w : World) (outcome : Outcome) (last : ScriptHost)
+    → IsScene old s
+    → EndsAs (ended run (hosted_in event s)) outcome w last
+    → w.globals ≡ new.globals → w.heap ≡ new.heap → Leaves old.programs old.handlers old.body new last.stage.acting
+    → new.modules ≡ last.modules
+    → HasDone new (last.stage.acting.text ++ stop_lines outcome name) (effect_of_end name s (ended run (hosted_in event s)))
+run_done run name event old new s w outcome last k e globals heap left modules =
+    let end = ended run (hosted_in event s) in
+    let text = last.stage.acting.text ++ stop_lines outcome name in
+    subst (λ (x : End). HasDone new text (effect_of_end name s x)) (sym (end_in end outcome w last e))
+    (left_done old new s last.stage.acting end.hosted.modules w.globals w.heap text k
+    (sym (ap stays_of e.acting_is) ∙ ended-stays run (hosted_in event s)) left
+    (subst (λ (m : ModulesState). StandsFor m end.hosted.modules) (sym modules) e.modules) (sym globals) (sym heap))
+
+run_in : (run : List (List ProgramItem) → List (List ℕ × Value) → List ObjectState → ℕ → Run) (sources : List (List ProgramItem)) (budget : ℕ) (old : KeptDocument) (d : Document) (P : Run → Type 0)
     → Parts old d → budget ≡ most_steps
-    → ended (run sources old.globals old.heap budget) x ≡ y
-    → ended (run sources d.globals d.heap most_steps) x ≡ y
-run_in run sources budget old d x y p steps e =
-    subst (λ (b : ℕ). ended (run sources d.globals d.heap b) x ≡ y) steps
-    (subst (λ (h : List ObjectState). ended (run sources d.globals h budget) x ≡ y) p.heap
-    (subst (λ (g : List (List ℕ × Value)). ended (run sources g old.heap budget) x ≡ y) p.globals e))
+    → P (run sources old.globals old.heap budget)
+    → P (run sources d.globals d.heap most_steps)
+run_in run sources budget old d P p steps e =
+    subst (λ (b : ℕ). P (run sources d.globals d.heap b)) steps
+    (subst (λ (h : List ObjectState). P (run sources d.globals h budget)) p.heap
+    (subst (λ (g : List (List ℕ × Value)). P (run sources g old.heap budget)) p.globals e))
 
-does_run : (run : List (List ProgramItem) → List (List ℕ × Value) → List ObjectState → ℕ → Run) (name : List ℕ) (event : CurrentEvent) (budget : ℕ) (old new : KeptDocument) (first last : StageState) (outcome : Outcome) (before between after : List ℕ)
-    → first.acting ≡ acting_of old event
+does_run : (run : List (List ProgramItem) → List (List ℕ × Value) → List ObjectState → ℕ → Run) (name : List ℕ) (event : CurrentEvent) (budget : ℕ) (old new : KeptDocument) (first last : ScriptHost) (outcome : Outcome) (before between after : List ℕ)
+    → first.stage.acting ≡ acting_of old event → first.modules ≡ old.modules
     → ((sources : List (List ProgramItem)) → AllZip Tells sources old.programs → EndsWith HasRead HasWritten HasCalled (run sources old.globals old.heap budget) first outcome new.globals new.heap last)
-    → budget ≡ most_steps → Leaves old.programs old.handlers old.body new last.acting
-    → between ≡ before ++ last.acting.text → after ≡ between ++ stop_lines outcome name
+    → budget ≡ most_steps → Leaves old.programs old.handlers old.body new last.stage.acting → new.modules ≡ last.modules
+    → between ≡ before ++ last.stage.acting.text → after ≡ between ++ stop_lines outcome name
     → Does (run_effect run name event) old new before after
-does_run run name event budget old new first last outcome before between after is runs steps left given told = record {
-  text = last.acting.text ++ stop_lines outcome name;
-  printed = told ∙ (ap (λ (t : List ℕ). t ++ stop_lines outcome name) given ∙ append_assoc before last.acting.text (stop_lines outcome name));
-  does = λ d k.
-      let p = parts_of_kept old d k in
-      let s = scene_of old d in
-      let ends = runs d.programs k.programs in
-      run_done (run d.programs d.globals d.heap most_steps) name event old new d ends.0 outcome last.acting k.programs p
-      (run_in run d.programs budget old d (acting_in event s) (record { outcome = outcome; world = ends.0; acting = last.acting }) p steps
-      (ends_as (run d.programs old.globals old.heap budget) first outcome ends.0 last (acting_in event s) ends.3 (is ∙ acting_is old event d p)))
-      ends.1 ends.2 left;
+does_run run name event budget old new first last outcome before between after is lends runs steps left modules given told = record {
+  text = last.stage.acting.text ++ stop_lines outcome name;
+  printed = told ∙ (ap (λ (t : List ℕ). t ++ stop_lines outcome name) given ∙ append_assoc before last.stage.acting.text (stop_lines outcome name));
+  does = λ s k.
+      let d = s.document in
+      let ends = runs d.programs k.is.programs in
+      run_done (run d.programs d.globals d.heap most_steps) name event old new s ends.0 outcome last k
+      (run_in run d.programs budget old d (λ r. EndsAs (ended r (hosted_in event s)) outcome ends.0 last) (parts_of_kept old d k.is) steps
+      (ends_as (run d.programs old.globals old.heap budget) first outcome ends.0 last (hosted_in event s) ends.3 (is ∙ acting_is old event s k)
+      (subst (λ (m : ModulesState). StandsFor m s.modules) (sym lends) k.modules)))
+      ends.1 ends.2 left modules;
 }
 
-pub does_program : (name : List ℕ) (event : CurrentEvent) (place budget : ℕ) (old new : KeptDocument) (first last : StageState) (outcome : Outcome) (before between after : List ℕ)
-    → first.acting ≡ acting_of old event
+pub does_program : (name : List ℕ) (event : CurrentEvent) (place budget : ℕ) (old new : KeptDocument) (first last : ScriptHost) (outcome : Outcome) (before between after : List ℕ)
+    → first.stage.acting ≡ acting_of old event → first.modules ≡ old.modules
     → ((sources : List (List ProgramItem)) → AllZip Tells sources old.programs → EndsWith HasRead HasWritten HasCalled (run_at (map program_of sources) place old.globals old.heap budget) first outcome new.globals new.heap last)
-    → budget ≡ most_steps → Leaves old.programs old.handlers old.body new last.acting
-    → between ≡ before ++ last.acting.text → after ≡ between ++ stop_lines outcome name
+    → budget ≡ most_steps → Leaves old.programs old.handlers old.body new last.stage.acting → new.modules ≡ last.modules
+    → between ≡ before ++ last.stage.acting.text → after ≡ between ++ stop_lines outcome name
     → Does (run_program name event place) old new before after
 unfolding run_program
 does_program name event place = does_run (λ sources globals heap budget. run_at (map program_of sources) place globals heap budget) name event
 
-pub does_function : (name function : List ℕ) (budget : ℕ) (old new : KeptDocument) (first last : StageState) (outcome : Outcome) (before between after : List ℕ)
-    → first.acting ≡ acting_of old no_event
+pub does_function : (name function : List ℕ) (budget : ℕ) (old new : KeptDocument) (first last : ScriptHost) (outcome : Outcome) (before between after : List ℕ)
+    → first.stage.acting ≡ acting_of old no_event → first.modules ≡ old.modules
     → ((sources : List (List ProgramItem)) → AllZip Tells sources old.programs → EndsWith HasRead HasWritten HasCalled (global_run (map program_of sources) function old.globals old.heap budget) first outcome new.globals new.heap last)
-    → budget ≡ most_steps → Leaves old.programs old.handlers old.body new last.acting
-    → between ≡ before ++ last.acting.text → after ≡ between ++ stop_lines outcome name
+    → budget ≡ most_steps → Leaves old.programs old.handlers old.body new last.stage.acting → new.modules ≡ last.modules
+    → between ≡ before ++ last.stage.acting.text → after ≡ between ++ stop_lines outcome name
     → Does (run_function name function) old new before after
 unfolding run_function
 does_function name function = does_run (λ sources globals heap budget. global_run (map program_of sources) function globals heap budget) name no_event
@@ -367,12 +390,12 @@ no_program (x ∷ xs) (suc place) h = no_program xs place (omega (arith, h))
 pub does_no_program : (name : List ℕ) (event : CurrentEvent) (place : ℕ) (old new : KeptDocument) (before : List ℕ) → length old.programs ≤ place → Does nothing_done old new before before → Does (run_program name event place) old new before before
 unfolding run_program run_at ended
 does_no_program name event place old new before h x = does_as nothing_done (run_program name event place) old new before before
-    (λ d k. nothing (scene_of old d) (no_program d.programs place (subst (λ (n : ℕ). n ≤ place) (AllZip-long Tells d.programs old.programs k.programs) h))) x
+    (λ s k. nothing s (no_program s.document.programs place (subst (λ (n : ℕ). n ≤ place) (AllZip-long Tells s.document.programs old.programs k.is.programs) h))) x
   where
     nothing : (s : Scene) → slice_get (map program_of s.document.programs) place ≡ None → run_program name event place s ≡ nothing_done s
     nothing s none =
         let d = s.document in
-        ap (λ (o : Option Program). effect_of_end name s (ended (option_map_or (λ program. program_run (map program_of d.programs) (take place (map program_of d.programs)) program d.globals d.heap most_steps) o (Over AtEnd (world d.globals d.heap most_steps))) (acting_in event s))) none
+        ap (λ (o : Option Program). effect_of_end name s (ended (option_map_or (λ program. program_run (map program_of d.programs) (take place (map program_of d.programs)) program d.globals d.heap most_steps) o (Over AtEnd (world d.globals d.heap most_steps))) (hosted_in event s))) none
 
 -- ---- scripts
 
@@ -405,26 +428,26 @@ run_scripts-append (place ∷ places) more s =
 pub does_scripts-more : (places : List ℕ) (place : ℕ) (event : CurrentEvent) (old middle new : KeptDocument) (before between after : List ℕ) → event ≡ no_event → is_some middle.launched ≡ false → Does (run_scripts places) old middle before between → Does (run_program (codes "script") event place) middle new between after → Does (run_scripts (places ++ place ∷ [])) old new before after
 does_scripts-more places place event old middle new before between after outside none x y =
     does_as (λ s. and_then (run_scripts (place ∷ [])) (run_scripts places s)) (run_scripts (places ++ place ∷ [])) old new before after
-    (λ d k. run_scripts-append places (place ∷ []) (scene_of old d))
+    (λ s k. run_scripts-append places (place ∷ []) s)
     (does_then (run_scripts places) (run_scripts (place ∷ [])) old middle new before between after none x
     (does_as (run_program (codes "script") no_event place) (run_scripts (place ∷ [])) middle new between after
-    (λ d k. let e = run_program (codes "script") no_event place (scene_of middle d) in and_then-nothing e.scene e.launched e.text)
+    (λ s k. let e = run_program (codes "script") no_event place s in and_then-nothing e.scene e.launched e.text)
     (subst (λ (e : CurrentEvent). Does (run_program (codes "script") e place) middle new between after) outside y)))
 
 -- one of them launched another document, and so those behind it don't run
 pub does_scripts-stopped : (places more : List ℕ) (old new : KeptDocument) (before after : List ℕ) → is_some new.launched ≡ true → Does (run_scripts places) old new before after → Does (run_scripts (places ++ more)) old new before after
 does_scripts-stopped places more old new before after some x =
     does_as (λ s. and_then (run_scripts more) (run_scripts places s)) (run_scripts (places ++ more)) old new before after
-    (λ d k. run_scripts-append places more (scene_of old d))
+    (λ s k. run_scripts-append places more s)
     (does_stopped (run_scripts places) (run_scripts more) old new before after some x)
 
 -- the scripts of a document, by what is kept of it
 pub does_scripts : (places : List ℕ) (old new : KeptDocument) (before after : List ℕ) → places ≡ unnamed_places (length old.programs) old.handlers → Does (run_scripts places) old new before after → Does (λ s. run_scripts (script_places s.document) s) old new before after
 does_scripts places old new before after is x =
     does_as (run_scripts places) (λ s. run_scripts (script_places s.document) s) old new before after
-    (λ d k. ap (λ (p : List ℕ). run_scripts p (scene_of old d))
-    (sym (is ∙ (ap (λ (n : ℕ). unnamed_places n old.handlers) (AllZip-long Tells d.programs old.programs k.programs)
-    ∙ ap (λ (h : List HandlerState). unnamed_places (length d.programs) h) (parts_of_kept old d k).handlers)))) x
+    (λ s k. ap (λ (p : List ℕ). run_scripts p s)
+    (sym (is ∙ (ap (λ (n : ℕ). unnamed_places n old.handlers) (AllZip-long Tells s.document.programs old.programs k.is.programs)
+    ∙ ap (λ (h : List HandlerState). unnamed_places (length s.document.programs) h) (parts_of_kept old s.document k.is).handlers)))) x
 
 -- ---- the documents that are kept in parts
 
@@ -433,39 +456,63 @@ pub prepared : (stage first : StageState) (event : CurrentEvent) → event ≡ n
 prepared stage first event none prepares = subst (λ (e : CurrentEvent). first.acting ≡ record stage.acting { event = e; launched = None; text = [] }) none prepares
 
 -- what is done outside of handlers, behind which the text is given
-pub gives : {T E : Type 0} (r : Result T E) (change : Acting → Acting) (old : KeptDocument) (stage first last given : StageState) (programs : List ToldProgram) (handlers : List HandlerState) (globals : List (List ℕ × Value)) (heap : List ObjectState) (body : Option NodeId) (before after : List ℕ)
-    → kept_in stage programs handlers globals heap body ≡ old
+done_in : (change : Acting → Acting) (stage first last given : StageState) (modules : ModulesState) (programs : List ToldProgram) (handlers : List HandlerState) (globals : List (List ℕ × Value)) (heap : List ObjectState) (body : Option NodeId) (before after : List ℕ)
+    → first.acting ≡ record stage.acting { event = no_event; launched = None; text = [] }
+    → last.acting ≡ change first.acting
+    → ((a : Acting) → stays_of (change a) ≡ stays_of a)
+    → given.acting ≡ record last.acting { text = [] }
+    → after ≡ before ++ last.acting.text
+    → Does (done change) (kept_in stage modules programs handlers globals heap body) (kept_in given modules programs handlers globals heap body) before after
+done_in change stage first last given modules programs handlers globals heap body before after begins becomes keeps left printed =
+    does_done change (kept_in stage modules programs handlers globals heap body) (kept_in given modules programs handlers globals heap body) first.acting last.acting before after begins becomes keeps
+    (leaves_in given modules last.acting programs handlers globals heap body left) refl refl refl printed
+
+pub gives : {T E : Type 0} (r : Result T E) (change : Acting → Acting) (old : KeptDocument) (stage first last given : StageState) (modules : ModulesState) (programs : List ToldProgram) (handlers : List HandlerState) (globals : List (List ℕ × Value)) (heap : List ObjectState) (body : Option NodeId) (before after : List ℕ)
+    → kept_in stage modules programs handlers globals heap body ≡ old
     → first.acting ≡ record stage.acting { event = no_event; launched = None; text = [] }
     → last.acting ≡ change first.acting
     → ((a : Acting) → stays_of (change a) ≡ stays_of a)
     → OnOk r (given.acting ≡ record last.acting { text = [] })
     → OnOk r (after ≡ before ++ last.acting.text)
-    → OnOk r (Does (done change) old (kept_in given programs handlers globals heap body) before after)
-gives (Ok x) change old stage first last given programs handlers globals heap body before after is begins becomes keeps left printed =
-    let new = kept_in given programs handlers globals heap body in
-    subst (λ (k : KeptDocument). Does (done change) k new before after) is
-    (does_done change (kept_in stage programs handlers globals heap body) new first.acting last.acting before after begins becomes keeps
-    (leaves_in given last.acting programs handlers globals heap body left) refl refl printed)
-gives (Err e) change old stage first last given programs handlers globals heap body before after is begins becomes keeps left printed = tt
+    → OnOk r (Does (done change) old (kept_in given modules programs handlers globals heap body) before after)
+gives (Ok x) change old stage first last given modules programs handlers globals heap body before after is begins becomes keeps left printed =
+    subst (λ (k : KeptDocument). Does (done change) k (kept_in given modules programs handlers globals heap body) before after) is
+    (done_in change stage first last given modules programs handlers globals heap body before after begins becomes keeps left printed)
+gives (Err e) change old stage first last given modules programs handlers globals heap body before after is begins becomes keeps left printed = tt
+
+-- whatever modules it is lent
+pub gives_apart : {T E : Type 0} (r : Result T E) (change : Acting → Acting) (old : KeptDocument) (stage first last given : StageState) (modules : ModulesState) (programs : List ToldProgram) (handlers : List HandlerState) (globals : List (List ℕ × Value)) (heap : List ObjectState) (body : Option NodeId) (before after : List ℕ)
+    → kept_in stage modules programs handlers globals heap body ≡ old
+    → first.acting ≡ record stage.acting { event = no_event; launched = None; text = [] }
+    → last.acting ≡ change first.acting
+    → ((a : Acting) → stays_of (change a) ≡ stays_of a)
+    → OnOk r (given.acting ≡ record last.acting { text = [] })
+    → OnOk r (after ≡ before ++ last.acting.text)
+    → OnOk r (DoesApart (done change) old (kept_in given modules programs handlers globals heap body) before after)
+gives_apart (Ok x) change old stage first last given modules programs handlers globals heap body before after is begins becomes keeps left printed =
+    subst (λ (k : KeptDocument). DoesApart (done change) k (kept_in given modules programs handlers globals heap body) before after) is
+    (λ others. done_in change stage first last given others programs handlers globals heap body before after begins becomes keeps left printed)
+gives_apart (Err e) change old stage first last given modules programs handlers globals heap body before after is begins becomes keeps left printed = tt
 
 -- the same at another time
-pub gives_later : {T E : Type 0} (r : Result T E) (moment : ℕ) (change : Acting → Acting) (old : KeptDocument) (stage first last given : StageState) (programs : List ToldProgram) (handlers : List HandlerState) (globals : List (List ℕ × Value)) (heap : List ObjectState) (body : Option NodeId) (before after : List ℕ)
-    → kept_in stage programs handlers globals heap body ≡ old
+pub gives_later : {T E : Type 0} (r : Result T E) (moment : ℕ) (change : Acting → Acting) (old : KeptDocument) (stage first last given : StageState) (modules : ModulesState) (programs : List ToldProgram) (handlers : List HandlerState) (globals : List (List ℕ × Value)) (heap : List ObjectState) (body : Option NodeId) (before after : List ℕ)
+    → kept_in stage modules programs handlers globals heap body ≡ old
     → first.acting ≡ record stage.acting { event = no_event; launched = None; text = [] }
     → last.acting ≡ change (record first.acting { now = moment })
     → ((a : Acting) → stays_of (change a) ≡ stays_of a)
     → OnOk r (given.acting ≡ record last.acting { text = [] })
     → OnOk r (after ≡ before ++ last.acting.text)
-    → OnOk r (Does (λ s. done change (record s { now = moment })) old (kept_in given programs handlers globals heap body) before after)
-gives_later (Ok x) moment change old stage first last given programs handlers globals heap body before after is begins becomes keeps left printed =
-    let new = kept_in given programs handlers globals heap body in
-    let kept = kept_in stage programs handlers globals heap body in
-    subst (λ (k : KeptDocument). Does (λ s. done change (record s { now = moment })) k new before after) is
-    (does_later moment (done change) kept new before after
+    → OnOk r (DoesApart (λ s. done change (record s { now = moment })) old (kept_in given modules programs handlers globals heap body) before after)
+gives_later (Ok x) moment change old stage first last given modules programs handlers globals heap body before after is begins becomes keeps left printed =
+    subst (λ (k : KeptDocument). DoesApart (λ s. done change (record s { now = moment })) k (kept_in given modules programs handlers globals heap body) before after) is
+    (λ others.
+    let new = kept_in given others programs handlers globals heap body in
+    let kept = kept_in stage others programs handlers globals heap body in
+    does_later moment (done change) kept new before after
     (does_done change (record kept { now = moment }) new (record first.acting { now = moment }) last.acting before after
     (ap (λ (a : Acting). record a { now = moment }) begins) becomes keeps
-    (leaves_in given last.acting programs handlers globals heap body left) refl refl printed))
-gives_later (Err e) moment change old stage first last given programs handlers globals heap body before after is begins becomes keeps left printed = tt
+    (leaves_in given others last.acting programs handlers globals heap body left) refl refl refl printed))
+gives_later (Err e) moment change old stage first last given modules programs handlers globals heap body before after is begins becomes keeps left printed = tt
 
 -- what is printed stands behind what was there
 
@@ -482,13 +529,13 @@ does_grows effect old new before after x = subst (λ (t : List ℕ). take (lengt
 pub does_no_handler : (event : Event) (node : ℕ) (old new : KeptDocument) (before : List ℕ) → option_and_then (handler_in old.handlers node) (kind_of event) ≡ None → Does nothing_done old new before before → Does (run_handler event node) old new before before
 does_no_handler event node old new before none x =
     does_as nothing_done (run_handler event node) old new before before
-    (λ d k. ap (λ (o : Option ℕ). option_map_or (λ place. run_program (name_of event) (record { event = Some event; target = node }) place (scene_of old d)) o (nothing_done (scene_of old d)))
-    (ap (λ (h : List HandlerState). option_and_then (handler_in h node) (kind_of event)) (sym (parts_of_kept old d k).handlers) ∙ none)) x
+    (λ s k. ap (λ (o : Option ℕ). option_map_or (λ place. run_program (name_of event) (record { event = Some event; target = node }) place s) o (nothing_done s))
+    (ap (λ (h : List HandlerState). option_and_then (handler_in h node) (kind_of event)) (sym (parts_of_kept old s.document k.is).handlers) ∙ none)) x
 
 -- there is no timer of the number
 pub does_no_timer : (number : ℕ) (old new : KeptDocument) (before : List ℕ) → option_map (λ timer. timer.function) (timer_of number old.lent.timers) ≡ None → Does nothing_done old new before before → Does (timer_effect number) old new before before
 does_no_timer number old new before none x =
-    does_as nothing_done (timer_effect number) old new before before (λ d k. go (scene_of old d) (timer_of number old.lent.timers) none) x
+    does_as nothing_done (timer_effect number) old new before before (λ s k. go s (timer_of number s.browser.timers) (sym (ap (λ (b : BrowserParts). option_map (λ timer. timer.function) (timer_of number b.timers)) k.lent_is) ∙ none)) x
   where
     go : (s : Scene) (timer : Option Timer) → option_map (λ timer. timer.function) timer ≡ None → option_map_or (λ timer. run_function (name_of (events.Timer number)) timer.function (timer_taken number s)) timer (nothing_done s) ≡ nothing_done s
     go s None e = refl
@@ -498,8 +545,8 @@ does_no_timer number old new before none x =
 pub does_timer : (number : ℕ) (function : List ℕ) (old middle new : KeptDocument) (before after : List ℕ) → option_map (λ timer. timer.function) (timer_of number old.lent.timers) ≡ Some function → Changes (timer_taken number) old middle → Does (run_function (name_of (events.Timer number)) function) middle new before after → Does (timer_effect number) old new before after
 does_timer number function old middle new before after is taken x =
     does_as (λ s. run_function (name_of (events.Timer number)) function (timer_taken number s)) (timer_effect number) old new before after
-    (λ d k. go (scene_of old d) (timer_of number old.lent.timers) is)
-    (does_changed (timer_taken number) (run_function (name_of (events.Timer number)) function) old middle new before after (λ s. refl) taken x)
+    (λ s k. go s (timer_of number s.browser.timers) (sym (ap (λ (b : BrowserParts). option_map (λ timer. timer.function) (timer_of number b.timers)) k.lent_is) ∙ is))
+    (does_changed (timer_taken number) (run_function (name_of (events.Timer number)) function) old middle new before after taken x)
   where
     go : (s : Scene) (timer : Option Timer) → option_map (λ timer. timer.function) timer ≡ Some function → option_map_or (λ timer. run_function (name_of (events.Timer number)) timer.function (timer_taken number s)) timer (nothing_done s) ≡ run_function (name_of (events.Timer number)) function (timer_taken number s)
     go s None e = absurd (cc e)
@@ -544,18 +591,40 @@ still_document old middle d same k =
       body = p.body;
     }))
 
-pub does_still : (effect : Scene → Effect) (old middle new : KeptDocument) (before after : List ℕ) → middle ≡ record old { worked = middle.worked } → Does effect middle new before after → Does effect old new before after
-does_still effect old middle new before after same x = record {
-  text = x.text;
-  printed = x.printed;
-  does = λ d k.
-      subst (λ (s : Scene). HasDone new x.text (effect s))
-      (scene_same d middle.lent old.lent middle.now old.now (ap (λ (x : KeptDocument). x.lent) same) (ap (λ (x : KeptDocument). x.now) same))
-      (x.does d (still_document old middle d same k));
+still_scene : (old middle : KeptDocument) (s : Scene) → middle ≡ record old { worked = middle.worked } → IsScene old s → IsScene middle s
+still_scene old middle s same k = record {
+  is = still_document old middle s.document same k.is;
+  lent_is = ap (λ (x : KeptDocument). x.lent) same ∙ k.lent_is;
+  now_is = ap (λ (x : KeptDocument). x.now) same ∙ k.now_is;
+  modules = subst (λ (m : ModulesState). StandsFor m s.modules) (sym (ap (λ (x : KeptDocument). x.modules) same)) k.modules;
 }
 
-pub does_key : (key : ℕ) (down passed : Bool) (old new : KeptDocument) (before after : List ℕ) → ((d : Document) → IsDocument old d → passed ≡ passes key d) → Does (λ s. if passed then done (key_posts down key) s else nothing_done s) old new before after → Does (key_effect key down) old new before after
+pub does_still : (effect : Scene → Effect) (old middle new : KeptDocument) (before after : List ℕ) → middle ≡ record old { worked = middle.worked } → DoesApart effect middle new before after → DoesApart effect old new before after
+does_still effect old middle new before after same x modules =
+    let y = x modules in
+    record {
+      text = y.text;
+      printed = y.printed;
+      does = λ s k. y.does s (still_scene (lent_modules modules old) (lent_modules modules middle) s (ap (lent_modules modules) same) k);
+    }
+
+-- whatever modules it is lent, it is the same document
+of_lent : (modules : ModulesState) (old : KeptDocument) (d : Document) → IsDocument (lent_modules modules old) d → IsDocument old d
+of_lent modules old d k =
+    let p = parts_of_kept (lent_modules modules old) d k in
+    kept_of_parts old d k.programs (record {
+      path = p.path;
+      tree = p.tree;
+      items = p.items;
+      queue = p.queue;
+      handlers = p.handlers;
+      globals = p.globals;
+      heap = p.heap;
+      body = p.body;
+    })
+
+pub does_key : (key : ℕ) (down passed : Bool) (old new : KeptDocument) (before after : List ℕ) → ((d : Document) → IsDocument old d → passed ≡ passes key d) → DoesApart (λ s. if passed then done (key_posts down key) s else nothing_done s) old new before after → DoesApart (key_effect key down) old new before after
 unfolding key_effect
-does_key key down passed old new before after is x =
-    does_as (λ s. if passed then done (key_posts down key) s else nothing_done s) (key_effect key down) old new before after
-    (λ d k. ap (λ (b : Bool). if b then done (key_posts down key) (scene_of old d) else nothing_done (scene_of old d)) (sym (is d k))) x
+does_key key down passed old new before after is x modules =
+    does_as (λ s. if passed then done (key_posts down key) s else nothing_done s) (key_effect key down) (lent_modules modules old) (lent_modules modules new) before after
+    (λ s k. ap (λ (b : Bool). if b then done (key_posts down key) s else nothing_done s) (sym (is s.document (of_lent modules old s.document k.is)))) (x modules)

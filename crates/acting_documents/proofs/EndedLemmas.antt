@@ -30,14 +30,20 @@ use Rattle.event_queue.specs.Timers.{first_due, most_timers, with_fired}
 use Rattle.event_queue.specs.declared.events.Event.{Event}
 use Rattle.event_queue.specs.declared.events.Event.TheVariants as events
 use Rattle.event_queue.specs.declared.item_kinds.ItemKind.TheVariants as kinds
-use Rattle.browser_objects.specs.Calls.{Called, call_of}
+use Rattle.browser_objects.specs.Calls.{Called, call_of, number}
 use Rattle.browser_objects.specs.declared.effects.Effect as of_browser
 use Rattle.browser_objects.specs.declared.effects.Effect.TheVariants as effects
 use Rattle.dom_objects.specs.Writes.{change_of}
-use Rattle.document_stages.specs.Acting.{Acting, Answered, acted, acting_with_timers, begun, browser_done, button_posts, button_post, called, change_posts, done_for, due_posted, each_item, element_call, fired, focus_on, focused, focused_node, has_focus, has_room, is_subscription, is_unload, key_posts, launch, left_by, message_posts, message_post, module_post, moved_to, no_focus, node_written, posted, posted_for, posted_where, pressed, read_by, text_written, timer_fired, timer_posted, timer_settled, timers_fired, with_browser, with_focus, written}
+use Rattle.document_stages.specs.Acting.{Acting, Answered, acted, acting_with_timers, begun, button_post, button_posts, change_posts, due_posted, each_item, element_call, fired, focus_on, focused, focused_node, gives, has_focus, has_room, is_subscription, is_unload, key_posts, launch, left_by, lock_post, lock_posts, message_post, message_posts, module_post, moved_to, no_focus, node_written, posted, posted_for, posted_where, pressed, read_by, refused, text_written, timer_fired, timer_posted, timer_settled, timers_fired, update_posts, with_browser, with_focus, written}
+use Rattle.document_stages.specs.Hosting.{Hosted, browser_done, called, done_for, lock_answered}
 use Rattle.acting_documents.specs.Documents.{body_of}
 use Rattle.acting_documents.specs.Runs.{End, ended}
-use Rattle.document_stages.specs.Stages.{HasCalled, HasRead, HasWritten, StageState}
+use Rattle.document_stages.specs.Calling.{HasCalled, HasRead, HasWritten, Replies}
+use Rattle.document_stages.specs.declared.script_hosts.ScriptHost.{ScriptHost}
+use Rattle.module_locks.specs.Locks.{lock_answer, lock_on}
+use Rattle.module_locks.specs.Standing.{ModulesState, StandsFor}
+use Rattle.module_locks.specs.declared.answers.LockAnswer.{LockAnswer}
+use Rattle.module_locks.specs.declared.answers.LockAnswer.TheVariants as answers
 use Rattle.acting_documents.proofs.BodyLemmas.{body-changed}
 
 -- ---- what is left as it is: the path, the time, and which node is the body
@@ -50,7 +56,7 @@ pub record Stays : Type 0 where
 abbrev pub stays_of : Acting → Stays
 stays_of a = record { path = a.path; now = a.now; body = body_of a.tree.items }
 
--- ---- by calls
+-- ---- by moves of the focus, and launches
 
 moved_to-stays : (node : ℕ) (a : Acting) → stays_of (moved_to node a) ≡ stays_of a
 unfolding moved_to
@@ -87,24 +93,6 @@ element_call-stays a node name heap =
 
 launch-stays : (path : Path) (a : Acting) (heap : List ObjectState) → stays_of (launch path a heap).acting ≡ stays_of a
 launch-stays path a heap = chosen (is_unload a.event.event) _ _ (stays_of a) refl refl
-
-done_for-stays : (effect : of_browser.Effect) (value : Value) (a : Acting) (heap : List ObjectState) → stays_of (done_for effect value a heap).acting ≡ stays_of a
-done_for-stays effects.Nothing value a heap = refl
-done_for-stays (effects.Sound sound) value a heap = refl
-done_for-stays (effects.Kept slot size) value a heap = refl
-done_for-stays (effects.Launch path) value a heap = launch-stays path a heap
-done_for-stays (effects.Lock path) value a heap = refl
-done_for-stays (effects.Unlock path) value a heap = refl
-
-browser_done-stays : (c : Called) (a : Acting) (heap : List ObjectState) → stays_of (browser_done c a heap).acting ≡ stays_of a
-browser_done-stays c a heap = done_for-stays c.effect c.value (with_browser c.state a) heap
-
-called-stays : (a : Acting) (base : HostRef) (name : List ℕ) (arguments : List Value) (heap : List ObjectState) → stays_of (called a base name arguments heap).acting ≡ stays_of a
-unfolding called
-called-stays a host.Document name arguments heap = chosen (is_same name (codes "getElementById")) _ _ (stays_of a) refl refl
-called-stays a (host.Node node) name arguments heap = chosen (is_some (tag_of a.tree.items node)) _ _ (stays_of a) (element_call-stays a node name heap) refl
-called-stays a host.Browser name arguments heap = browser_done-stays (call_of name a.path a.now arguments heap a.browser) a heap
-called-stays a _ name arguments heap = refl
 
 -- ---- by writes
 
@@ -158,13 +146,25 @@ module_post-stays : (component number status : ℕ) (item : EventItem) (a : Acti
 module_post-stays component number status item a =
     posted_where-stays (fires_for_module kinds.ModuleUpdated component number a.items item) (events.Updated item.node status) a
 
+update_posts-stays : (component number : ℕ) (status : Option ℕ) (a : Acting) → stays_of (update_posts component number status a) ≡ stays_of a
+update_posts-stays component number None a = refl
+update_posts-stays component number (Some status) a = items-stay (module_post component number status) (module_post-stays component number status) a.items.items a
+
+lock_post-stays : (component number : ℕ) (item : EventItem) (a : Acting) → stays_of (lock_post component number item a) ≡ stays_of a
+lock_post-stays component number item a =
+    posted_where-stays (fires_for_module kinds.ModuleLocked component number a.items item) (events.Locked item.node 0) a
+
+lock_posts-stays : (component number : ℕ) (a : Acting) → stays_of (lock_posts component number a) ≡ stays_of a
+unfolding lock_posts
+lock_posts-stays component number a = items-stay (lock_post component number) (lock_post-stays component number) a.items.items a
+
 pub change_posts-stays : (component : ℕ) (change : Change) (a : Acting) → stays_of (change_posts component change a) ≡ stays_of a
 unfolding change_posts
-change_posts-stays component change a = go change.status
+change_posts-stays component change a = go (update_posts component change.«module» change.status a) change.locked (update_posts-stays component change.«module» change.status a)
   where
-    go : (told : Option ℕ) → stays_of (option_map_or (λ status. each_item (module_post component change.«module» status) a) told a) ≡ stays_of a
-    go None = refl
-    go (Some status) = items-stay (module_post component change.«module» status) (module_post-stays component change.«module» status) a.items.items a
+    go : (updated : Acting) (locked : Bool) → stays_of updated ≡ stays_of a → stays_of (if locked then lock_posts component change.«module» updated else updated) ≡ stays_of a
+    go updated true same = lock_posts-stays component change.«module» updated ∙ same
+    go updated false same = same
 
 button_posts-stays : (a : Acting) → stays_of (button_posts a) ≡ stays_of a
 unfolding button_posts
@@ -211,38 +211,77 @@ timers_fired-stays (suc more) moment a = go (timers_fired-stays more moment) (fi
 pub due_posted-stays : (moment : ℕ) (a : Acting) → stays_of (due_posted moment a) ≡ stays_of a
 due_posted-stays moment a = timers_fired-stays most_timers moment a
 
+-- ---- by calls of scripts
+
+lock_answered-stays : (answer : LockAnswer) (path : Path) (a : Acting) (heap : List ObjectState) → stays_of (lock_answered answer path a heap).acting ≡ stays_of a
+lock_answered-stays answers.Kept path a heap = lock_posts-stays path.component path.«module» a
+lock_answered-stays answers.Had path a heap = refl
+lock_answered-stays answers.Wanted path a heap = refl
+lock_answered-stays answers.NoEntry path a heap = refl
+lock_answered-stays answers.Full path a heap = refl
+
+done_for-stays : (effect : of_browser.Effect) (value : Value) (h : Hosted) (heap : List ObjectState) → stays_of (done_for effect value h heap).hosted.acting ≡ stays_of h.acting
+done_for-stays effects.Nothing value h heap = refl
+done_for-stays (effects.Sound sound) value h heap = refl
+done_for-stays (effects.Kept slot size) value h heap = refl
+done_for-stays (effects.Launch path) value h heap = launch-stays path h.acting heap
+done_for-stays (effects.Lock path) value h heap = lock_answered-stays (lock_answer path.component path.«module» h.modules) path h.acting heap
+done_for-stays (effects.Unlock path) value h heap =
+    chosen (is_some (lock_on h.modules.locks path.component path.«module»)) (gives (number 1) h.acting heap) (refused h.acting heap) (stays_of h.acting) refl refl
+
+browser_done-stays : (c : Called) (h : Hosted) (heap : List ObjectState) → stays_of (browser_done c h heap).hosted.acting ≡ stays_of h.acting
+browser_done-stays c h heap = done_for-stays c.effect c.value (record h { acting = with_browser c.state h.acting }) heap
+
+called-stays : (h : Hosted) (base : HostRef) (name : List ℕ) (arguments : List Value) (heap : List ObjectState) → stays_of (called h base name arguments heap).hosted.acting ≡ stays_of h.acting
+unfolding called
+called-stays h host.Document name arguments heap = chosen (is_same name (codes "getElementById")) _ _ (stays_of h.acting) refl refl
+called-stays h (host.Node node) name arguments heap = chosen (is_some (tag_of h.acting.tree.items node)) _ _ (stays_of h.acting) (element_call-stays h.acting node name heap) refl
+called-stays h host.Browser name arguments heap = browser_done-stays (call_of name h.acting.path h.acting.now arguments heap h.acting.browser) h heap
+called-stays h _ name arguments heap = refl
+
 -- ---- by runs
 
-pub ended-stays : (run : Run) (a : Acting) → stays_of (ended run a).acting ≡ stays_of a
+pub ended-stays : (run : Run) (h : Hosted) → stays_of (ended run h).hosted.acting ≡ stays_of h.acting
 unfolding ended
-ended-stays (Over outcome w) a = refl
-ended-stays (Reads base name go) a = ended-stays (go (read_by a base name)) a
-ended-stays (Writes base name value heap go) a =
-    ended-stays go (written a base name value heap) ∙ written-stays a base name value heap
-ended-stays (Calls base name arguments heap go) a =
-    ended-stays (go (called a base name arguments heap).answer (called a base name arguments heap).heap) (called a base name arguments heap).acting
-    ∙ called-stays a base name arguments heap
+ended-stays (Over outcome w) h = refl
+ended-stays (Reads base name go) h = ended-stays (go (read_by h.acting base name)) h
+ended-stays (Writes base name value heap go) h =
+    ended-stays go (record h { acting = written h.acting base name value heap }) ∙ written-stays h.acting base name value heap
+ended-stays (Calls base name arguments heap go) h =
+    ended-stays (go (called h base name arguments heap).answer (called h base name arguments heap).heap) (called h base name arguments heap).hosted
+    ∙ called-stays h base name arguments heap
 
--- ---- each end of a run with a stage is that of the rows
+-- ---- each end of a run with a host is that of the rows
 
-pub ends_as : (run : Run) (h : StageState) (outcome : Outcome) (w : World) (last : StageState) (a : Acting) → MayEnd HasRead HasWritten HasCalled run h outcome w last → h.acting ≡ a → ended run a ≡ record { outcome = outcome; world = w; acting = last.acting }
+-- it ended so, and the host is what was acted on, with the modules
+pub record EndsAs (e : End) (outcome : Outcome) (w : World) (last : ScriptHost) : Type 0 where
+  pub outcome_is : e.outcome ≡ outcome
+  pub world_is : e.world ≡ w
+  pub acting_is : e.hosted.acting ≡ last.stage.acting
+  pub modules : StandsFor last.modules e.hosted.modules
+
+pub ends_as : (run : Run) (h : ScriptHost) (outcome : Outcome) (w : World) (last : ScriptHost) (s : Hosted) → MayEnd HasRead HasWritten HasCalled run h outcome w last → h.stage.acting ≡ s.acting → StandsFor h.modules s.modules → EndsAs (ended run s) outcome w last
 unfolding MayEnd ended
-ends_as (Over o v) h outcome w last a m e = over o outcome v w a last.acting m.0 m.1 (sym e ∙ ap (λ (s : StageState). s.acting) m.2)
-  where
-    over : (o p : Outcome) (v w : World) (a b : Acting) → o ≡ p → v ≡ w → a ≡ b → (let x : End = record { outcome = o; world = v; acting = a } in x) ≡ record { outcome = p; world = w; acting = b }
-    over o p v w a b x y z = cc
-ends_as (Reads base name go) h outcome w last a m e =
-    subst (λ (v : Value). ended (go v) a ≡ record { outcome = outcome; world = w; acting = last.acting })
+ends_as (Over o v) h outcome w last s m e stands = record {
+  outcome_is = m.0;
+  world_is = m.1;
+  acting_is = sym e ∙ ap (λ (x : ScriptHost). x.stage.acting) m.2;
+  modules = subst (λ (x : ScriptHost). StandsFor x.modules s.modules) m.2 stands;
+}
+ends_as (Reads base name go) h outcome w last s m e stands =
+    subst (λ (v : Value). EndsAs (ended (go v) s) outcome w last)
     (m.2.value_is ∙ ap (λ (x : Acting). read_by x base name) e)
-    (ends_as (go m.0) m.1 outcome w last a m.4 (m.2.same ∙ e))
-ends_as (Writes base name value heap go) h outcome w last a m e =
-    ends_as go m.0 outcome w last (written a base name value heap) m.2
-    (m.1 ∙ ap (λ (x : Acting). written x base name value heap) e)
-ends_as (Calls base name arguments heap go) h outcome w last a m e =
-    let told = called a base name arguments heap in
-    subst (λ (v : HostAnswer). ended (go v told.heap) told.acting ≡ record { outcome = outcome; world = w; acting = last.acting })
-    (m.3.answer_is ∙ ap (λ (x : Acting). (called x base name arguments heap).answer) e)
-    (subst (λ (left : List ObjectState). ended (go m.0 left) told.acting ≡ record { outcome = outcome; world = w; acting = last.acting })
-    (m.3.heap_is ∙ ap (λ (x : Acting). (called x base name arguments heap).heap) e)
-    (ends_as (go m.0 m.2) m.1 outcome w last told.acting m.7
-    (m.3.acting_is ∙ ap (λ (x : Acting). (called x base name arguments heap).acting) e)))
+    (ends_as (go m.0) m.1 outcome w last s m.4 (m.2.same ∙ e)
+    (subst (λ (x : ModulesState). StandsFor x s.modules) (sym m.2.modules) stands))
+ends_as (Writes base name value heap go) h outcome w last s m e stands =
+    ends_as go m.0 outcome w last (record s { acting = written s.acting base name value heap }) m.2
+    (m.1.acting_is ∙ ap (λ (x : Acting). written x base name value heap) e)
+    (subst (λ (x : ModulesState). StandsFor x s.modules) (sym m.1.modules) stands)
+ends_as (Calls base name arguments heap go) h outcome w last s m e stands =
+    let told = called s base name arguments heap in
+    let replies : Replies m.1 m.0 m.2 told =
+    subst (λ (x : Acting). Replies m.1 m.0 m.2 (called (record { acting = x; modules = s.modules }) base name arguments heap)) e
+    (m.3 s.modules stands) in
+    subst (λ (v : HostAnswer). EndsAs (ended (go v told.heap) told.hosted) outcome w last) replies.answer_is
+    (subst (λ (left : List ObjectState). EndsAs (ended (go m.0 left) told.hosted) outcome w last) replies.heap_is
+    (ends_as (go m.0 m.2) m.1 outcome w last told.hosted m.7 replies.acting_is replies.modules_stand))

@@ -1,18 +1,19 @@
 -- A device of the proofs: what calls do to a document that acts, whatever document is kept.
-use Rattle.std.specs.Prelude.{◌≡◌, ◌++◌, ℕ, List}
-use Rattle.acting_documents.specs.Documents.{Document}
+use Rattle.std.specs.Prelude.{◌≡◌, ◌++◌, List, ℕ}
+use Rattle.module_locks.specs.Standing.{ModulesState, StandsFor}
 use Rattle.acting_documents.specs.Kept.{IsDocument, KeptDocument}
 use Rattle.acting_documents.specs.Runs.{Effect, Scene}
 
--- the document with what it is lent, at the time that it is told
-abbrev pub scene_of : KeptDocument → Document → Scene
-scene_of kept d = record { document = d; browser = kept.lent; now = kept.now }
+-- what is kept and lent is the document, with what it acts on
+pub record IsScene (kept : KeptDocument) (s : Scene) : Type 0 where
+  pub is : IsDocument kept s.document
+  pub lent_is : kept.lent ≡ s.browser
+  pub now_is : kept.now ≡ s.now
+  pub modules : StandsFor kept.modules s.modules
 
 -- What is kept and lent is what the effect leaves, this document was launched, and this is what it prints.
 pub record HasDone (new : KeptDocument) (text : List ℕ) (e : Effect) : Type 0 where
-  pub is : IsDocument new e.scene.document
-  pub lent_is : new.lent ≡ e.scene.browser
-  pub now_is : new.now ≡ e.scene.now
+  pub is : IsScene new e.scene
   pub launched_is : new.launched ≡ e.launched
   pub text_is : text ≡ e.text
 
@@ -21,12 +22,18 @@ pub record Does (effect : Scene → Effect) (old new : KeptDocument) (before aft
     : Type 0 where
   pub text : List ℕ
   pub printed : after ≡ before ++ text
-  pub does : (d : Document) → IsDocument old d → HasDone new text (effect (scene_of old d))
+  pub does : (s : Scene) → IsScene old s → HasDone new text (effect s)
+
+-- it is lent these modules
+abbrev pub lent_modules : ModulesState → KeptDocument → KeptDocument
+lent_modules modules kept = record kept { modules = modules }
+
+-- The same of what does nothing with the modules: whatever modules it is lent.
+abbrev pub DoesApart : (Scene → Effect) → KeptDocument → KeptDocument → List ℕ → List ℕ → Type 0
+DoesApart effect old new before after =
+    (modules : ModulesState)
+    → Does effect (lent_modules modules old) (lent_modules modules new) before after
 
 -- Nothing was printed, and whatever document was kept, it and what it was lent are changed so.
 pub record Changes (change : Scene → Scene) (old new : KeptDocument) : Type 0 where
-  pub document : (d : Document) → IsDocument old d
-      → IsDocument new (change (scene_of old d)).document
-  pub lent_is : (d : Document) → IsDocument old d
-      → new.lent ≡ (change (scene_of old d)).browser
-  pub now_is : new.now ≡ old.now
+  pub changes : (s : Scene) → IsScene old s → IsScene new (change s)

@@ -2,6 +2,7 @@
 use Rattle.std.specs.Prelude.{◌≡◌, ◌<◌, ◌^◌, ℕ, List, [], All, Option, None, length}
 use Rattle.std.specs.List.{AllZip}
 use Rattle.dom_tree.specs.Items.{Item}
+use Rattle.module_locks.specs.Standing.{ModulesState}
 use Rattle.multipart_entities.specs.declared.paths.Path.{Path}
 use Rattle.style_reader.specs.declared.rules.Rule.{Rule}
 use Rattle.style_cascade.specs.StyledTrees.{StyledTree}
@@ -31,10 +32,11 @@ pub record KeptDocument : Type 0 where
   pub heap : List ObjectState
   pub body : Option ℕ
   pub worked : ℕ
-  -- what it is lent while it acts: what belongs to the receiver, with the timers; the time; and the path of the document
-  -- that was launched
+  -- what it is lent while it acts: what belongs to the receiver, with the timers; the time; and the modules
   pub lent : BrowserParts
   pub now : ℕ
+  pub modules : ModulesState
+  -- the path of the document that was launched
   pub launched : Option Path
 
 -- what is kept for a document
@@ -76,8 +78,8 @@ staged_first path items rules lent now =
 
 -- a document before its scripts run, with these parts
 abbrev pub kept_first : Path → List Item → List Rule → List ToldProgram → List HandlerState
-    → BrowserParts → ℕ → KeptDocument
-kept_first path items rules programs handlers lent now =
+    → BrowserParts → ℕ → ModulesState → KeptDocument
+kept_first path items rules programs handlers lent now modules =
     record {
       path = path;
       tree = first_tree items rules;
@@ -91,6 +93,7 @@ kept_first path items rules programs handlers lent now =
       worked = 0;
       lent = lent;
       now = now;
+      modules = modules;
       launched = None;
     }
 

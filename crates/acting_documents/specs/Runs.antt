@@ -9,7 +9,9 @@ use Rattle.es_eval.specs.Worlds.Run.{Over, Reads, Writes, Calls}
 use Rattle.multipart_entities.specs.declared.paths.Path.{Path}
 use Rattle.dom_objects.specs.declared.current_events.CurrentEvent.{CurrentEvent}
 use Rattle.browser_objects.specs.Calls.{BrowserParts}
-use Rattle.document_stages.specs.Acting.{Acting, called, read_by, written}
+use Rattle.document_stages.specs.Acting.{Acting, read_by, written}
+use Rattle.document_stages.specs.Hosting.{Hosted, called}
+use Rattle.module_locks.specs.Locks.{Modules}
 use Rattle.acting_documents.specs.Documents.{Document}
 use Rattle.acting_documents.specs.StopLines.{stop_lines}
 
@@ -17,24 +19,26 @@ use Rattle.acting_documents.specs.StopLines.{stop_lines}
 pub record End : Type 0 where
   pub outcome : Outcome
   pub world : World
-  pub acting : Acting
+  pub hosted : Hosted
 
-unfoldable pub ended : Run → Acting → End
-ended (Over outcome w) a = record { outcome = outcome; world = w; acting = a }
-ended (Reads base name go) a = ended (go (read_by a base name)) a
-ended (Writes base name value heap go) a = ended go (written a base name value heap)
-ended (Calls base name arguments heap go) a =
-    ended (go (called a base name arguments heap).answer (called a base name arguments heap).heap)
-    (called a base name arguments heap).acting
+unfoldable pub ended : Run → Hosted → End
+ended (Over outcome w) h = record { outcome = outcome; world = w; hosted = h }
+ended (Reads base name go) h = ended (go (read_by h.acting base name)) h
+ended (Writes base name value heap go) h =
+    ended go (record h { acting = written h.acting base name value heap })
+ended (Calls base name arguments heap go) h =
+    ended (go (called h base name arguments heap).answer (called h base name arguments heap).heap)
+    (called h base name arguments heap).hosted
 
 -- ---- in a document
 
 -- a document that acts; the registers, the persistent area and the random words, which belong to the receiver, and the
--- timers; and the time
+-- timers; the time; and the modules of the service, with the locks on them
 pub record Scene : Type 0 where
   pub document : Document
   pub browser : BrowserParts
   pub now : ℕ
+  pub modules : Modules
 
 -- what became of them, the path of the document that was launched, if one was, and what was printed
 pub record Effect : Type 0 where
@@ -80,6 +84,13 @@ with_acting a s =
       browser = a.browser;
     }
 
+-- the same with the modules, for its scripts
+abbrev pub hosted_in : CurrentEvent → Scene → Hosted
+hosted_in event s = record { acting = acting_in event s; modules = s.modules }
+
+abbrev pub with_hosted : Hosted → Scene → Scene
+with_hosted h s = record (with_acting h.acting s) { modules = h.modules }
+
 abbrev pub with_world : World → Scene → Scene
 with_world w s =
     record s { document = record s.document { globals = w.globals; heap = w.heap } }
@@ -92,9 +103,9 @@ most_steps = 100000
 abbrev pub effect_of_end : List ℕ → Scene → End → Effect
 effect_of_end name s e =
     record {
-      scene = with_world e.world (with_acting e.acting s);
-      launched = e.acting.launched;
-      text = e.acting.text ++ stop_lines e.outcome name;
+      scene = with_world e.world (with_hosted e.hosted s);
+      launched = e.hosted.acting.launched;
+      text = e.hosted.acting.text ++ stop_lines e.outcome name;
     }
 
 -- the program at a place runs, for the event of this name, as the handler of the current event
@@ -103,7 +114,7 @@ run_program name event place s =
     let d = s.document in
     effect_of_end name s
     (ended (run_at (map program_of d.programs) place d.globals d.heap most_steps)
-    (acting_in event s))
+    (hosted_in event s))
 
 -- outside of handlers there is no current event
 abbrev pub no_event : CurrentEvent
@@ -115,7 +126,7 @@ run_function name function s =
     let d = s.document in
     effect_of_end name s
     (ended (global_run (map program_of d.programs) function d.globals d.heap most_steps)
-    (acting_in no_event s))
+    (hosted_in no_event s))
 
 -- something is done to what handlers act on, outside of them
 abbrev pub done : (Acting → Acting) → Scene → Effect

@@ -1,43 +1,40 @@
 //! A document that acts.
 
 ghost use Rattle.std.specs.Io.{StartsWith};
-ghost use Rattle.std.specs.Prelude.{◌≡◌, ◌<◌, ◌^◌, ◌++◌, ℕ, List, [], None, drop, map, length, IfOk, OnOk};
+ghost use Rattle.std.specs.Prelude.{◌≡◌, ◌<◌, ◌^◌, ◌++◌, ℕ, List, [], None, map, length, IfOk, OnOk};
 ghost use Rattle.document_load.specs.Scripts.{HavePlaces, unnamed_places};
 ghost use Rattle.document_load.specs.ScriptViews.{told_handler};
 ghost use Rattle.es_shapes.specs.Codes.{declared_by};
 ghost use Rattle.event_items.specs.Subscriptions.{first_items};
-ghost use Rattle.event_queue.specs.Queues.{first_of};
-ghost use Rattle.event_queue.specs.Events.{target_of};
 ghost use Rattle.dom_tree.specs.NodeNumbers.{number_of};
-ghost use Rattle.document_stages.specs.Acting.{key_posts};
-ghost use Rattle.acting_documents.specs.Handling.{without_first};
-ghost use Rattle.acting_documents.specs.Documents.{Document as TheDocument, body_of as spec_body_of, passes as spec_passes};
-ghost use Rattle.acting_documents.specs.Doings.{Changes, Does};
-ghost use Rattle.acting_documents.specs.Handling.{change_effect, default_action, due_effect, focus_of, handled as spec_handled, handled_at, key_effect, message_effect, released, run_handler as spec_run_handler, timer_effect, timer_taken};
-ghost use Rattle.acting_documents.specs.Documents.{document_lines};
-ghost use Rattle.acting_documents.specs.Kept.{IsDocument, kept_first, staged_first};
+ghost use Rattle.module_locks.specs.Standing.{ModulesState};
 ghost use Rattle.acting_documents.specs.Beginnings.{begin as spec_begin, load_effect, run_scripts as spec_run_scripts, script_places, unload_effect, without_waiting};
-ghost use Rattle.acting_documents.specs.Runs.{done, nothing_done, run_function as spec_run_function, run_program as spec_run_program};
+ghost use Rattle.acting_documents.specs.Documents.{Document as TheDocument, body_of as spec_body_of, document_lines};
+ghost use Rattle.acting_documents.specs.Doings.{Changes, Does, DoesApart, lent_modules};
+ghost use Rattle.acting_documents.specs.Kept.{IsDocument, kept_first, staged_first};
+ghost use Rattle.acting_documents.specs.Runs.{nothing_done, run_function as spec_run_function, run_program as spec_run_program};
+
+mod events;
+mod posts;
 
 use crate::handlers::Handlers;
 use crate::stop_lines::push_stop_line;
 use bml_bytes::{NoMemory, Text};
 use browser_objects::BrowserState;
-use carousel_blocks::Change;
 use document_load::{Document, Handler};
-use document_stages::Stage;
+use document_stages::{ScriptHost, Stage};
 use dom_objects::CurrentEvent;
 use dom_tree::{NodeId, Tree};
 use es_eval::{Globals, are_few_functions, run, run_global};
 use es_reader::Program;
 use es_values::Heap;
 use event_items::Items;
-use event_messages::Message;
 use event_queue::Event;
-use focus_keys::Key;
+use module_locks::Modules;
 use multipart_entities::Path;
 use std::alloc::Global;
 use std::marker::Model;
+use std::mem;
 use style_cascade::Styles;
 use style_reader::Rules;
 
@@ -45,12 +42,12 @@ use style_reader::Rules;
 const MOST_STEPS: u32 = 100_000;
 
 /// A document with the world of its scripts, and the events that wait in it. While it acts it is
-/// lent what belongs to the receiver, with the timers. Contracts see its parts; which document it
-/// is is the relation `IsDocument`.
+/// lent what belongs to the receiver, with the timers, and the modules of the service. Contracts see
+/// its parts; which document it is is the relation `IsDocument`.
 #[derive(Drop)]
 pub struct ActingDocument {
     alloc: Global,
-    stage: Stage,
+    host: ScriptHost,
     programs: Vec<Program>,
     scripts: Vec<u32>,
     handlers: Handlers,
@@ -66,19 +63,20 @@ impl Model for ActingDocument {
     ghost Value = { KeptDocument };
 
     ghost view = { λ d. record {
-      path = d.stage.acting.path;
-      tree = d.stage.acting.tree;
-      items = d.stage.acting.items;
-      queue = d.stage.acting.queue;
+      path = d.host.stage.acting.path;
+      tree = d.host.stage.acting.tree;
+      items = d.host.stage.acting.items;
+      queue = d.host.stage.acting.queue;
       programs = d.programs.items;
       handlers = d.handlers;
       globals = d.globals;
       heap = d.heap;
       body = number_of d.body;
-      worked = d.stage.worked;
-      lent = d.stage.acting.browser;
-      now = d.stage.acting.now;
-      launched = d.stage.acting.launched;
+      worked = d.host.stage.worked;
+      lent = d.host.stage.acting.browser;
+      now = d.host.stage.acting.now;
+      modules = d.host.modules;
+      launched = d.host.stage.acting.launched;
     } };
 
     ghost invariant = { λ d.
@@ -94,7 +92,7 @@ impl ActingDocument {
             (map told_handler document.handlers.items) }
         ensures { IfOk result (λ acting. acting
             ≡ kept_first path document.tree document.rules document.programs.items
-            (map told_handler document.handlers.items) acting.lent acting.now) }
+            (map told_handler document.handlers.items) acting.lent acting.now acting.modules) }
     {
         if are_few_functions(&document.programs) {
             ActingDocument::of(alloc, path, document)
@@ -111,7 +109,7 @@ impl ActingDocument {
         requires few { length (declared_by document.programs.items) < 2 ^ 48 }
         ensures { IfOk result (λ acting. acting
             ≡ kept_first path document.tree document.rules document.programs.items
-            (map told_handler document.handlers.items) acting.lent acting.now) }
+            (map told_handler document.handlers.items) acting.lent acting.now acting.modules) }
     {
         let Document {
             tree,
@@ -125,7 +123,10 @@ impl ActingDocument {
         let (stage, handlers, globals) = parts_of(alloc, path, tree, rules, handlers)?;
         Ok(ActingDocument {
             alloc,
-            stage,
+            host: ScriptHost {
+                stage,
+                modules: Modules::new(alloc),
+            },
             programs,
             scripts,
             handlers,
@@ -142,7 +143,16 @@ impl ActingDocument {
         ensures lent { self.new ≡ record self.old { lent = browser.old; now = now } }
         ensures given_back { browser.new ≡ self.old.lent }
     {
-        self.stage.exchange(browser, now);
+        self.host.stage.exchange(browser, now);
+    }
+
+    /// Exchanges the modules that it is lent with those that stand there: those of the service before
+    /// it acts, and back behind that.
+    pub fn exchange_modules(&mut self, modules: &mut Modules)
+        ensures lent { self.new ≡ record self.old { modules = modules.old } }
+        ensures given_back { modules.new ≡ self.old.modules }
+    {
+        mem::swap(&mut self.host.modules, modules);
     }
 
     /// Takes the path of the document that was launched.
@@ -150,7 +160,7 @@ impl ActingDocument {
         ensures path { result ≡ self.old.launched }
         ensures document { self.new ≡ record self.old { launched = None } }
     {
-        self.stage.take_launched()
+        self.host.stage.take_launched()
     }
 
     /// Begins the document: its scripts run one behind the other, an element gets the focus where
@@ -162,7 +172,7 @@ impl ActingDocument {
         ensures grows { StartsWith out.new.items out.old.items }
     {
         self.run_scripts(out)?;
-        if self.stage.has_launched() {
+        if self.host.stage.has_launched() {
             return Ok(());
         }
         self.begin_events(out)
@@ -174,9 +184,9 @@ impl ActingDocument {
             (Does spec_begin self.old self.new out.old.items out.new.items) }
         ensures grows { StartsWith out.new.items out.old.items }
     {
-        self.stage.prepare(CurrentEvent::none());
-        self.stage.begin()?;
-        self.stage.give_text(out)
+        self.host.stage.prepare(CurrentEvent::none());
+        self.host.stage.begin()?;
+        self.host.stage.give_text(out)
     }
 
     /// Ends the document for another: what waits in it is dropped with its timers, and its body's
@@ -194,7 +204,7 @@ impl ActingDocument {
     fn drop_waiting(&mut self)
         ensures { Changes without_waiting self.old self.new }
     {
-        self.stage.drop_waiting();
+        self.host.stage.drop_waiting();
     }
 
     // Runs the programs of the script elements, one behind the other.
@@ -215,7 +225,7 @@ impl ActingDocument {
     {
         self.do_nothing();
         'scripts: for place in places {
-            if self.stage.has_launched() {
+            if self.host.stage.has_launched() {
                 return Ok(());
             }
             self.run_program("script", CurrentEvent::none(), *place as usize, out)?;
@@ -266,24 +276,26 @@ impl ActingDocument {
             self.old self.new out.old.items out.new.items) }
         ensures grows { StartsWith out.new.items out.old.items }
     {
-        self.stage.prepare(event);
+        self.host.stage.prepare(event);
         let outcome = run(
             self.programs.as_slice(),
             place,
             &mut self.globals,
             &mut self.heap,
-            &mut self.stage,
+            &mut self.host,
             MOST_STEPS,
         )?;
-        self.stage.give_text(out)?;
+        self.host.stage.give_text(out)?;
         push_stop_line(outcome, name, out)
     }
 
     // Nothing is done, and so nothing is launched.
     fn do_nothing(&mut self)
-        ensures { (before : List ℕ) → Does nothing_done self.old self.new before before }
+        ensures does { (before : List ℕ) → Does nothing_done self.old self.new before before }
+        ensures apart { (before : List ℕ)
+            → DoesApart nothing_done self.old self.new before before }
     {
-        self.stage.prepare(CurrentEvent::none());
+        self.host.stage.prepare(CurrentEvent::none());
     }
 
     // Calls the global of a name, for the event of that other name.
@@ -297,234 +309,17 @@ impl ActingDocument {
             self.old self.new out.old.items out.new.items) }
         ensures grows { StartsWith out.new.items out.old.items }
     {
-        self.stage.prepare(CurrentEvent::none());
+        self.host.stage.prepare(CurrentEvent::none());
         let outcome = run_global(
             self.programs.as_slice(),
             function,
             &mut self.globals,
             &mut self.heap,
-            &mut self.stage,
+            &mut self.host,
             MOST_STEPS,
         )?;
-        self.stage.give_text(out)?;
+        self.host.stage.give_text(out)?;
         push_stop_line(outcome, name, out)
-    }
-
-    /// Takes the event that waits longest.
-    pub fn take_event(&mut self) -> Option<Event>
-        ensures event { result ≡ first_of self.old.queue }
-        ensures kept { self.new ≡ record self.old { queue = drop 1 self.old.queue } }
-        ensures changes { Changes without_first self.old self.new }
-    {
-        self.stage.take_event()
-    }
-
-    /// Handles an event that was taken: its target's handler runs, the default action of a key is
-    /// made, or the function of a timer is called.
-    #[tactic(auto, unfolding(crate::specs::Handling::handled))]
-    pub fn handle(&mut self, event: Event, out: &mut Vec<u8>) -> Result<(), NoMemory>
-        ensures does { OnOk result
-            (Does (spec_handled event) self.old self.new out.old.items out.new.items) }
-        ensures grows { StartsWith out.new.items out.old.items }
-    {
-        match event {
-            Event::Default(key) => self.act_by_default(key, out),
-            Event::KeyUp(key) => {
-                self.release(key);
-                self.handle_at_focus(event, out)
-            }
-            Event::KeyDown(_) => self.handle_at_focus(event, out),
-            Event::Load | Event::Unload => {
-                let body = self.body;
-                self.handle_at(body, event, out)
-            }
-            Event::Timer(number) => self.handle_timer(number, out),
-            _ => self.handle_at_node(event, out),
-        }
-    }
-
-    // Runs the handler of an event at the node that it names, where it names one.
-    fn handle_at_node(&mut self, event: Event, out: &mut Vec<u8>) -> Result<(), NoMemory>
-        ensures does { OnOk result (Does (handled_at (target_of event) event)
-            self.old self.new out.old.items out.new.items) }
-        ensures grows { StartsWith out.new.items out.old.items }
-    {
-        let node = event.node().map(NodeId);
-        self.handle_at(node, event, out)
-    }
-
-    // Calls the function of a timer that fired, where a timer has the number still.
-    fn handle_timer(&mut self, number: u32, out: &mut Vec<u8>) -> Result<(), NoMemory>
-        ensures does { OnOk result
-            (Does (timer_effect number) self.old self.new out.old.items out.new.items) }
-        ensures grows { StartsWith out.new.items out.old.items }
-    {
-        let Some(function) = self.stage.timer_function(number)? else {
-            self.do_nothing();
-            return Ok(());
-        };
-        self.settle_timer(number);
-        self.run_function("timer", &function, out)
-    }
-
-    // An event of the timer of a number was taken: it ends where it goes on no more.
-    fn settle_timer(&mut self, number: u32)
-        ensures { Changes (timer_taken number) self.old self.new }
-    {
-        self.stage.settle_timer(number);
-    }
-
-    // Ends the active state, where enter is released.
-    fn release(&mut self, key: u8)
-        ensures { Changes (released key) self.old self.new }
-    {
-        if key == Key::Enter.number() {
-            self.stage.deactivate();
-        }
-    }
-
-    // Runs the handler of an event at the element that has the focus.
-    fn handle_at_focus(&mut self, event: Event, out: &mut Vec<u8>) -> Result<(), NoMemory>
-        ensures does { OnOk result (Does (λ s. handled_at (focus_of s) event s)
-            self.old self.new out.old.items out.new.items) }
-        ensures grows { StartsWith out.new.items out.old.items }
-    {
-        let focus = self.stage.focused();
-        self.handle_at(focus, event, out)
-    }
-
-    // Runs the handler of an event at its target, where it has one.
-    fn handle_at(
-        &mut self,
-        target: Option<NodeId>,
-        event: Event,
-        out: &mut Vec<u8>,
-    ) -> Result<(), NoMemory>
-        ensures does { OnOk result (Does (handled_at (number_of target) event)
-            self.old self.new out.old.items out.new.items) }
-        ensures grows { StartsWith out.new.items out.old.items }
-    {
-        match target {
-            Some(node) => self.run_handler(event, node, out),
-            None => {
-                self.do_nothing();
-                Ok(())
-            }
-        }
-    }
-
-    // Runs the handler of an event that a node has, where it has one.
-    fn run_handler(&mut self, event: Event, node: NodeId, out: &mut Vec<u8>) -> Result<(), NoMemory>
-        ensures does { OnOk result (Does (spec_run_handler event node.0)
-            self.old self.new out.old.items out.new.items) }
-        ensures grows { StartsWith out.new.items out.old.items }
-    {
-        let Some(place) = self.handlers.program_of(node, &event) else {
-            drop(event);
-            self.do_nothing();
-            return Ok(());
-        };
-        let name = event.name();
-        let current = CurrentEvent {
-            event: Some(event),
-            target: node.0,
-        };
-        self.run_program(name, current, place as usize, out)
-    }
-
-    // Makes the default action of a key.
-    fn act_by_default(&mut self, key: u8, out: &mut Vec<u8>) -> Result<(), NoMemory>
-        ensures does { OnOk result
-            (Does (default_action key) self.old self.new out.old.items out.new.items) }
-        ensures grows { StartsWith out.new.items out.old.items }
-    {
-        self.stage.prepare(CurrentEvent::none());
-        self.stage.act_by_default(key)?;
-        self.stage.give_text(out)
-    }
-
-    /// Posts what a key does that is pressed or released, where the body lets it pass.
-    pub fn post_key(&mut self, key: u8, down: bool, out: &mut Vec<u8>) -> Result<(), NoMemory>
-        ensures does { OnOk result
-            (Does (key_effect key down) self.old self.new out.old.items out.new.items) }
-        ensures grows { StartsWith out.new.items out.old.items }
-    {
-        if self.passes(key) {
-            self.post_passed(key, down, out)
-        } else {
-            self.do_nothing();
-            Ok(())
-        }
-    }
-
-    // Whether the body lets a key pass.
-    fn passes(&mut self, key: u8) -> bool
-        ensures passes { (d : TheDocument) → IsDocument self.old d → result ≡ spec_passes key d }
-        ensures kept { self.new ≡ record self.old { worked = self.new.worked } }
-    {
-        let Some(body) = self.body else {
-            return false;
-        };
-        // Behind a call that found no memory nothing is known of the nodes.
-        if !self.stage.is_element(body) {
-            return false;
-        }
-        self.stage.passes(body, key)
-    }
-
-    // Posts what a key does that passes.
-    fn post_passed(&mut self, key: u8, down: bool, out: &mut Vec<u8>) -> Result<(), NoMemory>
-        ensures does { OnOk result
-            (Does (done (key_posts down key)) self.old self.new out.old.items out.new.items) }
-        ensures grows { StartsWith out.new.items out.old.items }
-    {
-        self.stage.prepare(CurrentEvent::none());
-        self.stage.post_key(key, down)?;
-        self.stage.give_text(out)
-    }
-
-    /// A message of a component comes to the event items: those that fire for it post their events.
-    pub fn post_message(
-        &mut self,
-        component: u8,
-        message: &Message,
-        out: &mut Vec<u8>,
-    ) -> Result<(), NoMemory>
-        ensures does { OnOk result (Does (message_effect component message.now)
-            self.old self.new out.old.items out.new.items) }
-        ensures grows { StartsWith out.new.items out.old.items }
-    {
-        self.stage.prepare(CurrentEvent::none());
-        self.stage.post_message(component, message)?;
-        self.stage.give_text(out)
-    }
-
-    /// A module of a component changed: the event items that are told of it post their events.
-    pub fn post_change(
-        &mut self,
-        component: u8,
-        change: &Change,
-        out: &mut Vec<u8>,
-    ) -> Result<(), NoMemory>
-        ensures does { OnOk result (Does (change_effect component change.now)
-            self.old self.new out.old.items out.new.items) }
-        ensures grows { StartsWith out.new.items out.old.items }
-    {
-        self.stage.prepare(CurrentEvent::none());
-        self.stage.post_change(component, change)?;
-        self.stage.give_text(out)
-    }
-
-    /// The clock goes to a moment, and the timers that are due then post their events.
-    pub fn post_due(&mut self, moment: u64, out: &mut Vec<u8>) -> Result<(), NoMemory>
-        requires { moment < 2 ^ 62 }
-        ensures does { OnOk result
-            (Does (due_effect moment) self.old self.new out.old.items out.new.items) }
-        ensures grows { StartsWith out.new.items out.old.items }
-    {
-        self.stage.prepare(CurrentEvent::none());
-        self.stage.post_due(moment)?;
-        self.stage.give_text(out)
     }
 
     /// Appends the boxes, texts and pictures of the document, and its focus.
@@ -532,17 +327,18 @@ impl ActingDocument {
         ensures shown { OnOk result ((d : TheDocument) → IsDocument self.old d
             → out.new.items ≡ out.old.items ++ document_lines d) }
         ensures kept { self.new ≡ record self.old { worked = self.new.worked } }
-        ensures same { Changes (λ s. s) self.old self.new }
+        ensures same { (modules : ModulesState)
+            → Changes (λ s. s) (lent_modules modules self.old) (lent_modules modules self.new) }
         ensures grows { StartsWith out.new.items out.old.items }
     {
-        self.stage.show(out)
+        self.host.stage.show(out)
     }
 
     /// How many values its styles worked out.
     pub fn worked(&self) -> u64
         ensures { result ≡ self.now.worked }
     {
-        self.stage.worked()
+        self.host.stage.worked()
     }
 }
 

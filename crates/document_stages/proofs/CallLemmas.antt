@@ -1,18 +1,21 @@
--- What calls of nodes and of the browser object leave.
+-- What calls of nodes and launches come to, with the modules beside them.
 use Rattle.std.proofs.Common.{◌≡◌, ℕ, Bool, true, false, List, refl, sym, codes}
 use Rattle.std.specs.Prelude.{if◌then◌else◌, is_some, IfOk, OnOk, Result, Ok, Err}
 use Rattle.bml_bytes.specs.Words.{is_same}
 use Rattle.dom_tree.specs.Items.{tag_of}
 use Rattle.es_values.specs.declared.hosts.HostAnswer.{HostAnswer}
 use Rattle.es_values.specs.declared.values.HostRef.{HostRef}
-use Rattle.es_values.specs.declared.values.HostRef.TheVariants.{Browser, Node}
+use Rattle.es_values.specs.declared.values.HostRef.TheVariants.{Node}
 use Rattle.es_values.specs.declared.values.Value.{Value}
 use Rattle.es_values.specs.Objects.{ObjectState}
-use Rattle.browser_objects.specs.Calls.{call_of}
+use Rattle.multipart_entities.specs.declared.paths.Path.{Path}
 use Rattle.browser_objects.specs.declared.effects.Effect.{Effect}
 use Rattle.browser_objects.specs.declared.effects.Effect.TheVariants as effects
-use Rattle.document_stages.specs.Acting.{Acting, Answered, browser_call, called, done_for, is_unload, node_call, with_browser}
-use Rattle.document_stages.specs.Stages.{HasCalled, StageState}
+use Rattle.module_locks.specs.Standing.{ForModules}
+use Rattle.document_stages.specs.Acting.{Acting, Answered, is_unload, launch, node_call}
+use Rattle.document_stages.specs.Calling.{HasCalled, Replies}
+use Rattle.document_stages.specs.Hosting.{called, done_for, reply_with}
+use Rattle.document_stages.specs.declared.script_hosts.ScriptHost.{ScriptHost}
 
 either-heap : (test : Bool) (x y : Answered) (heap : List ObjectState) → x.heap ≡ heap → y.heap ≡ heap → (if test then x else y).heap ≡ heap
 either-heap true x y heap e f = e
@@ -26,29 +29,21 @@ node-heap a node name heap =
     (either-heap (is_same name (codes "blur")) _ _ heap refl refl))
     refl
 
--- and so does what calls of the browser object come to
-done-heap : (effect : Effect) (value : Value) (a : Acting) (heap : List ObjectState) → (done_for effect value a heap).heap ≡ heap
-done-heap effects.Nothing value a heap = refl
-done-heap (effects.Sound sound) value a heap = refl
-done-heap (effects.Kept slot size) value a heap = refl
-done-heap (effects.Launch path) value a heap =
-    either-heap (is_unload a.event.event) _ _ heap refl refl
-done-heap (effects.Lock path) value a heap = refl
-done-heap (effects.Unlock path) value a heap = refl
+-- and so do launches
+launch-heap : (path : Path) (a : Acting) (heap : List ObjectState) → (launch path a heap).heap ≡ heap
+launch-heap path a heap = either-heap (is_unload a.event.event) _ _ heap refl refl
 
-browser-heap : (a : Acting) (name : List ℕ) (arguments : List Value) (heap : List ObjectState) → (browser_call a name arguments heap).heap ≡ heap
-browser-heap a name arguments heap =
-    let c = call_of name a.path a.now arguments heap a.browser in
-    done-heap c.effect c.value (with_browser c.state a) heap
+-- a call that leaves the modules
+left-modules : {E : Type 0} (r : Result HostAnswer E) (old new : ScriptHost) (answered : Answered) (heap : List ObjectState) → IfOk r (λ (answer : HostAnswer). answer ≡ answered.answer) → OnOk r (new.stage.acting ≡ answered.acting) → new.modules ≡ old.modules → answered.heap ≡ heap → IfOk r (λ (answer : HostAnswer). ForModules old.modules (λ modules. Replies new answer heap (reply_with modules answered)))
+left-modules (Ok answer) old new answered heap gave left same kept =
+    λ modules stand. record { answer_is = gave; acting_is = left; modules_stand = rw same stand; heap_is = sym kept }
+left-modules (Err e) old new answered heap gave left same kept = gave
 
-pub node-called : {E : Type 0} (r : Result HostAnswer E) (old new : StageState) (base : HostRef) (node : ℕ) (name : List ℕ) (arguments : List Value) (heap : List ObjectState) → base ≡ Node node → IfOk r (λ (answer : HostAnswer). answer ≡ (node_call old.acting node name heap).answer) → OnOk r (new.acting ≡ (node_call old.acting node name heap).acting) → IfOk r (λ (answer : HostAnswer). HasCalled old base name arguments heap answer new heap)
+pub launch-done : {E : Type 0} (r : Result HostAnswer E) (old new : ScriptHost) (effect : Effect) (value : Value) (path : Path) (heap : List ObjectState) → effect ≡ effects.Launch path → IfOk r (λ (answer : HostAnswer). answer ≡ (launch path old.stage.acting heap).answer) → OnOk r (new.stage.acting ≡ (launch path old.stage.acting heap).acting) → new.modules ≡ old.modules → IfOk r (λ (answer : HostAnswer). ForModules old.modules (λ modules. Replies new answer heap (done_for effect value (record { acting = old.stage.acting; modules = modules }) heap)))
+launch-done r old new effect value path heap is gave left same =
+    rw is (left-modules r old new (launch path old.stage.acting heap) heap gave left same (launch-heap path old.stage.acting heap))
+
+pub node-called : {E : Type 0} (r : Result HostAnswer E) (old new : ScriptHost) (base : HostRef) (node : ℕ) (name : List ℕ) (arguments : List Value) (heap : List ObjectState) → base ≡ Node node → IfOk r (λ (answer : HostAnswer). answer ≡ (node_call old.stage.acting node name heap).answer) → OnOk r (new.stage.acting ≡ (node_call old.stage.acting node name heap).acting) → new.modules ≡ old.modules → IfOk r (λ (answer : HostAnswer). HasCalled old base name arguments heap answer new heap)
 unfolding called
-node-called (Ok answer) old new base node name arguments heap is gave left =
-    rw is record { answer_is = gave; acting_is = left; heap_is = sym (node-heap old.acting node name heap) }
-node-called (Err e) old new base node name arguments heap is gave left = gave
-
-pub browser-called : {E : Type 0} (r : Result HostAnswer E) (old new : StageState) (base : HostRef) (name : List ℕ) (arguments : List Value) (heap : List ObjectState) → base ≡ Browser → IfOk r (λ (answer : HostAnswer). answer ≡ (browser_call old.acting name arguments heap).answer) → OnOk r (new.acting ≡ (browser_call old.acting name arguments heap).acting) → IfOk r (λ (answer : HostAnswer). HasCalled old base name arguments heap answer new heap)
-unfolding called
-browser-called (Ok answer) old new base name arguments heap is gave left =
-    rw is record { answer_is = gave; acting_is = left; heap_is = sym (browser-heap old.acting name arguments heap) }
-browser-called (Err e) old new base name arguments heap is gave left = gave
+node-called r old new base node name arguments heap is gave left same =
+    rw is (left-modules r old new (node_call old.stage.acting node name heap) heap gave left same (node-heap old.stage.acting node name heap))

@@ -7,7 +7,7 @@ use Rattle.event_messages.specs.declared.messages.Message.{Message}
 use Rattle.event_queue.specs.declared.item_kinds.ItemKind.TheVariants as kinds
 use Rattle.event_items.specs.EventItems.{EventItem}
 use Rattle.event_items.specs.Subscriptions.{fires_for_message, fires_for_button, fires_for_module}
-use Rattle.document_stages.specs.Acting.{Acting, button_post, each_item, has_room, message_post, module_post}
+use Rattle.document_stages.specs.Acting.{Acting, button_post, each_item, has_room, lock_post, message_post, module_post}
 
 -- what is left where the item at a place is told, if there is one
 abbrev pub told_at : (EventItem → Acting → Acting) → ℕ → List EventItem → Acting → Acting
@@ -78,3 +78,7 @@ module-keeps component number status = λ item a.
 
 pub button-keeps : KeepsItems button_post
 button-keeps = λ item a. either-keeps (fires_for_button a.items item) _ _ a.items.items refl refl
+
+pub lock-keeps : (component number : ℕ) → KeepsItems (lock_post component number)
+lock-keeps component number = λ item a.
+    either-keeps (fires_for_module kinds.ModuleLocked component number a.items item) _ _ a.items.items refl refl

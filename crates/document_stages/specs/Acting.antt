@@ -1,7 +1,6 @@
 -- What handlers and default actions act on, and what they do to it: posts, moves of the focus, timers, and the
--- rows of what scripts read, write and call of the document and of the browser object (after the events, the
--- navigation, the DOM interfaces and the browser object of BML, ARIB STD-B24 volume 2, in this project's own
--- profile).
+-- rows of what scripts read and write, and of what they call of the document (after the events, the navigation,
+-- the DOM interfaces and the browser object of BML, ARIB STD-B24 volume 2, in this project's own profile).
 use Rattle.std.specs.Prelude.{ℕ, zero, suc, nat_lt, ◌==◌, ◌&&◌, pos, Bool, true, false, if◌then◌else◌, List, [], ◌∷◌, ◌++◌, fold, length, slice_get, Option, Some, None, codes, is_some}
 use Rattle.std.specs.Option.{option_map_or}
 use Rattle.bml_bytes.specs.Words.{is_same}
@@ -22,7 +21,7 @@ use Rattle.es_values.specs.declared.hosts.HostAnswer.{HostAnswer}
 use Rattle.es_values.specs.declared.hosts.HostAnswer.TheVariants.{Value as Answer, Ended, NotCallable}
 use Rattle.es_values.specs.declared.numbers.Num.TheVariants.{NotANumber}
 use Rattle.es_values.specs.declared.values.HostRef.{HostRef}
-use Rattle.es_values.specs.declared.values.HostRef.TheVariants.{Browser, Document as TheDocument, Greg, Node, Ureg}
+use Rattle.es_values.specs.declared.values.HostRef.TheVariants.{Browser, Greg, Node, Ureg}
 use Rattle.es_values.specs.declared.values.Value.{Value}
 use Rattle.es_values.specs.declared.values.Value.TheVariants.{Bool as Truth, Host, Number, Str, Undefined}
 use Rattle.es_values.specs.Conversions.{text_of}
@@ -36,16 +35,14 @@ use Rattle.event_queue.specs.Timers.{TimersState, first_due, most_timers, no_tim
 use Rattle.event_queue.specs.declared.events.Event.{Event}
 use Rattle.event_queue.specs.declared.events.Event.TheVariants as events
 use Rattle.event_queue.specs.declared.item_kinds.ItemKind.TheVariants as kinds
-use Rattle.browser_objects.specs.Calls.{BrowserParts, Called, call_of}
+use Rattle.browser_objects.specs.Calls.{BrowserParts}
 use Rattle.browser_objects.specs.Registers.{empty_registers, register_text, with_register}
-use Rattle.browser_objects.specs.declared.effects.Effect as of_browser
-use Rattle.browser_objects.specs.declared.effects.Effect.TheVariants as effects
 use Rattle.dom_objects.specs.Parts.{Parts}
 use Rattle.dom_objects.specs.Reads.{node_value, read_value}
 use Rattle.dom_objects.specs.Writes.{change_of, changed_tree}
 use Rattle.dom_objects.specs.declared.current_events.CurrentEvent.{CurrentEvent}
 use Rattle.dom_tree.specs.declared.node_ids.NodeId.{NodeId}
-use Rattle.document_stages.specs.EventLines.{kept_line, launch_line, lost_line, sound_line}
+use Rattle.document_stages.specs.EventLines.{launch_line, lost_line}
 
 -- What belongs to the receiver, before anything came, with this persistent area: empty registers, and neither timers nor
 -- random words.
@@ -208,12 +205,27 @@ module_post component number status item a =
     posted_where (fires_for_module kinds.ModuleUpdated component number a.items item)
     (events.Updated item.node status) a
 
--- A change in a module of a component posts ModuleUpdated for each item that fires for the module. A change without a
--- status, by which only the module's last block came, posts nothing.
+-- and for each item; by a change without a status only the module's last block came, and nothing is posted
+abbrev pub update_posts : ℕ → ℕ → Option ℕ → Acting → Acting
+update_posts component number status a =
+    option_map_or (λ status. each_item (module_post component number status) a) status a
+
+-- ModuleLocked for an item, with status 0: a lock on its module keeps it from now on
+abbrev pub lock_post : ℕ → ℕ → EventItem → Acting → Acting
+lock_post component number item a =
+    posted_where (fires_for_module kinds.ModuleLocked component number a.items item)
+    (events.Locked item.node 0) a
+
+-- and for each item
+unfoldable pub lock_posts : ℕ → ℕ → Acting → Acting
+lock_posts component number a = each_item (lock_post component number) a
+
+-- A change in a module of a component posts ModuleUpdated for each item that fires for the module. Where a lock that was
+-- wanted on the module got its bytes, it then posts ModuleLocked.
 unfoldable pub change_posts : ℕ → Change → Acting → Acting
 change_posts component change a =
-    option_map_or (λ status. each_item (module_post component change.«module» status) a)
-    change.status a
+    let updated = update_posts component change.«module» change.status a in
+    if change.locked then lock_posts component change.«module» updated else updated
 
 -- DataButtonPressed for an item
 abbrev pub button_post : EventItem → Acting → Acting
@@ -357,7 +369,7 @@ node_call a node name heap =
     if is_some (tag_of a.tree.items node) then element_call a node name heap
     else not_callable a heap
 
--- ---- calls of the browser object
+-- ---- launches
 
 abbrev pub with_line : List ℕ → Acting → Acting
 with_line line a = record a { text = a.text ++ line }
@@ -380,30 +392,3 @@ launch path a heap =
       acting = record (with_line (launch_line path) a) { launched = Some path };
       heap = heap;
     }
-
--- What is done for a call that gives this value: a line is printed, or a document is launched. Modules cannot be
--- locked yet.
-abbrev pub done_for : of_browser.Effect → Value → Acting → List ObjectState → Answered
-done_for effects.Nothing value a heap = gives value a heap
-done_for (effects.Sound sound) value a heap = gives value (with_line (sound_line sound) a) heap
-done_for (effects.Kept slot size) value a heap =
-    gives value (with_line (kept_line slot size) a) heap
-done_for (effects.Launch path) value a heap = launch path a heap
-done_for (effects.Lock path) value a heap = refused a heap
-done_for (effects.Unlock path) value a heap = refused a heap
-
-abbrev pub browser_done : Called → Acting → List ObjectState → Answered
-browser_done called a heap = done_for called.effect called.value (with_browser called.state a) heap
-
-abbrev pub browser_call : Acting → List ℕ → List Value → List ObjectState → Answered
-browser_call a name arguments heap =
-    browser_done
-    (call_of name a.path a.now arguments heap a.browser) a heap
-
--- what a call of a member of a reference answers and does
-unfoldable pub called : Acting → HostRef → List ℕ → List Value → List ObjectState → Answered
-called a TheDocument name arguments heap =
-    document_call a name (text_of heap (first_argument arguments)) heap
-called a (Node node) name arguments heap = node_call a node name heap
-called a Browser name arguments heap = browser_call a name arguments heap
-called a other name arguments heap = not_callable a heap

@@ -23,6 +23,7 @@ mod hosts;
 mod item_events;
 
 use crate::event_lines::push_lost_line;
+pub(crate) use crate::stages::hosts::refusal;
 use bml_bytes::{AreaBytes, NoMemory, Text, law_of_fronts};
 use browser_objects::BrowserState;
 use display_list::Shower;
@@ -47,8 +48,7 @@ pub const NO_FOCUS: Focus = Focus {
 
 /// The parts of a document that its scripts see, its event items, what belongs to the receiver, the
 /// event whose handler runs, the path of the document that was launched, and what was printed since
-/// it began. It is the host of the scripts. Contracts see it as `Acting`, and how many values its
-/// styles worked out.
+/// it began. Contracts see it as `Acting`, and how many values its styles worked out.
 #[derive(Drop)]
 pub struct Stage {
     alloc: Global,

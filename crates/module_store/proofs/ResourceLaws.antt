@@ -1,5 +1,5 @@
 -- What a module has under a name.
-use Rattle.std.proofs.Common.{◌≡◌, ◌∙◌, ℕ, ◌+◌, ◌<◌, ◌≤◌, true, false, List, length, All, Option, Some, None, refl, sym, ap, subst, inl, inr, arith, Bor}
+use Rattle.std.proofs.Common.{◌≡◌, ◌∙◌, ℕ, ◌+◌, ◌<◌, ◌≤◌, Bool, true, false, List, length, All, Option, Some, None, refl, sym, ap, subst, inl, inr, arith, Bor}
 use Rattle.std.specs.Prelude.{◌⊎◌, find, option_map, option_copied, MatchOption, IfSome, is_some, option_and_then, Result, Ok, Err}
 use Rattle.std.specs.List.{slice_range}
 use Rattle.std.specs.Result.{result_ok}
@@ -15,7 +15,7 @@ use Rattle.carousel_blocks.specs.Changes.{number_bound}
 use Rattle.multipart_entities.specs.declared.faults.EntityFault.{EntityFault}
 use Rattle.multipart_entities.specs.declared.parts.Part.{Part}
 use Rattle.multipart_entities.specs.Parts.{is_named, named_parts, place_of}
-use Rattle.module_store.specs.Resources.{HasAtMost, holds_entity, part_in, whole_named, named_in, found_or_missing, look_at, look_unless, look_by, look_behind, look_in, info_in_force}
+use Rattle.module_store.specs.Resources.{HasAtMost, holds_entity, part_in, whole_named, named_as, named_in, found_or_missing, look_at, look_unless, look_by, look_behind, look_in, info_in_force}
 use Rattle.module_store.specs.Entities.{IsInside, ArePartsOf, KeepsParts, parts_at}
 use Rattle.module_store.proofs.FindLaws.{found_has}
 
@@ -53,18 +53,18 @@ of_some : (bytes name : List ℕ) (kept : List Part) (parts : Result (List Part)
 of_some bytes name kept (Err fault) e = absurd cc
 of_some bytes name kept (Ok parts) e = let same : kept ≡ parts = cc in ap (λ l. option_map (λ place. slice_range bytes place.0 place.1) (place_of name l)) (sym same)
 
-pub entity_without_parts : (info bytes name : List ℕ) → holds_entity info ≡ true → ArePartsOf bytes None → named_in info bytes name ≡ None
-unfolding named_in
-entity_without_parts info bytes name holds parts = rw holds (of_none bytes name (named_parts bytes) parts.are)
+pub entity_without_parts : (is_entity : Bool) (bytes name : List ℕ) → is_entity ≡ true → ArePartsOf bytes None → named_as is_entity bytes name ≡ None
+unfolding named_as
+entity_without_parts is_entity bytes name holds parts = rw holds (of_none bytes name (named_parts bytes) parts.are)
 
-pub entity_with_parts : (info bytes name : List ℕ) (kept : List Part) → holds_entity info ≡ true → ArePartsOf bytes (Some kept)
-    → named_in info bytes name ≡ option_map (λ place. slice_range bytes place.0 place.1) (place_of name kept)
-unfolding named_in
-entity_with_parts info bytes name kept holds parts = rw holds (of_some bytes name kept (named_parts bytes) parts.are)
+pub entity_with_parts : (is_entity : Bool) (bytes name : List ℕ) (kept : List Part) → is_entity ≡ true → ArePartsOf bytes (Some kept)
+    → named_as is_entity bytes name ≡ option_map (λ place. slice_range bytes place.0 place.1) (place_of name kept)
+unfolding named_as
+entity_with_parts is_entity bytes name kept holds parts = rw holds (of_some bytes name kept (named_parts bytes) parts.are)
 
-pub one_resource : (info bytes name : List ℕ) → holds_entity info ≡ false → named_in info bytes name ≡ whole_named bytes name
-unfolding named_in
-one_resource info bytes name holds = rw holds refl
+pub one_resource : (is_entity : Bool) (bytes name : List ℕ) → is_entity ≡ false → named_as is_entity bytes name ≡ whole_named bytes name
+unfolding named_as
+one_resource is_entity bytes name holds = rw holds refl
 
 -- ---- a module that is held
 

@@ -186,22 +186,17 @@ look_stays before now path bytes keeps e = by_component (component_in before.com
         ap (λ o. look_in o path.module path.name) kept.1
         ∙ in_found kept.0 path.module path.name bytes (still_found component.messages kept.0 path.module path.name bytes kept.2 found)
 
--- and where something is found under the start path, it stays the start path
-pub start_stays : (before now : Stored) (bytes : List ℕ) → KeepsModule before now start_component 0 → look before (start_path before) ≡ Found bytes → start_path now ≡ start_path before
-start_stays before now bytes keeps e =
-    ap (λ info. let path : Path = record { component = start_component; «module» = 0; name = start_name info } in path)
-    (by_component (component_in before.components start_component) refl (start_path before).name e)
-  where
-    info_in : Option (List Message) → Option (List ℕ)
-    info_in o = option_and_then (λ messages. info_in_force messages 0) o
+-- the info of a module's entry in force, in a component
+abbrev info_in : ℕ → Option Followed → Option (List ℕ)
+info_in number component = option_and_then (λ messages. info_in_force messages number) (option_map (λ c. c.messages) component)
 
-    by_component : (o : Option Followed) → component_in before.components start_component ≡ o → (name : List ℕ) → look_in (option_map (λ c. c.messages) o) 0 name ≡ Found bytes
-        → info_in (messages_of_component now start_component) ≡ info_in (messages_of_component before start_component)
-    by_component None is name e = absurd cc
-    by_component (Some component) is name e =
-        let found = found_in component.messages 0 name bytes e in
-        let kept = keeps component found.info is found.informed in
-        ap info_in kept.1 ∙ kept.2.info ∙ sym (ap (λ (o : Option Followed). info_in (option_map (λ c. c.messages) o)) is)
+-- the same in a store
+abbrev info_of : Stored → ℕ → ℕ → Option (List ℕ)
+info_of stored tag number = info_in number (component_in stored.components tag)
+
+-- where the info of the start document's module stays, the start path does
+pub start_stays : (before now : Stored) → info_of now start_component 0 ≡ info_of before start_component 0 → start_path now ≡ start_path before
+start_stays before now same = ap (λ info. let path : Path = record { component = start_component; «module» = 0; name = start_name info } in path) same
 
 -- ---- one more section
 
@@ -214,10 +209,11 @@ same_behind laws messages section number none = by_message (message_of section) 
     by_message None none = subst (λ now. IsSameModule messages now number) (sym (append-nil messages)) (record { info = refl; skip = refl; bytes = refl })
     by_message (Some message) none = laws.same messages message number none
 
--- A section keeps each module of another component, and of its own component each of which it tells no change.
-pub section_keeps : MessageLaws → (stored : Stored) (tag : ℕ) (section : List ℕ) (its_tag number : ℕ) → number < 65536
-    → (tag ≡ its_tag → tells_of number (changes_by tag section stored) ≡ false) → KeepsModule stored (with_section tag section stored) its_tag number
-section_keeps laws stored tag section its_tag number low quiet component info is informed = by_tag (eqb_tells component.tag tag)
+-- A section leaves the same each module of another component, and of its own component each of which it tells no change.
+section_same : MessageLaws → (stored : Stored) (tag : ℕ) (section : List ℕ) (its_tag number : ℕ) → number < 65536
+    → (tag ≡ its_tag → tells_of number (changes_by tag section stored) ≡ false) → (component : Followed) → component_in stored.components its_tag ≡ Some component
+    → (messages : List Message) × (messages_of_component (with_section tag section stored) its_tag ≡ Some messages) × IsSameModule component.messages messages number
+section_same laws stored tag section its_tag number low quiet component is = by_tag (eqb_tells component.tag tag)
   where
     now : List Message
     now = component.messages ++ messages_of (section ∷ [])
@@ -243,6 +239,22 @@ section_keeps laws stored tag section its_tag number low quiet component info is
       same_behind laws component.messages section number (untold component.messages now number (number_is_low number low) (no_change same.1)),
     )
     by_tag (inr differ) = (component.messages, behind ∙ ap (λ b. Some (cond b (extended section component) component).messages) differ.0, record { info = refl; skip = refl; bytes = refl })
+
+-- so it keeps it
+pub section_keeps : MessageLaws → (stored : Stored) (tag : ℕ) (section : List ℕ) (its_tag number : ℕ) → number < 65536
+    → (tag ≡ its_tag → tells_of number (changes_by tag section stored) ≡ false) → KeepsModule stored (with_section tag section stored) its_tag number
+section_keeps laws stored tag section its_tag number low quiet component info is informed = section_same laws stored tag section its_tag number low quiet component is
+
+-- and its info stays, also where it has none
+pub section_informs : MessageLaws → (stored : Stored) (tag : ℕ) (section : List ℕ) (its_tag number : ℕ) → number < 65536
+    → (tag ≡ its_tag → tells_of number (changes_by tag section stored) ≡ false) → info_of (with_section tag section stored) its_tag number ≡ info_of stored its_tag number
+section_informs laws stored tag section its_tag number low quiet = by_component (component_in stored.components its_tag) refl
+  where
+    by_component : (o : Option Followed) → component_in stored.components its_tag ≡ o → info_of (with_section tag section stored) its_tag number ≡ info_in number o
+    by_component None is = ap (λ o. info_in number o) (component_behind tag its_tag section stored.components ∙ ap (λ (o : Option Followed). option_map (followed_with tag section) o) is)
+    by_component (Some component) is =
+        let kept = section_same laws stored tag section its_tag number low quiet component is in
+        ap (λ (o : Option (List Message)). option_and_then (λ messages. info_in_force messages number) o) kept.1 ∙ kept.2.info
 
 -- ---- another component map
 
@@ -305,3 +317,37 @@ map_keeps stored components tag number tag_low low apart none component info is 
         let c = found_on component.pid (find (is_tagged tag) components) there in
         (component.messages, kept_messages c.0 c.1 c.2, record { info = refl; skip = refl; bytes = refl })
     by_kept false e = absurd (must_stay e)
+
+-- The info of a module stays where a map doesn't take its entry away. A module without an entry gets none by a map.
+pub map_informs : (stored : Stored) (components : List Component) (tag number : ℕ) → tag < 256 → number < 65536 → AllPairs AreApart components → is_gone tag number (gone_by components stored) ≡ false
+    → info_of (with_map components stored) tag number ≡ info_of stored tag number
+map_informs stored components tag number tag_low low apart none = by_component (component_in stored.components tag) refl
+  where
+    -- a component of the map has the messages from before, or none
+    on_pid : (pid : ℕ) (o : Option Followed) → info_in number o ≡ None → info_in_force (messages_on pid o) number ≡ None
+    on_pid pid None e = refl
+    on_pid pid (Some component) e = elim (eqb component.pid pid) as (λ b. info_in_force (cond b component.messages []) number ≡ None) [ true ↦ e | false ↦ refl ]
+
+    by_map : (o : Option Followed) → component_in stored.components tag ≡ o → info_in number o ≡ None → (c : Option Component) → find (is_tagged tag) components ≡ c
+        → info_in number (option_map (followed_from stored.components) c) ≡ None
+    by_map o is e None found = refl
+    by_map o is e (Some c) found =
+        ap (λ t. info_in_force (messages_on c.pid (component_in stored.components t)) number) (eqb-true c.tag tag (found_passes (is_tagged tag) components c found))
+        ∙ ap (λ o. info_in_force (messages_on c.pid o) number) is
+        ∙ on_pid c.pid o e
+
+    none_before : (o : Option Followed) → component_in stored.components tag ≡ o → info_in number o ≡ None → info_of (with_map components stored) tag number ≡ None
+    none_before o is e =
+        ap (λ o. info_in number o) (find-map (λ f. eqb f.tag tag) (followed_from stored.components) components)
+        ∙ by_map o is e (find (is_tagged tag) components) refl
+
+    by_info : (component : Followed) → component_in stored.components tag ≡ Some component → (i : Option (List ℕ)) → info_in_force component.messages number ≡ i
+        → info_of (with_map components stored) tag number ≡ i
+    by_info component is None e = none_before (Some component) is e
+    by_info component is (Some info) e =
+        let kept = map_keeps stored components tag number tag_low low apart none component info is e in
+        ap (λ (o : Option (List Message)). option_and_then (λ messages. info_in_force messages number) o) kept.1 ∙ kept.2.info ∙ e
+
+    by_component : (o : Option Followed) → component_in stored.components tag ≡ o → info_of (with_map components stored) tag number ≡ info_in number o
+    by_component None is = none_before None is refl
+    by_component (Some component) is = by_info component is (info_in_force component.messages number) refl

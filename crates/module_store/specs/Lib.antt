@@ -8,3 +8,4 @@ pub mod Carousels
 pub mod Staying
 pub mod Since
 pub mod Lines
+pub mod Copies

@@ -17,6 +17,8 @@ use Rattle.multipart_entities.specs.Boundaries.{is_multipart}
 use Rattle.multipart_entities.specs.Parts.{named_parts, place_of}
 use Rattle.module_store.specs.declared.resources.Look.{Look}
 use Rattle.module_store.specs.declared.resources.Look.TheVariants as looks
+use Rattle.module_store.specs.declared.resources.ModulePresence.{ModulePresence}
+use Rattle.module_store.specs.declared.resources.ModulePresence.TheVariants as presences
 use Rattle.module_store.specs.Store.{Stored, messages_of_component}
 
 -- ---- what a module holds
@@ -36,9 +38,13 @@ abbrev pub whole_named : List ℕ → List ℕ → Option (List ℕ)
 whole_named bytes [] = Some bytes
 whole_named bytes (code ∷ codes) = None
 
+-- the bytes that these bytes have under a name, as an entity or as one resource
+unfoldable pub named_as : Bool → List ℕ → List ℕ → Option (List ℕ)
+named_as is_entity bytes name = if is_entity then part_in bytes name (named_parts bytes) else whole_named bytes name
+
 -- the bytes that a module with this info and these bytes has under a name
-unfoldable pub named_in : List ℕ → List ℕ → List ℕ → Option (List ℕ)
-named_in info bytes name = if holds_entity info then part_in bytes name (named_parts bytes) else whole_named bytes name
+abbrev pub named_in : List ℕ → List ℕ → List ℕ → Option (List ℕ)
+named_in info bytes name = named_as (holds_entity info) bytes name
 
 -- ---- what a look-up finds
 
@@ -93,6 +99,49 @@ look_in (Some messages) number name = look_behind (in_force messages) messages n
 -- what is there under a path
 abbrev pub look : Stored → Path → Resource
 look stored path = look_in (messages_of_component stored path.component) path.module path.name
+
+-- ---- whether a module is there
+
+-- It has no entry in force, or a skipped one; or it is announced, and isn't held yet; or it is held, with whether it
+-- holds an entity, and its bytes.
+pub data Presence : Type 0 where
+  Absent : Presence
+  Announced : Presence
+  Held : Bool → List ℕ → Presence
+
+-- the same of what the code answers
+abbrev pub presence_of : ModulePresence → Presence
+presence_of presences.Absent = Absent
+presence_of presences.Announced = Announced
+presence_of (presences.Held is_entity bytes) = Held is_entity bytes.now
+
+-- a module that is held has at most so many bytes
+abbrev pub HoldsAtMost : ℕ → Presence → Type 0
+HoldsAtMost limit Absent = Unit {0}
+HoldsAtMost limit Announced = Unit {0}
+HoldsAtMost limit (Held is_entity bytes) = length bytes ≤ limit
+
+-- an unskipped module with this info, by its bytes, where it is held
+abbrev pub presence_by : List ℕ → Option (List ℕ) → Presence
+presence_by info None = Announced
+presence_by info (Some bytes) = Held (holds_entity info) bytes
+
+abbrev pub presence_unless : Option SkipCause → List ℕ → Option (List ℕ) → Presence
+presence_unless None info bytes = presence_by info bytes
+presence_unless (Some cause) info bytes = Absent
+
+abbrev pub presence_at : Option Standing → Option (List ℕ) → Presence
+presence_at None bytes = Absent
+presence_at (Some standing) bytes = presence_unless standing.skip standing.entry.info bytes
+
+-- in a component with these messages, where it is in the map
+abbrev pub presence_in : Option (List Message) → ℕ → Presence
+presence_in None number = Absent
+presence_in (Some messages) number = presence_at (standing_of (in_force messages) number) (bytes_held messages number)
+
+-- of a module of a component
+abbrev pub presence : Stored → ℕ → ℕ → Presence
+presence stored component number = presence_in (messages_of_component stored component) number
 
 -- ---- the start document
 

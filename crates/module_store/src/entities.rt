@@ -7,7 +7,6 @@ ghost use Rattle.multipart_entities.specs.Parts.{place_of};
 ghost use Rattle.module_store.specs.Resources as resources;
 ghost use Rattle.module_store.specs.Entities.{ArePartsOf, IsInside, parts_at, with_parts, without_reset};
 
-use crate::resources::holds_entity;
 use bml_bytes::{NoMemory, Text};
 use carousel_blocks::Change;
 use multipart_entities::{EntityFault, Parts, entity_parts};
@@ -81,20 +80,19 @@ pub fn parts_of(alloc: Global, bytes: &[u8]) -> Result<Option<Parts>, NoMemory>
     }
 }
 
-/// The bytes that a module with this info and these bytes has under a name. The parts are wanted where it holds an
+/// The bytes that these bytes have under a name, as an entity or as one resource. The parts are wanted where they are an
 /// entity.
 pub fn named<'a>(
     parts: Option<&Parts>,
-    info: &[u8],
+    is_entity: bool,
     bytes: &'a [u8],
     name: &Text,
 ) -> Option<&'a [u8]>
-    ensures named { (resources.holds_entity info.now ≡ true
-        → ArePartsOf bytes.now (option_copied parts.entry))
-        → option_copied result ≡ resources.named_in info.now bytes.now name.now }
+    ensures named { (is_entity ≡ true → ArePartsOf bytes.now (option_copied parts.entry))
+        → option_copied result ≡ resources.named_as is_entity bytes.now name.now }
     ensures within { IfSome result (λ found. length found.now ≤ length bytes.now) }
 {
-    if holds_entity(info) {
+    if is_entity {
         part_named(parts?, bytes, name)
     } else {
         whole_named(bytes, name)

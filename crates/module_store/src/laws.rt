@@ -43,14 +43,12 @@ pub fn law_of_found_resources()
     law_of_messages();
 }
 
-/// Where something is found under the start path, this stays the start path until a change of its module is told.
+/// The start path stays until a change of its module is told.
 pub fn law_of_start_paths()
-    ensures sections { (stored : Stored) (component : ℕ) (section : List ℕ) (bytes : List ℕ)
-        → look stored (start_path stored) ≡ Found bytes
+    ensures sections { (stored : Stored) (component : ℕ) (section : List ℕ)
         → (component ≡ start_component → tells_of 0 (changes_by component section stored) ≡ false)
         → start_path (with_section component section stored) ≡ start_path stored }
-    ensures maps { (stored : Stored) (components : List Component) (bytes : List ℕ)
-        → AllPairs AreApart components → look stored (start_path stored) ≡ Found bytes
+    ensures maps { (stored : Stored) (components : List Component) → AllPairs AreApart components
         → is_gone start_component 0 (gone_by components stored) ≡ false
         → start_path (with_map components stored) ≡ start_path stored }
 {

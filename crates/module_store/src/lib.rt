@@ -6,9 +6,11 @@
 //! what is there under a path, and where the start document is, is said of these in `specs/`. Memory is taken for a
 //! component when the map brings it, and for its numbers, half a megabyte, with its first section; both are given back
 //! when it leaves the map or gets another PID; and for the parts of an entity when its module is held. A look-up takes none
-//! and copies nothing. [`push_change_line`] writes the line that tells of a change (`specs/Lines.antt`).
+//! and copies nothing. Whether a module is there is told by [`Store::presence`], and a [`ModuleCopy`] outlives the module
+//! that it was made of. [`push_change_line`] writes the line that tells of a change (`specs/Lines.antt`).
 #![tactic(auto)]
 
+mod copies;
 mod entities;
 mod laws;
 mod lines;
@@ -18,8 +20,9 @@ mod slot;
 mod staging;
 mod store;
 
+pub use crate::copies::ModuleCopy;
 pub use crate::laws::{law_of_component_messages, law_of_found_resources, law_of_start_paths};
 pub use crate::lines::push_change_line;
-pub use crate::resources::Look;
+pub use crate::resources::{Look, ModulePresence};
 pub use crate::store::Store;
 pub use carousel_blocks::{Change, ChangeLine, SkipCause};

@@ -17,6 +17,22 @@ pub enum Look<'a> {
     Missing,
 }
 
+/// Whether a module is there.
+#[derive(Clone, Copy, Debug, PartialEq, Eq)]
+pub enum ModulePresence<'a> {
+    /// It has no entry in force, or its entry is skipped, or its component isn't in the map.
+    Absent,
+    /// It has an entry, and isn't held yet.
+    Announced,
+    /// It is held.
+    Held {
+        /// Whether it holds an entity.
+        is_entity: bool,
+        /// Its bytes.
+        bytes: &'a [u8],
+    },
+}
+
 impl<'a> Look<'a> {
     ghost use Rattle.std.specs.Prelude.{option_copied};
     ghost use Rattle.module_store.specs.Resources.{found_or_missing, resource_of};

@@ -6,14 +6,14 @@ ghost use Rattle.carousel_blocks.specs.InForce.{size_limit};
 ghost use Rattle.carousel_blocks.specs.Held.{bytes_held};
 ghost use Rattle.carousel_blocks.specs.Message.{Message};
 ghost use Rattle.carousel_blocks.specs.Carousel as of_carousel;
-ghost use Rattle.module_store.specs.Resources.{HasAtMost, info_in_force, look_in, resource_of};
+ghost use Rattle.module_store.specs.Resources.{HasAtMost, HoldsAtMost, info_in_force, look_in, presence_in, presence_of, resource_of};
 ghost use Rattle.module_store.specs.Standing.{delivery_in, has_tag};
 ghost use Rattle.module_store.specs.Slots.{IsFresh, TakesSection, KeepsSame};
 
 use crate::entities::{Entities, named};
 use crate::laws::law_of_messages;
 use crate::numbers::Numbers;
-use crate::resources::Look;
+use crate::resources::{Look, ModulePresence, holds_entity};
 use crate::staging::take_section;
 use bml_bytes::{NoMemory, Text};
 use carousel_blocks::{Carousel, Change, law_of_held_sizes};
@@ -132,6 +132,29 @@ impl Slot {
         Ok(changes)
     }
 
+    /// Whether a module is there. This takes no memory.
+    pub fn presence(&self, module: u16) -> ModulePresence<'_>
+        ensures presence { (messages : List Message)
+            → of_carousel.StandsFor self.now.carousel messages
+            → presence_of result ≡ presence_in (Some messages) «module» }
+        ensures bound { HoldsAtMost size_limit (presence_of result) }
+    {
+        law_of_held_sizes();
+        let Some(entry) = self.carousel.entry(module) else {
+            return ModulePresence::Absent;
+        };
+        if self.carousel.skip_of(module).is_some() {
+            return ModulePresence::Absent;
+        }
+        match self.carousel.bytes_of(module) {
+            Some(bytes) => ModulePresence::Held {
+                is_entity: holds_entity(entry.info.as_slice()),
+                bytes,
+            },
+            None => ModulePresence::Announced,
+        }
+    }
+
     /// What is there under a name of a module. This takes no memory.
     pub fn resource(&self, module: u16, name: &Text) -> Look<'_>
         ensures look { (messages : List Message) → of_carousel.StandsFor self.now.carousel messages
@@ -152,6 +175,7 @@ impl Slot {
             return Look::Waiting;
         };
         let parts = self.entities.of(module);
-        Look::found_or_missing(named(parts, entry.info.as_slice(), bytes, name))
+        let is_entity = holds_entity(entry.info.as_slice());
+        Look::found_or_missing(named(parts, is_entity, bytes, name))
     }
 }

@@ -6,12 +6,12 @@ ghost use Rattle.carousel_blocks.specs.InForce.{size_limit};
 ghost use Rattle.carousel_blocks.specs.Changes.{departures};
 ghost use Rattle.carousel_blocks.specs.Carousel as of_carousel;
 ghost use Rattle.module_store.specs.Store.{Followed, Stored, component_in, gone_with, at_start, changes_by, with_section, with_map, gone_by, number_of, messages_of_component, is_kept as kept_by};
-ghost use Rattle.module_store.specs.Resources.{HasAtMost, look, resource_of, start_info, start_path};
+ghost use Rattle.module_store.specs.Resources.{HasAtMost, HoldsAtMost, look, presence, presence_of, resource_of, start_info, start_path};
 ghost use Rattle.module_store.specs.Resources as resources;
 ghost use Rattle.module_store.specs.Standing.{ForStored, StandsFor, has_component, has_tag, component_with};
 ghost use Rattle.module_store.specs.Slots.{AreAdded, kept_of, is_followed as followed_by};
 
-use crate::resources::{Look, holds_entity};
+use crate::resources::{Look, ModulePresence, holds_entity};
 use crate::slot::Slot;
 use bml_bytes::{NoMemory, Text};
 use carousel_blocks::Change;
@@ -136,6 +136,19 @@ impl Store {
         match slot_of(&self.slots, path.component) {
             None => Look::Missing,
             Some(slot) => slot.resource(path.module, &path.name),
+        }
+    }
+
+    /// Whether a module of a component is there, and its bytes, at most 1,048,576, where it is held. The cost is that of a
+    /// few look-ups by hash, and this takes no memory.
+    pub fn presence(&self, component: u8, module: u16) -> ModulePresence<'_>
+        ensures presence { ForStored self.now (λ stored. presence_of result
+            ≡ presence stored component «module») }
+        ensures bound { HoldsAtMost size_limit (presence_of result) }
+    {
+        match slot_of(&self.slots, component) {
+            None => ModulePresence::Absent,
+            Some(slot) => slot.presence(module),
         }
     }
 

@@ -1,6 +1,6 @@
--- Keys, messages, changes in modules and timers launch no document.
-use Rattle.std.proofs.Common.{◌≡◌, ◌∙◌, ℕ, zero, suc, Bool, true, false, cond, List, [], ◌∷◌, refl, nat_lt, length}
-use Rattle.std.specs.Prelude.{Option, Some, None, fold}
+-- Keys, messages, changes in modules and timers launch no document, and do nothing with the modules.
+use Rattle.std.proofs.Common.{◌≡◌, ◌∙◌, ℕ, zero, suc, Bool, true, false, cond, List, [], ◌∷◌, refl, sym, ap, subst, nat_lt, length}
+use Rattle.std.specs.Prelude.{Option, Some, None, Result, Ok, Err, OnOk, fold}
 use Rattle.std.specs.Option.{option_map_or}
 use Rattle.carousel_blocks.specs.declared.changes.Change.{Change}
 use Rattle.event_items.specs.EventItems.{EventItem}
@@ -11,10 +11,15 @@ use Rattle.event_queue.specs.Timers.{first_due, most_timers, with_fired}
 use Rattle.event_queue.specs.declared.events.Event.{Event}
 use Rattle.event_queue.specs.declared.events.Event.TheVariants as events
 use Rattle.event_queue.specs.declared.item_kinds.ItemKind.TheVariants as kinds
-use Rattle.document_stages.specs.Acting.{Acting, acting_with_timers, button_posts, button_post, change_posts, each_item, fired, has_room, key_posts, message_posts, message_post, module_post, posted, posted_where, pressed, timer_fired, timer_settled, timers_fired}
-use Rattle.acting_documents.specs.Documents.{passes}
+use Rattle.document_stages.specs.Acting.{Acting, acting_with_timers, button_posts, button_post, change_posts, fired, has_room, key_posts, lock_post, lock_posts, message_posts, message_post, module_post, posted, posted_where, pressed, timer_fired, timer_settled, timers_fired, update_posts}
 use Rattle.acting_documents.specs.Handling.{change_effect, due_effect, key_effect, message_effect}
-use Rattle.acting_documents.specs.Runs.{Scene, acting_in, done, no_event, nothing_done}
+use Rattle.browser_objects.specs.Calls.{BrowserParts}
+use Rattle.acting_documents.specs.Doings.{DoesApart, IsScene, lent_modules}
+use Rattle.acting_documents.specs.Documents.{Document, passes}
+use Rattle.acting_documents.specs.Kept.{IsDocument, KeptDocument}
+use Rattle.acting_documents.specs.Runs.{Effect, Scene, acting_in, done, no_event, nothing_done}
+use Rattle.module_locks.specs.Standing.{ModulesState}
+use Rattle.page.specs.Acts.{ActsApart}
 
 -- ---- event items
 
@@ -25,6 +30,10 @@ items_launch step keeps (item ∷ items) a = items_launch step keeps items (step
 where_launches : (test : Bool) (event : Event) (a : Acting) → (posted_where test event a).launched ≡ a.launched
 where_launches true event a = refl
 where_launches false event a = refl
+
+either_launches : (b : Bool) (one other : Acting) → one.launched ≡ other.launched → (cond b one other).launched ≡ other.launched
+either_launches true one other same = same
+either_launches false one other same = refl
 
 -- ---- messages
 
@@ -51,13 +60,22 @@ message_launches component message s = items_launch (message_post component mess
 module_launches : (component number status : ℕ) (item : EventItem) (a : Acting) → (module_post component number status item a).launched ≡ a.launched
 module_launches component number status item a = where_launches (fires_for_module kinds.ModuleUpdated component number a.items item) (events.Updated item.node status) a
 
+update_launches : (component number : ℕ) (told : Option ℕ) (a : Acting) → (update_posts component number told a).launched ≡ a.launched
+update_launches component number None a = refl
+update_launches component number (Some status) a = items_launch (module_post component number status) (module_launches component number status) a.items.items a
+
+lock_launches : (component number : ℕ) (item : EventItem) (a : Acting) → (lock_post component number item a).launched ≡ a.launched
+lock_launches component number item a = where_launches (fires_for_module kinds.ModuleLocked component number a.items item) (events.Locked item.node 0) a
+
+locks_launch : (component number : ℕ) (a : Acting) → (lock_posts component number a).launched ≡ a.launched
+unfolding lock_posts
+locks_launch component number a = items_launch (lock_post component number) (lock_launches component number) a.items.items a
+
 change_posts_launch : (component : ℕ) (change : Change) (a : Acting) → (change_posts component change a).launched ≡ a.launched
 unfolding change_posts
-change_posts_launch component change a = by change.status
-  where
-    by : (told : Option ℕ) → (option_map_or (λ status. each_item (module_post component change.«module» status) a) told a).launched ≡ a.launched
-    by None = refl
-    by (Some status) = items_launch (module_post component change.«module» status) (module_launches component change.«module» status) a.items.items a
+change_posts_launch component change a =
+    let updated = update_posts component change.«module» change.status a in
+    either_launches change.locked (lock_posts component change.«module» updated) updated (locks_launch component change.«module» updated) ∙ update_launches component change.«module» change.status a
 
 pub change_launches : (component : ℕ) (change : Change) (s : Scene) → (change_effect component change s).launched ≡ None
 unfolding change_effect
@@ -68,10 +86,6 @@ change_launches component change s = change_posts_launch component change (actin
 button_launches : (a : Acting) → (button_posts a).launched ≡ a.launched
 unfolding button_posts
 button_launches a = items_launch button_post (λ item a. where_launches (fires_for_button a.items item) (events.Button item.node) a) a.items.items a
-
-either_launches : (b : Bool) (one other : Acting) → one.launched ≡ other.launched → (cond b one other).launched ≡ other.launched
-either_launches true one other same = same
-either_launches false one other same = refl
 
 key_posts_launch : (down : Bool) (key : ℕ) (a : Acting) → (key_posts down key a).launched ≡ a.launched
 key_posts_launch true key a = either_launches _ (button_posts (pressed key a)) (pressed key a) (button_launches (pressed key a))
@@ -109,3 +123,36 @@ all_launch (suc more) moment a = by (first_due moment a.browser.timers) (λ numb
 pub due_launches : (moment : ℕ) (s : Scene) → (due_effect moment s).launched ≡ None
 unfolding due_effect
 due_launches moment s = all_launch most_timers moment (acting_in no_event (record s { now = moment }))
+
+-- ---- what is lent
+
+-- a document that is lent what belongs to the receiver
+abbrev pub lent_browser : BrowserParts → ℕ → KeptDocument → KeptDocument
+lent_browser browser now k = record k { lent = browser; now = now }
+
+-- it is the same whatever it is lent
+lent_is : (modules : ModulesState) (k : KeptDocument) (browser : BrowserParts) (now : ℕ) (d : Document) → IsDocument (lent_modules modules k) d → IsDocument (lent_browser browser now k) d
+lent_is modules k browser now d is = record {
+  programs = is.programs;
+  others = ap (λ (x : KeptDocument). lent_modules k.modules (lent_browser browser now x)) is.others;
+}
+
+-- what it does while it is lent that, it does whatever modules it is lent
+pub acts_apart : {A E : Type 0} (effect : Scene → Effect) (now : ℕ) (old lent did new : KeptDocument) (browser back given_back : BrowserParts) (before after : List ℕ) (result : Result A E) → ((s : Scene) → (effect s).launched ≡ None) → lent ≡ lent_browser browser now old
+    → new ≡ lent_browser back now did → given_back ≡ did.lent → OnOk result (DoesApart effect lent did before after) → OnOk result (ActsApart effect now old new browser given_back before after)
+acts_apart effect now old lent did new browser back given_back before after (Err fault) launches lent_as new_as back_as apart = tt
+acts_apart effect now old lent did new browser back given_back before after (Ok done) launches lent_as new_as back_as apart = λ modules.
+    let does = apart modules in
+    record {
+      text = does.text;
+      printed = does.printed;
+      acts = λ s scene.
+          let has = does.does s (subst (λ (k : KeptDocument). IsScene (lent_modules modules k) s) (sym lent_as) scene) in
+          record {
+            launched_is = launches s;
+            is = subst (λ (k : KeptDocument). IsDocument k (effect s).scene.document) (sym new_as) (lent_is modules did back now (effect s).scene.document has.is.is);
+            browser_is = back_as ∙ has.is.lent_is;
+            modules = has.is.modules;
+            text_is = has.text_is;
+          };
+    }

@@ -2,8 +2,8 @@
 use Rattle.std.proofs.Common.{◌≡◌, ◌∙◌, ℕ, zero, suc, ◌+◌, ◌<◌, List, [], ◌∷◌, length, refl, sym, ap, add-one, arith}
 use Rattle.std.specs.Option.{option_map_or}
 use Rattle.std.specs.Prelude.{Option, Some, None, map, option_and_then, replicate, slice_get, slice_set}
-use Rattle.module_store.specs.Standing.{StandsFor, StoreState}
-use Rattle.module_store.specs.Store.{Stored}
+use Rattle.module_locks.specs.Locks.{Modules}
+use Rattle.module_locks.specs.Standing.{ModulesState, StandsFor}
 use Rattle.document_load.specs.Drafts.{DraftState, with_gift, with_gifts}
 use Rattle.page.specs.Loading.{text_at}
 use Rattle.page.specs.Gifts.{GivesFound, with_found}
@@ -43,8 +43,8 @@ one_below found (suc number) (need ∷ needs) h =
     by number first None gifts = refl
     by number first (Some text) gifts = refl
 
-with_found-gifts : (stored : Stored) (number : ℕ) (gifts : List (Option (List ℕ))) (draft : DraftState) → with_found stored number (with_gifts gifts draft) ≡ with_gifts (put_found number (option_and_then (text_at stored) (slice_get draft.needs number)) gifts) draft
-with_found-gifts stored number gifts draft = by (option_and_then (text_at stored) (slice_get draft.needs number))
+with_found-gifts : (modules : Modules) (number : ℕ) (gifts : List (Option (List ℕ))) (draft : DraftState) → with_found modules number (with_gifts gifts draft) ≡ with_gifts (put_found number (option_and_then (text_at modules) (slice_get draft.needs number)) gifts) draft
+with_found-gifts modules number gifts draft = by (option_and_then (text_at modules) (slice_get draft.needs number))
   where
     by : (o : Option (List ℕ)) → option_map_or (λ text. with_gift number text (with_gifts gifts draft)) o (with_gifts gifts draft) ≡ with_gifts (put_found number o gifts) draft
     by None = refl
@@ -53,27 +53,27 @@ with_found-gifts stored number gifts draft = by (option_and_then (text_at stored
 -- ---- the loop
 
 -- what is found of the first needs is given
-pub record GivesBelow (store : StoreState) (number : ℕ) (old new : DraftState) : Type 0 where
+pub record GivesBelow (state : ModulesState) (number : ℕ) (old new : DraftState) : Type 0 where
   pub needs : new.needs ≡ old.needs
   pub below : old.given ≡ replicate (length old.needs) None
-      → (stored : Stored) → StandsFor store stored → new ≡ with_gifts (gifts_below (text_at stored) number old.needs) old
+      → (modules : Modules) → StandsFor state modules → new ≡ with_gifts (gifts_below (text_at modules) number old.needs) old
 
-pub GivesBelow-start : (store : StoreState) (draft : DraftState) → GivesBelow store 0 draft draft
-GivesBelow-start store draft = record {
+pub GivesBelow-start : (state : ModulesState) (draft : DraftState) → GivesBelow state 0 draft draft
+GivesBelow-start state draft = record {
   needs = refl;
-  below = λ nothing stored stands. ap (λ gifts. with_gifts gifts draft) (nothing ∙ sym (none_below (text_at stored) draft.needs));
+  below = λ nothing modules stands. ap (λ gifts. with_gifts gifts draft) (nothing ∙ sym (none_below (text_at modules) draft.needs));
 }
 
-pub GivesBelow-more : (store : StoreState) (number : ℕ) (old new more : DraftState) → number < length old.needs → GivesBelow store number old new → more.needs ≡ new.needs → ((stored : Stored) → StandsFor store stored → more ≡ with_found stored number new) → GivesBelow store (number + 1) old more
-GivesBelow-more store number old new more within so_far same gives = record {
+pub GivesBelow-more : (state : ModulesState) (number : ℕ) (old new more : DraftState) → number < length old.needs → GivesBelow state number old new → more.needs ≡ new.needs → ((modules : Modules) → StandsFor state modules → more ≡ with_found modules number new) → GivesBelow state (number + 1) old more
+GivesBelow-more state number old new more within so_far same gives = record {
   needs = same ∙ so_far.needs;
-  below = λ nothing stored stands.
-      gives stored stands ∙ ap (with_found stored number) (so_far.below nothing stored stands)
-      ∙ with_found-gifts stored number (gifts_below (text_at stored) number old.needs) old
-      ∙ ap (λ gifts. with_gifts gifts old) (sym (one_below (text_at stored) number old.needs within) ∙ ap (λ (n : ℕ). gifts_below (text_at stored) n old.needs) (sym (add-one number)));
+  below = λ nothing modules stands.
+      gives modules stands ∙ ap (with_found modules number) (so_far.below nothing modules stands)
+      ∙ with_found-gifts modules number (gifts_below (text_at modules) number old.needs) old
+      ∙ ap (λ gifts. with_gifts gifts old) (sym (one_below (text_at modules) number old.needs within) ∙ ap (λ (n : ℕ). gifts_below (text_at modules) n old.needs) (sym (add-one number)));
 }
 
-pub GivesBelow-end : (store : StoreState) (number : ℕ) (old new : DraftState) → number ≡ length old.needs → GivesBelow store number old new → GivesFound store old new
-GivesBelow-end store number old new all so_far = λ nothing stored stands.
-    so_far.below nothing stored stands
-    ∙ ap (λ gifts. with_gifts gifts old) (ap (λ (n : ℕ). gifts_below (text_at stored) n old.needs) all ∙ all_below (text_at stored) old.needs)
+pub GivesBelow-end : (state : ModulesState) (number : ℕ) (old new : DraftState) → number ≡ length old.needs → GivesBelow state number old new → GivesFound state old new
+GivesBelow-end state number old new all so_far = λ nothing modules stands.
+    so_far.below nothing modules stands
+    ∙ ap (λ gifts. with_gifts gifts old) (ap (λ (n : ℕ). gifts_below (text_at modules) n old.needs) all ∙ all_below (text_at modules) old.needs)

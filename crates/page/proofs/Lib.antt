@@ -1,4 +1,4 @@
-pub mod ActLemmas
+mod ActLemmas
 mod GiftLaws
 mod PageLaws
 mod PendingLaws

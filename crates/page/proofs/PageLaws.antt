@@ -10,39 +10,41 @@ use Rattle.browser_objects.specs.Calls.{BrowserParts}
 use Rattle.display_list.specs.Show.{clock_line}
 use Rattle.document_load.specs.Drafts.{DraftState}
 use Rattle.document_stages.specs.Acting.{with_timers}
+use Rattle.event_queue.specs.Queues.{first_of}
 use Rattle.event_queue.specs.Timers.{no_timers}
+use Rattle.event_queue.specs.declared.events.Event.{Event}
+use Rattle.module_locks.specs.Locks.{Modules, start_path}
+use Rattle.module_locks.specs.Standing.{ModulesState}
 use Rattle.module_store.specs.Lines.{line_of_change}
-use Rattle.module_store.specs.Resources.{start_path}
-use Rattle.module_store.specs.Standing.{ForStored, StoreState}
-use Rattle.module_store.specs.Store.{Stored}
 use Rattle.multipart_entities.specs.declared.paths.Path.{Path}
 use Rattle.acting_documents.specs.Beginnings.{load_effect}
 use Rattle.acting_documents.specs.Documents.{Document, document_lines}
-use Rattle.acting_documents.specs.Doings.{Changes}
-use Rattle.acting_documents.specs.Handling.{change_effect, due_effect}
+use Rattle.acting_documents.specs.Doings.{IsScene}
+use Rattle.acting_documents.specs.Handling.{change_effect, due_effect, handled, without_first}
 use Rattle.acting_documents.specs.Kept.{IsDocument, KeptDocument}
 use Rattle.acting_documents.specs.Runs.{Effect, Scene}
-use Rattle.page.specs.Acts.{Acts, HasActed, HasStayed, scene_with}
-use Rattle.page.specs.Dispatches.{dispatch, dispatches, load_at, most_dispatches, next_and, next_event, next_load, turn}
+use Rattle.page.specs.Acts.{Acts, ActsApart, HasActed, HasStayed, Lent, lent_to}
+use Rattle.page.specs.Dispatches.{dispatch, dispatches, event_in, load_at, most_dispatches, next_and, next_event, next_load, turn}
 use Rattle.page.specs.Inputs.{change_step, display_of, document_step, due_step, with_clock}
 use Rattle.page.specs.Loading.{load, loadable_reading, opened, wanted_path}
 use Rattle.page.specs.Pendings.{Loads, loading_behind, wanted_at, wanted_of}
-use Rattle.page.specs.Standing.{AreDocuments, Begins, HasMade, HasMadeAmid, HasMadeOf, Makes, MakesAmid, MakesWith, MayMake, MayMakeHere, PageState, Posts, StandsAmid, StandsFor, TakesLoad, behind_change, behind_launch, with_document}
+use Rattle.page.specs.Standing.{AreDocuments, Begins, HasMade, HasMadeAmid, HasMadeOf, IsAlone, Makes, MakesAmid, MakesWith, MayMake, PageState, Posts, StandsAmid, StandsFor, TakesLoad, behind_launch, with_document}
 use Rattle.page.specs.State.{State, Step, Wanted, scene_in, stays_or_goes, step_behind, step_of, still}
 use Rattle.page.specs.State.Wanted.{NoDocument}
 use Rattle.page.specs.declared.loading.Load.{Load}
 use Rattle.page.specs.declared.loading.Load.TheVariants as came
 use Rattle.page.specs.declared.loading.Loading.{Loading}
 use Rattle.page.specs.declared.loading.Loading.TheVariants as kept
-use Rattle.page.proofs.StandingLaws.{stands_followed}
+use Rattle.page.proofs.StandingLaws.{behind_change, nothing_read, stands_followed}
 
 -- ---- pages that differ in what stands for no part of a state
 
 abbrev pub with_spent : Bool → PageState → PageState
 with_spent spent page = record page { spent = spent }
 
-spent_stands : (page : PageState) (spent : Bool) (stored : Stored) (changes : List (ℕ × Change)) (s : State) → StandsAmid page stored changes s → StandsAmid (with_spent spent page) stored changes s
-spent_stands page spent stored changes s stands = record {
+spent_stands : (page : PageState) (spent : Bool) (modules : ModulesState) (changes : List (ℕ × Change)) (s : State) → StandsAmid page modules changes s → StandsAmid (with_spent spent page) modules changes s
+spent_stands page spent modules changes s stands = record {
+  modules_are = stands.modules_are;
   reader = stands.reader;
   document = stands.document;
   wanted = stands.wanted;
@@ -55,9 +57,9 @@ pub makes_spent : (step : State → Step) (old new : PageState) (before after : 
 makes_spent step old new before after spent made = record {
   text = made.text;
   printed = made.printed;
-  makes = λ stored s stands.
-      let has = made.makes stored s stands in
-      record { stands = spent_stands new spent stored [] (step s).state has.stands; text_is = has.text_is };
+  makes = λ modules s stands.
+      let has = made.makes modules s stands in
+      record { stands = spent_stands new spent modules [] (step s).state has.stands; text_is = has.text_is };
 }
 
 -- the same of a call that spends the page where it found no memory
@@ -67,7 +69,24 @@ makes_after {A} {E} step old page now before after (Err fault) result made same 
 makes_after {A} {E} step old page now before after (Ok done) result made same spent =
     subst (λ (r : Result A E). OnOk r (Makes step old now before after)) (sym same) (subst (λ (p : PageState). Makes step old p before after) (sym spent) (makes_spent step old page before after false made))
 
+-- the same of a turn
+pub turned_after : {A E : Type 0} (lent given_back : ModulesState) (old page now : PageState) (before after : List ℕ) (called result : Result A E) → OnOk called (MakesWith lent given_back turn old page before after) → result ≡ called → now ≡ with_spent (is_err called) page
+    → OnOk result (MakesWith lent given_back turn old now before after)
+turned_after {A} {E} lent given_back old page now before after (Err fault) result made same spent = subst (λ (r : Result A E). OnOk r (MakesWith lent given_back turn old now before after)) (sym same) tt
+turned_after {A} {E} lent given_back old page now before after (Ok done) result made same spent =
+    subst (λ (r : Result A E). OnOk r (MakesWith lent given_back turn old now before after)) (sym same) (subst (λ (p : PageState). MakesWith lent given_back turn old p before after) (sym spent) (record {
+      text = made.text;
+      printed = made.printed;
+      makes = λ s stands.
+          let has = made.makes s stands in
+          record { stands = spent_stands page false given_back [] (turn s).state has.stands; text_is = has.text_is };
+    }))
+
 -- ---- the document of a page
+
+-- where one is there, none is wanted
+pub alone : (document : Option KeptDocument) (loading : Loading) (k : KeptDocument) → document ≡ Some k → IsAlone document loading → loading ≡ kept.Nothing
+alone document loading k is is_alone = subst (λ (o : Option KeptDocument). IsAlone o loading) is is_alone
 
 abbrev pub with_loading : Loading → PageState → PageState
 with_loading loading page = record page { loading = loading }
@@ -87,42 +106,108 @@ none_there page s is are = by s.document refl (subst (λ (x : Option KeptDocumen
     by None e are = e
     by (Some d) e are = absurd are
 
+-- what stands behind the same front is the same
+same_behind : (front one other : List ℕ) → front ++ one ≡ front ++ other → one ≡ other
+same_behind [] one other e = e
+same_behind (x ∷ front) one other e = same_behind front one other cc
+
 -- ---- what documents do
 
+-- what a document is lent of a page
+abbrev pub lent_by : PageState → ModulesState → Lent
+lent_by page modules = record { browser = page.browser; modules = modules }
+
+-- the document that is lent it is that of the state, with what it acts on
+pub scene_of : (page : PageState) (modules : ModulesState) (changes : List (ℕ × Change)) (s : State) (k : KeptDocument) (d : Document) → StandsAmid page modules changes s → IsDocument k d → IsScene (lent_to k (lent_by page modules) page.clock) (scene_in s d)
+scene_of page modules changes s k d stands is = record {
+  is = record { programs = is.programs; others = ap (λ (x : KeptDocument). lent_to x (lent_by page modules) page.clock) is.others };
+  lent_is = stands.browser;
+  now_is = stands.clock;
+  modules = stands.modules_are;
+}
+
 -- the page behind what its document did where it launched none, amid changes that are still to be posted
-stayed_amid : (page : PageState) (stored : Stored) (changes : List (ℕ × Change)) (s : State) (k : KeptDocument) (browser : BrowserParts) (text : List ℕ) (e : Effect) → StandsAmid page stored changes s → HasStayed k browser text e
-    → HasMadeAmid (with_document k browser page) stored changes text (step_of s e)
-stayed_amid page stored changes s k browser text e stands stayed =
-    subst (λ (o : Option Path). HasMadeAmid (with_document k browser page) stored changes text (step_behind e.text (stays_or_goes o s e.scene))) (sym stayed.launched_is) (record {
+stayed_amid : (page : PageState) (lent given_back : ModulesState) (changes : List (ℕ × Change)) (s : State) (k : KeptDocument) (browser : BrowserParts) (text : List ℕ) (e : Effect) → page.loading ≡ kept.Nothing → StandsAmid page lent changes s
+    → HasStayed k (record { browser = browser; modules = given_back }) text e → HasMadeAmid (with_document k browser page) given_back changes text (step_of s e)
+stayed_amid page lent given_back changes s k browser text e none stands stayed =
+    subst (λ (o : Option Path). HasMadeAmid (with_document k browser page) given_back changes text (step_behind e.text (stays_or_goes o s e.scene))) (sym stayed.launched_is) (record {
       stands = record {
+        modules_are = stayed.modules;
         reader = stands.reader;
         document = stayed.is;
         wanted = stands.wanted;
-        current = stands.current;
+        current = nothing_read page e.scene.modules changes none;
         clock = stands.clock;
-        browser = stayed.given_back_is;
+        browser = stayed.browser_is;
       };
       text_is = stayed.text_is ∙ sym (append-nil e.text);
     })
 
 -- the page behind what its document did, and launched or not
-pub made_of : (launched : Option Path) (page : PageState) (stored : Stored) (s : State) (k : KeptDocument) (browser : BrowserParts) (text : List ℕ) (e : Effect) → StandsFor page stored s → HasActed launched k browser text e
-    → HasMade (behind_launch launched (with_document k browser page)) stored text (step_of s e)
-made_of None page stored s k browser text e stands acted =
-    let made = stayed_amid page stored [] s k browser text e stands acted in
+pub made_of : (launched : Option Path) (page : PageState) (lent given_back : ModulesState) (s : State) (k : KeptDocument) (browser : BrowserParts) (text : List ℕ) (e : Effect) → page.loading ≡ kept.Nothing → StandsFor page lent s
+    → HasActed launched k (record { browser = browser; modules = given_back }) text e → HasMade (behind_launch launched (with_document k browser page)) given_back text (step_of s e)
+made_of None page lent given_back s k browser text e none stands acted =
+    let made = stayed_amid page lent given_back [] s k browser text e none stands acted in
     record { stands = made.stands; text_is = made.text_is }
-made_of (Some path) page stored s k browser text e stands acted =
-    subst (λ (o : Option Path). HasMade (behind_launch (Some path) (with_document k browser page)) stored text (step_behind e.text (stays_or_goes o s e.scene))) (sym acted.launched_is) (record {
+made_of (Some path) page lent given_back s k browser text e none stands acted =
+    subst (λ (o : Option Path). HasMade (behind_launch (Some path) (with_document k browser page)) given_back text (step_behind e.text (stays_or_goes o s e.scene))) (sym acted.launched_is) (record {
       stands = record {
+        modules_are = acted.modules;
         reader = stands.reader;
         document = tt;
         wanted = refl;
         current = tt;
         clock = stands.clock;
-        browser = ap (with_timers no_timers) acted.given_back_is;
+        browser = ap (with_timers no_timers) acted.browser_is;
       };
       text_is = acted.text_is;
     })
+
+-- what a document prints is the same whatever modules it is lent
+same_text : (effect : Scene → Effect) (now : ℕ) (k new : KeptDocument) (lent given_back : BrowserParts) (before after : List ℕ) (acts : ActsApart effect now k new lent given_back before after) (one other : ModulesState) → (acts one).text ≡ (acts other).text
+same_text effect now k new lent given_back before after acts one other = same_behind before (acts one).text (acts other).text (sym (acts one).printed ∙ (acts other).printed)
+
+-- the page behind what its document did apart from the modules
+stayed_apart : (effect : Scene → Effect) (page : PageState) (k new : KeptDocument) (browser : BrowserParts) (before after : List ℕ) (acts : ActsApart effect page.clock k new page.browser browser before after)
+    (modules : ModulesState) (changes : List (ℕ × Change)) (s : State) (d : Document) → page.loading ≡ kept.Nothing → StandsAmid page modules changes s → IsDocument k d
+    → HasMadeAmid (with_document new browser page) modules changes (acts k.modules).text (step_of s (effect (scene_in s d)))
+stayed_apart effect page k new browser before after acts modules changes s d none stands is =
+    stayed_amid page modules modules changes s new browser (acts k.modules).text (effect (scene_in s d)) none stands
+    (subst (λ (l : List ℕ). HasStayed new (record { browser = browser; modules = modules }) l (effect (scene_in s d))) (same_text effect page.clock k new page.browser browser before after acts modules k.modules)
+    ((acts modules).acts (scene_in s d) (scene_of page modules changes s k d stands is)))
+
+document_with : (effect : Scene → Effect) (s : State) (d : Document) → s.document ≡ Some d → document_step effect s ≡ step_of s (effect (scene_in s d))
+document_with effect s d e = ap (λ (o : Option Document). option_map_or (λ d. step_of s (effect (scene_in s d))) o (still s)) e
+
+pub document_made : (effect : Scene → Effect) (page : PageState) (k new : KeptDocument) (browser : BrowserParts) (before after : List ℕ) → page.document ≡ Some k → page.loading ≡ kept.Nothing → ActsApart effect page.clock k new page.browser browser before after
+    → MakesAmid (document_step effect) page (with_document new browser page) before after
+document_made effect page k new browser before after is none acts = record {
+  text = (acts k.modules).text;
+  printed = (acts k.modules).printed;
+  makes = λ modules changes s stands.
+      let there = document_there page s k is stands.document in
+      subst (HasMadeAmid (with_document new browser page) modules changes (acts k.modules).text) (sym (document_with effect s there.0 there.1))
+      (stayed_apart effect page k new browser before after acts modules changes s there.0 none stands there.2);
+}
+
+-- what is made amid changes is made where there are none
+makes_alone : (step : State → Step) (old new : PageState) (before after : List ℕ) → MakesAmid step old new before after → Makes step old new before after
+makes_alone step old new before after made = record {
+  text = made.text;
+  printed = made.printed;
+  makes = λ modules s stands.
+      let has = made.makes modules [] s stands in
+      record { stands = has.stands; text_is = has.text_is };
+}
+
+-- what is posted in a document by a call that may find no memory
+pub posted_as : {A E : Type 0} (effect : Scene → Effect) (old page new : PageState) (k document : KeptDocument) (browser : BrowserParts) (before after : List ℕ) (result : Result A E) → page ≡ old → page.document ≡ Some k → page.loading ≡ kept.Nothing
+    → new ≡ with_document document browser page → OnOk result (ActsApart effect page.clock k document page.browser browser before after) → OnOk result (Makes (document_step effect) old new before after)
+posted_as effect old page new k document browser before after (Err fault) view is none same acts = tt
+posted_as effect old page new k document browser before after (Ok done) view is none same acts =
+    subst (λ (p : PageState). Makes (document_step effect) p new before after) view
+    (subst (λ (p : PageState). Makes (document_step effect) page p before after) (sym same)
+    (makes_alone (document_step effect) page (with_document document browser page) before after (document_made effect page k document browser before after is none acts)))
 
 -- ---- moments
 
@@ -134,9 +219,10 @@ pub time_passed : (moment : ℕ) (page : PageState) (before : List ℕ) → page
 time_passed moment page before is = record {
   text = [];
   printed = sym (append-nil before);
-  makes = λ stored s stands.
-      subst (HasMade (record page { clock = moment }) stored []) (sym (due_without moment s (none_there page s is stands.document))) (record {
+  makes = λ modules s stands.
+      subst (HasMade (record page { clock = moment }) modules []) (sym (due_without moment s (none_there page s is stands.document))) (record {
         stands = record {
+          modules_are = stands.modules_are;
           reader = stands.reader;
           document = stands.document;
           wanted = stands.wanted;
@@ -148,50 +234,79 @@ time_passed moment page before is = record {
       });
 }
 
+due_with : (moment : ℕ) (s : State) (d : Document) → s.document ≡ Some d → due_step moment s ≡ step_of (with_clock moment s) (due_effect moment (scene_in s d))
+due_with moment s d e = ap (λ (o : Option Document). option_map_or (λ d. step_of (with_clock moment s) (due_effect moment (scene_in s d))) o (still (with_clock moment s))) e
+
+-- the clock moves behind what a document does as it moves before
+clock_moved : (moment : ℕ) (page : PageState) (modules : ModulesState) (text : List ℕ) (s : State) (e : Effect) → HasMadeAmid page modules [] text (step_of s e) → HasMade (record page { clock = moment }) modules text (step_of (with_clock moment s) e)
+clock_moved moment page modules text s e has = by e.launched has
+  where
+    by : (o : Option Path) → HasMadeAmid page modules [] text (step_behind e.text (stays_or_goes o s e.scene)) → HasMade (record page { clock = moment }) modules text (step_behind e.text (stays_or_goes o (with_clock moment s) e.scene))
+    by None has = record {
+      stands = record {
+        modules_are = has.stands.modules_are;
+        reader = has.stands.reader;
+        document = has.stands.document;
+        wanted = has.stands.wanted;
+        current = has.stands.current;
+        clock = refl;
+        browser = has.stands.browser;
+      };
+      text_is = has.text_is;
+    }
+    by (Some path) has = record {
+      stands = record {
+        modules_are = has.stands.modules_are;
+        reader = has.stands.reader;
+        document = has.stands.document;
+        wanted = has.stands.wanted;
+        current = has.stands.current;
+        clock = refl;
+        browser = has.stands.browser;
+      };
+      text_is = has.text_is;
+    }
+
+-- with a document the clock moves, and its timers post their events
+pub moved : (moment : ℕ) (old page : PageState) (k new : KeptDocument) (browser : BrowserParts) (before after : List ℕ) → page ≡ old → page.document ≡ Some k → page.loading ≡ kept.Nothing → ActsApart (due_effect moment) page.clock k new page.browser browser before after
+    → Makes (due_step moment) old (record (with_document new browser page) { clock = moment }) before after
+moved moment old page k new browser before after view is none acts =
+    subst (λ (p : PageState). Makes (due_step moment) p (record (with_document new browser page) { clock = moment }) before after) view (record {
+      text = (acts k.modules).text;
+      printed = (acts k.modules).printed;
+      makes = λ modules s stands.
+          let there = document_there page s k is stands.document in
+          let has = stayed_apart (due_effect moment) page k new browser before after acts modules [] s there.0 none stands there.2 in
+          subst (HasMade (record (with_document new browser page) { clock = moment }) modules (acts k.modules).text) (sym (due_with moment s there.0 there.1))
+          (clock_moved moment (with_document new browser page) modules (acts k.modules).text s (due_effect moment (scene_in s there.0)) has);
+    })
+
 -- ---- changes in modules
 
 -- their line is told, and then the document does what it does
 abbrev told_step : List ℕ → (Scene → Effect) → State → Step
 told_step line effect s = step_behind line (document_step effect s)
 
-step_without : (line : List ℕ) (effect : Scene → Effect) (s : State) → s.document ≡ None → told_step line effect s ≡ record { state = s; text = line ++ [] }
-step_without line effect s e = ap (λ (o : Option Document). step_behind line (option_map_or (λ d. step_of s (effect (scene_in s d))) o (still s))) e
-
-step_with : (line : List ℕ) (effect : Scene → Effect) (s : State) (d : Document) → s.document ≡ Some d → told_step line effect s ≡ step_behind line (step_of s (effect (scene_in s d)))
-step_with line effect s d e = ap (λ (o : Option Document). step_behind line (option_map_or (λ d. step_of s (effect (scene_in s d))) o (still s))) e
-
--- where there is no document nothing more is done
-told_without : (line : List ℕ) (effect : Scene → Effect) (page : PageState) (before after : List ℕ) → page.document ≡ None → after ≡ before ++ line → MakesAmid (told_step line effect) page page before after
-told_without line effect page before after is printed = record {
-  text = line;
-  printed = printed;
-  makes = λ stored changes s stands.
-      subst (HasMadeAmid page stored changes line) (sym (step_without line effect s (none_there page s is stands.document)))
-      (record { stands = stands; text_is = sym (append-nil line) });
-}
-
-told_with : (line : List ℕ) (effect : Scene → Effect) (page : PageState) (k new : KeptDocument) (browser : BrowserParts) (before between after : List ℕ) → page.document ≡ Some k → between ≡ before ++ line
-    → Acts effect None page.clock k new page.browser browser between after → MakesAmid (told_step line effect) page (with_document new browser page) before after
-told_with line effect page k new browser before between after is printed acts = record {
-  text = line ++ acts.text;
-  printed = acts.printed ∙ ap (λ (l : List ℕ). l ++ acts.text) printed ∙ append_assoc before line acts.text;
-  makes = λ stored changes s stands.
-      let there = document_there page s k is stands.document in
-      let scene : scene_with page.browser page.clock there.0 ≡ scene_in s there.0 = ap₂ (λ (b : BrowserParts) (n : ℕ). scene_with b n there.0) stands.browser stands.clock in
-      let stayed = subst (λ (x : Scene). HasStayed new browser acts.text (effect x)) scene (acts.acts there.0 there.2) in
-      let made = stayed_amid page stored changes s new browser acts.text (effect (scene_in s there.0)) stands stayed in
-      subst (HasMadeAmid (with_document new browser page) stored changes (line ++ acts.text)) (sym (step_with line effect s there.0 there.1))
-      (record { stands = made.stands; text_is = ap (λ (l : List ℕ). line ++ l) made.text_is });
-}
+told_with : (line : List ℕ) (effect : Scene → Effect) (page : PageState) (k new : KeptDocument) (browser : BrowserParts) (before between after : List ℕ) → page.document ≡ Some k → page.loading ≡ kept.Nothing → between ≡ before ++ line
+    → ActsApart effect page.clock k new page.browser browser between after → MakesAmid (told_step line effect) page (with_document new browser page) before after
+told_with line effect page k new browser before between after is none printed acts =
+    let made = document_made effect page k new browser between after is none acts in
+    record {
+      text = line ++ made.text;
+      printed = made.printed ∙ ap (λ (l : List ℕ). l ++ made.text) printed ∙ append_assoc before line made.text;
+      makes = λ modules changes s stands.
+          let has = made.makes modules changes s stands in
+          record { stands = has.stands; text_is = ap (λ (l : List ℕ). line ++ l) has.text_is };
+    }
 
 -- the same of a call that may find no memory
-pub change_as : {A E : Type 0} (component : ℕ) (change : Change) (old page new : PageState) (k document : KeptDocument) (browser : BrowserParts) (before between after : List ℕ) (result : Result A E) → page ≡ old → page.document ≡ Some k → new ≡ with_document document browser page
-    → between ≡ before ++ line_of_change component change → OnOk result (Acts (change_effect component change) None page.clock k document page.browser browser between after) → OnOk result (MakesAmid (change_step component change) old new before after)
-change_as component change old page new k document browser before between after (Err fault) view is same printed acts = tt
-change_as component change old page new k document browser before between after (Ok done) view is same printed acts =
+pub change_as : {A E : Type 0} (component : ℕ) (change : Change) (old page new : PageState) (k document : KeptDocument) (browser : BrowserParts) (before between after : List ℕ) (result : Result A E) → page ≡ old → page.document ≡ Some k → page.loading ≡ kept.Nothing → new ≡ with_document document browser page
+    → between ≡ before ++ line_of_change component change → OnOk result (ActsApart (change_effect component change) page.clock k document page.browser browser between after) → OnOk result (MakesAmid (change_step component change) old new before after)
+change_as component change old page new k document browser before between after (Err fault) view is none same printed acts = tt
+change_as component change old page new k document browser before between after (Ok done) view is none same printed acts =
     subst (λ (p : PageState). MakesAmid (change_step component change) p new before after) view
     (subst (λ (p : PageState). MakesAmid (change_step component change) page p before after) (sym same)
-    (told_with (line_of_change component change) (change_effect component change) page k document browser before between after is printed acts))
+    (told_with (line_of_change component change) (change_effect component change) page k document browser before between after is none printed acts))
 
 -- a change is followed, and then told
 posts_change : (component : ℕ) (change : Change) (page now : PageState) (before after : List ℕ) (spent : Bool) → MakesAmid (change_step component change) (behind_change component change page) now before after
@@ -199,10 +314,10 @@ posts_change : (component : ℕ) (change : Change) (page now : PageState) (befor
 posts_change component change page now before after spent made = record {
   text = made.text;
   printed = made.printed;
-  makes = λ stored changes s stands.
-      let has = made.makes stored changes s (stands_followed component change changes page stored s stands) in
+  makes = λ modules changes s stands.
+      let has = made.makes modules changes s (stands_followed component change changes page modules s stands) in
       record {
-        stands = spent_stands now spent stored changes (change_step component change s).state has.stands;
+        stands = spent_stands now spent modules changes (change_step component change s).state has.stands;
         text_is = has.text_is ∙ sym (append-nil (change_step component change s).text);
       };
 }
@@ -232,7 +347,7 @@ pub shown_without : (page : PageState) (before after : List ℕ) → page.docume
 shown_without page before after is printed = record {
   text = clock_line page.clock;
   printed = printed;
-  makes = λ stored s stands. record {
+  makes = λ modules s stands. record {
     stands = stands;
     text_is = ap clock_line stands.clock ∙ sym (append-nil (clock_line s.clock)) ∙ sym (display_with s None (none_there page s is stands.document));
   };
@@ -241,27 +356,30 @@ shown_without page before after is printed = record {
 rest_after : (longer front : List ℕ) → StartsWith longer front → longer ≡ front ++ drop (length front) longer
 rest_after longer front starts = sym (take-append-drop (length front) longer) ∙ ap (λ (l : List ℕ). l ++ drop (length front) longer) starts
 
--- what stands behind the same front is the same
-same_behind : (front one other : List ℕ) → front ++ one ≡ front ++ other → one ≡ other
-same_behind [] one other e = e
-same_behind (x ∷ front) one other e = same_behind front one other cc
+-- a document whose styles worked out more values is the same
+abbrev pub with_worked : ℕ → KeptDocument → KeptDocument
+with_worked worked k = record k { worked = worked }
+
+worked_is : (k : KeptDocument) (d : Document) (worked : ℕ) → IsDocument k d → IsDocument (with_worked worked k) d
+worked_is k d worked is = record { programs = is.programs; others = ap (with_worked worked) is.others }
 
 -- the document of a page that was shown
 abbrev with_shown : KeptDocument → PageState → PageState
 with_shown shown page = record page { document = Some shown; worked = shown.worked }
 
 pub shown_with : (page : PageState) (k new : KeptDocument) (before between after : List ℕ) → page.document ≡ Some k → between ≡ before ++ clock_line page.clock
-    → ((d : Document) → IsDocument k d → after ≡ between ++ document_lines d) → Changes (λ s. s) k new → StartsWith after between → Makes shown_step page (with_shown new page) before after
+    → ((d : Document) → IsDocument k d → after ≡ between ++ document_lines d) → new ≡ with_worked new.worked k → StartsWith after between → Makes shown_step page (with_shown new page) before after
 shown_with page k new before between after is printed shown same grows = record {
   text = clock_line page.clock ++ drop (length between) after;
   printed = rest_after after between grows ∙ ap (λ (l : List ℕ). l ++ drop (length between) after) printed ∙ append_assoc before (clock_line page.clock) (drop (length between) after);
-  makes = λ stored s stands.
+  makes = λ modules s stands.
       let there = document_there page s k is stands.document in
       let lines = same_behind between (drop (length between) after) (document_lines there.0) (sym (rest_after after between grows) ∙ shown there.0 there.2) in
       record {
         stands = record {
+          modules_are = stands.modules_are;
           reader = stands.reader;
-          document = subst (AreDocuments (Some new)) (sym there.1) (same.document there.0 there.2);
+          document = subst (AreDocuments (Some new)) (sym there.1) (subst (λ (x : KeptDocument). IsDocument x there.0) (sym same) (worked_is k there.0 new.worked there.2));
           wanted = stands.wanted;
           current = stands.current;
           clock = stands.clock;
@@ -278,109 +396,201 @@ displayed_without old page new before after (Ok done) view is same printed =
     subst (λ (p : PageState). Makes shown_step p new before after) view (subst (λ (p : PageState). Makes shown_step page p before after) (sym same) (shown_without page before after is printed))
 
 displayed_as : {A E : Type 0} (old page new : PageState) (k shown : KeptDocument) (before between after : List ℕ) (result : Result A E) → page ≡ old → page.document ≡ Some k → new ≡ with_shown shown page
-    → between ≡ before ++ clock_line page.clock → OnOk result ((d : Document) → IsDocument k d → after ≡ between ++ document_lines d) → Changes (λ s. s) k shown → StartsWith after between → OnOk result (Makes shown_step old new before after)
+    → between ≡ before ++ clock_line page.clock → OnOk result ((d : Document) → IsDocument k d → after ≡ between ++ document_lines d) → shown ≡ with_worked shown.worked k → StartsWith after between → OnOk result (Makes shown_step old new before after)
 displayed_as old page new k shown before between after (Err fault) view is same printed lines changes grows = tt
 displayed_as old page new k shown before between after (Ok done) view is same printed lines changes grows =
     subst (λ (p : PageState). Makes shown_step p new before after) view
     (subst (λ (p : PageState). Makes shown_step page p before after) (sym same) (shown_with page k shown before between after is printed lines changes grows))
 
 pub displayed_with : {A E : Type 0} (old page new : PageState) (k shown : KeptDocument) (before between after left : List ℕ) (called result : Result A E) → page ≡ old → page.document ≡ Some k → new ≡ with_shown shown page
-    → between ≡ before ++ clock_line page.clock → OnOk called ((d : Document) → IsDocument k d → after ≡ between ++ document_lines d) → Changes (λ s. s) k shown → StartsWith after between → left ≡ after → result ≡ called
+    → between ≡ before ++ clock_line page.clock → OnOk called ((d : Document) → IsDocument k d → after ≡ between ++ document_lines d) → shown ≡ with_worked shown.worked k → StartsWith after between → left ≡ after → result ≡ called
     → OnOk result (Makes shown_step old new before left)
 displayed_with {A} {E} old page new k shown before between after left called result view is same printed lines changes grows e called_is =
     subst (λ (r : Result A E). OnOk r (Makes shown_step old new before left)) (sym called_is)
     (subst (λ (l : List ℕ). OnOk called (Makes shown_step old new before l)) (sym e) (displayed_as old page new k shown before between after called view is same printed lines changes grows))
 
+-- ---- events
+
+event_there : (s : State) (d : Document) (event : Event) → s.document ≡ Some d → first_of d.queue ≡ Some event → next_event s ≡ Some (step_of s (handled event (without_first (scene_in s d))))
+event_there s d event there first =
+    ap (option_and_then (event_in s)) there ∙ ap (option_map (λ event. step_of s (handled event (without_first (scene_in s d))))) first
+
+-- without its first event
+abbrev pub queue_taken : KeptDocument → KeptDocument
+queue_taken k = record k { queue = drop 1 k.queue }
+
+abbrev taken_of : Document → Document
+taken_of d = record d { queue = drop 1 d.queue }
+
+taken_is : (k : KeptDocument) (d : Document) → IsDocument k d → IsDocument (queue_taken k) (taken_of d)
+taken_is k d is = record { programs = is.programs; others = ap queue_taken is.others }
+
+same_queue : (k : KeptDocument) (d : Document) → IsDocument k d → k.queue ≡ d.queue
+same_queue k d is = ap (λ (x : KeptDocument). x.queue) is.others
+
+event_made : (event : Event) (launched : Option Path) (lent given_back : ModulesState) (page : PageState) (k new : KeptDocument) (browser : BrowserParts) (before after : List ℕ) → page.document ≡ Some k → page.loading ≡ kept.Nothing → first_of k.queue ≡ Some event
+    → Acts (handled event) launched page.clock (queue_taken k) new (lent_by page lent) (record { browser = browser; modules = given_back }) before after → MayMake true lent given_back next_event page (behind_launch launched (with_document new browser page)) before after
+event_made event launched lent given_back page k new browser before after is none first acts = record {
+  text = acts.text;
+  printed = acts.printed;
+  makes = λ s stands.
+      let there = document_there page s k is stands.document in
+      let scene = without_first (scene_in s there.0) in
+      let acted = acts.acts scene (scene_of page lent [] s (queue_taken k) (taken_of there.0) stands (taken_is k there.0 there.2)) in
+      let made = made_of launched page lent given_back s new browser acts.text (handled event scene) none stands acted in
+      subst (HasMadeOf true (behind_launch launched (with_document new browser page)) given_back acts.text s)
+      (sym (event_there s there.0 event there.1 (ap first_of (sym (same_queue k there.0 there.2)) ∙ first))) (record { stands = made.stands; text_is = made.text_is });
+}
+
+-- where no event waits, none is taken
+none_waits : (queue : List Event) → first_of queue ≡ None → drop 1 queue ≡ queue
+none_waits [] e = refl
+none_waits (event ∷ queue) e = absurd cc
+
+pub none_taken : (k taken : KeptDocument) → first_of k.queue ≡ None → taken ≡ queue_taken k → taken ≡ k
+none_taken k taken none e = e ∙ ap (λ (queue : List Event). record k { queue = queue }) (none_waits k.queue none)
+
+no_document : (s : State) → s.document ≡ None → next_event s ≡ None
+no_document s e = ap (option_and_then (event_in s)) e
+
+no_event : (s : State) (d : Document) → s.document ≡ Some d → first_of d.queue ≡ None → next_event s ≡ None
+no_event s d there none = ap (option_and_then (event_in s)) there ∙ ap (option_map (λ event. step_of s (handled event (without_first (scene_in s d))))) none
+
+pub no_document_acts : (modules : ModulesState) (old page : PageState) (before : List ℕ) → page ≡ old → page.document ≡ None → MayMake false modules modules next_event old page before before
+no_document_acts modules old page before view is =
+    subst (λ (p : PageState). MayMake false modules modules next_event p page before before) view (record {
+      text = [];
+      printed = sym (append-nil before);
+      makes = λ s stands.
+          subst (HasMadeOf false page modules [] s) (sym (no_document s (none_there page s is stands.document))) (record { stands = stands; text_is = refl });
+    })
+
+pub no_event_waits : (modules : ModulesState) (old page : PageState) (k taken : KeptDocument) (before : List ℕ) → page ≡ old → page.document ≡ Some k → None ≡ first_of k.queue → taken ≡ queue_taken k
+    → MayMake false modules modules next_event old (record page { document = Some taken; worked = taken.worked }) before before
+no_event_waits modules old page k taken before view is none e =
+    let left = record page { document = Some taken; worked = taken.worked } in
+    subst (λ (p : PageState). MayMake false modules modules next_event p left before before) view (record {
+      text = [];
+      printed = sym (append-nil before);
+      makes = λ s stands.
+          let there = document_there page s k is stands.document in
+          let empty = ap first_of (sym (same_queue k there.0 there.2)) ∙ sym none in
+          subst (HasMadeOf false left modules [] s) (sym (no_event s there.0 there.1 empty)) (record {
+            stands = record {
+              modules_are = stands.modules_are;
+              reader = stands.reader;
+              document = subst (AreDocuments (Some taken)) (sym there.1) (subst (λ (x : KeptDocument). IsDocument x there.0) (sym (none_taken k taken (sym none) e)) there.2);
+              wanted = stands.wanted;
+              current = stands.current;
+              clock = stands.clock;
+              browser = stands.browser;
+            };
+            text_is = refl;
+          });
+    })
+
+pub event_handled : (event : Event) (launched : Option Path) (lent given_back : ModulesState) (old page now : PageState) (k taken new : KeptDocument) (browser : BrowserParts) (before after : List ℕ) → page ≡ old → page.document ≡ Some k → page.loading ≡ kept.Nothing
+    → Some event ≡ first_of k.queue → taken ≡ queue_taken k → Acts (handled event) launched page.clock taken new (lent_by page lent) (record { browser = browser; modules = given_back }) before after
+    → now ≡ behind_launch launched (with_document new browser page) → MayMake true lent given_back next_event old now before after
+event_handled event launched lent given_back old page now k taken new browser before after view is none first taken_as acts same =
+    subst (λ (p : PageState). MayMake true lent given_back next_event p now before after) view
+    (subst (λ (p : PageState). MayMake true lent given_back next_event page p before after) (sym same)
+    (event_made event launched lent given_back page k new browser before after is none (sym first)
+    (subst (λ (x : KeptDocument). Acts (handled event) launched page.clock x new (lent_by page lent) (record { browser = browser; modules = given_back }) before after) taken_as acts)))
+
 -- ---- dispatches
 
-pub may_make : (made is : Bool) (state : StoreState) (step : Stored → State → Option Step) (old new : PageState) (before after : List ℕ) → made ≡ is → MayMake made state step old new before after → MayMake is state step old new before after
-may_make made is state step old new before after e may = subst (λ (b : Bool). MayMake b state step old new before after) e may
+pub may_make : (made is : Bool) (lent given_back : ModulesState) (step : State → Option Step) (old new : PageState) (before after : List ℕ) → made ≡ is → MayMake made lent given_back step old new before after
+    → MayMake is lent given_back step old new before after
+may_make made is lent given_back step old new before after e may = subst (λ (b : Bool). MayMake b lent given_back step old new before after) e may
 
-pub loaded_first : (state : StoreState) (old new : PageState) (before after : List ℕ) → MayMake true state next_load old new before after → MayMake true state dispatch old new before after
+pub loaded_first : (lent given_back : ModulesState) (old new : PageState) (before after : List ℕ) → MayMake true lent given_back next_load old new before after → MayMake true lent given_back dispatch old new before after
 unfolding dispatch
-loaded_first state old new before after made = record {
+loaded_first lent given_back old new before after made = record {
   text = made.text;
   printed = made.printed;
-  makes = λ stored is s stands. by stored s (next_load stored s) (next_event s) (made.makes stored is s stands);
+  makes = λ s stands. by s (next_load s) (next_event s) (made.makes s stands);
 }
   where
-    by : (stored : Stored) (s : State) (loads events : Option Step) → HasMadeOf true new stored made.text s loads → HasMadeOf true new stored made.text s (option_or loads events)
-    by stored s None events has = absurd has
-    by stored s (Some t) events has = has
+    by : (s : State) (loads events : Option Step) → HasMadeOf true new given_back made.text s loads → HasMadeOf true new given_back made.text s (option_or loads events)
+    by s None events has = absurd has
+    by s (Some t) events has = has
 
 -- nothing was loaded: the page stands for the same state, and what comes next is an event
-none_loaded : (page : PageState) (stored : Stored) (text : List ℕ) (s : State) (loads : Option Step) → HasMadeOf false page stored text s loads → (loads ≡ None) × HasMade page stored text (still s)
-none_loaded page stored text s None has = (refl, has)
-none_loaded page stored text s (Some t) has = absurd has
+none_loaded : (page : PageState) (modules : ModulesState) (text : List ℕ) (s : State) (loads : Option Step) → HasMadeOf false page modules text s loads → (loads ≡ None) × HasMade page modules text (still s)
+none_loaded page modules text s None has = (refl, has)
+none_loaded page modules text s (Some t) has = absurd has
 
-events_next : (stored : Stored) (s : State) → next_load stored s ≡ None → dispatch stored s ≡ next_event s
+events_next : (s : State) → next_load s ≡ None → dispatch s ≡ next_event s
 unfolding dispatch
-events_next stored s e = ap (λ (o : Option Step). option_or o (next_event s)) e
+events_next s e = ap (λ (o : Option Step). option_or o (next_event s)) e
 
-pub event_next : (made : Bool) (state : StoreState) (old page new : PageState) (before between after : List ℕ) → MayMake false state next_load old page before between → MayMakeHere made next_event page new between after
-    → MayMake made state dispatch old new before after
-event_next made state old page new before between after loads event = record {
+pub event_next : (made : Bool) (lent still_lent given_back : ModulesState) (old page new : PageState) (before between after : List ℕ) → MayMake false lent still_lent next_load old page before between → MayMake made still_lent given_back next_event page new between after
+    → MayMake made lent given_back dispatch old new before after
+event_next made lent still_lent given_back old page new before between after loads event = record {
   text = loads.text ++ event.text;
   printed = event.printed ∙ ap (λ (l : List ℕ). l ++ event.text) loads.printed ∙ append_assoc before loads.text event.text;
-  makes = λ stored known s stands.
-      let none = none_loaded page stored loads.text s (next_load stored s) (loads.makes stored known s stands) in
-      subst (λ (l : List ℕ). HasMadeOf made new stored (l ++ event.text) s (dispatch stored s)) (sym none.1.text_is)
-      (subst (HasMadeOf made new stored event.text s) (sym (events_next stored s none.0)) (event.makes stored s none.1.stands));
+  makes = λ s stands.
+      let none = none_loaded page still_lent loads.text s (next_load s) (loads.makes s stands) in
+      subst (λ (l : List ℕ). HasMadeOf made new given_back (l ++ event.text) s (dispatch s)) (sym none.1.text_is)
+      (subst (HasMadeOf made new given_back event.text s) (sym (events_next s none.0)) (event.makes s none.1.stands));
 }
 
 -- the same of a call that may find no memory
-pub event_comes : {E : Type 0} (result : Result Bool E) (state : StoreState) (old page new : PageState) (before between after : List ℕ) → MayMake false state next_load old page before between
-    → IfOk result (λ made. MayMakeHere made next_event page new between after) → IfOk result (λ made. MayMake made state dispatch old new before after)
-event_comes (Err fault) state old page new before between after loads event = tt
-event_comes (Ok made) state old page new before between after loads event = event_next made state old page new before between after loads event
+pub event_comes : {E : Type 0} (result : Result Bool E) (lent still_lent given_back : ModulesState) (old page new : PageState) (before between after : List ℕ) → MayMake false lent still_lent next_load old page before between
+    → IfOk result (λ made. MayMake made still_lent given_back next_event page new between after) → IfOk result (λ made. MayMake made lent given_back dispatch old new before after)
+event_comes (Err fault) lent still_lent given_back old page new before between after loads event = tt
+event_comes (Ok made) lent still_lent given_back old page new before between after loads event = event_next made lent still_lent given_back old page new before between after loads event
 
 -- ---- loads
 
 -- a document that is wanted has a path
-path_wanted : (loading : Loading) → (loading ≡ kept.Nothing → ⊥) → (stored : Stored) → (path : Path) × (wanted_path (wanted_of loading) stored ≡ Some path)
-path_wanted kept.Start wanted stored = (start_path stored, refl)
-path_wanted (kept.At path) wanted stored = (path, refl)
-path_wanted (kept.Pending pending) wanted stored = by pending.is_start
+path_wanted : (loading : Loading) → (loading ≡ kept.Nothing → ⊥) → (modules : Modules) → (path : Path) × (wanted_path (wanted_of loading) modules ≡ Some path)
+path_wanted kept.Start wanted modules = (start_path modules, refl)
+path_wanted (kept.At path) wanted modules = (path, refl)
+path_wanted (kept.Pending pending) wanted modules = by pending.is_start
   where
-    by : (is_start : Bool) → (path : Path) × (wanted_path (wanted_at is_start pending.path) stored ≡ Some path)
-    by true = (start_path stored, refl)
+    by : (is_start : Bool) → (path : Path) × (wanted_path (wanted_at is_start pending.path) modules ≡ Some path)
+    by true = (start_path modules, refl)
     by false = (pending.path, refl)
-path_wanted kept.Nothing wanted stored = absurd (wanted refl)
+path_wanted kept.Nothing wanted modules = absurd (wanted refl)
 
 -- the load of what is wanted
-load_next : (stored : Stored) (s : State) (wanted : Wanted) (path : Path) (reading : Option (Result DraftState DocFault)) → s.wanted ≡ wanted → wanted_path wanted stored ≡ Some path → loadable_reading stored path ≡ reading
-    → next_load stored s ≡ option_map (load s path) reading
+load_next : (s : State) (wanted : Wanted) (path : Path) (reading : Option (Result DraftState DocFault)) → s.wanted ≡ wanted → wanted_path wanted s.modules ≡ Some path → loadable_reading s.modules path ≡ reading
+    → next_load s ≡ option_map (load s path) reading
 unfolding next_load
-load_next stored s wanted path reading e path_is reading_is =
-    ap (λ (w : Wanted). option_and_then (load_at stored s) (wanted_path w stored)) e ∙ ap (option_and_then (load_at stored s)) path_is ∙ ap (option_map (load s path)) reading_is
+load_next s wanted path reading e path_is reading_is =
+    ap (λ (w : Wanted). option_and_then (load_at s) (wanted_path w s.modules)) e ∙ ap (option_and_then (load_at s)) path_is ∙ ap (option_map (load s path)) reading_is
 
-nothing_next : (stored : Stored) (s : State) → s.wanted ≡ NoDocument → next_load stored s ≡ None
+nothing_next : (s : State) → s.wanted ≡ NoDocument → next_load s ≡ None
 unfolding next_load
-nothing_next stored s e = ap (λ (w : Wanted). option_and_then (load_at stored s) (wanted_path w stored)) e
+nothing_next s e = ap (λ (w : Wanted). option_and_then (load_at s) (wanted_path w s.modules)) e
 
 -- nothing is wanted
-none_wanted : (state : StoreState) (page : PageState) (before : List ℕ) → page.loading ≡ kept.Nothing → MayMake false state next_load page page before before
-none_wanted state page before is = record {
+none_wanted : (modules : ModulesState) (page : PageState) (before : List ℕ) → page.loading ≡ kept.Nothing → MayMake false modules modules next_load page page before before
+none_wanted modules page before is = record {
   text = [];
   printed = sym (append-nil before);
-  makes = λ stored known s stands. subst (HasMadeOf false page stored [] s) (sym (nothing_next stored s (sym stands.wanted ∙ ap wanted_of is))) (record { stands = stands; text_is = refl });
+  makes = λ s stands. subst (HasMadeOf false page modules [] s) (sym (nothing_next s (sym stands.wanted ∙ ap wanted_of is))) (record { stands = stands; text_is = refl });
 }
 
-pub load_nothing : (state : StoreState) (old page : PageState) (loading : Loading) (before : List ℕ) → page ≡ old → page.loading ≡ kept.Nothing → loading ≡ kept.Nothing → MayMake false state next_load old (with_loading loading page) before before
-load_nothing state old page loading before view is e =
-    subst (λ (p : PageState). MayMake false state next_load p (with_loading loading page) before before) view
-    (subst (λ (l : Loading). MayMake false state next_load page (with_loading l page) before before) (is ∙ sym e) (none_wanted state page before is))
+pub load_nothing : (modules : ModulesState) (old page : PageState) (loading : Loading) (before : List ℕ) → page ≡ old → page.loading ≡ kept.Nothing → loading ≡ kept.Nothing
+    → MayMake false modules modules next_load old (with_loading loading page) before before
+load_nothing modules old page loading before view is e =
+    subst (λ (p : PageState). MayMake false modules modules next_load p (with_loading loading page) before before) view
+    (subst (λ (l : Loading). MayMake false modules modules next_load page (with_loading l page) before before) (is ∙ sym e) (none_wanted modules page before is))
 
-load_waits : (state : StoreState) (page : PageState) (loading : Loading) (before after : List ℕ) → (page.loading ≡ kept.Nothing → ⊥) → Loads state page.loading (came.Waits loading) before after
-    → MayMake false state next_load page (with_loading loading page) before after
-load_waits state page loading before after wanted loads = record {
+load_waits : (modules : ModulesState) (page : PageState) (loading : Loading) (before after : List ℕ) → (page.loading ≡ kept.Nothing → ⊥) → Loads modules page.loading (came.Waits loading) before after
+    → MayMake false modules modules next_load page (with_loading loading page) before after
+load_waits modules page loading before after wanted loads = record {
   text = loads.text;
   printed = loads.printed;
-  makes = λ stored known s stands.
-      let at = path_wanted page.loading wanted stored in
-      let goes = loads.loads stored known stands.current at.0 at.1 s.read stands.reader in
-      subst (HasMadeOf false (with_loading loading page) stored loads.text s) (sym (load_next stored s (wanted_of page.loading) at.0 None (sym stands.wanted) at.1 goes.none)) (record {
+  makes = λ s stands.
+      let at = path_wanted page.loading wanted s.modules in
+      let goes = loads.loads s.modules stands.modules_are stands.current at.0 at.1 s.read stands.reader in
+      subst (HasMadeOf false (with_loading loading page) modules loads.text s) (sym (load_next s (wanted_of page.loading) at.0 None (sym stands.wanted) at.1 goes.none)) (record {
         stands = record {
+          modules_are = stands.modules_are;
           reader = stands.reader;
           document = stands.document;
           wanted = goes.still ∙ stands.wanted;
@@ -392,17 +602,18 @@ load_waits state page loading before after wanted loads = record {
       });
 }
 
-load_refused : (state : StoreState) (page : PageState) (before after : List ℕ) → (page.loading ≡ kept.Nothing → ⊥) → Loads state page.loading came.Refused before after
-    → MayMake true state next_load page (record page { loading = kept.Nothing; document = None; worked = 0 }) before after
-load_refused state page before after wanted loads = record {
+load_refused : (modules : ModulesState) (page : PageState) (before after : List ℕ) → (page.loading ≡ kept.Nothing → ⊥) → Loads modules page.loading came.Refused before after
+    → MayMake true modules modules next_load page (record page { loading = kept.Nothing; document = None; worked = 0 }) before after
+load_refused modules page before after wanted loads = record {
   text = loads.text;
   printed = loads.printed;
-  makes = λ stored known s stands.
-      let at = path_wanted page.loading wanted stored in
-      let refused = loads.loads stored known stands.current at.0 at.1 s.read stands.reader in
-      subst (HasMadeOf true (record page { loading = kept.Nothing; document = None; worked = 0 }) stored loads.text s)
-      (sym (load_next stored s (wanted_of page.loading) at.0 (Some (Err refused.fault)) (sym stands.wanted) at.1 refused.reading_is)) (record {
+  makes = λ s stands.
+      let at = path_wanted page.loading wanted s.modules in
+      let refused = loads.loads s.modules stands.modules_are stands.current at.0 at.1 s.read stands.reader in
+      subst (HasMadeOf true (record page { loading = kept.Nothing; document = None; worked = 0 }) modules loads.text s)
+      (sym (load_next s (wanted_of page.loading) at.0 (Some (Err refused.fault)) (sym stands.wanted) at.1 refused.reading_is)) (record {
         stands = record {
+          modules_are = stands.modules_are;
           reader = stands.reader;
           document = tt;
           wanted = refl;
@@ -418,8 +629,9 @@ load_refused state page before after wanted loads = record {
 abbrev unwanting : State → State
 unwanting s = record s { wanted = NoDocument }
 
-nothing_wanted : (page : PageState) (stored : Stored) (s : State) → StandsFor page stored s → StandsFor (with_loading kept.Nothing page) stored (unwanting s)
-nothing_wanted page stored s stands = record {
+nothing_wanted : (page : PageState) (modules : ModulesState) (s : State) → StandsFor page modules s → StandsFor (with_loading kept.Nothing page) modules (unwanting s)
+nothing_wanted page modules s stands = record {
+  modules_are = stands.modules_are;
   reader = stands.reader;
   document = stands.document;
   wanted = refl;
@@ -428,82 +640,89 @@ nothing_wanted page stored s stands = record {
   browser = stands.browser;
 }
 
-load_made : (state : StoreState) (page now : PageState) (k : KeptDocument) (before between after : List ℕ) → (page.loading ≡ kept.Nothing → ⊥) → Loads state page.loading (came.Loaded k) before between
-    → Begins k (with_loading kept.Nothing page) now between after → MayMake true state next_load page now before after
-load_made state page now k before between after wanted loads begins =
+load_made : (lent given_back : ModulesState) (page now : PageState) (k : KeptDocument) (before between after : List ℕ) → (page.loading ≡ kept.Nothing → ⊥) → Loads lent page.loading (came.Loaded k) before between
+    → Begins lent given_back k (with_loading kept.Nothing page) now between after → MayMake true lent given_back next_load page now before after
+load_made lent given_back page now k before between after wanted loads begins =
     let acts = begins.acts in
+    let began = with_document begins.document begins.browser (with_loading kept.Nothing page) in
     record {
       text = loads.text ++ acts.text;
       printed = acts.printed ∙ ap (λ (l : List ℕ). l ++ acts.text) loads.printed ∙ append_assoc before loads.text acts.text;
-      makes = λ stored known s stands.
-          let at = path_wanted page.loading wanted stored in
-          let has = loads.loads stored known stands.current at.0 at.1 s.read stands.reader in
+      makes = λ s stands.
+          let at = path_wanted page.loading wanted s.modules in
+          let has = loads.loads s.modules stands.modules_are stands.current at.0 at.1 s.read stands.reader in
           let d = opened s.read at.0 has.draft in
-          let scene : scene_with page.browser page.clock d ≡ scene_in s d = ap₂ (λ (b : BrowserParts) (n : ℕ). scene_with b n d) stands.browser stands.clock in
-          let acted = subst (λ (x : Scene). HasActed begins.launched begins.document begins.browser acts.text (load_effect x)) scene (acts.acts d has.document_is) in
-          let made = made_of begins.launched (with_loading kept.Nothing page) stored (unwanting s) begins.document begins.browser acts.text (load_effect (scene_in s d)) (nothing_wanted page stored s stands) acted in
-          subst (λ (p : PageState). HasMadeOf true p stored (loads.text ++ acts.text) s (next_load stored s)) (sym begins.new_is)
-          (subst (HasMadeOf true (behind_launch begins.launched (with_document begins.document begins.browser (with_loading kept.Nothing page))) stored (loads.text ++ acts.text) s)
-          (sym (load_next stored s (wanted_of page.loading) at.0 (Some (Ok has.draft)) (sym stands.wanted) at.1 has.reading_is))
+          let acted = acts.acts (scene_in s d) (scene_of page lent [] s k d stands has.document_is) in
+          let made = made_of begins.launched (with_loading kept.Nothing page) lent given_back (unwanting s) begins.document begins.browser acts.text (load_effect (scene_in s d)) refl (nothing_wanted page lent s stands) acted in
+          subst (λ (p : PageState). HasMadeOf true p given_back (loads.text ++ acts.text) s (next_load s)) (sym begins.new_is)
+          (subst (HasMadeOf true (behind_launch begins.launched began) given_back (loads.text ++ acts.text) s)
+          (sym (load_next s (wanted_of page.loading) at.0 (Some (Ok has.draft)) (sym stands.wanted) at.1 has.reading_is))
           (record { stands = made.stands; text_is = ap₂ (λ (a b : List ℕ). a ++ b) has.text_is made.text_is }));
     }
 
--- what was taken of a load is what the load makes of the state
-takes_load : (state : StoreState) (page now : PageState) (what : Load) (made : Bool) (before middle after : List ℕ) → (page.loading ≡ kept.Nothing → ⊥) → Loads state page.loading what before middle
-    → TakesLoad what made (with_loading kept.Nothing page) now middle after → MayMake made state next_load page now before after
-takes_load state page now (came.Waits loading) made before middle after wanted loads takes =
-    may_make false made state next_load page now before after (sym takes.0)
-    (subst (λ (p : PageState). MayMake false state next_load page p before after) (sym takes.1)
-    (subst (λ (l : List ℕ). MayMake false state next_load page (with_loading loading page) before l) (sym takes.2) (load_waits state page loading before middle wanted loads)))
-takes_load state page now came.Refused made before middle after wanted loads takes =
-    may_make true made state next_load page now before after (sym takes.0)
-    (subst (λ (p : PageState). MayMake true state next_load page p before after) (sym takes.1)
-    (subst (λ (l : List ℕ). MayMake true state next_load page (record page { loading = kept.Nothing; document = None; worked = 0 }) before l) (sym takes.2) (load_refused state page before middle wanted loads)))
-takes_load state page now (came.Loaded k) made before middle after wanted loads takes =
-    may_make true made state next_load page now before after (sym takes.0) (load_made state page now k before middle after wanted loads takes.1)
+-- where the modules weren't needed but to look, those that were lent are given back
+given_back_as : (made : Bool) (lent given_back : ModulesState) (step : State → Option Step) (old new : PageState) (before after : List ℕ) → given_back ≡ lent → MayMake made lent lent step old new before after → MayMake made lent given_back step old new before after
+given_back_as made lent given_back step old new before after is may = subst (λ (m : ModulesState). MayMake made lent m step old new before after) (sym is) may
 
-pub load_taken : {E : Type 0} (state : StoreState) (old page now : PageState) (loading emptied : Loading) (what : Load) (before middle after : List ℕ) (result : Result Bool E) → page ≡ old → loading ≡ page.loading → emptied ≡ kept.Nothing
-    → (loading ≡ kept.Nothing → ⊥) → Loads state loading what before middle → IfOk result (λ made. TakesLoad what made (with_loading emptied page) now middle after) → IfOk result (λ made. MayMake made state next_load old now before after)
-load_taken state old page now loading emptied what before middle after (Err fault) view is none wanted loads takes = takes
-load_taken state old page now loading emptied what before middle after (Ok made) view is none wanted loads takes =
-    subst (λ (p : PageState). MayMake made state next_load p now before after) view
-    (takes_load state page now what made before middle after (λ e. wanted (is ∙ e)) (subst (λ (l : Loading). Loads state l what before middle) is loads)
-    (subst (λ (l : Loading). TakesLoad what made (with_loading l page) now middle after) none takes))
+-- what was taken of a load is what the load makes of the state
+takes_load : (lent given_back : ModulesState) (page now : PageState) (what : Load) (made : Bool) (before middle after : List ℕ) → (page.loading ≡ kept.Nothing → ⊥) → Loads lent page.loading what before middle
+    → TakesLoad lent given_back what made (with_loading kept.Nothing page) now middle after → MayMake made lent given_back next_load page now before after
+takes_load lent given_back page now (came.Waits loading) made before middle after wanted loads takes =
+    may_make false made lent given_back next_load page now before after (sym takes.0)
+    (given_back_as false lent given_back next_load page now before after takes.3
+    (subst (λ (p : PageState). MayMake false lent lent next_load page p before after) (sym takes.1)
+    (subst (λ (l : List ℕ). MayMake false lent lent next_load page (with_loading loading page) before l) (sym takes.2) (load_waits lent page loading before middle wanted loads))))
+takes_load lent given_back page now came.Refused made before middle after wanted loads takes =
+    may_make true made lent given_back next_load page now before after (sym takes.0)
+    (given_back_as true lent given_back next_load page now before after takes.3
+    (subst (λ (p : PageState). MayMake true lent lent next_load page p before after) (sym takes.1)
+    (subst (λ (l : List ℕ). MayMake true lent lent next_load page (record page { loading = kept.Nothing; document = None; worked = 0 }) before l) (sym takes.2) (load_refused lent page before middle wanted loads))))
+takes_load lent given_back page now (came.Loaded k) made before middle after wanted loads takes =
+    may_make true made lent given_back next_load page now before after (sym takes.0) (load_made lent given_back page now k before middle after wanted loads takes.1)
+
+pub load_taken : {E : Type 0} (lent given_back : ModulesState) (old page now : PageState) (loading emptied : Loading) (what : Load) (before middle after : List ℕ) (result : Result Bool E) → page ≡ old → loading ≡ page.loading → emptied ≡ kept.Nothing
+    → (loading ≡ kept.Nothing → ⊥) → Loads lent loading what before middle → IfOk result (λ made. TakesLoad lent given_back what made (with_loading emptied page) now middle after)
+    → IfOk result (λ made. MayMake made lent given_back next_load old now before after)
+load_taken lent given_back old page now loading emptied what before middle after (Err fault) view is none wanted loads takes = takes
+load_taken lent given_back old page now loading emptied what before middle after (Ok made) view is none wanted loads takes =
+    subst (λ (p : PageState). MayMake made lent given_back next_load p now before after) view
+    (takes_load lent given_back page now what made before middle after (λ e. wanted (is ∙ e)) (subst (λ (l : Loading). Loads lent l what before middle) is loads)
+    (subst (λ (l : Loading). TakesLoad lent given_back what made (with_loading l page) now middle after) none takes))
 
 -- ---- turns
 
 -- the page stands for a state behind this text, and so many dispatches of a turn are left
-pub record IsAhead (page : PageState) (stored : Stored) (text : List ℕ) (left : ℕ) (whole : Step) : Type 0 where
+pub record IsAhead (page : PageState) (modules : ModulesState) (text : List ℕ) (left : ℕ) (whole : Step) : Type 0 where
   pub now : State
-  pub stands : StandsFor page stored now
-  pub whole_is : whole ≡ step_behind text (dispatches left stored now)
+  pub stands : StandsFor page modules now
+  pub whole_is : whole ≡ step_behind text (dispatches left now)
 
--- in the midst of a turn, behind so many dispatches
-pub record IsTurning (state : StoreState) (made : ℕ) (old page : PageState) (before after : List ℕ) : Type 0 where
+-- in the midst of a turn, behind so many dispatches: these modules were lent to it, and these are there now
+pub record IsTurning (lent modules : ModulesState) (made : ℕ) (old page : PageState) (before after : List ℕ) : Type 0 where
   pub text : List ℕ
   pub printed : after ≡ before ++ text
   pub left : ℕ
   pub left_is : left + made ≡ most_dispatches
-  pub ahead : ForStored state (λ stored. (s : State) → StandsFor old stored s → IsAhead page stored text left (turn stored s))
+  pub ahead : (s : State) → StandsFor old lent s → IsAhead page modules text left (turn s)
 
-pub turn_begins : (state : StoreState) (page : PageState) (before : List ℕ) → IsTurning state 0 page page before before
+pub turn_begins : (modules : ModulesState) (page : PageState) (before : List ℕ) → IsTurning modules modules 0 page page before before
 unfolding turn
-turn_begins state page before = record {
+turn_begins modules page before = record {
   text = [];
   printed = sym (append-nil before);
   left = most_dispatches;
   left_is = omega arith;
-  ahead = λ stored is s stands. record { now = s; stands = stands; whole_is = refl };
+  ahead = λ s stands. record { now = s; stands = stands; whole_is = refl };
 }
 
 -- the next dispatch, where there is one
-next_made : (more : ℕ) (stored : Stored) (s : State) → dispatches (suc more) stored s ≡ next_and (dispatches more stored) s (dispatch stored s)
+next_made : (more : ℕ) (s : State) → dispatches (suc more) s ≡ next_and (dispatches more) s (dispatch s)
 unfolding dispatches
-next_made more stored s = refl
+next_made more s = refl
 
-none_left : (stored : Stored) (s : State) → dispatches zero stored s ≡ still s
+none_left : (s : State) → dispatches zero s ≡ still s
 unfolding dispatches
-none_left stored s = refl
+none_left s = refl
 
 pub most_is : most_dispatches ≡ 256
 unfolding most_dispatches
@@ -517,75 +736,75 @@ behind_both : (text more : List ℕ) (t : Step) → step_behind text (step_behin
 behind_both text more t = ap (λ (l : List ℕ). record { state = t.state; text = l }) (sym (append_assoc text more t.text))
 
 -- one dispatch more
-one_more : (page new : PageState) (stored : Stored) (text more : List ℕ) (left next : ℕ) (whole : Step) → left ≡ suc next → (ahead : IsAhead page stored text left whole) → HasMadeOf true new stored more ahead.now (dispatch stored ahead.now)
-    → IsAhead new stored (text ++ more) next whole
-one_more page new stored text more left next whole is ahead has = by (dispatch stored ahead.now) refl has
+one_more : (page new : PageState) (modules given_back : ModulesState) (text more : List ℕ) (left next : ℕ) (whole : Step) → left ≡ suc next → (ahead : IsAhead page modules text left whole)
+    → HasMadeOf true new given_back more ahead.now (dispatch ahead.now) → IsAhead new given_back (text ++ more) next whole
+one_more page new modules given_back text more left next whole is ahead has = by (dispatch ahead.now) refl has
   where
-    by : (o : Option Step) → dispatch stored ahead.now ≡ o → HasMadeOf true new stored more ahead.now o → IsAhead new stored (text ++ more) next whole
+    by : (o : Option Step) → dispatch ahead.now ≡ o → HasMadeOf true new given_back more ahead.now o → IsAhead new given_back (text ++ more) next whole
     by None e has = absurd has
     by (Some t) e has = record {
       now = t.state;
       stands = has.stands;
       whole_is =
-          ahead.whole_is ∙ ap (λ (n : ℕ). step_behind text (dispatches n stored ahead.now)) is
-          ∙ ap (step_behind text) (next_made next stored ahead.now ∙ ap (next_and (dispatches next stored) ahead.now) e)
-          ∙ behind_both text t.text (dispatches next stored t.state)
-          ∙ ap (λ (l : List ℕ). step_behind (text ++ l) (dispatches next stored t.state)) (sym has.text_is);
+          ahead.whole_is ∙ ap (λ (n : ℕ). step_behind text (dispatches n ahead.now)) is
+          ∙ ap (step_behind text) (next_made next ahead.now ∙ ap (next_and (dispatches next) ahead.now) e)
+          ∙ behind_both text t.text (dispatches next t.state)
+          ∙ ap (λ (l : List ℕ). step_behind (text ++ l) (dispatches next t.state)) (sym has.text_is);
     }
 
-pub turn_goes : (state : StoreState) (made : ℕ) (old page new : PageState) (before between after : List ℕ) → made < 256 → IsTurning state made old page before between → MayMake true state dispatch page new between after
-    → IsTurning state (made + 1) old new before after
-turn_goes state made old page new before between after h turning may =
+pub turn_goes : (lent modules given_back : ModulesState) (made : ℕ) (old page new : PageState) (before between after : List ℕ) → made < 256 → IsTurning lent modules made old page before between
+    → MayMake true modules given_back dispatch page new between after → IsTurning lent given_back (made + 1) old new before after
+turn_goes lent modules given_back made old page new before between after h turning may =
     let next = some_left turning.left made (turning.left_is ∙ most_is) h in
     record {
       text = turning.text ++ may.text;
       printed = may.printed ∙ ap (λ (l : List ℕ). l ++ may.text) turning.printed ∙ append_assoc before turning.text may.text;
       left = next.0;
       left_is = omega (arith, turning.left_is, next.1);
-      ahead = λ stored is s stands.
-          let ahead = turning.ahead stored is s stands in
-          one_more page new stored turning.text may.text turning.left next.0 (turn stored s) next.1 ahead (may.makes stored is ahead.now ahead.stands);
+      ahead = λ s stands.
+          let ahead = turning.ahead s stands in
+          one_more page new modules given_back turning.text may.text turning.left next.0 (turn s) next.1 ahead (may.makes ahead.now ahead.stands);
     }
 
 -- behind the last dispatch
-ended_at : (new : PageState) (stored : Stored) (text : List ℕ) (now : State) (whole : Step) → StandsFor new stored now → whole ≡ step_behind text (still now) → HasMade new stored text whole
-ended_at new stored text now whole stands is = subst (HasMade new stored text) (sym is) (record { stands = stands; text_is = sym (append-nil text) })
+ended_at : (new : PageState) (modules : ModulesState) (text : List ℕ) (now : State) (whole : Step) → StandsFor new modules now → whole ≡ step_behind text (still now) → HasMade new modules text whole
+ended_at new modules text now whole stands is = subst (HasMade new modules text) (sym is) (record { stands = stands; text_is = sym (append-nil text) })
 
-none_more : (page new : PageState) (stored : Stored) (text more : List ℕ) (left next : ℕ) (whole : Step) → left ≡ suc next → (ahead : IsAhead page stored text left whole) → HasMadeOf false new stored more ahead.now (dispatch stored ahead.now)
-    → HasMade new stored (text ++ more) whole
-none_more page new stored text more left next whole is ahead has = by (dispatch stored ahead.now) refl has
+none_more : (page new : PageState) (modules given_back : ModulesState) (text more : List ℕ) (left next : ℕ) (whole : Step) → left ≡ suc next → (ahead : IsAhead page modules text left whole)
+    → HasMadeOf false new given_back more ahead.now (dispatch ahead.now) → HasMade new given_back (text ++ more) whole
+none_more page new modules given_back text more left next whole is ahead has = by (dispatch ahead.now) refl has
   where
-    by : (o : Option Step) → dispatch stored ahead.now ≡ o → HasMadeOf false new stored more ahead.now o → HasMade new stored (text ++ more) whole
+    by : (o : Option Step) → dispatch ahead.now ≡ o → HasMadeOf false new given_back more ahead.now o → HasMade new given_back (text ++ more) whole
     by (Some t) e has = absurd has
     by None e has =
-        subst (λ (l : List ℕ). HasMade new stored l whole) (sym (ap (λ (l : List ℕ). text ++ l) has.text_is ∙ append-nil text))
-        (ended_at new stored text ahead.now whole has.stands
-        (ahead.whole_is ∙ ap (λ (n : ℕ). step_behind text (dispatches n stored ahead.now)) is
-        ∙ ap (step_behind text) (next_made next stored ahead.now ∙ ap (next_and (dispatches next stored) ahead.now) e)))
+        subst (λ (l : List ℕ). HasMade new given_back l whole) (sym (ap (λ (l : List ℕ). text ++ l) has.text_is ∙ append-nil text))
+        (ended_at new given_back text ahead.now whole has.stands
+        (ahead.whole_is ∙ ap (λ (n : ℕ). step_behind text (dispatches n ahead.now)) is
+        ∙ ap (step_behind text) (next_made next ahead.now ∙ ap (next_and (dispatches next) ahead.now) e)))
 
-pub turn_stops : (state : StoreState) (made : ℕ) (old page new : PageState) (before between after : List ℕ) → made < 256 → IsTurning state made old page before between → MayMake false state dispatch page new between after
-    → MakesWith state turn old new before after
-turn_stops state made old page new before between after h turning may =
+pub turn_stops : (lent modules given_back : ModulesState) (made : ℕ) (old page new : PageState) (before between after : List ℕ) → made < 256 → IsTurning lent modules made old page before between
+    → MayMake false modules given_back dispatch page new between after → MakesWith lent given_back turn old new before after
+turn_stops lent modules given_back made old page new before between after h turning may =
     let next = some_left turning.left made (turning.left_is ∙ most_is) h in
     record {
       text = turning.text ++ may.text;
       printed = may.printed ∙ ap (λ (l : List ℕ). l ++ may.text) turning.printed ∙ append_assoc before turning.text may.text;
-      makes = λ stored is s stands.
-          let ahead = turning.ahead stored is s stands in
-          none_more page new stored turning.text may.text turning.left next.0 (turn stored s) next.1 ahead (may.makes stored is ahead.now ahead.stands);
+      makes = λ s stands.
+          let ahead = turning.ahead s stands in
+          none_more page new modules given_back turning.text may.text turning.left next.0 (turn s) next.1 ahead (may.makes ahead.now ahead.stands);
     }
 
 zero_left : (left made : ℕ) → left + made ≡ 256 → made ≡ 256 → left ≡ zero
 zero_left left made e h = omega arith
 
-pub turn_ends : (state : StoreState) (made : ℕ) (old page : PageState) (before after : List ℕ) → made ≡ 256 → IsTurning state made old page before after → MakesWith state turn old page before after
-turn_ends state made old page before after h turning =
+pub turn_ends : (lent modules : ModulesState) (made : ℕ) (old page : PageState) (before after : List ℕ) → made ≡ 256 → IsTurning lent modules made old page before after → MakesWith lent modules turn old page before after
+turn_ends lent modules made old page before after h turning =
     let none = zero_left turning.left made (turning.left_is ∙ most_is) h in
     record {
       text = turning.text;
       printed = turning.printed;
-      makes = λ stored is s stands.
-          let ahead = turning.ahead stored is s stands in
-          ended_at page stored turning.text ahead.now (turn stored s) ahead.stands
-          (ahead.whole_is ∙ ap (λ (n : ℕ). step_behind turning.text (dispatches n stored ahead.now)) none ∙ ap (step_behind turning.text) (none_left stored ahead.now));
+      makes = λ s stands.
+          let ahead = turning.ahead s stands in
+          ended_at page modules turning.text ahead.now (turn s) ahead.stands
+          (ahead.whole_is ∙ ap (λ (n : ℕ). step_behind turning.text (dispatches n ahead.now)) none ∙ ap (step_behind turning.text) (none_left ahead.now));
     }

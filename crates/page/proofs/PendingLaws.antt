@@ -14,10 +14,10 @@ use Rattle.style_reader.specs.declared.rules.Rule.{Rule}
 use Rattle.bml_reader.specs.declared.faults.DocFault.{DocFault}
 use Rattle.bml_reader.specs.Readings.{reading_of}
 use Rattle.multipart_entities.specs.declared.paths.Path.{Path}
-use Rattle.module_store.specs.Resources.{Resource, look}
+use Rattle.module_locks.specs.Locks.{Modules, look_up}
+use Rattle.module_locks.specs.Standing.{ModulesState, StandsFor}
+use Rattle.module_store.specs.Resources.{Resource}
 use Rattle.module_store.specs.Resources.Resource.{Found, Waiting}
-use Rattle.module_store.specs.Standing.{StandsFor, StoreState}
-use Rattle.module_store.specs.Store.{Stored}
 use Rattle.page.specs.declared.loading.Load.{Load}
 use Rattle.page.specs.declared.loading.Load.TheVariants as load
 use Rattle.page.specs.declared.loading.Loading.TheVariants as kept
@@ -31,34 +31,34 @@ use Rattle.page.specs.Pendings.{Loads, LoadsAs, LoadsUnread, WaitsAt, wanted_at,
 use Rattle.page.specs.State.{Wanted}
 
 -- what a document that was read and is the one that is there comes to
-abbrev given_now : Stored → DraftState → DraftState
-given_now stored draft = with_gifts (map (text_at stored) draft.needs) draft
+abbrev given_now : Modules → DraftState → DraftState
+given_now modules draft = with_gifts (map (text_at modules) draft.needs) draft
 
-abbrev reading_now : Stored → DraftState → Option (Result DraftState DocFault)
-reading_now stored draft = cond (are_settled stored draft.needs) (Some (Ok (given_now stored draft))) None
+abbrev reading_now : Modules → DraftState → Option (Result DraftState DocFault)
+reading_now modules draft = cond (are_settled modules draft.needs) (Some (Ok (given_now modules draft))) None
 
-reading_pending : (stored : Stored) (pending : PendingState) → IsFound stored pending → loadable_reading stored pending.path ≡ reading_now stored pending.draft
-reading_pending stored pending is = ap (reading_in stored pending.path) is.found ∙ ap (once_settled stored pending.path) is.reading_is ∙ ap (reading_now stored) (sym is.draft_is)
+reading_pending : (modules : Modules) (pending : PendingState) → IsFound modules pending → loadable_reading modules pending.path ≡ reading_now modules pending.draft
+reading_pending modules pending is = ap (reading_in modules pending.path) is.found ∙ ap (once_settled modules pending.path) is.reading_is ∙ ap (reading_now modules) (sym is.draft_is)
 
 -- the path of what is wanted is that at which it was read
-path_wanted : (is_start : Bool) (stored : Stored) (own path : Path) → IsStartPath is_start stored own → wanted_path (wanted_at is_start own) stored ≡ Some path → own ≡ path
-path_wanted true stored own path is e = is ∙ cc
-path_wanted false stored own path is e = cc
+path_wanted : (is_start : Bool) (modules : Modules) (own path : Path) → IsStartPath is_start modules own → wanted_path (wanted_at is_start own) modules ≡ Some path → own ≡ path
+path_wanted true modules own path is e = is ∙ cc
+path_wanted false modules own path is e = cc
 
 -- so it comes of what is wanted what comes of the document that was read
-comes_of : (store : StoreState) (pending : PendingState) (new : Load) (text : List ℕ)
-    → ((stored : Stored) → StandsFor store stored → IsFound stored pending → (read : Reader) → IsReader read → LoadsAs read stored (wanted_of (kept.Pending pending)) pending.path new text)
-    → (stored : Stored) → StandsFor store stored → IsFound stored pending → (path : Path) → wanted_path (wanted_of (kept.Pending pending)) stored ≡ Some path → (read : Reader) → IsReader read
-    → LoadsAs read stored (wanted_of (kept.Pending pending)) path new text
-comes_of store pending new text comes stored stands is path e read right =
-    subst (λ (p : Path). LoadsAs read stored (wanted_of (kept.Pending pending)) p new text) (path_wanted pending.is_start stored pending.path path is.path_is e) (comes stored stands is read right)
+comes_of : (state : ModulesState) (pending : PendingState) (new : Load) (text : List ℕ)
+    → ((modules : Modules) → StandsFor state modules → IsFound modules pending → (read : Reader) → IsReader read → LoadsAs read modules (wanted_of (kept.Pending pending)) pending.path new text)
+    → (modules : Modules) → StandsFor state modules → IsFound modules pending → (path : Path) → wanted_path (wanted_of (kept.Pending pending)) modules ≡ Some path → (read : Reader) → IsReader read
+    → LoadsAs read modules (wanted_of (kept.Pending pending)) path new text
+comes_of state pending new text comes modules stands is path e read right =
+    subst (λ (p : Path). LoadsAs read modules (wanted_of (kept.Pending pending)) p new text) (path_wanted pending.is_start modules pending.path path is.path_is e) (comes modules stands is read right)
 
 -- wherever it waits, it is the same document
 abbrev pub at_place : ℕ → PendingState → PendingState
 at_place place pending = record pending { place = place }
 
-moved : (stored : Stored) (pending : PendingState) (place : ℕ) → IsFound stored pending → IsFound stored (at_place place pending)
-moved stored pending place is = record {
+moved : (modules : Modules) (pending : PendingState) (place : ℕ) → IsFound modules pending → IsFound modules (at_place place pending)
+moved modules pending place is = record {
   path_is = is.path_is;
   component_fits = is.component_fits;
   module_fits = is.module_fits;
@@ -81,33 +81,33 @@ at_take (suc end) [] place need h = absurd cc
 at_take (suc end) (x ∷ needs) zero need h = h
 at_take (suc end) (x ∷ needs) (suc place) need h = at_take end needs place need h
 
-pub waits_behind : (store : StoreState) (needs : List Path) (start place : ℕ) → WaitsAt store (drop start needs) place → WaitsAt store needs (start + place)
-waits_behind store needs start place w = record { need = w.need; is_there = sym (at_drop start needs place) ∙ w.is_there; waits = w.waits }
+pub waits_behind : (state : ModulesState) (needs : List Path) (start place : ℕ) → WaitsAt state (drop start needs) place → WaitsAt state needs (start + place)
+waits_behind state needs start place w = record { need = w.need; is_there = sym (at_drop start needs place) ∙ w.is_there; waits = w.waits }
 
-pub waits_before : (store : StoreState) (needs : List Path) (end place : ℕ) → WaitsAt store (take end needs) place → WaitsAt store needs place
-waits_before store needs end place w = record { need = w.need; is_there = at_take end needs place w.need w.is_there; waits = w.waits }
+pub waits_before : (state : ModulesState) (needs : List Path) (end place : ℕ) → WaitsAt state (take end needs) place → WaitsAt state needs place
+waits_before state needs end place w = record { need = w.need; is_there = at_take end needs place w.need w.is_there; waits = w.waits }
 
 never_both : (b : Bool) → (b && false) ≡ false
 never_both true = refl
 never_both false = refl
 
-unsettled_at : (stored : Stored) (needs : List Path) (place : ℕ) (need : Path) → slice_get needs place ≡ Some need → look stored need ≡ Waiting → are_settled stored needs ≡ false
-unsettled_at stored [] place need h waits = absurd cc
-unsettled_at stored (x ∷ needs) zero need h waits =
+unsettled_at : (modules : Modules) (needs : List Path) (place : ℕ) (need : Path) → slice_get needs place ≡ Some need → look_up modules need ≡ Waiting → are_settled modules needs ≡ false
+unsettled_at modules [] place need h waits = absurd cc
+unsettled_at modules (x ∷ needs) zero need h waits =
     let same : x ≡ need = cc in
-    ap (λ (r : Resource). is_settled r && are_settled stored needs) (ap (look stored) same ∙ waits)
-unsettled_at stored (x ∷ needs) (suc place) need h waits =
-    ap (λ (b : Bool). is_settled (look stored x) && b) (unsettled_at stored needs place need h waits) ∙ never_both (is_settled (look stored x))
+    ap (λ (r : Resource). is_settled r && are_settled modules needs) (ap (look_up modules) same ∙ waits)
+unsettled_at modules (x ∷ needs) (suc place) need h waits =
+    ap (λ (b : Bool). is_settled (look_up modules x) && b) (unsettled_at modules needs place need h waits) ∙ never_both (is_settled (look_up modules x))
 
 -- something is waited for
-pub goes_on : (store : StoreState) (pending : PendingState) (place : ℕ) (before : List ℕ) → WaitsAt store pending.draft.needs place → Loads store (kept.Pending pending) (load.Waits (kept.Pending (at_place place pending))) before before
-goes_on store pending place before w = record {
+pub goes_on : (state : ModulesState) (pending : PendingState) (place : ℕ) (before : List ℕ) → WaitsAt state pending.draft.needs place → Loads state (kept.Pending pending) (load.Waits (kept.Pending (at_place place pending))) before before
+goes_on state pending place before w = record {
   text = [];
   printed = sym (append-nil before);
-  loads = comes_of store pending (load.Waits (kept.Pending (at_place place pending))) [] (λ stored stands is read right. record {
-    none = reading_pending stored pending is ∙ ap (λ (b : Bool). cond b (Some (Ok (given_now stored pending.draft))) None) (unsettled_at stored pending.draft.needs place w.need w.is_there (w.waits stored stands));
+  loads = comes_of state pending (load.Waits (kept.Pending (at_place place pending))) [] (λ modules stands is read right. record {
+    none = reading_pending modules pending is ∙ ap (λ (b : Bool). cond b (Some (Ok (given_now modules pending.draft))) None) (unsettled_at modules pending.draft.needs place w.need w.is_there (w.waits modules stands));
     still = refl;
-    current = moved stored pending place is;
+    current = moved modules pending place is;
     silent = refl;
   });
 }
@@ -116,15 +116,15 @@ goes_on store pending place before w = record {
 
 -- it is the one that the draft opens
 opened_as : (read : Reader) (path : Path) (draft : DraftState) (items : List Item) (rules : List Rule) (programs : List ToldProgram) (handlers : List HandlerState) (bad : List ℕ) (document : KeptDocument)
-    → document ≡ kept_first path items rules programs handlers document.lent document.now → items ≡ draft.items → rules ≡ document_rules draft → AreScripts read (sources_of draft) programs handlers bad
+    → document ≡ kept_first path items rules programs handlers document.lent document.now document.modules → items ≡ draft.items → rules ≡ document_rules draft → AreScripts read (sources_of draft) programs handlers bad
     → IsDocument document (opened read path draft)
 opened_as read path draft items rules programs handlers bad document is items_are rules_are scripts = record {
   programs = subst (λ (told : List ToldProgram). AllZip Tells (programs_by read (sources_of draft)) told) (sym (ap (λ (d : KeptDocument). d.programs) is)) scripts.programs_are;
   others =
       is
-      ∙ ap (λ (i : List Item). kept_first path i rules programs handlers document.lent document.now) items_are
-      ∙ ap (λ (r : List Rule). kept_first path draft.items r programs handlers document.lent document.now) rules_are
-      ∙ ap (λ (h : List HandlerState). kept_first path draft.items (document_rules draft) programs h document.lent document.now) scripts.handlers_are
+      ∙ ap (λ (i : List Item). kept_first path i rules programs handlers document.lent document.now document.modules) items_are
+      ∙ ap (λ (r : List Rule). kept_first path draft.items r programs handlers document.lent document.now document.modules) rules_are
+      ∙ ap (λ (h : List HandlerState). kept_first path draft.items (document_rules draft) programs h document.lent document.now document.modules) scripts.handlers_are
       ∙ same_beside document (opened read path draft) programs (ap (λ (d : KeptDocument). d.programs) is) (ap (λ (d : KeptDocument). d.worked) is) (ap (λ (d : KeptDocument). d.launched) is);
 }
   where
@@ -136,23 +136,23 @@ opened_as read path draft items rules programs handlers bad document is items_ar
         ∙ ap (λ (p : Option Path). kept_as (record k { programs = told; worked = 0; launched = p }) d) launched)
 
 -- the document that was read is loaded, with what is found of its needs
-pub is_loaded : (store : StoreState) (pending : PendingState) (finished : Finished) (document : KeptDocument) (before after : List ℕ)
-    → ((stored : Stored) → StandsFor store stored → are_settled stored pending.draft.needs ≡ true)
-    → IsFinished store pending.draft finished
-    → document ≡ kept_first pending.path finished.tree finished.rules finished.programs.items (map told_handler finished.handlers.items) document.lent document.now
+pub is_loaded : (state : ModulesState) (pending : PendingState) (finished : Finished) (document : KeptDocument) (before after : List ℕ)
+    → ((modules : Modules) → StandsFor state modules → are_settled modules pending.draft.needs ≡ true)
+    → IsFinished state pending.draft finished
+    → document ≡ kept_first pending.path finished.tree finished.rules finished.programs.items (map told_handler finished.handlers.items) document.lent document.now document.modules
     → after ≡ before ++ load_lines pending.path finished.bad.items
-    → Loads store (kept.Pending pending) (load.Loaded document) before after
-is_loaded store pending finished document before after settled from is printed = record {
+    → Loads state (kept.Pending pending) (load.Loaded document) before after
+is_loaded state pending finished document before after settled from is printed = record {
   text = load_lines pending.path finished.bad.items;
   printed = printed;
-  loads = comes_of store pending (load.Loaded document) (load_lines pending.path finished.bad.items) (λ stored stands start read right.
+  loads = comes_of state pending (load.Loaded document) (load_lines pending.path finished.bad.items) (λ modules stands start read right.
       let scripts_are = from.scripts_are read right in
       let nothing = ap (λ (d : DraftState). d.given) start.draft_is ∙ ap (λ (needs : List Path). replicate (length needs) None) (sym (ap (λ (d : DraftState). d.needs) start.draft_is)) in
-      let given_is : from.given ≡ given_now stored pending.draft = from.found nothing stored stands in
+      let given_is : from.given ≡ given_now modules pending.draft = from.found nothing modules stands in
       record {
         draft = from.given;
         reading_is =
-            reading_pending stored pending start ∙ ap (λ (b : Bool). cond b (Some (Ok (given_now stored pending.draft))) None) (settled stored stands)
+            reading_pending modules pending start ∙ ap (λ (b : Bool). cond b (Some (Ok (given_now modules pending.draft))) None) (settled modules stands)
             ∙ ap (λ (d : DraftState). Some (Ok d)) (sym given_is);
         document_is =
             opened_as read pending.path from.given finished.tree finished.rules finished.programs.items (map told_handler finished.handlers.items) finished.bad.items document is
@@ -164,36 +164,36 @@ is_loaded store pending finished document before after settled from is printed =
 -- ---- the document that is found
 
 -- what was read under a path is the one that is there
-pub is_read : (stored : Stored) (is_start : Bool) (path : Path) (bytes : List ℕ) (draft : DraftState) (pending : PendingState) → pending.is_start ≡ is_start → pending.path ≡ path → pending.draft ≡ draft → IsStartPath is_start stored path
-    → path.component < 2 ^ 8 → path.«module» < 2 ^ 16 → look stored path ≡ Found bytes
-    → ((items : List Item) × (reading_of bytes ≡ Ok items) × (draft ≡ draft_of path items)) → IsFound stored pending
-is_read stored is_start path bytes draft pending start_is path_is draft_is start component_fits module_fits found reading =
+pub is_read : (modules : Modules) (is_start : Bool) (path : Path) (bytes : List ℕ) (draft : DraftState) (pending : PendingState) → pending.is_start ≡ is_start → pending.path ≡ path → pending.draft ≡ draft → IsStartPath is_start modules path
+    → path.component < 2 ^ 8 → path.«module» < 2 ^ 16 → look_up modules path ≡ Found bytes
+    → ((items : List Item) × (reading_of bytes ≡ Ok items) × (draft ≡ draft_of path items)) → IsFound modules pending
+is_read modules is_start path bytes draft pending start_is path_is draft_is start component_fits module_fits found reading =
     let items_are : pending.draft.items ≡ reading.0 = ap (λ (d : DraftState). d.items) (draft_is ∙ reading.2) in
     record {
-      path_is = subst (λ (b : Bool). IsStartPath b stored pending.path) (sym start_is) (subst (IsStartPath is_start stored) (sym path_is) start);
+      path_is = subst (λ (b : Bool). IsStartPath b modules pending.path) (sym start_is) (subst (IsStartPath is_start modules) (sym path_is) start);
       component_fits = subst (λ (p : Path). p.component < 2 ^ 8) (sym path_is) component_fits;
       module_fits = subst (λ (p : Path). p.«module» < 2 ^ 16) (sym path_is) module_fits;
       bytes = bytes;
-      found = ap (look stored) path_is ∙ found;
+      found = ap (look_up modules) path_is ∙ found;
       reading_is = reading.1 ∙ ap (λ (items : List Item). Ok items) (sym items_are);
       draft_is = draft_is ∙ reading.2 ∙ ap₂ draft_of (sym path_is) (sym items_are);
     }
 
 -- a start path is the path of the start document, and every other is its own
-path_is_wanted : (is_start : Bool) (stored : Stored) (path : Path) → IsStartPath is_start stored path → wanted_path (wanted_at is_start path) stored ≡ Some path
-path_is_wanted true stored path is = ap (λ (p : Path). Some p) (sym is)
-path_is_wanted false stored path is = refl
+path_is_wanted : (is_start : Bool) (modules : Modules) (path : Path) → IsStartPath is_start modules path → wanted_path (wanted_at is_start path) modules ≡ Some path
+path_is_wanted true modules path is = ap (λ (p : Path). Some p) (sym is)
+path_is_wanted false modules path is = refl
 
 -- what comes of the document that was read comes of the one that is at this path
-pub loads_read : {E : Type 0} (result : Result Load E) (store : StoreState) (is_start : Bool) (path : Path) (pending : PendingState) (before after : List ℕ) → pending.is_start ≡ is_start → pending.path ≡ path
-    → ((stored : Stored) → StandsFor store stored → IsStartPath is_start stored path → IsFound stored pending)
-    → IfOk result (λ load. Loads store (kept.Pending pending) load before after) → IfOk result (λ load. LoadsUnread store is_start path load before after)
-loads_read (Ok load) store is_start path pending before after start_is path_is is loads = record {
+pub loads_read : {E : Type 0} (result : Result Load E) (state : ModulesState) (is_start : Bool) (path : Path) (pending : PendingState) (before after : List ℕ) → pending.is_start ≡ is_start → pending.path ≡ path
+    → ((modules : Modules) → StandsFor state modules → IsStartPath is_start modules path → IsFound modules pending)
+    → IfOk result (λ load. Loads state (kept.Pending pending) load before after) → IfOk result (λ load. LoadsUnread state is_start path load before after)
+loads_read (Ok load) state is_start path pending before after start_is path_is is loads = record {
   text = loads.text;
   printed = loads.printed;
-  loads = λ stored stands start read right.
+  loads = λ modules stands start read right.
       let same : wanted_at pending.is_start pending.path ≡ wanted_at is_start path = ap₂ wanted_at start_is path_is in
-      subst (λ (w : Wanted). LoadsAs read stored w path load loads.text) same
-      (loads.loads stored stands (is stored stands start) path (ap (λ (w : Wanted). wanted_path w stored) same ∙ path_is_wanted is_start stored path start) read right);
+      subst (λ (w : Wanted). LoadsAs read modules w path load loads.text) same
+      (loads.loads modules stands (is modules stands start) path (ap (λ (w : Wanted). wanted_path w modules) same ∙ path_is_wanted is_start modules path start) read right);
 }
-loads_read (Err error) store is_start path pending before after start_is path_is is loads = tt
+loads_read (Err error) state is_start path pending before after start_is path_is is loads = tt

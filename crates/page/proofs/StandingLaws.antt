@@ -1,22 +1,28 @@
 -- What becomes of what is kept of a document that is wanted, where changes in modules are posted.
 use Rattle.std.proofs.Common.{◌≡◌, ◌∙◌, ℕ, ◌<◌, Bool, true, false, cond, eqb, ◌&&◌, List, [], ◌∷◌, refl, sym, ap, ap₂, subst}
-use Rattle.std.specs.Prelude.{◌||◌, AllPairs, map}
+use Rattle.std.specs.Prelude.{◌||◌, AllPairs, Option, Some, None, map}
+use Rattle.std.specs.Option.{option_map_or}
 use Rattle.std.specs.List.{list_any}
 use Rattle.std.proofs.lemmas.Bool.{eq-eqb, eqb-true}
 use Rattle.multipart_entities.specs.declared.paths.Path.{Path}
 use Rattle.carousel_blocks.specs.declared.changes.Change.{Change}
 use Rattle.psi_tables.specs.declared.components.Component.{Component}
 use Rattle.psi_tables.specs.Components.{AreApart}
-use Rattle.module_store.specs.Resources.{look, start_component, start_path}
+use Rattle.module_locks.specs.Locks.{Modules, changes_by, kept_on, look_up, start_path, start_path_as, with_map, with_section}
+use Rattle.module_locks.specs.Standing.{ModulesState}
+use Rattle.module_locks.specs.Standing as of_modules
+use Rattle.module_store.specs.Copies.{KeptModule}
+use Rattle.module_store.specs.Resources.{start_component}
+use Rattle.module_store.specs.Resources as resources
 use Rattle.module_store.specs.Resources.Resource.{Found}
 use Rattle.module_store.specs.Staying.{tells_of, is_gone}
-use Rattle.module_store.specs.Store.{Stored, changes_by, with_section, gone_by, with_map}
+use Rattle.module_store.specs.Store.{gone_by}
 use Rattle.page.specs.declared.loading.Loading.{Loading}
 use Rattle.page.specs.declared.loading.Loading.TheVariants as kept
 use Rattle.page.specs.Pendings.{IsCurrent, loading_behind, loading_behind_all, unread, wanted_at, wanted_of}
 use Rattle.page.specs.PendingStates.{IsFound, IsStartPath, PendingState}
-use Rattle.page.specs.Standing.{PageState, StandsAmid, StandsFor, behind_change}
-use Rattle.page.specs.State.{State}
+use Rattle.page.specs.Standing.{PageState, StandsAmid, StandsFor}
+use Rattle.page.specs.State.{State, with_modules}
 
 -- ---- what is wanted stays so
 
@@ -34,10 +40,15 @@ wanted_behind component change (kept.At path) = refl
 wanted_behind component change (kept.Pending pending) = wanted_anew (eqb pending.path.component component && eqb change.«module» pending.path.«module») pending
 wanted_behind component change kept.Nothing = refl
 
+-- behind a change in a module of a component
+abbrev pub behind_change : ℕ → Change → PageState → PageState
+behind_change component change page = record page { loading = loading_behind component change page.loading }
+
 -- behind a change, the page is in the same state, and those behind it are still to be posted
-pub stands_followed : (component : ℕ) (change : Change) (changes : List (ℕ × Change)) (page : PageState) (stored : Stored) (s : State) → StandsAmid page stored ((component, change) ∷ changes) s
-    → StandsAmid (behind_change component change page) stored changes s
-stands_followed component change changes page stored s stands = record {
+pub stands_followed : (component : ℕ) (change : Change) (changes : List (ℕ × Change)) (page : PageState) (modules : ModulesState) (s : State) → StandsAmid page modules ((component, change) ∷ changes) s
+    → StandsAmid (behind_change component change page) modules changes s
+stands_followed component change changes page modules s stands = record {
+  modules_are = stands.modules_are;
   reader = stands.reader;
   document = stands.document;
   wanted = wanted_behind component change page.loading ∙ stands.wanted;
@@ -65,9 +76,9 @@ still_unread : (is_start : Bool) (path : Path) (changes : List (ℕ × Change)) 
 still_unread true path changes = still_start changes
 still_unread false path changes = still_at path changes
 
-unread_current : (is_start : Bool) (path : Path) (stored : Stored) → IsCurrent stored (unread is_start path)
-unread_current true path stored = tt
-unread_current false path stored = tt
+unread_current : (is_start : Bool) (path : Path) (modules : Modules) → IsCurrent modules (unread is_start path)
+unread_current true path modules = tt
+unread_current false path modules = tt
 
 -- one of them is of this module of that component
 abbrev is_told : ℕ → ℕ → List (ℕ × Change) → Bool
@@ -89,7 +100,7 @@ pending_behind_all (change ∷ changes) pending = by (eqb pending.path.component
 
 -- ---- a document that was read stays the one that is there
 
-still_found : (one other : Stored) (pending : PendingState) (is : IsFound one pending) → look other pending.path ≡ Found is.bytes → IsStartPath pending.is_start other pending.path → IsFound other pending
+still_found : (one other : Modules) (pending : PendingState) (is : IsFound one pending) → look_up other pending.path ≡ Found is.bytes → IsStartPath pending.is_start other pending.path → IsFound other pending
 still_found one other pending is found start = record {
   path_is = start;
   component_fits = is.component_fits;
@@ -100,8 +111,18 @@ still_found one other pending is found start = record {
   draft_is = is.draft_is;
 }
 
+-- whatever is locked, the start path is one of its module
+start_place : (modules : Modules) → ((start_path modules).component ≡ start_component) × ((start_path modules).«module» ≡ 0)
+start_place modules = by (kept_on modules.locks start_component 0)
+  where
+    by : (o : Option KeptModule)
+        → ((option_map_or (λ kept. start_path_as kept.is_entity) o (resources.start_path modules.stored)).component ≡ start_component)
+        × ((option_map_or (λ kept. start_path_as kept.is_entity) o (resources.start_path modules.stored)).«module» ≡ 0)
+    by None = (refl, refl)
+    by (Some kept) = (refl, refl)
+
 -- the start path stays where what is found there does
-still_start_path : (one other : Stored) (is_start : Bool) (path : Path) → IsStartPath is_start one path → (path ≡ start_path one → start_path other ≡ start_path one) → IsStartPath is_start other path
+still_start_path : (one other : Modules) (is_start : Bool) (path : Path) → IsStartPath is_start one path → (path ≡ start_path one → start_path other ≡ start_path one) → IsStartPath is_start other path
 still_start_path one other true path is same = is ∙ sym (same is)
 still_start_path one other false path is same = tt
 
@@ -128,69 +149,76 @@ gone_is_told tag number (change ∷ gone) =
 
 -- what is found in a module stays, until a change of it is told
 abbrev FoundInSections : Type 0
-FoundInSections = (stored : Stored) (component : ℕ) (section : List ℕ) (path : Path) (bytes : List ℕ) → path.«module» < 65536 → look stored path ≡ Found bytes
-    → (component ≡ path.component → tells_of path.«module» (changes_by component section stored) ≡ false) → look (with_section component section stored) path ≡ Found bytes
+FoundInSections = (modules : Modules) (component : ℕ) (section : List ℕ) (path : Path) (bytes : List ℕ) → path.«module» < 65536 → look_up modules path ≡ Found bytes
+    → (component ≡ path.component → tells_of path.«module» (changes_by component section modules) ≡ false) → look_up (with_section component section modules) path ≡ Found bytes
 
 abbrev StartInSections : Type 0
-StartInSections = (stored : Stored) (component : ℕ) (section : List ℕ) (bytes : List ℕ) → look stored (start_path stored) ≡ Found bytes
-    → (component ≡ start_component → tells_of 0 (changes_by component section stored) ≡ false) → start_path (with_section component section stored) ≡ start_path stored
+StartInSections = (modules : Modules) (component : ℕ) (section : List ℕ)
+    → (component ≡ start_component → tells_of 0 (changes_by component section modules) ≡ false) → start_path (with_section component section modules) ≡ start_path modules
 
 abbrev FoundInMaps : Type 0
-FoundInMaps = (stored : Stored) (components : List Component) (path : Path) (bytes : List ℕ) → path.component < 256 → path.«module» < 65536 → AllPairs AreApart components → look stored path ≡ Found bytes
-    → is_gone path.component path.«module» (gone_by components stored) ≡ false → look (with_map components stored) path ≡ Found bytes
+FoundInMaps = (modules : Modules) (components : List Component) (path : Path) (bytes : List ℕ) → path.component < 256 → path.«module» < 65536 → AllPairs AreApart components → look_up modules path ≡ Found bytes
+    → is_gone path.component path.«module» (gone_by components modules.stored) ≡ false → look_up (with_map components modules) path ≡ Found bytes
 
 abbrev StartInMaps : Type 0
-StartInMaps = (stored : Stored) (components : List Component) (bytes : List ℕ) → AllPairs AreApart components → look stored (start_path stored) ≡ Found bytes
-    → is_gone start_component 0 (gone_by components stored) ≡ false → start_path (with_map components stored) ≡ start_path stored
+StartInMaps = (modules : Modules) (components : List Component) → AllPairs AreApart components
+    → is_gone start_component 0 (gone_by components modules.stored) ≡ false → start_path (with_map components modules) ≡ start_path modules
 
-pending_in_sections : FoundInSections → StartInSections → (stored : Stored) (component : ℕ) (section : List ℕ) (pending : PendingState) (told : Bool)
-    → is_told pending.path.component pending.path.«module» (map (λ change. (component, change)) (changes_by component section stored)) ≡ told
-    → IsFound stored pending → IsCurrent (with_section component section stored) (left_of told pending)
-pending_in_sections found start stored component section pending true e is = unread_current pending.is_start pending.path (with_section component section stored)
-pending_in_sections found start stored component section pending false e is =
-    let none = untold component pending.path.component pending.path.«module» (changes_by component section stored) e in
-    still_found stored (with_section component section stored) pending is
-    (found stored component section pending.path is.bytes is.module_fits is.found none)
-    (still_start_path stored (with_section component section stored) pending.is_start pending.path is.path_is
-    (λ path_is. start stored component section is.bytes (ap (look stored) (sym path_is) ∙ is.found)
-    (subst (λ (path : Path). component ≡ path.component → tells_of path.«module» (changes_by component section stored) ≡ false) path_is none)))
+pending_in_sections : FoundInSections → StartInSections → (modules : Modules) (component : ℕ) (section : List ℕ) (pending : PendingState) (told : Bool)
+    → is_told pending.path.component pending.path.«module» (map (λ change. (component, change)) (changes_by component section modules)) ≡ told
+    → IsFound modules pending → IsCurrent (with_section component section modules) (left_of told pending)
+pending_in_sections found start modules component section pending true e is = unread_current pending.is_start pending.path (with_section component section modules)
+pending_in_sections found start modules component section pending false e is =
+    let none = untold component pending.path.component pending.path.«module» (changes_by component section modules) e in
+    still_found modules (with_section component section modules) pending is
+    (found modules component section pending.path is.bytes is.module_fits is.found none)
+    (still_start_path modules (with_section component section modules) pending.is_start pending.path is.path_is
+    (λ path_is. start modules component section (λ same.
+    subst (λ (number : ℕ). tells_of number (changes_by component section modules) ≡ false)
+    (ap (λ (path : Path). path.«module») path_is ∙ (start_place modules).1)
+    (none (same ∙ sym (ap (λ (path : Path). path.component) path_is ∙ (start_place modules).0))))))
 
-current_in_sections : FoundInSections → StartInSections → (stored : Stored) (component : ℕ) (section : List ℕ) (loading : Loading) → IsCurrent stored loading
-    → IsCurrent (with_section component section stored) (loading_behind_all (map (λ change. (component, change)) (changes_by component section stored)) loading)
-current_in_sections found start stored component section kept.Start is =
-    subst (λ (x : Loading). IsCurrent (with_section component section stored) x) (sym (still_start (map (λ change. (component, change)) (changes_by component section stored)))) tt
-current_in_sections found start stored component section (kept.At path) is =
-    subst (λ (x : Loading). IsCurrent (with_section component section stored) x) (sym (still_at path (map (λ change. (component, change)) (changes_by component section stored)))) tt
-current_in_sections found start stored component section (kept.Pending pending) is =
-    subst (λ (x : Loading). IsCurrent (with_section component section stored) x) (sym (pending_behind_all (map (λ change. (component, change)) (changes_by component section stored)) pending))
-    (pending_in_sections found start stored component section pending _ refl is)
-current_in_sections found start stored component section kept.Nothing is =
-    subst (λ (x : Loading). IsCurrent (with_section component section stored) x) (sym (still_nothing (map (λ change. (component, change)) (changes_by component section stored)))) tt
+current_in_sections : FoundInSections → StartInSections → (modules : Modules) (component : ℕ) (section : List ℕ) (loading : Loading) → IsCurrent modules loading
+    → IsCurrent (with_section component section modules) (loading_behind_all (map (λ change. (component, change)) (changes_by component section modules)) loading)
+current_in_sections found start modules component section kept.Start is =
+    subst (λ (x : Loading). IsCurrent (with_section component section modules) x) (sym (still_start (map (λ change. (component, change)) (changes_by component section modules)))) tt
+current_in_sections found start modules component section (kept.At path) is =
+    subst (λ (x : Loading). IsCurrent (with_section component section modules) x) (sym (still_at path (map (λ change. (component, change)) (changes_by component section modules)))) tt
+current_in_sections found start modules component section (kept.Pending pending) is =
+    subst (λ (x : Loading). IsCurrent (with_section component section modules) x) (sym (pending_behind_all (map (λ change. (component, change)) (changes_by component section modules)) pending))
+    (pending_in_sections found start modules component section pending _ refl is)
+current_in_sections found start modules component section kept.Nothing is =
+    subst (λ (x : Loading). IsCurrent (with_section component section modules) x) (sym (still_nothing (map (λ change. (component, change)) (changes_by component section modules)))) tt
 
-pending_in_maps : FoundInMaps → StartInMaps → (stored : Stored) (components : List Component) (pending : PendingState) (told : Bool) → AllPairs AreApart components
-    → is_told pending.path.component pending.path.«module» (gone_by components stored) ≡ told → IsFound stored pending → IsCurrent (with_map components stored) (left_of told pending)
-pending_in_maps found start stored components pending true apart e is = unread_current pending.is_start pending.path (with_map components stored)
-pending_in_maps found start stored components pending false apart e is =
-    let none = gone_is_told pending.path.component pending.path.«module» (gone_by components stored) ∙ e in
-    still_found stored (with_map components stored) pending is
-    (found stored components pending.path is.bytes is.component_fits is.module_fits apart is.found none)
-    (still_start_path stored (with_map components stored) pending.is_start pending.path is.path_is
-    (λ path_is. start stored components is.bytes apart (ap (look stored) (sym path_is) ∙ is.found)
-    (subst (λ (path : Path). is_gone path.component path.«module» (gone_by components stored) ≡ false) path_is none)))
+pending_in_maps : FoundInMaps → StartInMaps → (modules : Modules) (components : List Component) (pending : PendingState) (told : Bool) → AllPairs AreApart components
+    → is_told pending.path.component pending.path.«module» (gone_by components modules.stored) ≡ told → IsFound modules pending → IsCurrent (with_map components modules) (left_of told pending)
+pending_in_maps found start modules components pending true apart e is = unread_current pending.is_start pending.path (with_map components modules)
+pending_in_maps found start modules components pending false apart e is =
+    let none = gone_is_told pending.path.component pending.path.«module» (gone_by components modules.stored) ∙ e in
+    still_found modules (with_map components modules) pending is
+    (found modules components pending.path is.bytes is.component_fits is.module_fits apart is.found none)
+    (still_start_path modules (with_map components modules) pending.is_start pending.path is.path_is
+    (λ path_is. start modules components apart
+    (sym (ap₂ (λ (component number : ℕ). is_gone component number (gone_by components modules.stored))
+    (ap (λ (path : Path). path.component) path_is ∙ (start_place modules).0)
+    (ap (λ (path : Path). path.«module») path_is ∙ (start_place modules).1))
+    ∙ none)))
 
-current_in_maps : FoundInMaps → StartInMaps → (stored : Stored) (components : List Component) (loading : Loading) → AllPairs AreApart components → IsCurrent stored loading
-    → IsCurrent (with_map components stored) (loading_behind_all (gone_by components stored) loading)
-current_in_maps found start stored components kept.Start apart is = subst (λ (x : Loading). IsCurrent (with_map components stored) x) (sym (still_start (gone_by components stored))) tt
-current_in_maps found start stored components (kept.At path) apart is = subst (λ (x : Loading). IsCurrent (with_map components stored) x) (sym (still_at path (gone_by components stored))) tt
-current_in_maps found start stored components (kept.Pending pending) apart is =
-    subst (λ (x : Loading). IsCurrent (with_map components stored) x) (sym (pending_behind_all (gone_by components stored) pending)) (pending_in_maps found start stored components pending _ apart refl is)
-current_in_maps found start stored components kept.Nothing apart is = subst (λ (x : Loading). IsCurrent (with_map components stored) x) (sym (still_nothing (gone_by components stored))) tt
+current_in_maps : FoundInMaps → StartInMaps → (modules : Modules) (components : List Component) (loading : Loading) → AllPairs AreApart components → IsCurrent modules loading
+    → IsCurrent (with_map components modules) (loading_behind_all (gone_by components modules.stored) loading)
+current_in_maps found start modules components kept.Start apart is = subst (λ (x : Loading). IsCurrent (with_map components modules) x) (sym (still_start (gone_by components modules.stored))) tt
+current_in_maps found start modules components (kept.At path) apart is = subst (λ (x : Loading). IsCurrent (with_map components modules) x) (sym (still_at path (gone_by components modules.stored))) tt
+current_in_maps found start modules components (kept.Pending pending) apart is =
+    subst (λ (x : Loading). IsCurrent (with_map components modules) x) (sym (pending_behind_all (gone_by components modules.stored) pending)) (pending_in_maps found start modules components pending _ apart refl is)
+current_in_maps found start modules components kept.Nothing apart is = subst (λ (x : Loading). IsCurrent (with_map components modules) x) (sym (still_nothing (gone_by components modules.stored))) tt
 
 -- ---- the page
 
--- with another store, and what is current there of the document that is wanted once these changes are posted
-stands_behind : (changes : List (ℕ × Change)) (page : PageState) (one other : Stored) (s : State) → StandsFor page one s → IsCurrent other (loading_behind_all changes page.loading) → StandsAmid page other changes s
-stands_behind changes page one other s stands current = record {
+-- with other modules, and what is current there of the document that is wanted once these changes are posted
+stands_behind : (changes : List (ℕ × Change)) (page : PageState) (old new : ModulesState) (modules : Modules) (s : State) → StandsFor page old s → of_modules.StandsFor new modules
+    → IsCurrent modules (loading_behind_all changes page.loading) → StandsAmid page new changes (with_modules modules s)
+stands_behind changes page old new modules s stands are current = record {
+  modules_are = are;
   reader = stands.reader;
   document = stands.document;
   wanted = stands.wanted;
@@ -199,13 +227,20 @@ stands_behind changes page one other s stands current = record {
   browser = stands.browser;
 }
 
-pub stands_in_sections : FoundInSections → StartInSections → (page : PageState) (stored : Stored) (s : State) (component : ℕ) (section : List ℕ) → StandsFor page stored s
-    → StandsAmid page (with_section component section stored) (map (λ change. (component, change)) (changes_by component section stored)) s
-stands_in_sections found start page stored s component section stands =
-    stands_behind (map (λ change. (component, change)) (changes_by component section stored)) page stored (with_section component section stored) s stands
-    (current_in_sections found start stored component section page.loading stands.current)
+pub stands_in_sections : FoundInSections → StartInSections → (page : PageState) (old new : ModulesState) (s : State) (component : ℕ) (section : List ℕ) → StandsFor page old s
+    → of_modules.StandsFor new (with_section component section s.modules)
+    → StandsAmid page new (map (λ change. (component, change)) (changes_by component section s.modules)) (with_modules (with_section component section s.modules) s)
+stands_in_sections found start page old new s component section stands are =
+    stands_behind (map (λ change. (component, change)) (changes_by component section s.modules)) page old new (with_section component section s.modules) s stands are
+    (current_in_sections found start s.modules component section page.loading stands.current)
 
-pub stands_in_maps : FoundInMaps → StartInMaps → (page : PageState) (stored : Stored) (s : State) (components : List Component) → AllPairs AreApart components → StandsFor page stored s
-    → StandsAmid page (with_map components stored) (gone_by components stored) s
-stands_in_maps found start page stored s components apart stands =
-    stands_behind (gone_by components stored) page stored (with_map components stored) s stands (current_in_maps found start stored components page.loading apart stands.current)
+pub stands_in_maps : FoundInMaps → StartInMaps → (page : PageState) (old new : ModulesState) (s : State) (components : List Component) → AllPairs AreApart components → StandsFor page old s
+    → of_modules.StandsFor new (with_map components s.modules) → StandsAmid page new (gone_by components s.modules.stored) (with_modules (with_map components s.modules) s)
+stands_in_maps found start page old new s components apart stands are =
+    stands_behind (gone_by components s.modules.stored) page old new (with_map components s.modules) s stands are (current_in_maps found start s.modules components page.loading apart stands.current)
+
+-- ---- a document that is there
+
+-- nothing is wanted then, and so nothing of it was read, whatever the modules are
+pub nothing_read : (page : PageState) (modules : Modules) (changes : List (ℕ × Change)) → page.loading ≡ kept.Nothing → IsCurrent modules (loading_behind_all changes page.loading)
+nothing_read page modules changes is = subst (λ (loading : Loading). IsCurrent modules (loading_behind_all changes loading)) (sym is) (subst (λ (loading : Loading). IsCurrent modules loading) (sym (still_nothing changes)) tt)

@@ -3,7 +3,6 @@
 use Rattle.std.specs.Prelude.{ℕ, zero, suc, [], Option, Some, None, option_map, option_and_then}
 use Rattle.std.specs.Option.{option_or}
 use Rattle.multipart_entities.specs.declared.paths.Path.{Path}
-use Rattle.module_store.specs.Store.{Stored}
 use Rattle.event_queue.specs.Queues.{first_of}
 use Rattle.acting_documents.specs.Documents.{Document}
 use Rattle.acting_documents.specs.Handling.{handled, without_first}
@@ -11,11 +10,11 @@ use Rattle.page.specs.Loading.{load, loadable_reading, wanted_path}
 use Rattle.page.specs.State.{State, Step, scene_in, step_behind, step_of}
 
 -- the load of the wanted document, where it can be loaded
-abbrev pub load_at : Stored → State → Path → Option Step
-load_at stored s path = option_map (load s path) (loadable_reading stored path)
+abbrev pub load_at : State → Path → Option Step
+load_at s path = option_map (load s path) (loadable_reading s.modules path)
 
-unfoldable pub next_load : Stored → State → Option Step
-next_load stored s = option_and_then (load_at stored s) (wanted_path s.wanted stored)
+unfoldable pub next_load : State → Option Step
+next_load s = option_and_then (load_at s) (wanted_path s.wanted s.modules)
 
 abbrev pub event_in : State → Document → Option Step
 event_in s d =
@@ -27,8 +26,8 @@ next_event s = option_and_then (event_in s) s.document
 
 -- A dispatch first looks whether the wanted document can be loaded, and loads it; else it takes the first event
 -- of the queue, and handles it. There is none where there is neither.
-unfoldable pub dispatch : Stored → State → Option Step
-dispatch stored s = option_or (next_load stored s) (next_event s)
+unfoldable pub dispatch : State → Option Step
+dispatch s = option_or (next_load s) (next_event s)
 
 -- ---- turns
 
@@ -38,13 +37,13 @@ next_and more s None = record { state = s; text = [] }
 next_and more s (Some t) = step_behind t.text (more t.state)
 
 -- at most so many dispatches, one behind the other, as long as there is one
-unfoldable pub dispatches : ℕ → Stored → State → Step
-dispatches zero stored s = record { state = s; text = [] }
-dispatches (suc more) stored s = next_and (dispatches more stored) s (dispatch stored s)
+unfoldable pub dispatches : ℕ → State → Step
+dispatches zero s = record { state = s; text = [] }
+dispatches (suc more) s = next_and (dispatches more) s (dispatch s)
 
 -- a turn makes at most 256, and what waits then waits for the next turn
 unfoldable pub most_dispatches : ℕ
 most_dispatches = 256
 
-unfoldable pub turn : Stored → State → Step
-turn stored s = dispatches most_dispatches stored s
+unfoldable pub turn : State → Step
+turn s = dispatches most_dispatches s

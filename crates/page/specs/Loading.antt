@@ -7,9 +7,9 @@ use Rattle.dom_tree.specs.Items.{Item}
 use Rattle.bml_reader.specs.declared.faults.DocFault.{DocFault}
 use Rattle.bml_reader.specs.Readings.{reading_of}
 use Rattle.multipart_entities.specs.declared.paths.Path.{Path}
-use Rattle.module_store.specs.Resources.{Resource, look, start_path}
+use Rattle.module_locks.specs.Locks.{Modules, look_up, start_path}
+use Rattle.module_store.specs.Resources.{Resource}
 use Rattle.module_store.specs.Resources.Resource.{Found, Waiting, Missing}
-use Rattle.module_store.specs.Store.{Stored}
 use Rattle.es_reader.specs.Readers.{Reader}
 use Rattle.document_load.specs.Drafts.{DraftState, draft_of, with_gifts}
 use Rattle.document_load.specs.Needs.{needs_of}
@@ -30,8 +30,8 @@ is_settled (Found bytes) = true
 is_settled Waiting = false
 is_settled Missing = true
 
-abbrev pub are_settled : Stored → List Path → Bool
-are_settled stored needs = list_all (λ need. is_settled (look stored need)) needs
+abbrev pub are_settled : Modules → List Path → Bool
+are_settled modules needs = list_all (λ need. is_settled (look_up modules need)) needs
 
 -- what is found is given to the document as text; nothing is given for what is missing
 abbrev pub text_found : Resource → Option (List ℕ)
@@ -39,36 +39,36 @@ text_found (Found bytes) = Some (codes bytes)
 text_found Waiting = None
 text_found Missing = None
 
-abbrev pub text_at : Stored → Path → Option (List ℕ)
-text_at stored need = text_found (look stored need)
+abbrev pub text_at : Modules → Path → Option (List ℕ)
+text_at modules need = text_found (look_up modules need)
 
 -- the document with these nodes, for each of whose needs what is found now is given
-abbrev pub given_draft : Stored → Path → List Item → DraftState
-given_draft stored path items =
-    with_gifts (map (text_at stored) (needs_of path items)) (draft_of path items)
+abbrev pub given_draft : Modules → Path → List Item → DraftState
+given_draft modules path items =
+    with_gifts (map (text_at modules) (needs_of path items)) (draft_of path items)
 
 -- A document can be loaded once none of its needs is waited for, and one that is refused has no needs.
-abbrev pub once_settled : Stored → Path → Result (List Item) DocFault
+abbrev pub once_settled : Modules → Path → Result (List Item) DocFault
     → Option (Result DraftState DocFault)
-once_settled stored path (Ok items) =
-    if are_settled stored (needs_of path items) then Some (Ok (given_draft stored path items))
+once_settled modules path (Ok items) =
+    if are_settled modules (needs_of path items) then Some (Ok (given_draft modules path items))
     else None
-once_settled stored path (Err fault) = Some (Err fault)
+once_settled modules path (Err fault) = Some (Err fault)
 
-abbrev pub reading_in : Stored → Path → Resource → Option (Result DraftState DocFault)
-reading_in stored path (Found bytes) = once_settled stored path (reading_of bytes)
-reading_in stored path Waiting = None
-reading_in stored path Missing = None
+abbrev pub reading_in : Modules → Path → Resource → Option (Result DraftState DocFault)
+reading_in modules path (Found bytes) = once_settled modules path (reading_of bytes)
+reading_in modules path Waiting = None
+reading_in modules path Missing = None
 
 -- what is there under a path to be loaded: a document with what it needs, or why it is refused
-abbrev pub loadable_reading : Stored → Path → Option (Result DraftState DocFault)
-loadable_reading stored path = reading_in stored path (look stored path)
+abbrev pub loadable_reading : Modules → Path → Option (Result DraftState DocFault)
+loadable_reading modules path = reading_in modules path (look_up modules path)
 
 -- the path of the document that is wanted; that of the start document is found anew each time
-abbrev pub wanted_path : Wanted → Stored → Option Path
-wanted_path StartDocument stored = Some (start_path stored)
-wanted_path (DocumentAt path) stored = Some path
-wanted_path NoDocument stored = None
+abbrev pub wanted_path : Wanted → Modules → Option Path
+wanted_path StartDocument modules = Some (start_path modules)
+wanted_path (DocumentAt path) modules = Some path
+wanted_path NoDocument modules = None
 
 -- ---- the document, before its scripts run
 

@@ -1,13 +1,12 @@
 -- A device of the proofs: what is kept of a document that is wanted, and what comes of its load, whatever the
--- store stands for.
+-- state stands for.
 use Rattle.std.specs.Prelude.{◌≡◌, ◌==◌, ◌&&◌, Bool, true, false, if◌then◌else◌, ℕ, List, [], ◌∷◌, ◌++◌, slice_get, Option, Some, None, Result, Ok, Err}
 use Rattle.bml_reader.specs.declared.faults.DocFault.{DocFault}
 use Rattle.carousel_blocks.specs.declared.changes.Change.{Change}
 use Rattle.multipart_entities.specs.declared.paths.Path.{Path}
-use Rattle.module_store.specs.Resources.{look}
+use Rattle.module_locks.specs.Locks.{Modules, look_up}
 use Rattle.module_store.specs.Resources.Resource.{Waiting}
-use Rattle.module_store.specs.Standing.{ForStored, StoreState}
-use Rattle.module_store.specs.Store.{Stored}
+use Rattle.module_locks.specs.Standing.{ForModules, ModulesState}
 use Rattle.es_reader.specs.Readers.{Reader, IsReader}
 use Rattle.document_load.specs.Drafts.{DraftState}
 use Rattle.document_load.specs.Scripts.{bad_numbers, sources_of}
@@ -38,9 +37,9 @@ wanted_of (kept.Pending pending) = wanted_at pending.is_start pending.path
 wanted_of kept.Nothing = NoDocument
 
 -- one that was read is the one that is there
-abbrev pub IsCurrent : Stored → Loading → Type 0
-IsCurrent stored (kept.Pending pending) = IsFound stored pending
-IsCurrent stored _ = Unit {0}
+abbrev pub IsCurrent : Modules → Loading → Type 0
+IsCurrent modules (kept.Pending pending) = IsFound modules pending
+IsCurrent modules _ = Unit {0}
 
 -- ---- what changes tell of it
 
@@ -69,22 +68,22 @@ loading_behind_all (change ∷ changes) loading =
 -- ---- a load
 
 -- the need at this place is waited for
-pub record WaitsAt (store : StoreState) (needs : List Path) (place : ℕ) : Type 0 where
+pub record WaitsAt (state : ModulesState) (needs : List Path) (place : ℕ) : Type 0 where
   pub need : Path
   pub is_there : slice_get needs place ≡ Some need
-  pub waits : ForStored store (λ stored. look stored need ≡ Waiting)
+  pub waits : ForModules state (λ modules. look_up modules need ≡ Waiting)
 
 -- a document that goes on waiting knows the place of a need that is waited for
-abbrev pub KnowsItsPlace : StoreState → Load → Type 0
-KnowsItsPlace store (load.Waits (kept.Pending pending)) =
-    WaitsAt store pending.draft.needs pending.place
-KnowsItsPlace store _ = Unit {0}
+abbrev pub KnowsItsPlace : ModulesState → Load → Type 0
+KnowsItsPlace state (load.Waits (kept.Pending pending)) =
+    WaitsAt state pending.draft.needs pending.place
+KnowsItsPlace state _ = Unit {0}
 
-pub record GoesOn (stored : Stored) (wanted : Wanted) (reading : Option (Result DraftState DocFault))
+pub record GoesOn (modules : Modules) (wanted : Wanted) (reading : Option (Result DraftState DocFault))
     (loading : Loading) (text : List ℕ) : Type 0 where
   pub none : reading ≡ None
   pub still : wanted_of loading ≡ wanted
-  pub current : IsCurrent stored loading
+  pub current : IsCurrent modules loading
   pub silent : text ≡ []
 
 pub record IsRefused (path : Path) (reading : Option (Result DraftState DocFault))
@@ -101,37 +100,37 @@ pub record IsLoaded (read : Reader) (path : Path) (reading : Option (Result Draf
   pub text_is : text ≡ load_lines path (bad_numbers read (sources_of draft))
 
 -- what comes of a reading under the path of what is wanted, and the lines that tell it
-abbrev pub LoadsAs : Reader → Stored → Wanted → Path → Load → List ℕ → Type 0
-LoadsAs read stored wanted path (load.Waits loading) text =
-    GoesOn stored wanted (loadable_reading stored path) loading text
-LoadsAs read stored wanted path load.Refused text =
-    IsRefused path (loadable_reading stored path) text
-LoadsAs read stored wanted path (load.Loaded document) text =
-    IsLoaded read path (loadable_reading stored path) document text
+abbrev pub LoadsAs : Reader → Modules → Wanted → Path → Load → List ℕ → Type 0
+LoadsAs read modules wanted path (load.Waits loading) text =
+    GoesOn modules wanted (loadable_reading modules path) loading text
+LoadsAs read modules wanted path load.Refused text =
+    IsRefused path (loadable_reading modules path) text
+LoadsAs read modules wanted path (load.Loaded document) text =
+    IsLoaded read path (loadable_reading modules path) document text
 
 -- A text was printed, and this came of what was kept of a document that is wanted.
-pub record Loads (store : StoreState) (old : Loading) (new : Load) (before after : List ℕ)
+pub record Loads (state : ModulesState) (old : Loading) (new : Load) (before after : List ℕ)
     : Type 0 where
   pub text : List ℕ
   pub printed : after ≡ before ++ text
-  pub loads : ForStored store (λ stored. IsCurrent stored old → (path : Path)
-      → wanted_path (wanted_of old) stored ≡ Some path → (read : Reader) → IsReader read
-      → LoadsAs read stored (wanted_of old) path new text)
+  pub loads : ForModules state (λ modules. IsCurrent modules old → (path : Path)
+      → wanted_path (wanted_of old) modules ≡ Some path → (read : Reader) → IsReader read
+      → LoadsAs read modules (wanted_of old) path new text)
 
 -- The same of a document that wasn't read, and is at this path.
-pub record LoadsUnread (store : StoreState) (is_start : Bool) (path : Path) (new : Load)
+pub record LoadsUnread (state : ModulesState) (is_start : Bool) (path : Path) (new : Load)
     (before after : List ℕ) : Type 0 where
   pub text : List ℕ
   pub printed : after ≡ before ++ text
-  pub loads : ForStored store (λ stored. IsStartPath is_start stored path
+  pub loads : ForModules state (λ modules. IsStartPath is_start modules path
       → (read : Reader) → IsReader read
-      → LoadsAs read stored (wanted_at is_start path) path new text)
+      → LoadsAs read modules (wanted_at is_start path) path new text)
 
 -- The same of the document that is loaded of a draft at a path, where nothing that it needs is waited for.
-abbrev pub LoadsSettled : StoreState → Path → DraftState → KeptDocument → List ℕ → List ℕ → Type 0
-LoadsSettled store path draft document before after =
+abbrev pub LoadsSettled : ModulesState → Path → DraftState → KeptDocument → List ℕ → List ℕ → Type 0
+LoadsSettled state path draft document before after =
     (is_start : Bool) (place : ℕ)
-    → ForStored store (λ stored. are_settled stored draft.needs ≡ true)
-    → Loads store
+    → ForModules state (λ modules. are_settled modules draft.needs ≡ true)
+    → Loads state
     (kept.Pending (record { is_start = is_start; path = path; draft = draft; place = place }))
     (load.Loaded document) before after

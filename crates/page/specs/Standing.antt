@@ -1,9 +1,9 @@
--- For which state a page stands, with the store that it is lent. (This project's own.)
-use Rattle.std.specs.Prelude.{◌≡◌, ◌++◌, Bool, true, false, ℕ, List, [], ◌∷◌, Option, Some, None}
+-- For which state a page stands, with the modules of the service. (This project's own.)
+use Rattle.std.specs.Prelude.{◌≡◌, ◌++◌, Bool, true, false, ℕ, List, [], Option, Some, None}
 use Rattle.carousel_blocks.specs.declared.changes.Change.{Change}
 use Rattle.multipart_entities.specs.declared.paths.Path.{Path}
-use Rattle.module_store.specs.Standing.{ForStored, StoreState}
-use Rattle.module_store.specs.Store.{Stored}
+use Rattle.module_locks.specs.Standing.{ModulesState}
+use Rattle.module_locks.specs.Standing as of_modules
 use Rattle.es_reader.specs.Readers.{IsReader}
 use Rattle.event_queue.specs.Timers.{no_timers}
 use Rattle.browser_objects.specs.Calls.{BrowserParts}
@@ -13,12 +13,12 @@ use Rattle.acting_documents.specs.Kept.{IsDocument, KeptDocument}
 use Rattle.acting_documents.specs.Beginnings.{load_effect}
 use Rattle.page.specs.Acts.{Acts}
 use Rattle.page.specs.Inputs.{changes_step}
-use Rattle.page.specs.Pendings.{IsCurrent, loading_behind, loading_behind_all, wanted_of}
+use Rattle.page.specs.Pendings.{IsCurrent, loading_behind_all, wanted_of}
 use Rattle.page.specs.State.{State, Step, still}
 use Rattle.page.specs.declared.loading.Load.{Load}
 use Rattle.page.specs.declared.loading.Load.TheVariants as came
 use Rattle.page.specs.declared.loading.Loading.{Loading}
-use Rattle.page.specs.declared.loading.Loading.TheVariants.{At}
+use Rattle.page.specs.declared.loading.Loading.TheVariants.{At, Nothing}
 
 pub record PageState : Type 0 where
   -- the time; the registers, the persistent area and the random words, and the timers
@@ -39,20 +39,22 @@ AreDocuments (Some kept) (Some d) = IsDocument kept d
 AreDocuments None (Some d) = ⊥
 AreDocuments (Some kept) None = ⊥
 
--- The page is in this state, and these changes in the store, each with its component, are still to be posted to it. What
--- it has read of a document that waits is what the store has of it, unless one of them is of its module.
-pub record StandsAmid (page : PageState) (stored : Stored) (changes : List (ℕ × Change)) (s : State)
-    : Type 0 where
+-- The page with these modules is in this state, and these changes in the modules, each with its component, are still to
+-- be posted to it. What it has read of a document that waits is what the modules have of it, unless one of them is of its
+-- module.
+pub record StandsAmid (page : PageState) (modules : ModulesState) (changes : List (ℕ × Change))
+    (s : State) : Type 0 where
+  pub modules_are : of_modules.StandsFor modules s.modules
   pub reader : IsReader s.read
   pub document : AreDocuments page.document s.document
   pub wanted : wanted_of page.loading ≡ s.wanted
-  pub current : IsCurrent stored (loading_behind_all changes page.loading)
+  pub current : IsCurrent s.modules (loading_behind_all changes page.loading)
   pub clock : page.clock ≡ s.clock
   pub browser : page.browser ≡ s.browser
 
--- The page is in this state, and each change in the store was posted.
-abbrev pub StandsFor : PageState → Stored → State → Type 0
-StandsFor page stored s = StandsAmid page stored [] s
+-- The page with these modules is in this state, and each change in them was posted.
+abbrev pub StandsFor : PageState → ModulesState → State → Type 0
+StandsFor page modules s = StandsAmid page modules [] s
 
 -- the persistent area
 abbrev pub page_area : PageState → List ℕ
@@ -65,30 +67,31 @@ IsSpent page = page.spent ≡ true
 -- ---- calls
 
 -- the page is in the state that the step leaves, and this is what it prints
-pub record HasMade (page : PageState) (stored : Stored) (text : List ℕ) (t : Step) : Type 0 where
-  pub stands : StandsFor page stored t.state
+pub record HasMade (page : PageState) (modules : ModulesState) (text : List ℕ) (t : Step)
+    : Type 0 where
+  pub stands : StandsFor page modules t.state
   pub text_is : text ≡ t.text
 
--- A text was printed, and whatever state the page was in, with whatever store, it has made the step.
+-- A text was printed, and whatever state the page was in, with whatever modules, it has made the step.
 pub record Makes (step : State → Step) (old new : PageState) (before after : List ℕ)
     : Type 0 where
   pub text : List ℕ
   pub printed : after ≡ before ++ text
-  pub makes : (stored : Stored) (s : State) → StandsFor old stored s
-      → HasMade new stored text (step s)
+  pub makes : (modules : ModulesState) (s : State) → StandsFor old modules s
+      → HasMade new modules text (step s)
 
 -- The same amid changes that are still to be posted, and are so behind it.
-pub record HasMadeAmid (page : PageState) (stored : Stored) (changes : List (ℕ × Change))
+pub record HasMadeAmid (page : PageState) (modules : ModulesState) (changes : List (ℕ × Change))
     (text : List ℕ) (t : Step) : Type 0 where
-  pub stands : StandsAmid page stored changes t.state
+  pub stands : StandsAmid page modules changes t.state
   pub text_is : text ≡ t.text
 
 pub record MakesAmid (step : State → Step) (old new : PageState) (before after : List ℕ)
     : Type 0 where
   pub text : List ℕ
   pub printed : after ≡ before ++ text
-  pub makes : (stored : Stored) (changes : List (ℕ × Change)) (s : State)
-      → StandsAmid old stored changes s → HasMadeAmid new stored changes text (step s)
+  pub makes : (modules : ModulesState) (changes : List (ℕ × Change)) (s : State)
+      → StandsAmid old modules changes s → HasMadeAmid new modules changes text (step s)
 
 -- A text was printed, and whatever state the page was in, with these changes and others behind them still to be posted,
 -- it has made the steps of these, and the others are still to be posted.
@@ -96,42 +99,32 @@ pub record Posts (posted : List (ℕ × Change)) (old new : PageState) (before a
     : Type 0 where
   pub text : List ℕ
   pub printed : after ≡ before ++ text
-  pub makes : (stored : Stored) (changes : List (ℕ × Change)) (s : State)
-      → StandsAmid old stored (posted ++ changes) s
-      → HasMadeAmid new stored changes text (changes_step posted s)
+  pub makes : (modules : ModulesState) (changes : List (ℕ × Change)) (s : State)
+      → StandsAmid old modules (posted ++ changes) s
+      → HasMadeAmid new modules changes text (changes_step posted s)
 
--- The same of a step that looks at what the store has.
-pub record MakesWith (store : StoreState) (step : Stored → State → Step) (old new : PageState)
+-- The same of a step that may lock and unlock modules: these were lent to it, and it gave those back.
+pub record MakesWith (lent given_back : ModulesState) (step : State → Step) (old new : PageState)
     (before after : List ℕ) : Type 0 where
   pub text : List ℕ
   pub printed : after ≡ before ++ text
-  pub makes : ForStored store (λ stored. (s : State) → StandsFor old stored s
-      → HasMade new stored text (step stored s))
+  pub makes : (s : State) → StandsFor old lent s → HasMade new given_back text (step s)
 
 -- What became of a step that is there or not: it was there and is made, or there was none, and
 -- nothing was printed.
-abbrev pub HasMadeOf : Bool → PageState → Stored → List ℕ → State → Option Step
+abbrev pub HasMadeOf : Bool → PageState → ModulesState → List ℕ → State → Option Step
     → Type 0
-HasMadeOf true page stored text s None = ⊥
-HasMadeOf true page stored text s (Some t) = HasMade page stored text t
-HasMadeOf false page stored text s None = HasMade page stored text (still s)
-HasMadeOf false page stored text s (Some t) = ⊥
+HasMadeOf true page modules text s None = ⊥
+HasMadeOf true page modules text s (Some t) = HasMade page modules text t
+HasMadeOf false page modules text s None = HasMade page modules text (still s)
+HasMadeOf false page modules text s (Some t) = ⊥
 
 -- The same of a step that is there or not; `made` tells whether it was.
-pub record MayMake (made : Bool) (store : StoreState) (step : Stored → State → Option Step)
+pub record MayMake (made : Bool) (lent given_back : ModulesState) (step : State → Option Step)
     (old new : PageState) (before after : List ℕ) : Type 0 where
   pub text : List ℕ
   pub printed : after ≡ before ++ text
-  pub makes : ForStored store (λ stored. (s : State) → StandsFor old stored s
-      → HasMadeOf made new stored text s (step stored s))
-
--- The same of a step that is there or not, whatever the store has.
-pub record MayMakeHere (made : Bool) (step : State → Option Step) (old new : PageState)
-    (before after : List ℕ) : Type 0 where
-  pub text : List ℕ
-  pub printed : after ≡ before ++ text
-  pub makes : (stored : Stored) (s : State) → StandsFor old stored s
-      → HasMadeOf made new stored text s (step s)
+  pub makes : (s : State) → StandsFor old lent s → HasMadeOf made new given_back text s (step s)
 
 -- ---- documents that act
 
@@ -139,6 +132,11 @@ pub record MayMakeHere (made : Bool) (step : State → Option Step) (old new : P
 abbrev pub with_document : KeptDocument → BrowserParts → PageState → PageState
 with_document document browser page =
     record page { document = Some document; worked = document.worked; browser = browser }
+
+-- A document is there only where none is wanted.
+abbrev pub IsAlone : Option KeptDocument → Loading → Type 0
+IsAlone None loading = Unit {0}
+IsAlone (Some document) loading = loading ≡ Nothing
 
 -- Behind a document that launched the one at a path there is none, its timers are gone, and that one is wanted.
 abbrev pub behind_launch : Option Path → PageState → PageState
@@ -152,27 +150,24 @@ behind_launch (Some path) page =
     }
 
 -- a document that was loaded began, and launched another or none
-pub record Begins (first : KeptDocument) (old new : PageState) (before after : List ℕ)
-    : Type 0 where
+pub record Begins (lent given_back : ModulesState) (first : KeptDocument) (old new : PageState)
+    (before after : List ℕ) : Type 0 where
   pub launched : Option Path
   pub document : KeptDocument
   pub browser : BrowserParts
-  pub acts : Acts load_effect launched old.clock first document old.browser browser before after
+  pub acts : Acts load_effect launched old.clock first document
+      (record { browser = old.browser; modules = lent })
+      (record { browser = browser; modules = given_back }) before after
   pub new_is : new ≡ behind_launch launched (with_document document browser old)
 
 -- what becomes of a page behind what came of a load, of which `made` tells whether it was one
-abbrev pub TakesLoad : Load → Bool → PageState → PageState → List ℕ → List ℕ
-    → Type 0
-TakesLoad (came.Waits loading) made old new before after =
+abbrev pub TakesLoad : ModulesState → ModulesState → Load → Bool → PageState → PageState → List ℕ
+    → List ℕ → Type 0
+TakesLoad lent given_back (came.Waits loading) made old new before after =
     (made ≡ false) × (new ≡ record old { loading = loading }) × (after ≡ before)
-TakesLoad came.Refused made old new before after =
+    × (given_back ≡ lent)
+TakesLoad lent given_back came.Refused made old new before after =
     (made ≡ true) × (new ≡ record old { document = None; worked = 0 }) × (after ≡ before)
-TakesLoad (came.Loaded first) made old new before after =
-    (made ≡ true) × Begins first old new before after
-
--- ---- changes in the store
-
--- behind a change in a module of a component
-abbrev pub behind_change : ℕ → Change → PageState → PageState
-behind_change component change page =
-    record page { loading = loading_behind component change page.loading }
+    × (given_back ≡ lent)
+TakesLoad lent given_back (came.Loaded first) made old new before after =
+    (made ≡ true) × Begins lent given_back first old new before after

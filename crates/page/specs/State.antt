@@ -1,5 +1,6 @@
 -- What a page is at a moment (after the receiver of ARIB STD-B24 volume 2, in this project's own profile).
 use Rattle.std.specs.Prelude.{ℕ, List, [], ◌++◌, Option, Some, None}
+use Rattle.module_locks.specs.Locks.{Modules, at_start}
 use Rattle.multipart_entities.specs.declared.paths.Path.{Path}
 use Rattle.es_reader.specs.Readers.{Reader}
 use Rattle.event_queue.specs.Timers.{no_timers}
@@ -26,8 +27,10 @@ pub record State : Type 0 where
   pub clock : ℕ
   -- the registers, the persistent area and the random words that are left, and the timers of the document
   pub browser : BrowserParts
+  -- the modules of the service, with the locks on them
+  pub modules : Modules
 
--- before anything came, with that area: there is no document, and the start document is wanted
+-- before anything came, with that area: there are neither modules nor a document, and the start document is wanted
 abbrev pub opening : Reader → List ℕ → State
 opening read area =
     record {
@@ -36,15 +39,20 @@ opening read area =
       wanted = StartDocument;
       clock = 0;
       browser = first_browser area;
+      modules = at_start;
     }
 
 -- the persistent area
 abbrev pub area_of : State → List ℕ
 area_of s = s.browser.area
 
+-- with these modules
+abbrev pub with_modules : Modules → State → State
+with_modules modules s = record s { modules = modules }
+
 -- a document that is there, with what it acts on beside itself
 abbrev pub scene_in : State → Document → Scene
-scene_in s d = record { document = d; browser = s.browser; now = s.clock }
+scene_in s d = record { document = d; browser = s.browser; now = s.clock; modules = s.modules }
 
 -- ---- steps
 
@@ -64,22 +72,27 @@ step_behind text t = record { state = t.state; text = text ++ t.text }
 -- the document goes on
 abbrev pub goes_on : State → Scene → State
 goes_on s scene =
-    record s { document = Some scene.document; browser = scene.browser }
+    record s {
+      document = Some scene.document;
+      browser = scene.browser;
+      modules = scene.modules;
+    }
 
--- Behind a document that ended there is none: its timers end with it, and this one is wanted.
-abbrev pub gone_for : Path → State → BrowserParts → State
-gone_for path s browser =
+-- Behind a document that ended there is none: its timers end with it, and this one is wanted. The locks stay.
+abbrev pub gone_for : Path → State → Scene → State
+gone_for path s scene =
     record s {
       document = None;
       wanted = DocumentAt path;
-      browser = with_timers no_timers browser;
+      browser = with_timers no_timers scene.browser;
+      modules = scene.modules;
     }
 
 -- A document gives way to the one at a path: its `unload` is handled.
 abbrev pub gives_way : Path → State → Scene → Step
 gives_way path s scene =
     let e = unload_effect scene in
-    record { state = gone_for path s e.scene.browser; text = e.text }
+    record { state = gone_for path s e.scene; text = e.text }
 
 -- what becomes of a document that goes on or has launched another
 abbrev pub stays_or_goes : Option Path → State → Scene → Step

@@ -1,18 +1,18 @@
-//! What a document does while it is lent what belongs to the receiver. Each call lends it before the
-//! document acts, and takes it back behind that, also where no memory was found.
+//! What a document does while it is lent what belongs to the receiver, and the modules. Each call
+//! lends it before the document acts, and takes it back behind that, also where no memory was found.
 
 ghost use Rattle.std.specs.Io.{StartsWith};
-ghost use Rattle.std.specs.Prelude.{◌≡◌, ◌<◌, ◌^◌, None, IfOk, OnOk};
+ghost use Rattle.std.specs.Prelude.{◌≡◌, ◌<◌, ◌^◌, IfOk, OnOk};
 ghost use Rattle.acting_documents.specs.Beginnings.{load_effect};
 ghost use Rattle.acting_documents.specs.Handling.{change_effect, due_effect, handled, key_effect, message_effect};
-ghost use Rattle.page.specs.Acts.{Acts, ActsLent, GivesWay};
+ghost use Rattle.page.specs.Acts.{Acts, ActsApart, ActsLent, GivesWay, lent_to};
 
 use acting_documents::ActingDocument;
 use bml_bytes::NoMemory;
 use browser_objects::BrowserState;
 use event_messages::Message;
 use event_queue::Event;
-use module_store::Change;
+use module_locks::{Change, Modules};
 use multipart_entities::Path;
 
 /// Begins a document that was loaded. Answers the path of the document that it launched, if it
@@ -20,21 +20,41 @@ use multipart_entities::Path;
 pub fn begin(
     document: &mut ActingDocument,
     browser: &mut BrowserState,
+    modules: &mut Modules,
     clock: u64,
     out: &mut Vec<u8>,
 ) -> Result<Option<Path>, NoMemory>
     requires { clock < 2 ^ 62 }
-    ensures acts { IfOk result (λ launched. Acts load_effect launched clock
-        document.old document.new browser.old browser.new out.old.items out.new.items) }
+    ensures acts { IfOk result (λ launched.
+        Acts load_effect launched clock document.old document.new
+        (record { browser = browser.old; modules = modules.old })
+        (record { browser = browser.new; modules = modules.new }) out.old.items out.new.items) }
     ensures grows { StartsWith out.new.items out.old.items }
 {
-    document.exchange(browser, clock);
+    exchange(document, browser, modules, clock);
     let begun = begin_lent(document, out);
-    document.exchange(browser, clock);
+    exchange(document, browser, modules, clock);
     begun
 }
 
-// The same of a document that is lent what belongs to the receiver.
+// Exchanges what a document is lent with what stands there, at this time.
+fn exchange(
+    document: &mut ActingDocument,
+    browser: &mut BrowserState,
+    modules: &mut Modules,
+    clock: u64,
+)
+    requires { clock < 2 ^ 62 }
+    ensures lent { document.new ≡ lent_to document.old
+        (record { browser = browser.old; modules = modules.old }) clock }
+    ensures browser { browser.new ≡ document.old.lent }
+    ensures modules { modules.new ≡ document.old.modules }
+{
+    document.exchange(browser, clock);
+    document.exchange_modules(modules);
+}
+
+// The same of a document that is lent what it acts on.
 fn begin_lent(document: &mut ActingDocument, out: &mut Vec<u8>) -> Result<Option<Path>, NoMemory>
     ensures acts { IfOk result (λ launched. ActsLent load_effect launched
         document.old document.new out.old.items out.new.items) }
@@ -49,22 +69,25 @@ fn begin_lent(document: &mut ActingDocument, out: &mut Vec<u8>) -> Result<Option
 pub fn handle(
     document: &mut ActingDocument,
     browser: &mut BrowserState,
+    modules: &mut Modules,
     clock: u64,
     event: Event,
     out: &mut Vec<u8>,
 ) -> Result<Option<Path>, NoMemory>
     requires { clock < 2 ^ 62 }
-    ensures acts { IfOk result (λ launched. Acts (handled event) launched clock
-        document.old document.new browser.old browser.new out.old.items out.new.items) }
+    ensures acts { IfOk result (λ launched.
+        Acts (handled event) launched clock document.old document.new
+        (record { browser = browser.old; modules = modules.old })
+        (record { browser = browser.new; modules = modules.new }) out.old.items out.new.items) }
     ensures grows { StartsWith out.new.items out.old.items }
 {
-    document.exchange(browser, clock);
+    exchange(document, browser, modules, clock);
     let handled = handle_lent(document, event, out);
-    document.exchange(browser, clock);
+    exchange(document, browser, modules, clock);
     handled
 }
 
-// The same of a document that is lent what belongs to the receiver.
+// The same of a document that is lent what it acts on.
 fn handle_lent(
     document: &mut ActingDocument,
     event: Event,
@@ -92,7 +115,6 @@ fn give_way(document: &mut ActingDocument, out: &mut Vec<u8>) -> Result<Option<P
 }
 
 /// Posts what a key does in a document.
-#[tactic(auto, using(crate::proofs::ActLemmas::key_launches))]
 pub fn post_key(
     document: &mut ActingDocument,
     browser: &mut BrowserState,
@@ -102,7 +124,7 @@ pub fn post_key(
     out: &mut Vec<u8>,
 ) -> Result<(), NoMemory>
     requires { clock < 2 ^ 62 }
-    ensures acts { OnOk result (Acts (key_effect code down) None clock
+    ensures acts { OnOk result (ActsApart (key_effect code down) clock
         document.old document.new browser.old browser.new out.old.items out.new.items) }
     ensures grows { StartsWith out.new.items out.old.items }
 {
@@ -113,7 +135,6 @@ pub fn post_key(
 }
 
 /// A message of a component comes to the event items of a document.
-#[tactic(auto, using(crate::proofs::ActLemmas::message_launches))]
 pub fn post_message(
     document: &mut ActingDocument,
     browser: &mut BrowserState,
@@ -123,7 +144,7 @@ pub fn post_message(
     out: &mut Vec<u8>,
 ) -> Result<(), NoMemory>
     requires { clock < 2 ^ 62 }
-    ensures acts { OnOk result (Acts (message_effect component message.now) None clock
+    ensures acts { OnOk result (ActsApart (message_effect component message.now) clock
         document.old document.new browser.old browser.new out.old.items out.new.items) }
     ensures grows { StartsWith out.new.items out.old.items }
 {
@@ -134,7 +155,6 @@ pub fn post_message(
 }
 
 /// A module of a component changed, of which the event items of a document are told.
-#[tactic(auto, using(crate::proofs::ActLemmas::change_launches))]
 pub fn post_change(
     document: &mut ActingDocument,
     browser: &mut BrowserState,
@@ -144,7 +164,7 @@ pub fn post_change(
     out: &mut Vec<u8>,
 ) -> Result<(), NoMemory>
     requires { clock < 2 ^ 62 }
-    ensures acts { OnOk result (Acts (change_effect component change.now) None clock
+    ensures acts { OnOk result (ActsApart (change_effect component change.now) clock
         document.old document.new browser.old browser.new out.old.items out.new.items) }
     ensures grows { StartsWith out.new.items out.old.items }
 {
@@ -155,7 +175,6 @@ pub fn post_change(
 }
 
 /// The clock goes to a moment, and the timers of a document that are due then post their events.
-#[tactic(auto, using(crate::proofs::ActLemmas::due_launches))]
 pub fn post_due(
     document: &mut ActingDocument,
     browser: &mut BrowserState,
@@ -165,7 +184,7 @@ pub fn post_due(
 ) -> Result<(), NoMemory>
     requires before { clock < 2 ^ 62 }
     requires behind { moment < 2 ^ 62 }
-    ensures acts { OnOk result (Acts (due_effect moment) None clock
+    ensures acts { OnOk result (ActsApart (due_effect moment) clock
         document.old document.new browser.old browser.new out.old.items out.new.items) }
     ensures grows { StartsWith out.new.items out.old.items }
 {

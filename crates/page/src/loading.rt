@@ -13,7 +13,7 @@ use acting_documents::ActingDocument;
 use bml_bytes::NoMemory;
 use bml_reader::DocFault;
 use document_load::read_draft;
-use module_store::{Change, Look, Store};
+use module_locks::{Change, Look, Modules};
 use multipart_entities::Path;
 use std::alloc::Global;
 use std::mem;
@@ -57,15 +57,15 @@ impl Loading {
 
     /// Loads the document, where one is wanted, is found, and nothing that it needs is waited for;
     /// or refuses it. Appends the lines that tell it.
-    pub fn load(self, alloc: Global, store: &Store, out: &mut Vec<u8>) -> Result<Load, NoMemory>
+    pub fn load(self, alloc: Global, modules: &Modules, out: &mut Vec<u8>) -> Result<Load, NoMemory>
         ensures loads { IfOk result
-            (λ load. Loads store.now self load out.old.items out.new.items) }
+            (λ load. Loads modules.now self load out.old.items out.new.items) }
         ensures grows { StartsWith out.new.items out.old.items }
     {
         match self {
-            Loading::Start => load_start(alloc, store, out),
-            Loading::At(path) => load_unread(alloc, store, false, path, out),
-            Loading::Pending(pending) => pending.load(alloc, store, out),
+            Loading::Start => load_start(alloc, modules, out),
+            Loading::At(path) => load_unread(alloc, modules, false, path, out),
+            Loading::Pending(pending) => pending.load(alloc, modules, out),
             Loading::Nothing => Ok(Load::Waits(self)),
         }
     }
@@ -106,34 +106,34 @@ impl Loading {
 }
 
 // Loads the start document, which is found at the path that it has now.
-fn load_start(alloc: Global, store: &Store, out: &mut Vec<u8>) -> Result<Load, NoMemory>
+fn load_start(alloc: Global, modules: &Modules, out: &mut Vec<u8>) -> Result<Load, NoMemory>
     ensures loads { IfOk result
-        (λ load. Loads store.now kept.Start load out.old.items out.new.items) }
+        (λ load. Loads modules.now kept.Start load out.old.items out.new.items) }
     ensures grows { StartsWith out.new.items out.old.items }
 {
-    let path = store.start_path()?;
-    load_unread(alloc, store, true, path, out)
+    let path = modules.start_path()?;
+    load_unread(alloc, modules, true, path, out)
 }
 
 // Reads the document at a path, where it is found, and loads it, where nothing that it needs is
 // waited for.
 fn load_unread(
     alloc: Global,
-    store: &Store,
+    modules: &Modules,
     is_start: bool,
     path: Path,
     out: &mut Vec<u8>,
 ) -> Result<Load, NoMemory>
     ensures loads { IfOk result (λ load.
-        LoadsUnread store.now is_start path load out.old.items out.new.items) }
-    ensures knows { IfOk result (λ load. KnowsItsPlace store.now load) }
+        LoadsUnread modules.now is_start path load out.old.items out.new.items) }
+    ensures knows { IfOk result (λ load. KnowsItsPlace modules.now load) }
     ensures grows { StartsWith out.new.items out.old.items }
 {
-    let Look::Found(bytes) = store.resource(&path) else {
+    let Look::Found(bytes) = modules.resource(&path) else {
         return Ok(Load::Waits(Loading::unread(is_start, path)));
     };
     match read_draft(alloc, bytes, &path) {
-        Ok(draft) => Pending::new(is_start, path, draft).load(alloc, store, out),
+        Ok(draft) => Pending::new(is_start, path, draft).load(alloc, modules, out),
         Err(DocFault::NoMemory) => Err(NoMemory),
         Err(fault) => refuse(&path, fault, out),
     }

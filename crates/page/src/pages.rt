@@ -1,14 +1,17 @@
 //! The page: what becomes of the documents that come, and of keys and the clock.
 
 ghost use Rattle.std.specs.Io.{StartsWith};
-ghost use Rattle.std.specs.Prelude.{◌≡◌, ◌<◌, ◌^◌, ◌∷◌, ◌++◌, ℕ, List, [], false, true, IfOk, IsErr, OnErr, OnOk, is_err};
+ghost use Rattle.std.specs.Prelude.{◌≡◌, ◌<◌, ◌^◌, ◌∷◌, ◌++◌, ℕ, List, [], false, true, None, IfOk, IsErr, OnErr, OnOk, is_err};
 ghost use Rattle.es_reader.specs.Readers.{Reader, IsReader};
 ghost use Rattle.event_queue.specs.Timers.{least_moment};
-ghost use Rattle.module_store.specs.Store.{Stored};
+ghost use Rattle.module_locks.specs.Locks.{at_start};
+ghost use Rattle.module_locks.specs.Standing.{ModulesState};
+ghost use Rattle.module_locks.specs.Standing as of_modules;
 ghost use Rattle.page.specs.Dispatches.{dispatch as spec_dispatch, next_event, next_load, turn as spec_turn};
 ghost use Rattle.page.specs.Inputs.{change_step, display_of, due_step, key_step, message_step, with_random};
-ghost use Rattle.page.specs.Standing.{Begins, IsSpent, Makes, MakesAmid, MakesWith, MayMake, MayMakeHere, Posts, StandsFor, TakesLoad, behind_launch, page_area};
+ghost use Rattle.page.specs.Standing.{Begins, IsSpent, Makes, MakesAmid, MakesWith, MayMake, Posts, StandsFor, TakesLoad, behind_launch, page_area};
 ghost use Rattle.page.specs.State.{State, opening};
+ghost use Rattle.page.specs.declared.loading.Loading.TheVariants as kept;
 
 use crate::acts::{begin, handle, post_change, post_due, post_key, post_message};
 use crate::loading::{Load, Loading};
@@ -18,7 +21,7 @@ use browser_objects::BrowserState;
 use display_list::push_clock_line;
 use event_messages::Message;
 use event_queue::Timers;
-use module_store::{Change, Store, push_change_line};
+use module_locks::{Change, Modules, push_change_line};
 use multipart_entities::Path;
 use std::alloc::Global;
 use std::marker::Model;
@@ -46,7 +49,7 @@ pub struct Page {
 impl Model for Page {
     ghost use Rattle.std.specs.Prelude.{◌<◌, ◌^◌};
     ghost use Rattle.std.specs.Option.{option_map_or};
-    ghost use Rattle.page.specs.Standing.{PageState};
+    ghost use Rattle.page.specs.Standing.{IsAlone, PageState};
 
     ghost Value = { PageState };
 
@@ -59,14 +62,15 @@ impl Model for Page {
       loading = p.loading;
     } };
 
-    ghost invariant = { λ p. p.clock < 2 ^ 62 };
+    ghost invariant = { λ p. (p.clock < 2 ^ 62) × IsAlone p.document p.loading };
 }
 
 impl Page {
     /// A page with this persistent area: there is no document, and the start document is wanted.
     pub fn fresh(alloc: Global, area: AreaBytes) -> Result<Page, NoMemory>
-        ensures stands { IfOk result (λ page. (read : Reader) (stored : Stored) → IsReader read
-            → StandsFor page stored (opening read area)) }
+        ensures stands { IfOk result (λ page. (read : Reader) → IsReader read
+            → (modules : ModulesState) → of_modules.StandsFor modules at_start
+            → StandsFor page modules (opening read area)) }
         ensures unspent { IfOk result (λ page. page.spent ≡ false) }
         ensures worked { IfOk result (λ page. page.worked ≡ 0) }
         ensures clock { IfOk result (λ page. page.clock ≡ 0) }
@@ -229,8 +233,8 @@ impl Page {
 
     /// Appends a word to the random words that are left.
     pub fn add_random(&mut self, word: u32) -> Result<(), NoMemory>
-        ensures added { OnOk result ((stored : Stored) (s : State) → StandsFor self.old stored s
-            → StandsFor self.new stored (with_random word s)) }
+        ensures added { OnOk result ((modules : ModulesState) (s : State)
+            → StandsFor self.old modules s → StandsFor self.new modules (with_random word s)) }
         ensures clock { self.new.clock ≡ self.old.clock }
         ensures unspent { OnOk result (self.new.spent ≡ false) }
         ensures spent { OnErr result (IsSpent self.new) }
@@ -248,11 +252,11 @@ impl Page {
 
     /// Makes a turn: at most 256 dispatches, each of which loads the wanted document, where it can
     /// be loaded, or else handles the event that waits longest; and appends what they print. The
-    /// store is that of the page's earlier turns, whose changes since were all posted.
-    pub fn turn(&mut self, store: &mut Store, out: &mut Vec<u8>) -> Result<(), NoMemory>
-        ensures turned { OnOk result (MakesWith store.old spec_turn
+    /// modules are those of the page's earlier turns, whose changes since were all posted. Scripts
+    /// may lock and unlock some of them.
+    pub fn turn(&mut self, modules: &mut Modules, out: &mut Vec<u8>) -> Result<(), NoMemory>
+        ensures turned { OnOk result (MakesWith modules.old modules.new spec_turn
             self.old self.new out.old.items out.new.items) }
-        ensures store { store.new ≡ store.old }
         ensures clock { self.new.clock ≡ self.old.clock }
         ensures grows { StartsWith out.new.items out.old.items }
         ensures unspent { OnOk result (self.new.spent ≡ false) }
@@ -262,7 +266,7 @@ impl Page {
         if self.spent {
             return Err(NoMemory);
         }
-        let turned = self.make_dispatches(store, out);
+        let turned = self.make_dispatches(modules, out);
         self.spent_by(turned)
     }
 
@@ -337,15 +341,15 @@ impl Page {
     }
 
     // Makes dispatches, one behind the other, as long as there is one, and at most 256.
-    fn make_dispatches(&mut self, store: &Store, out: &mut Vec<u8>) -> Result<(), NoMemory>
-        ensures turned { OnOk result (MakesWith store.now spec_turn
+    fn make_dispatches(&mut self, modules: &mut Modules, out: &mut Vec<u8>) -> Result<(), NoMemory>
+        ensures turned { OnOk result (MakesWith modules.old modules.new spec_turn
             self.old self.new out.old.items out.new.items) }
         ensures clock { self.new.clock ≡ self.old.clock }
         ensures grows { StartsWith out.new.items out.old.items }
     {
         law_of_fronts();
         'dispatches: for _dispatch in 0..MOST_DISPATCHES {
-            if !self.dispatch(store, out)? {
+            if !self.dispatch(modules, out)? {
                 return Ok(());
             }
         }
@@ -353,22 +357,22 @@ impl Page {
     }
 
     // Makes the next dispatch, and tells whether there was one.
-    fn dispatch(&mut self, store: &Store, out: &mut Vec<u8>) -> Result<bool, NoMemory>
-        ensures made { IfOk result (λ made. MayMake made store.now spec_dispatch
+    fn dispatch(&mut self, modules: &mut Modules, out: &mut Vec<u8>) -> Result<bool, NoMemory>
+        ensures made { IfOk result (λ made. MayMake made modules.old modules.new spec_dispatch
             self.old self.new out.old.items out.new.items) }
         ensures clock { self.new.clock ≡ self.old.clock }
         ensures grows { StartsWith out.new.items out.old.items }
     {
-        if self.load(store, out)? {
+        if self.load(modules, out)? {
             return Ok(true);
         }
-        self.handle_next(out)
+        self.handle_next(modules, out)
     }
 
     // Lets the document that acts handle the event that waits longest, and tells whether there was
     // one.
-    fn handle_next(&mut self, out: &mut Vec<u8>) -> Result<bool, NoMemory>
-        ensures made { IfOk result (λ made. MayMakeHere made next_event
+    fn handle_next(&mut self, modules: &mut Modules, out: &mut Vec<u8>) -> Result<bool, NoMemory>
+        ensures made { IfOk result (λ made. MayMake made modules.old modules.new next_event
             self.old self.new out.old.items out.new.items) }
         ensures clock { self.new.clock ≡ self.old.clock }
         ensures grows { StartsWith out.new.items out.old.items }
@@ -379,15 +383,15 @@ impl Page {
         let Some(event) = document.take_event() else {
             return Ok(false);
         };
-        let launched = handle(document, &mut self.browser, self.clock, event, out)?;
+        let launched = handle(document, &mut self.browser, modules, self.clock, event, out)?;
         self.go_on(launched);
         Ok(true)
     }
 
     // Loads the document that is wanted, where it can be loaded, and tells whether it was loaded or
     // refused.
-    fn load(&mut self, store: &Store, out: &mut Vec<u8>) -> Result<bool, NoMemory>
-        ensures made { IfOk result (λ made. MayMake made store.now next_load
+    fn load(&mut self, modules: &mut Modules, out: &mut Vec<u8>) -> Result<bool, NoMemory>
+        ensures made { IfOk result (λ made. MayMake made modules.old modules.new next_load
             self.old self.new out.old.items out.new.items) }
         ensures clock { self.new.clock ≡ self.old.clock }
         ensures grows { StartsWith out.new.items out.old.items }
@@ -396,14 +400,22 @@ impl Page {
         if let Loading::Nothing = loading {
             return Ok(false);
         }
-        let came = loading.load(self.alloc, store, out)?;
-        self.take_load(came, out)
+        let came = loading.load(self.alloc, modules, out)?;
+        self.take_load(came, modules, out)
     }
 
-    // Takes what came of a load: goes on waiting, or has the document that is loaded, or none where
-    // it is refused. Tells whether it was loaded or refused.
-    fn take_load(&mut self, came: Load, out: &mut Vec<u8>) -> Result<bool, NoMemory>
-        ensures taken { IfOk result (λ made. TakesLoad came made
+    // Takes what came of a load, where there is no document, and none is wanted beside it: goes on
+    // waiting, or has the document that is loaded, or none where it is refused. Tells whether it was
+    // loaded or refused.
+    fn take_load(
+        &mut self,
+        came: Load,
+        modules: &mut Modules,
+        out: &mut Vec<u8>,
+    ) -> Result<bool, NoMemory>
+        requires free { self.old.document ≡ None }
+        requires unwanted { self.old.loading ≡ kept.Nothing }
+        ensures taken { IfOk result (λ made. TakesLoad modules.old modules.new came made
             self.old self.new out.old.items out.new.items) }
         ensures clock { self.new.clock ≡ self.old.clock }
         ensures grows { StartsWith out.new.items out.old.items }
@@ -418,20 +430,26 @@ impl Page {
                 Ok(true)
             }
             Load::Loaded(document) => {
-                self.begin(document, out)?;
+                self.begin(document, modules, out)?;
                 Ok(true)
             }
         }
     }
 
     // Has a document that was loaded, and begins it.
-    fn begin(&mut self, mut document: ActingDocument, out: &mut Vec<u8>) -> Result<(), NoMemory>
-        ensures begins { OnOk result
-            (Begins document self.old self.new out.old.items out.new.items) }
+    fn begin(
+        &mut self,
+        mut document: ActingDocument,
+        modules: &mut Modules,
+        out: &mut Vec<u8>,
+    ) -> Result<(), NoMemory>
+        requires { self.old.loading ≡ kept.Nothing }
+        ensures begins { OnOk result (Begins modules.old modules.new document
+            self.old self.new out.old.items out.new.items) }
         ensures clock { self.new.clock ≡ self.old.clock }
         ensures grows { StartsWith out.new.items out.old.items }
     {
-        let begun = begin(&mut document, &mut self.browser, self.clock, out);
+        let begun = begin(&mut document, &mut self.browser, modules, self.clock, out);
         drop(mem::replace(&mut self.document, Some(document)));
         let launched = begun?;
         self.go_on(launched);

@@ -5,7 +5,7 @@ ghost use Rattle.std.specs.Prelude.{◌≡◌, ◌<◌, ◌++◌, true, None, If
 ghost use Rattle.acting_documents.specs.Kept.{kept_first};
 ghost use Rattle.document_load.specs.Scripts.{HavePlaces};
 ghost use Rattle.document_load.specs.ScriptViews.{told_handler};
-ghost use Rattle.module_store.specs.Standing.{ForStored};
+ghost use Rattle.module_locks.specs.Standing.{ForModules};
 ghost use Rattle.page.specs.Loading.{are_settled};
 ghost use Rattle.page.specs.declared.loading.Loading.TheVariants as kept;
 ghost use Rattle.page.specs.Lines.{load_lines};
@@ -17,7 +17,7 @@ use crate::loading::{Load, Loading};
 use acting_documents::ActingDocument;
 use bml_bytes::NoMemory;
 use document_load::{Document, Draft};
-use module_store::{Look, Store};
+use module_locks::{Look, Modules};
 use multipart_entities::Path;
 use std::alloc::Global;
 use std::marker::Model;
@@ -82,13 +82,13 @@ impl Pending {
 
     /// Loads the document with what is found of its needs, where none of them is waited for, and
     /// appends its lines. Else it goes on waiting.
-    pub fn load(self, alloc: Global, store: &Store, out: &mut Vec<u8>) -> Result<Load, NoMemory>
+    pub fn load(self, alloc: Global, modules: &Modules, out: &mut Vec<u8>) -> Result<Load, NoMemory>
         ensures loads { IfOk result
-            (λ load. Loads store.now (kept.Pending self) load out.old.items out.new.items) }
-        ensures knows { IfOk result (λ load. KnowsItsPlace store.now load) }
+            (λ load. Loads modules.now (kept.Pending self) load out.old.items out.new.items) }
+        ensures knows { IfOk result (λ load. KnowsItsPlace modules.now load) }
         ensures grows { StartsWith out.new.items out.old.items }
     {
-        let waited = self.waited_for(store);
+        let waited = self.waited_for(modules);
         let Pending {
             is_start,
             path,
@@ -103,22 +103,22 @@ impl Pending {
                 place,
             }))),
             None => {
-                let acting = load_settled(alloc, store, path, draft, out)?;
+                let acting = load_settled(alloc, modules, path, draft, out)?;
                 Ok(Load::Loaded(acting))
             }
         }
     }
 
     // Where a need stands that is waited for.
-    fn waited_for(&self, store: &Store) -> Option<usize>
-        ensures settled { result ≡ None → ForStored store.now
-            (λ stored. are_settled stored self.now.draft.needs ≡ true) }
-        ensures waits { IfSome result (λ place. WaitsAt store.now self.now.draft.needs place) }
+    fn waited_for(&self, modules: &Modules) -> Option<usize>
+        ensures settled { result ≡ None → ForModules modules.now
+            (λ modules. are_settled modules self.now.draft.needs ≡ true) }
+        ensures waits { IfSome result (λ place. WaitsAt modules.now self.now.draft.needs place) }
     {
         let (before, behind) = self.draft.needs().split_at(self.place);
-        match first_waited(store, behind) {
+        match first_waited(modules, behind) {
             Some(place) => Some(self.place + place),
-            None => first_waited(store, before),
+            None => first_waited(modules, before),
         }
     }
 }
@@ -127,16 +127,16 @@ impl Pending {
 // for. Appends its lines.
 fn load_settled(
     alloc: Global,
-    store: &Store,
+    modules: &Modules,
     path: Path,
     draft: Draft,
     out: &mut Vec<u8>,
 ) -> Result<ActingDocument, NoMemory>
     ensures loads { IfOk result (λ document.
-        LoadsSettled store.now path draft document out.old.items out.new.items) }
+        LoadsSettled modules.now path draft document out.old.items out.new.items) }
     ensures grows { StartsWith out.new.items out.old.items }
 {
-    let document = finish(store, draft)?;
+    let document = finish(modules, draft)?;
     let acting = acting_of(alloc, path, document, out)?;
     Ok(acting)
 }
@@ -152,7 +152,7 @@ fn acting_of(
         (map told_handler document.handlers.items) }
     ensures acting { IfOk result (λ acting. acting
         ≡ kept_first path document.tree document.rules document.programs.items
-        (map told_handler document.handlers.items) acting.lent acting.now) }
+        (map told_handler document.handlers.items) acting.lent acting.now acting.modules) }
     ensures told { OnOk result
         (out.new.items ≡ out.old.items ++ load_lines path document.bad.items) }
     ensures grows { StartsWith out.new.items out.old.items }
@@ -165,23 +165,23 @@ fn acting_of(
 }
 
 // The document of a draft, to which what is found of its needs is given.
-fn finish(store: &Store, mut draft: Draft) -> Result<Document, NoMemory>
-    ensures finished { IfOk result (λ document. IsFinished store.now draft document) }
+fn finish(modules: &Modules, mut draft: Draft) -> Result<Document, NoMemory>
+    ensures finished { IfOk result (λ document. IsFinished modules.now draft document) }
     ensures places { IfOk result (λ document. HavePlaces document.scripts.items
         (length document.programs.items) (map told_handler document.handlers.items)) }
 {
-    give_all_found(store, &mut draft)?;
+    give_all_found(modules, &mut draft)?;
     draft.finish()
 }
 
 // Where the first need stands that is waited for.
-fn first_waited(store: &Store, needs: &[Path]) -> Option<usize>
+fn first_waited(modules: &Modules, needs: &[Path]) -> Option<usize>
     ensures settled { result ≡ None
-        → ForStored store.now (λ stored. are_settled stored needs.now ≡ true) }
-    ensures waits { IfSome result (λ place. WaitsAt store.now needs.now place) }
+        → ForModules modules.now (λ modules. are_settled modules needs.now ≡ true) }
+    ensures waits { IfSome result (λ place. WaitsAt modules.now needs.now place) }
 {
     'needs: for (place, need) in needs.iter().enumerate() {
-        if let Look::Waiting = store.resource(need) {
+        if let Look::Waiting = modules.resource(need) {
             return Some(place);
         }
     }
@@ -189,27 +189,27 @@ fn first_waited(store: &Store, needs: &[Path]) -> Option<usize>
 }
 
 // Gives a draft what is found of each of its needs.
-fn give_all_found(store: &Store, draft: &mut Draft) -> Result<(), NoMemory>
-    ensures { OnOk result (GivesFound store.now draft.old draft.new) }
+fn give_all_found(modules: &Modules, draft: &mut Draft) -> Result<(), NoMemory>
+    ensures { OnOk result (GivesFound modules.now draft.old draft.new) }
 {
     let count = draft.needs().len();
     'gifts: for number in 0..count {
-        give_found(store, number, draft)?;
+        give_found(modules, number, draft)?;
     }
     Ok(())
 }
 
 // Gives a draft what is found of its need of that number.
-fn give_found(store: &Store, number: usize, draft: &mut Draft) -> Result<(), NoMemory>
+fn give_found(modules: &Modules, number: usize, draft: &mut Draft) -> Result<(), NoMemory>
     requires { number < length draft.old.needs }
     ensures found { OnOk result
-        (ForStored store.now (λ stored. draft.new ≡ with_found stored number draft.old)) }
+        (ForModules modules.now (λ modules. draft.new ≡ with_found modules number draft.old)) }
     ensures needs { OnOk result (draft.new.needs ≡ draft.old.needs) }
 {
     let Some(need) = draft.need(number) else {
         return Ok(());
     };
-    if let Look::Found(bytes) = store.resource(need) {
+    if let Look::Found(bytes) = modules.resource(need) {
         draft.give(number, bytes)?;
     }
     Ok(())

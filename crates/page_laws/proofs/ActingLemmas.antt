@@ -28,18 +28,15 @@ use Rattle.event_queue.specs.Timers.{TimersState, first_due, most_timers, with_f
 use Rattle.event_queue.specs.declared.events.Event.{Event}
 use Rattle.event_queue.specs.declared.events.Event.TheVariants as events
 use Rattle.event_items.specs.Subscriptions.{is_subscribed, with_subscribed}
-use Rattle.browser_objects.specs.Calls.{BrowserParts, Called, call_of}
+use Rattle.browser_objects.specs.Calls.{BrowserParts}
 use Rattle.browser_objects.specs.Registers.{register_text}
-use Rattle.browser_objects.specs.declared.effects.Effect as of_browser
-use Rattle.browser_objects.specs.declared.effects.Effect.TheVariants as effects
 use Rattle.dom_objects.specs.Reads.{read_value}
 use Rattle.dom_objects.specs.Writes.{Change, change_of, changed_items, changed_tree}
 use Rattle.dom_objects.specs.Writes.Change.{NoChange, ChangesText, ChangesAttribute, ChangesStyle}
 use Rattle.dom_objects.specs.declared.current_events.CurrentEvent.{CurrentEvent}
-use Rattle.document_stages.specs.Acting.{Acting, Answered, acted, acting_with_timers, activated, begun, browser_call, browser_value, called, document_call, done_for, due_posted, element_call, first_argument, first_focus, focus_on, focused, gives, is_subscription, is_unload, launch, left_by, moved_to, no_focus, node_id, node_read, node_written, not_callable, parts_of, posted, posted_for, read_by, register_value, text_written, timer_fired, timer_posted, timer_settled, timers_fired, with_browser, with_focus, with_line, written}
-use Rattle.document_stages.specs.EventLines.{kept_line, launch_line, sound_line}
+use Rattle.document_stages.specs.Acting.{Acting, Answered, acted, acting_with_timers, activated, begun, browser_value, document_call, due_posted, element_call, first_focus, focus_on, focused, gives, is_subscription, is_unload, launch, left_by, moved_to, no_focus, node_id, node_read, node_written, not_callable, parts_of, posted, posted_for, read_by, register_value, text_written, timer_fired, timer_posted, timer_settled, timers_fired, with_browser, with_focus, with_line, written}
+use Rattle.document_stages.specs.EventLines.{launch_line}
 use Rattle.page_laws.specs.Soundness.{AreTimers, has_element, has_node, is_good, is_good_event, is_good_place, names_well}
-use Rattle.page_laws.proofs.BrowserLemmas.{call-good}
 use Rattle.page_laws.proofs.EventItemLemmas.{AreGoodItems, subscribed-good}
 use Rattle.page_laws.proofs.ItemLemmas.{changed-tree}
 use Rattle.page_laws.proofs.QueueLemmas.{posted-all, posted-room}
@@ -371,7 +368,7 @@ module _ (laws : TreeLaws) (items : List Item) where
       now n
   written-nodes (ChangesStyle node state property value) now n = n
 
-  browser-sound : (browser : BrowserParts) (a : Acting) → AreTimers browser.timers
+  pub browser-sound : (browser : BrowserParts) (a : Acting) → AreTimers browser.timers
       → IsSoundActing items a → IsSoundActing items (with_browser browser a)
   browser-sound browser a h s = record {
     nodes = s.nodes;
@@ -460,20 +457,20 @@ module _ (laws : TreeLaws) (items : List Item) where
       by false e = s
 
   module _ (heap : List ObjectState) where
-    chosen-sound : (t : Bool) (one other : Answered) → IsSoundAnswer items heap one
+    pub chosen-sound : (t : Bool) (one other : Answered) → IsSoundAnswer items heap one
         → IsSoundAnswer items heap other → IsSoundAnswer items heap (if t then one else other)
     chosen-sound true one other h more = h
     chosen-sound false one other h more = more
 
-    gives-sound : (value : Value) (a : Acting) → IsGiven items value → IsSoundActing items a
+    pub gives-sound : (value : Value) (a : Acting) → IsGiven items value → IsSoundActing items a
         → IsSoundAnswer items heap (gives value a heap)
     gives-sound value a h s = record { answer = h; acting = s; heap_is = refl }
 
-    none-sound : (a : Acting) → IsSoundActing items a
+    pub none-sound : (a : Acting) → IsSoundActing items a
         → IsSoundAnswer items heap (not_callable a heap)
     none-sound a s = record { answer = tt; acting = s; heap_is = refl }
 
-    document-sound : (a : Acting) → IsSoundActing items a → (name id : List ℕ)
+    pub document-sound : (a : Acting) → IsSoundActing items a → (name id : List ℕ)
         → IsSoundAnswer items heap (document_call a name id heap)
     document-sound a s name id =
         chosen-sound (is_same name (codes "getElementById")) _ _
@@ -481,7 +478,7 @@ module _ (laws : TreeLaws) (items : List Item) where
         s)
         (none-sound a s)
 
-    element-sound : (a : Acting) → IsSoundActing items a → (node : ℕ) (name : List ℕ)
+    pub element-sound : (a : Acting) → IsSoundActing items a → (node : ℕ) (name : List ℕ)
         → IsSoundAnswer items heap (element_call a node name heap)
     element-sound a s node name =
         chosen-sound (is_same name (codes "focus")) _ _
@@ -489,9 +486,9 @@ module _ (laws : TreeLaws) (items : List Item) where
         (chosen-sound (is_same name (codes "blur")) _ _
         (gives-sound Undefined (left_by node a) refl (left-sound node a s)) (none-sound a s))
 
-    -- ---- calls of the browser object
+    -- ---- launches
 
-    line-sound : (line : List ℕ) (launched : Option Path) (a : Acting) → IsSoundActing items a
+    pub line-sound : (line : List ℕ) (launched : Option Path) (a : Acting) → IsSoundActing items a
         → IsSoundActing items (record (with_line line a) { launched = launched })
     line-sound line launched a s = record {
       nodes = s.nodes;
@@ -502,7 +499,7 @@ module _ (laws : TreeLaws) (items : List Item) where
       target = s.target;
     }
 
-    launch-sound : (path : Path) (a : Acting) → IsSoundActing items a
+    pub launch-sound : (path : Path) (a : Acting) → IsSoundActing items a
         → IsSoundAnswer items heap (launch path a heap)
     launch-sound path a s =
         chosen-sound (is_unload a.event.event) _ _ (gives-sound _ a refl s)
@@ -511,35 +508,3 @@ module _ (laws : TreeLaws) (items : List Item) where
           acting = line-sound (launch_line path) (Some path) a s;
           heap_is = refl;
         })
-
-    done-sound : (effect : of_browser.Effect) (value : Value) (a : Acting) → IsGiven items value
-        → IsSoundActing items a → IsSoundAnswer items heap (done_for effect value a heap)
-    done-sound effects.Nothing value a h s = gives-sound value a h s
-    done-sound (effects.Sound sound) value a h s =
-        gives-sound value (with_line (sound_line sound) a) h
-        (line-sound (sound_line sound) a.launched a s)
-    done-sound (effects.Kept slot size) value a h s =
-        gives-sound value (with_line (kept_line slot size) a) h
-        (line-sound (kept_line slot size) a.launched a s)
-    done-sound (effects.Launch path) value a h s = launch-sound path a s
-    done-sound (effects.Lock path) value a h s = gives-sound _ a refl s
-    done-sound (effects.Unlock path) value a h s = gives-sound _ a refl s
-
-    browser_call-sound : (a : Acting) → IsSoundActing items a → (name : List ℕ)
-        (arguments : List Value) → IsSoundAnswer items heap (browser_call a name arguments heap)
-    browser_call-sound a s name arguments =
-        let call : Called = call_of name a.path a.now arguments heap a.browser in
-        let good = call-good items a.browser s.timers name a.path a.now arguments heap in
-        done-sound call.effect call.value (with_browser call.state a) good.value
-        (browser-sound call.state a good.timers s)
-
-    pub called-sound : (a : Acting) → IsSoundActing items a → (base : HostRef) (name : List ℕ)
-        (arguments : List Value) → IsSoundAnswer items heap (called a base name arguments heap)
-    unfolding called
-    called-sound a s ref.Document name arguments =
-        document-sound a s name (text_of heap (first_argument arguments))
-    called-sound a s (ref.Node node) name arguments =
-        chosen-sound (is_some (tag_of a.tree.items node)) _ _ (element-sound a s node name)
-        (none-sound a s)
-    called-sound a s ref.Browser name arguments = browser_call-sound a s name arguments
-    called-sound a s _ name arguments = none-sound a s

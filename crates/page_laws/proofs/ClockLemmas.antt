@@ -1,10 +1,9 @@
--- Turns leave the clock as it is.
+-- Turns leave the clock as it is, and the modules of the service.
 use Rattle.std.proofs.Common.{◌≡◌, ℕ, zero, suc, Option, Some, None, refl, ◌∙◌}
 use Rattle.std.specs.Prelude.{IfSome, Result, Ok, Err, option_and_then, option_map}
 use Rattle.std.specs.Option.{option_or}
 use Rattle.bml_reader.specs.declared.faults.DocFault.{DocFault}
 use Rattle.multipart_entities.specs.declared.paths.Path.{Path}
-use Rattle.module_store.specs.Store.{Stored}
 use Rattle.event_queue.specs.Queues.{first_of}
 use Rattle.event_queue.specs.declared.events.Event.{Event}
 use Rattle.document_load.specs.Drafts.{DraftState}
@@ -16,6 +15,7 @@ use Rattle.page.specs.Dispatches.{dispatch, dispatches, event_in, load_at, most_
 use Rattle.page.specs.Loading.{load, loadable_reading, opened, wanted_path}
 use Rattle.page.specs.State.{State, Step, scene_in, stays_or_goes, step_of}
 use Rattle.page.specs.State.Wanted.{NoDocument}
+use Rattle.page_laws.proofs.ServiceLemmas.{handled-service, load-service, unload-service}
 
 -- a step that is there or not leaves the clock
 abbrev MayLeave : State → Option Step → Type 0
@@ -38,13 +38,13 @@ load-clock s path (Some (Ok draft)) =
     (load_effect (scene_in s (opened s.read path draft)))
 load-clock s path (Some (Err fault)) = refl
 
-next_load-clock : (stored : Stored) (s : State) → MayLeave s (next_load stored s)
+next_load-clock : (s : State) → MayLeave s (next_load s)
 unfolding next_load
-next_load-clock stored s = by (wanted_path s.wanted stored)
+next_load-clock s = by (wanted_path s.wanted s.modules)
   where
-    by : (path : Option Path) → MayLeave s (option_and_then (load_at stored s) path)
+    by : (path : Option Path) → MayLeave s (option_and_then (load_at s) path)
     by None = tt
-    by (Some path) = load-clock s path (loadable_reading stored path)
+    by (Some path) = load-clock s path (loadable_reading s.modules path)
 
 next_event-clock : (s : State) → MayLeave s (next_event s)
 next_event-clock s = by s.document
@@ -58,10 +58,10 @@ next_event-clock s = by s.document
     by None = tt
     by (Some d) = of d (first_of d.queue)
 
-dispatch-clock : (stored : Stored) (s : State) → MayLeave s (dispatch stored s)
+dispatch-clock : (s : State) → MayLeave s (dispatch s)
 unfolding dispatch
-dispatch-clock stored s =
-    either (next_load stored s) (next_event s) (next_load-clock stored s) (next_event-clock s)
+dispatch-clock s =
+    either (next_load s) (next_event s) (next_load-clock s) (next_event-clock s)
   where
     either : (one other : Option Step) → MayLeave s one → MayLeave s other
         → MayLeave s (option_or one other)
@@ -75,14 +75,87 @@ and-clock : (more : State → Step) → ((s : State) → (more s).state.clock �
 and-clock more keeps s None may = refl
 and-clock more keeps s (Some t) may = keeps t.state ∙ may
 
-dispatches-clock : (count : ℕ) (stored : Stored) (s : State)
-    → (dispatches count stored s).state.clock ≡ s.clock
+dispatches-clock : (count : ℕ) (s : State)
+    → (dispatches count s).state.clock ≡ s.clock
 unfolding dispatches
-dispatches-clock zero stored s = refl
-dispatches-clock (suc count) stored s =
-    and-clock (dispatches count stored) (dispatches-clock count stored) s (dispatch stored s)
-    (dispatch-clock stored s)
+dispatches-clock zero s = refl
+dispatches-clock (suc count) s =
+    and-clock (dispatches count) (dispatches-clock count) s (dispatch s)
+    (dispatch-clock s)
 
-pub turn-clock : (stored : Stored) (s : State) → (turn stored s).state.clock ≡ s.clock
+pub turn-clock : (s : State) → (turn s).state.clock ≡ s.clock
 unfolding turn
-turn-clock stored s = dispatches-clock most_dispatches stored s
+turn-clock s = dispatches-clock most_dispatches s
+
+-- ---- the modules of the service
+
+-- a step that is there or not leaves them
+abbrev MayServe : State → Option Step → Type 0
+MayServe s step = IfSome step (λ t. t.state.modules.stored ≡ s.modules.stored)
+
+step-service : (s : State) (e : Effect) → e.scene.modules.stored ≡ s.modules.stored
+    → (step_of s e).state.modules.stored ≡ s.modules.stored
+step-service s e h = by e.launched
+  where
+    by : (launched : Option Path)
+        → (stays_or_goes launched s e.scene).state.modules.stored ≡ s.modules.stored
+    by None = h
+    by (Some path) = unload-service e.scene ∙ h
+
+load_at-service : (s : State) (path : Path) (reading : Option (Result DraftState DocFault))
+    → MayServe s (option_map (load s path) reading)
+load_at-service s path None = tt
+load_at-service s path (Some (Ok draft)) =
+    let scene = scene_in s (opened s.read path draft) in
+    step-service (record s { wanted = NoDocument }) (load_effect scene) (load-service scene)
+load_at-service s path (Some (Err fault)) = refl
+
+next_load-service : (s : State) → MayServe s (next_load s)
+unfolding next_load
+next_load-service s = by (wanted_path s.wanted s.modules)
+  where
+    by : (path : Option Path) → MayServe s (option_and_then (load_at s) path)
+    by None = tt
+    by (Some path) = load_at-service s path (loadable_reading s.modules path)
+
+next_event-service : (s : State) → MayServe s (next_event s)
+next_event-service s = by s.document
+  where
+    of : (d : Document) (event : Option Event) → MayServe s (option_map
+        (λ event. step_of s (handled event (without_first (scene_in s d)))) event)
+    of d None = tt
+    of d (Some event) =
+        let scene = without_first (scene_in s d) in
+        step-service s (handled event scene) (handled-service event scene)
+
+    by : (document : Option Document) → MayServe s (option_and_then (event_in s) document)
+    by None = tt
+    by (Some d) = of d (first_of d.queue)
+
+dispatch-service : (s : State) → MayServe s (dispatch s)
+unfolding dispatch
+dispatch-service s =
+    either (next_load s) (next_event s) (next_load-service s) (next_event-service s)
+  where
+    either : (one other : Option Step) → MayServe s one → MayServe s other
+        → MayServe s (option_or one other)
+    either None other h more = more
+    either (Some step) other h more = h
+
+and-service : (more : State → Step)
+    → ((s : State) → (more s).state.modules.stored ≡ s.modules.stored) → (s : State)
+    (step : Option Step) → MayServe s step
+    → (next_and more s step).state.modules.stored ≡ s.modules.stored
+and-service more keeps s None may = refl
+and-service more keeps s (Some t) may = keeps t.state ∙ may
+
+dispatches-service : (count : ℕ) (s : State)
+    → (dispatches count s).state.modules.stored ≡ s.modules.stored
+unfolding dispatches
+dispatches-service zero s = refl
+dispatches-service (suc count) s =
+    and-service (dispatches count) (dispatches-service count) s (dispatch s) (dispatch-service s)
+
+pub turn-service : (s : State) → (turn s).state.modules.stored ≡ s.modules.stored
+unfolding turn
+turn-service s = dispatches-service most_dispatches s

@@ -29,20 +29,22 @@ use Rattle.es_reader.specs.Readers.{Reader}
 use Rattle.script_laws.specs.Passing.{HeapPasses, ObjectPasses}
 use Rattle.script_laws.specs.Staying.{AreFit, StaysWithin}
 use Rattle.document_stages.specs.Acting.{Acting, acted, begun, change_posts, due_posted, first_focus, key_posts, message_posts}
+use Rattle.document_stages.specs.Hosting.{Hosted}
 use Rattle.acting_documents.specs.Documents.{Document, body_of, handler_in, is_body, passes}
 use Rattle.acting_documents.specs.Handling.{body_in, change_effect, deactivated, default_action, due_effect, focus_of, handled, handled_at, key_effect, kind_of, message_effect, run_handler, timer_effect, timer_taken}
-use Rattle.acting_documents.specs.Beginnings.{begin, load_effect, run_scripts, script_places}
+use Rattle.acting_documents.specs.Beginnings.{begin, load_effect, run_scripts, script_places, unload_effect, without_waiting}
 use Rattle.page.specs.Loading.{opened}
-use Rattle.acting_documents.specs.Runs.{Effect, Scene, acting_in, and_then, done, effect_of_end, ended, most_steps, no_event, nothing_done, run_function, run_program, unless_launched, with_acting, with_world}
+use Rattle.acting_documents.specs.Runs.{Effect, Scene, acting_in, and_then, done, effect_of_end, ended, hosted_in, most_steps, no_event, nothing_done, run_function, run_program, unless_launched, with_acting, with_hosted, with_world}
 use Rattle.page_laws.specs.Soundness.{AreTimers, IsGoodHandler, IsSoundDocument, is_good, is_good_event, is_good_in, is_good_place, limit_of}
 use Rattle.page_laws.proofs.ActingLemmas.{IsSoundActing, TreeLaws, acted-sound, begun-sound, due-sound, element-same, event-same, good-same, place-same}
 use Rattle.page_laws.proofs.EventItemLemmas.{AreGoodItems, ItemNodes, first-good, moved-good}
 use Rattle.page_laws.proofs.HandlerLemmas.{read-handlers}
+use Rattle.page_laws.proofs.HostedLemmas.{HasFewLocks, IsSoundHosted, LockLaws}
 use Rattle.page_laws.proofs.ItemPostLemmas.{changes-sound, keys-sound, messages-sound}
 use Rattle.page_laws.proofs.ReadLemmas.{has_target, place-below}
 use Rattle.page_laws.proofs.RunLemmas.{EndsSound, RunsStay, own-pass, run-sound}
 use Rattle.page_laws.proofs.TargetLemmas.{action-good}
-use Rattle.page_laws.proofs.TimerLemmas.{with_settled-sound}
+use Rattle.page_laws.proofs.TimerLemmas.{dropped-sound, with_settled-sound}
 use Rattle.page_laws.proofs.WalkLemmas.{IsBelow, first-below, places-below}
 
 -- the world of a sound document
@@ -57,10 +59,11 @@ world-fit d s = record {
   objects = omega arith;
 }
 
--- a scene is sound where its document is, and its timers are as they have to be
+-- a scene is sound where its document is, its timers are as they have to be, and few locks stand
 pub record IsSoundScene (scene : Scene) : Type 0 where
   pub document : IsSoundDocument scene.document
   pub timers : AreTimers scene.browser.timers
+  pub locks : HasFewLocks scene.modules
 
 -- the nodes of its document
 abbrev items_of : Scene → List Item
@@ -133,12 +136,13 @@ document-left scene a w before s fit =
       objects = fit.fit.sound;
     }
 
-left-sound : (scene : Scene) (a : Acting) (w : World) → IsSoundScene scene
-    → IsSoundActing (items_of scene) a → AreFit (is_good_here scene) 0 w.globals w.heap
-    → IsSoundScene (with_world w (with_acting a scene))
-left-sound scene a w before s fit = record {
-  document = document-left scene a w before.document s fit;
-  timers = s.timers;
+left-sound : (scene : Scene) (h : Hosted) (w : World) → IsSoundScene scene
+    → IsSoundHosted (items_of scene) h → AreFit (is_good_here scene) 0 w.globals w.heap
+    → IsSoundScene (with_world w (with_hosted h scene))
+left-sound scene h w before s fit = record {
+  document = document-left scene h.acting w before.document s.acting fit;
+  timers = s.acting.timers;
+  locks = s.locks;
 }
 
 -- the same where nothing was done to the world
@@ -146,7 +150,8 @@ acted-left : (scene : Scene) (a : Acting) → IsSoundScene scene
     → IsSoundActing (items_of scene) a → IsSoundScene (with_acting a scene)
 acted-left scene a s h =
     let d : Document = scene.document in
-    left-sound scene a (world d.globals d.heap 0) s h (world-fit d s.document)
+    left-sound scene (record { acting = a; modules = scene.modules })
+    (world d.globals d.heap 0) s (record { acting = h; locks = s.locks }) (world-fit d s.document)
 
 done-sound : (change : Acting → Acting) (scene : Scene) → IsSoundScene scene
     → (IsSoundActing (items_of scene) (acting_in no_event scene)
@@ -188,20 +193,20 @@ opened-sound law read path draft tree =
       objects = All-nil (heaps.AreLiveAmong 0);
     }
 
-module _ (laws : TreeLaws) (stay : RunsStay) where
+module _ (laws : TreeLaws) (stay : RunsStay) (few : LockLaws) where
   -- ---- programs
 
   end-sound : (name : List ℕ) (event : CurrentEvent) (run : Run) (scene : Scene)
       → IsSoundScene scene → has_target (items_of scene) event ≡ true
       → StaysWithin (is_good_here scene) 0 run
-      → IsSoundScene (effect_of_end name scene (ended run (acting_in event scene))).scene
+      → IsSoundScene (effect_of_end name scene (ended run (hosted_in event scene))).scene
   end-sound name event run scene s h stays =
       let limit = limit_of scene.document in
-      let end = ended run (acting_in event scene) in
+      let end = ended run (hosted_in event scene) in
       let ends : EndsSound (items_of scene) limit 0 end =
-      run-sound laws (items_of scene) limit 0 run (acting_in event scene) stays
-      (acting-first scene event s h) in
-      left-sound scene end.acting end.world s ends.acting ends.fit
+      run-sound laws few (items_of scene) limit 0 run (hosted_in event scene) stays
+      (record { acting = acting-first scene event s h; locks = s.locks }) in
+      left-sound scene end.hosted end.world s ends.hosted ends.fit
 
   program-sound : (name : List ℕ) (event : CurrentEvent) (place : ℕ) (scene : Scene)
       → IsSoundScene scene → has_target (items_of scene) event ≡ true
@@ -277,6 +282,7 @@ module _ (laws : TreeLaws) (stay : RunsStay) where
       objects = s.document.objects;
     };
     timers = s.timers;
+    locks = s.locks;
   }
 
   default-sound : (key : ℕ) (scene : Scene) → IsSoundScene scene
@@ -292,6 +298,7 @@ module _ (laws : TreeLaws) (stay : RunsStay) where
   taken-sound number scene s = record {
     document = s.document;
     timers = with_settled-sound number scene.browser.timers s.timers;
+    locks = s.locks;
   }
 
   timer-sound : (number : ℕ) (scene : Scene) → IsSoundScene scene
@@ -378,7 +385,8 @@ module _ (laws : TreeLaws) (stay : RunsStay) where
   unfolding due_effect
   due_effect-sound moment scene s =
       let later : Scene = record scene { now = moment } in
-      done-sound (due_posted moment) later (record { document = s.document; timers = s.timers })
+      done-sound (due_posted moment) later
+      (record { document = s.document; timers = s.timers; locks = s.locks })
       (λ h. due-sound laws (items_of scene) moment (acting_in no_event later) h)
 
   -- ---- loads
@@ -400,3 +408,33 @@ module _ (laws : TreeLaws) (stay : RunsStay) where
   unfolding load_effect
   load_effect-sound scene s =
       then-sound begin begin-sound _ (scripts-sound (script_places scene.document) scene s)
+
+  -- ---- ends
+
+  waiting-sound : (scene : Scene) → IsSoundScene scene → IsSoundScene (without_waiting scene)
+  waiting-sound scene s = record {
+    document = record {
+      tree = s.document.tree;
+      focus = s.document.focus;
+      active = s.document.active;
+      room = omega arith;
+      events = All-nil (λ event. is_good_event (items_of scene) event ≡ true);
+      items = s.document.items;
+      subscribed = s.document.subscribed;
+      fired = s.document.fired;
+      handlers = s.document.handlers;
+      globals = s.document.globals;
+      properties = s.document.properties;
+      live = s.document.live;
+      objects = s.document.objects;
+    };
+    timers = dropped-sound scene.browser.timers.next;
+    locks = s.locks;
+  }
+
+  pub unload_effect-sound : (scene : Scene) → IsSoundScene scene
+      → IsSoundScene (unload_effect scene).scene
+  unfolding unload_effect handled
+  unload_effect-sound scene s =
+      handled_at-sound (body_in scene) events.Unload (without_waiting scene)
+      (waiting-sound scene s) (body-below (items_of scene))

@@ -1,7 +1,6 @@
 -- What event items are told leaves what is acted on sound: messages, changes of modules, and the data button.
 use Rattle.std.proofs.Common.{◌≡◌, ℕ, Bool, true, false, List, [], ◌∷◌, Option, Some, None, refl}
 use Rattle.std.specs.Prelude.{◌==◌, All, if◌then◌else◌}
-use Rattle.std.specs.Option.{option_map_or}
 use Rattle.std.proofs.lemmas.List.Elements.{All-head, All-tail}
 use Rattle.carousel_blocks.specs.declared.changes.Change.{Change}
 use Rattle.dom_tree.specs.Items.{Item}
@@ -12,7 +11,7 @@ use Rattle.event_queue.specs.declared.events.Event.{Event}
 use Rattle.event_queue.specs.declared.events.Event.TheVariants as events
 use Rattle.event_items.specs.EventItems.{EventItem}
 use Rattle.event_items.specs.Subscriptions.{fires_for_message, with_firing}
-use Rattle.document_stages.specs.Acting.{Acting, button_posts, button_post, change_posts, each_item, fired, has_room, key_posts, message_posts, message_post, module_post, posted, posted_where, pressed}
+use Rattle.document_stages.specs.Acting.{Acting, button_posts, button_post, change_posts, each_item, fired, has_room, key_posts, lock_posts, lock_post, message_posts, message_post, module_post, posted, posted_where, pressed, update_posts}
 use Rattle.page_laws.specs.Soundness.{has_element, is_good_event}
 use Rattle.page_laws.proofs.ActingLemmas.{IsSoundActing, TreeLaws, posted-sound}
 use Rattle.page_laws.proofs.EventItemLemmas.{IsOfElement, noted-good, told_in_turn}
@@ -81,19 +80,37 @@ module _ (laws : TreeLaws) (items : List Item) where
   messages-sound component message a s =
       each-sound (message_post component message) (told-sound component message) a s
 
-  -- ---- changes of modules
+  -- ---- locks and changes of modules
+
+  pub locks-sound : (component number : ℕ) (a : Acting) → IsSoundActing items a
+      → IsSoundActing items (lock_posts component number a)
+  unfolding lock_posts
+  locks-sound component number a s =
+      each-sound (lock_post component number)
+      (λ item b h t. where-sound _ (events.Locked item.node 0) b h t) a s
+
+  updates-sound : (component number : ℕ) (status : Option ℕ) (a : Acting)
+      → IsSoundActing items a → IsSoundActing items (update_posts component number status a)
+  updates-sound component number None a s = s
+  updates-sound component number (Some status) a s =
+      each-sound (module_post component number status)
+      (λ item b h t. where-sound _ (events.Updated item.node status) b h t) a s
 
   pub changes-sound : (component : ℕ) (change : Change) (a : Acting) → IsSoundActing items a
       → IsSoundActing items (change_posts component change a)
   unfolding change_posts
-  changes-sound component change a s = by change.status
+  changes-sound component change a s = by change.locked
     where
-      by : (status : Option ℕ) → IsSoundActing items (option_map_or
-          (λ status. each_item (module_post component change.«module» status) a) status a)
-      by None = s
-      by (Some status) =
-          each-sound (module_post component change.«module» status)
-          (λ item b h t. where-sound _ (events.Updated item.node status) b h t) a s
+      updated : Acting
+      updated = update_posts component change.«module» change.status a
+
+      after : IsSoundActing items updated
+      after = updates-sound component change.«module» change.status a s
+
+      by : (locked : Bool) → IsSoundActing items
+          (if locked then lock_posts component change.«module» updated else updated)
+      by true = locks-sound component change.«module» updated after
+      by false = after
 
   -- ---- keys
 

@@ -1,11 +1,13 @@
 -- What handlers act on goes on to have timers that are due later than the clock.
 use Rattle.std.proofs.Common.{◌≡◌, ℕ, Bool, true, false, List, [], ◌∷◌, Option, Some, None, sym, subst}
 use Rattle.std.specs.Prelude.{◌==◌, codes, if◌then◌else◌, is_some}
-use Rattle.std.specs.Option.{option_map_or}
 use Rattle.bml_bytes.specs.Words.{is_same}
 use Rattle.dom_tree.specs.Items.{tag_of}
 use Rattle.dom_tree.specs.NodeNumbers.{number_of}
 use Rattle.carousel_blocks.specs.declared.changes.Change.{Change}
+use Rattle.module_locks.specs.Locks.{lock_answer, lock_on}
+use Rattle.module_locks.specs.declared.answers.LockAnswer.{LockAnswer}
+use Rattle.module_locks.specs.declared.answers.LockAnswer.TheVariants as answers
 use Rattle.multipart_entities.specs.declared.paths.Path.{Path}
 use Rattle.style_cascade.specs.States.{is_node}
 use Rattle.focus_keys.specs.Defaults.{Action}
@@ -28,7 +30,8 @@ use Rattle.event_items.specs.Subscriptions.{fires_for_message}
 use Rattle.browser_objects.specs.Calls.{BrowserParts, Called, call_of}
 use Rattle.browser_objects.specs.declared.effects.Effect as of_browser
 use Rattle.browser_objects.specs.declared.effects.Effect.TheVariants as effects
-use Rattle.document_stages.specs.Acting.{Acting, Answered, acted, begun, browser_call, button_posts, button_post, called, change_posts, done_for, each_item, element_call, fired, focus_on, focused, has_room, is_subscription, is_unload, key_posts, launch, left_by, message_posts, message_post, module_post, moved_to, node_written, posted, posted_for, posted_where, pressed, read_by, text_written, with_browser, with_focus, written}
+use Rattle.document_stages.specs.Acting.{Acting, Answered, acted, begun, button_posts, button_post, change_posts, each_item, element_call, fired, focus_on, focused, has_room, is_subscription, is_unload, key_posts, launch, left_by, lock_posts, lock_post, message_posts, message_post, module_post, moved_to, node_written, posted, posted_for, posted_where, pressed, read_by, text_written, update_posts, with_browser, with_focus, written}
+use Rattle.document_stages.specs.Hosting.{Hosted, Reply, browser_call, called, done_for, lock_answered}
 use Rattle.acting_documents.specs.Runs.{ended}
 use Rattle.page_laws.proofs.EventItemLemmas.{told_in_turn}
 use Rattle.page_laws.proofs.LaterLemmas.{LaterThan, call-later}
@@ -81,17 +84,28 @@ module _ (clock : ℕ) where
   messages-timely component message a h =
       each-timely (message_post component message) (told-timely component message) a h
 
+  locks-timely : (component number : ℕ) (a : Acting) → ActsTimely clock a
+      → ActsTimely clock (lock_posts component number a)
+  unfolding lock_posts
+  locks-timely component number a h =
+      each-timely (lock_post component number)
+      (λ item b h. where-timely _ (events.Locked item.node 0) b h) a h
+
+  updates-timely : (component number : ℕ) (status : Option ℕ) (a : Acting) → ActsTimely clock a
+      → ActsTimely clock (update_posts component number status a)
+  updates-timely component number None a h = h
+  updates-timely component number (Some status) a h =
+      each-timely (module_post component number status)
+      (λ item b h. where-timely _ (events.Updated item.node status) b h) a h
+
   pub changes-timely : (component : ℕ) (change : Change) (a : Acting) → ActsTimely clock a
       → ActsTimely clock (change_posts component change a)
   unfolding change_posts
-  changes-timely component change a h = by change.status
-    where
-      by : (status : Option ℕ) → ActsTimely clock (option_map_or
-          (λ status. each_item (module_post component change.«module» status) a) status a)
-      by None = h
-      by (Some status) =
-          each-timely (module_post component change.«module» status)
-          (λ item b h. where-timely _ (events.Updated item.node status) b h) a h
+  changes-timely component change a h =
+      let updated : Acting = update_posts component change.«module» change.status a in
+      let after = updates-timely component change.«module» change.status a h in
+      either (ActsTimely clock) change.locked _ updated
+      (locks-timely component change.«module» updated after) after
 
   button-timely : (a : Acting) → ActsTimely clock a → ActsTimely clock (button_posts a)
   unfolding button_posts
@@ -190,51 +204,68 @@ module _ (clock : ℕ) where
       → AnswersTimely (launch path a heap)
   launch-timely path a heap h = either AnswersTimely (is_unload a.event.event) _ _ h h
 
-  done-timely : (effect : of_browser.Effect) (value : Value) (a : Acting)
-      (heap : List ObjectState) → ActsTimely clock a → AnswersTimely (done_for effect value a heap)
-  done-timely effects.Nothing value a heap h = h
-  done-timely (effects.Sound sound) value a heap h = h
-  done-timely (effects.Kept slot size) value a heap h = h
-  done-timely (effects.Launch path) value a heap h = launch-timely path a heap h
-  done-timely (effects.Lock path) value a heap h = h
-  done-timely (effects.Unlock path) value a heap h = h
+  -- ---- calls that may lock and unlock modules
 
-  browser-timely : (a : Acting) (name : List ℕ) (arguments : List Value)
-      (heap : List ObjectState) → ActsTimely clock a
-      → AnswersTimely (browser_call a name arguments heap)
-  browser-timely a name arguments heap h =
+  abbrev RepliesTimely : Reply → Type 0
+  RepliesTimely r = ActsTimely clock r.hosted.acting
+
+  lock-timely : (answer : LockAnswer) (path : Path) (a : Acting) (heap : List ObjectState)
+      → ActsTimely clock a → AnswersTimely (lock_answered answer path a heap)
+  lock-timely answers.Kept path a heap h = locks-timely path.component path.«module» a h
+  lock-timely answers.Had path a heap h = h
+  lock-timely answers.Wanted path a heap h = h
+  lock-timely answers.NoEntry path a heap h = h
+  lock-timely answers.Full path a heap h = h
+
+  done-timely : (effect : of_browser.Effect) (value : Value) (s : Hosted)
+      (heap : List ObjectState) → ActsTimely clock s.acting
+      → RepliesTimely (done_for effect value s heap)
+  done-timely effects.Nothing value s heap h = h
+  done-timely (effects.Sound sound) value s heap h = h
+  done-timely (effects.Kept slot size) value s heap h = h
+  done-timely (effects.Launch path) value s heap h = launch-timely path s.acting heap h
+  done-timely (effects.Lock path) value s heap h =
+      lock-timely (lock_answer path.component path.«module» s.modules) path s.acting heap h
+  done-timely (effects.Unlock path) value s heap h =
+      either AnswersTimely (is_some (lock_on s.modules.locks path.component path.«module»)) _ _ h h
+
+  browser-timely : (s : Hosted) (name : List ℕ) (arguments : List Value)
+      (heap : List ObjectState) → ActsTimely clock s.acting
+      → RepliesTimely (browser_call s name arguments heap)
+  browser-timely s name arguments heap h =
+      let a : Acting = s.acting in
       let call : Called = call_of name a.path a.now arguments heap a.browser in
       let all : LaterThan a.now a.browser.timers =
       subst (λ (n : ℕ). LaterThan n a.browser.timers) (sym h.is_now) h.timers in
-      done-timely call.effect call.value (with_browser call.state a) heap
+      done-timely call.effect call.value (record s { acting = with_browser call.state a }) heap
       (record {
         is_now = h.is_now;
         timers = subst (λ (n : ℕ). LaterThan n call.state.timers) h.is_now
             (call-later a.now a.browser all name a.path arguments heap);
       })
 
-  called-timely : (a : Acting) (base : HostRef) (name : List ℕ) (arguments : List Value)
-      (heap : List ObjectState) → ActsTimely clock a
-      → AnswersTimely (called a base name arguments heap)
+  called-timely : (s : Hosted) (base : HostRef) (name : List ℕ) (arguments : List Value)
+      (heap : List ObjectState) → ActsTimely clock s.acting
+      → RepliesTimely (called s base name arguments heap)
   unfolding called
-  called-timely a ref.Document name arguments heap h =
+  called-timely s ref.Document name arguments heap h =
       either AnswersTimely (is_same name (codes "getElementById")) _ _ h h
-  called-timely a (ref.Node node) name arguments heap h =
-      either AnswersTimely (is_some (tag_of a.tree.items node)) _ _
-      (element-timely a node name heap h) h
-  called-timely a ref.Browser name arguments heap h = browser-timely a name arguments heap h
-  called-timely a _ name arguments heap h = h
+  called-timely s (ref.Node node) name arguments heap h =
+      either AnswersTimely (is_some (tag_of s.acting.tree.items node)) _ _
+      (element-timely s.acting node name heap h) h
+  called-timely s ref.Browser name arguments heap h = browser-timely s name arguments heap h
+  called-timely s _ name arguments heap h = h
 
   -- ---- runs
 
-  pub run-timely : (run : Run) (a : Acting) → ActsTimely clock a
-      → ActsTimely clock (ended run a).acting
+  pub run-timely : (run : Run) (s : Hosted) → ActsTimely clock s.acting
+      → ActsTimely clock (ended run s).hosted.acting
   unfolding ended
-  run-timely (Over outcome w) a h = h
-  run-timely (Reads base name go) a h = run-timely (go (read_by a base name)) a h
-  run-timely (Writes base name value heap go) a h =
-      run-timely go (written a base name value heap)
-      (written-timely a base name value heap h)
-  run-timely (Calls base name arguments heap go) a h =
-      let c = called a base name arguments heap in
-      run-timely (go c.answer c.heap) c.acting (called-timely a base name arguments heap h)
+  run-timely (Over outcome w) s h = h
+  run-timely (Reads base name go) s h = run-timely (go (read_by s.acting base name)) s h
+  run-timely (Writes base name value heap go) s h =
+      run-timely go (record s { acting = written s.acting base name value heap })
+      (written-timely s.acting base name value heap h)
+  run-timely (Calls base name arguments heap go) s h =
+      let c = called s base name arguments heap in
+      run-timely (go c.answer c.heap) c.hosted (called-timely s base name arguments heap h)

@@ -6,7 +6,6 @@ use Rattle.std.proofs.lemmas.List.Elements.{All-nil}
 use Rattle.bml_reader.specs.declared.faults.DocFault.{DocFault}
 use Rattle.carousel_blocks.specs.declared.changes.Change.{Change}
 use Rattle.multipart_entities.specs.declared.paths.Path.{Path}
-use Rattle.module_store.specs.Store.{Stored}
 use Rattle.es_reader.specs.Readers.{Reader}
 use Rattle.event_messages.specs.declared.messages.Message.{Message}
 use Rattle.event_queue.specs.Queues.{first_of}
@@ -72,14 +71,14 @@ module _ (clock : ℕ) where
       (load-timely clock scene h).timers
   load-may s path (Some (Err fault)) h = h
 
-  next_load-may : (stored : Stored) (s : State) → PageTimely clock s
-      → MayTimely clock (next_load stored s)
+  next_load-may : (s : State) → PageTimely clock s
+      → MayTimely clock (next_load s)
   unfolding next_load
-  next_load-may stored s h = by (wanted_path s.wanted stored)
+  next_load-may s h = by (wanted_path s.wanted s.modules)
     where
-      by : (path : Option Path) → MayTimely clock (option_and_then (load_at stored s) path)
+      by : (path : Option Path) → MayTimely clock (option_and_then (load_at s) path)
       by None = tt
-      by (Some path) = load-may s path (loadable_reading stored path) h
+      by (Some path) = load-may s path (loadable_reading s.modules path) h
 
   next_event-may : (s : State) → PageTimely clock s → MayTimely clock (next_event s)
   next_event-may s h = by s.document
@@ -96,11 +95,11 @@ module _ (clock : ℕ) where
       by None = tt
       by (Some d) = of d (first_of d.queue)
 
-  dispatch-may : (stored : Stored) (s : State) → PageTimely clock s
-      → MayTimely clock (dispatch stored s)
+  dispatch-may : (s : State) → PageTimely clock s
+      → MayTimely clock (dispatch s)
   unfolding dispatch
-  dispatch-may stored s h =
-      either (next_load stored s) (next_event s) (next_load-may stored s h) (next_event-may s h)
+  dispatch-may s h =
+      either (next_load s) (next_event s) (next_load-may s h) (next_event-may s h)
     where
       either : (one other : Option Step) → MayTimely clock one → MayTimely clock other
           → MayTimely clock (option_or one other)
@@ -116,18 +115,18 @@ module _ (clock : ℕ) where
   and-timely more keeps s h None may = h
   and-timely more keeps s h (Some t) may = keeps t.state may
 
-  dispatches-timely : (count : ℕ) (stored : Stored) (s : State) → PageTimely clock s
-      → PageTimely clock (dispatches count stored s).state
+  dispatches-timely : (count : ℕ) (s : State) → PageTimely clock s
+      → PageTimely clock (dispatches count s).state
   unfolding dispatches
-  dispatches-timely zero stored s h = h
-  dispatches-timely (suc count) stored s h =
-      and-timely (dispatches count stored) (dispatches-timely count stored) s h (dispatch stored s)
-      (dispatch-may stored s h)
+  dispatches-timely zero s h = h
+  dispatches-timely (suc count) s h =
+      and-timely (dispatches count) (dispatches-timely count) s h (dispatch s)
+      (dispatch-may s h)
 
-  pub turn-timely : (stored : Stored) (s : State) → PageTimely clock s
-      → PageTimely clock (turn stored s).state
+  pub turn-timely : (s : State) → PageTimely clock s
+      → PageTimely clock (turn s).state
   unfolding turn
-  turn-timely stored s h = dispatches-timely most_dispatches stored s h
+  turn-timely s h = dispatches-timely most_dispatches s h
 
   -- ---- what a document does
 
@@ -182,9 +181,9 @@ due_step-timely moment s sound h reached = by s.document refl
 
 -- ---- the clauses
 
-pub turn-later : (stored : Stored) (s : State) → AreLater s → AreLater (turn stored s).state
-turn-later stored s h =
-    timely-later s.clock (turn stored s).state (turn-timely s.clock stored s (page-timely s h))
+pub turn-later : (s : State) → AreLater s → AreLater (turn s).state
+turn-later s h =
+    timely-later s.clock (turn s).state (turn-timely s.clock s (page-timely s h))
 
 change_step-later : (component : ℕ) (change : Change) (s : State) → AreLater s
     → AreLater (change_step component change s).state

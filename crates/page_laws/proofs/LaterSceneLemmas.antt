@@ -21,7 +21,7 @@ use Rattle.document_stages.specs.Acting.{Acting, acted, begun, change_posts, fir
 use Rattle.acting_documents.specs.Documents.{Document, handler_in, passes}
 use Rattle.acting_documents.specs.Handling.{body_in, change_effect, deactivated, focus_of, handled, handled_at, key_effect, kind_of, message_effect, run_handler, timer_effect, timer_taken}
 use Rattle.acting_documents.specs.Beginnings.{begin, load_effect, run_scripts, script_places}
-use Rattle.acting_documents.specs.Runs.{Effect, Scene, acting_in, and_then, done, effect_of_end, ended, most_steps, no_event, nothing_done, run_function, run_program, unless_launched}
+use Rattle.acting_documents.specs.Runs.{Effect, Scene, acting_in, and_then, done, effect_of_end, ended, hosted_in, most_steps, no_event, nothing_done, run_function, run_program, unless_launched}
 use Rattle.page_laws.proofs.LaterActingLemmas.{ActsTimely, IsTimely, acted-timely, begun-timely, changes-timely, keys-timely, messages-timely, run-timely}
 use Rattle.page_laws.proofs.LaterLemmas.{with_settled-later}
 
@@ -48,9 +48,9 @@ module _ (clock : ℕ) where
 
   end-timely : (name : List ℕ) (event : CurrentEvent) (run : Run) (s : Scene)
       → SceneTimely clock s
-      → SceneTimely clock (effect_of_end name s (ended run (acting_in event s))).scene
+      → SceneTimely clock (effect_of_end name s (ended run (hosted_in event s))).scene
   end-timely name event run s h =
-      record { is_now = h.is_now; timers = (run-timely clock run (acting_in event s) h).timers }
+      record { is_now = h.is_now; timers = (run-timely clock run (hosted_in event s) h).timers }
 
   program-timely : (name : List ℕ) (event : CurrentEvent) (place : ℕ) (s : Scene)
       → SceneTimely clock s → SceneTimely clock (run_program name event place s).scene

@@ -8,6 +8,7 @@ pub mod BrowserLemmas
 pub mod EventItemLemmas
 pub mod ActingLemmas
 pub mod ItemPostLemmas
+pub mod HostedLemmas
 pub mod RunLemmas
 pub mod HandlerLemmas
 pub mod DocumentLemmas
@@ -15,6 +16,7 @@ pub mod StepLemmas
 pub mod PageLemmas
 pub mod ReceiverLemmas
 pub mod TurnLemmas
+pub mod ServiceLemmas
 pub mod ClockLemmas
 pub mod LaterLemmas
 pub mod LaterActingLemmas

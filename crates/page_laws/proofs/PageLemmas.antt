@@ -9,9 +9,9 @@ use Rattle.bml_reader.specs.Readings.{IsReading, reading_of}
 use Rattle.bml_reader.specs.declared.faults.DocFault.{DocFault}
 use Rattle.carousel_blocks.specs.declared.changes.Change.{Change}
 use Rattle.multipart_entities.specs.declared.paths.Path.{Path}
-use Rattle.module_store.specs.Resources.{Resource, look}
+use Rattle.module_locks.specs.Locks.{Modules, look_up}
+use Rattle.module_store.specs.Resources.{Resource}
 use Rattle.module_store.specs.Resources.Resource.{Found, Waiting, Missing}
-use Rattle.module_store.specs.Store.{Stored}
 use Rattle.event_messages.specs.declared.messages.Message.{Message}
 use Rattle.event_queue.specs.Queues.{first_of}
 use Rattle.event_queue.specs.Timers.{no_timers}
@@ -26,12 +26,13 @@ use Rattle.acting_documents.specs.Handling.{change_effect, due_effect, handled, 
 use Rattle.acting_documents.specs.Runs.{Effect, Scene}
 use Rattle.page.specs.Inputs.{change_step, changes_step, document_step, due_step, key_step, message_step, with_clock, with_random}
 use Rattle.page.specs.Loading.{are_settled, given_draft, load, loadable_reading, once_settled, opened, reading_in, wanted_path}
-use Rattle.page.specs.State.{State, Step, opening, scene_in, stays_or_goes, step_of, still}
+use Rattle.page.specs.State.{State, Step, opening, scene_in, stays_or_goes, step_of, still, with_modules}
 use Rattle.page.specs.State.Wanted.{NoDocument}
-use Rattle.page_laws.specs.Soundness.{AreTimers, IsSound, IsSoundDocument, is_good_event}
+use Rattle.page_laws.specs.Soundness.{IsSound, IsSoundDocument, is_good_event}
 use Rattle.page_laws.proofs.ActingLemmas.{TreeLaws}
-use Rattle.page_laws.proofs.DocumentLemmas.{IsSoundScene, change-sound, due_effect-sound, handled-sound, key-sound, load_effect-sound, message-sound, opened-sound}
+use Rattle.page_laws.proofs.DocumentLemmas.{IsSoundScene, change-sound, due_effect-sound, handled-sound, key-sound, load_effect-sound, message-sound, opened-sound, unload_effect-sound}
 use Rattle.page_laws.proofs.EventItemLemmas.{ItemNodes}
+use Rattle.page_laws.proofs.HostedLemmas.{HasFewLocks, LockLaws}
 use Rattle.page_laws.proofs.ItemLemmas.{OneIsTree, read-tree}
 use Rattle.page_laws.proofs.RunLemmas.{RunsStay}
 use Rattle.page_laws.proofs.StepLemmas.{each_step-kept}
@@ -45,6 +46,7 @@ pub record Laws : Type 0 where
       → (reading_of bytes ≡ reading) ↔ IsReading bytes reading
   pub items : ItemNodes
   pub programs : RunsStay
+  pub few : LockLaws
 
 -- a step that is there or not leaves a sound state
 abbrev pub MaySound : Option Step → Type 0
@@ -64,6 +66,7 @@ opening-sound read area = record {
   timers = none-sound;
   none_without = λ same. refl;
   wanted = tt;
+  locks = omega arith;
 }
 
 pub with_clock-sound : (moment : ℕ) (s : State) → IsSound s → IsSound (with_clock moment s)
@@ -72,6 +75,17 @@ with_clock-sound moment s h = record {
   timers = h.timers;
   none_without = h.none_without;
   wanted = h.wanted;
+  locks = h.locks;
+}
+
+pub with_modules-sound : (modules : Modules) (s : State) → IsSound s → HasFewLocks modules
+    → IsSound (with_modules modules s)
+with_modules-sound modules s h few = record {
+  document = h.document;
+  timers = h.timers;
+  none_without = h.none_without;
+  wanted = h.wanted;
+  locks = few;
 }
 
 pub with_random-sound : (word : ℕ) (s : State) → IsSound s → IsSound (with_random word s)
@@ -80,29 +94,30 @@ with_random-sound word s h = record {
   timers = h.timers;
   none_without = h.none_without;
   wanted = h.wanted;
+  locks = h.locks;
 }
 
 module _ (laws : Laws) where
   -- ---- loads
 
-  settled-tree : (stored : Stored) (path : Path) (reading : Result (List Item) DocFault)
+  settled-tree : (modules : Modules) (path : Path) (reading : Result (List Item) DocFault)
       → ((items : List Item) → reading ≡ Ok items → IsTree items)
-      → HasTree (once_settled stored path reading)
-  settled-tree stored path (Err fault) h = tt
-  settled-tree stored path (Ok items) h = by (are_settled stored (needs_of path items))
+      → HasTree (once_settled modules path reading)
+  settled-tree modules path (Err fault) h = tt
+  settled-tree modules path (Ok items) h = by (are_settled modules (needs_of path items))
     where
       by : (t : Bool)
-          → HasTree (if t then Some (Ok (given_draft stored path items)) else None)
+          → HasTree (if t then Some (Ok (given_draft modules path items)) else None)
       by true = h items refl
       by false = tt
 
-  reading-tree : (stored : Stored) (path : Path) (resource : Resource)
-      → HasTree (reading_in stored path resource)
-  reading-tree stored path (Found bytes) =
-      settled-tree stored path (reading_of bytes)
+  reading-tree : (modules : Modules) (path : Path) (resource : Resource)
+      → HasTree (reading_in modules path resource)
+  reading-tree modules path (Found bytes) =
+      settled-tree modules path (reading_of bytes)
       (λ items e. read-tree laws.one bytes items ((laws.readings bytes (Ok items)).0 e))
-  reading-tree stored path Waiting = tt
-  reading-tree stored path Missing = tt
+  reading-tree modules path Waiting = tt
+  reading-tree modules path Missing = tt
 
   -- what becomes of a document
   step-sound : (s : State) (e : Effect) → s.wanted ≡ NoDocument → IsSoundScene e.scene
@@ -115,50 +130,57 @@ module _ (laws : Laws) where
         timers = h.timers;
         none_without = λ same. absurd (cc same);
         wanted = none;
+        locks = h.locks;
       }
       by (Some path) = record {
         document = tt;
         timers = none-sound;
         none_without = λ same. refl;
         wanted = tt;
+        locks = (unload_effect-sound laws.trees laws.programs laws.few e.scene h).locks;
       }
 
   -- where a document is wanted there is none, and no timer
-  no-timers : (stored : Stored) (path : Path) (s : State) → IsSound s
-      → wanted_path s.wanted stored ≡ Some path → s.browser.timers ≡ no_timers
-  no-timers stored path s h e = by s.document refl h.wanted
+  no-timers : (path : Path) (s : State) → IsSound s
+      → wanted_path s.wanted s.modules ≡ Some path → s.browser.timers ≡ no_timers
+  no-timers path s h e = by s.document refl h.wanted
     where
       by : (document : Option Document) → s.document ≡ document
           → IfSome document (λ d. s.wanted ≡ NoDocument) → s.browser.timers ≡ no_timers
       by None same wanted = h.none_without same
-      by (Some d) same wanted = absurd (cc (sym e ∙ ap (λ w. wanted_path w stored) wanted))
+      by (Some d) same wanted = absurd (cc (sym e ∙ ap (λ w. wanted_path w s.modules) wanted))
 
   load-sound : (s : State) (path : Path) (reading : Option (Result DraftState DocFault))
-      → HasTree reading → AreTimers s.browser.timers → s.browser.timers ≡ no_timers
+      → HasTree reading → IsSound s → s.browser.timers ≡ no_timers
       → MaySound (option_map (load s path) reading)
-  load-sound s path None h timers none = tt
-  load-sound s path (Some (Ok draft)) h timers none =
+  load-sound s path None h sound none = tt
+  load-sound s path (Some (Ok draft)) h sound none =
       let d : Document = opened s.read path draft in
       step-sound (record s { wanted = NoDocument }) (load_effect (scene_in s d)) refl
-      (load_effect-sound laws.trees laws.programs (scene_in s d)
-      (record { document = opened-sound laws.items s.read path draft h; timers = timers }))
-  load-sound s path (Some (Err fault)) h timers none = record {
+      (load_effect-sound laws.trees laws.programs laws.few (scene_in s d)
+      (record {
+        document = opened-sound laws.items s.read path draft h;
+        timers = sound.timers;
+        locks = sound.locks;
+      }))
+  load-sound s path (Some (Err fault)) h sound none = record {
     document = tt;
-    timers = timers;
+    timers = sound.timers;
     none_without = λ same. none;
     wanted = tt;
+    locks = sound.locks;
   }
 
-  next_load-sound : (stored : Stored) (s : State) → IsSound s → MaySound (next_load stored s)
+  next_load-sound : (s : State) → IsSound s → MaySound (next_load s)
   unfolding next_load
-  next_load-sound stored s h = by (wanted_path s.wanted stored) refl
+  next_load-sound s h = by (wanted_path s.wanted s.modules) refl
     where
-      by : (path : Option Path) → wanted_path s.wanted stored ≡ path
-          → MaySound (option_and_then (load_at stored s) path)
+      by : (path : Option Path) → wanted_path s.wanted s.modules ≡ path
+          → MaySound (option_and_then (load_at s) path)
       by None e = tt
       by (Some path) e =
-          load-sound s path (loadable_reading stored path)
-          (reading-tree stored path (look stored path)) h.timers (no-timers stored path s h e)
+          load-sound s path (loadable_reading s.modules path)
+          (reading-tree s.modules path (look_up s.modules path)) h (no-timers path s h e)
 
   -- ---- events
 
@@ -189,12 +211,13 @@ module _ (laws : Laws) where
           objects = s.document.objects;
         };
         timers = s.timers;
+        locks = s.locks;
       }
 
   -- a document that is there, with what it acts on beside itself
   scene-sound : (s : State) (d : Document) → IsSound s → IsSoundDocument d
       → IsSoundScene (scene_in s d)
-  scene-sound s d h good = record { document = good; timers = h.timers }
+  scene-sound s d h good = record { document = good; timers = h.timers; locks = h.locks }
 
   event-sound : (s : State) (d : Document) → IsSound s → IsSoundDocument d
       → s.wanted ≡ NoDocument → MaySound (event_in s d)
@@ -208,7 +231,7 @@ module _ (laws : Laws) where
       by None may = tt
       by (Some event) may =
           step-sound s (handled event (without_first (scene_in s d))) none
-          (handled-sound laws.trees laws.programs event (without_first (scene_in s d))
+          (handled-sound laws.trees laws.programs laws.few event (without_first (scene_in s d))
           (without_first-sound (scene_in s d) (scene-sound s d h good)) may)
 
   next_event-sound : (s : State) → IsSound s → MaySound (next_event s)
@@ -227,10 +250,10 @@ module _ (laws : Laws) where
   either-sound None other h more = more
   either-sound (Some step) other h more = h
 
-  dispatch-sound : (stored : Stored) (s : State) → IsSound s → MaySound (dispatch stored s)
+  dispatch-sound : (s : State) → IsSound s → MaySound (dispatch s)
   unfolding dispatch
-  dispatch-sound stored s h =
-      either-sound (next_load stored s) (next_event s) (next_load-sound stored s h)
+  dispatch-sound s h =
+      either-sound (next_load s) (next_event s) (next_load-sound s h)
       (next_event-sound s h)
 
   and-sound : (more : State → Step) → ((s : State) → IsSound s → IsSound (more s).state)
@@ -239,17 +262,17 @@ module _ (laws : Laws) where
   and-sound more keeps s h None may = h
   and-sound more keeps s h (Some t) may = keeps t.state may
 
-  dispatches-sound : (count : ℕ) (stored : Stored) (s : State) → IsSound s
-      → IsSound (dispatches count stored s).state
+  dispatches-sound : (count : ℕ) (s : State) → IsSound s
+      → IsSound (dispatches count s).state
   unfolding dispatches
-  dispatches-sound zero stored s h = h
-  dispatches-sound (suc count) stored s h =
-      and-sound (dispatches count stored) (dispatches-sound count stored) s h (dispatch stored s)
-      (dispatch-sound stored s h)
+  dispatches-sound zero s h = h
+  dispatches-sound (suc count) s h =
+      and-sound (dispatches count) (dispatches-sound count) s h (dispatch s)
+      (dispatch-sound s h)
 
-  pub turn-sound : (stored : Stored) (s : State) → IsSound s → IsSound (turn stored s).state
+  pub turn-sound : (s : State) → IsSound s → IsSound (turn s).state
   unfolding turn
-  turn-sound stored s h = dispatches-sound most_dispatches stored s h
+  turn-sound s h = dispatches-sound most_dispatches s h
 
   -- ---- what comes beside turns
 
@@ -270,7 +293,7 @@ module _ (laws : Laws) where
       → IsSound (change_step component change s).state
   change_step-sound component change s h =
       document_step-sound (change_effect component change)
-      (change-sound laws.trees laws.programs component change) s h
+      (change-sound laws.trees laws.programs laws.few component change) s h
 
   pub changes-sound : (changes : List (ℕ × Change)) (s : State) → IsSound s
       → IsSound (changes_step changes s).state
@@ -282,13 +305,13 @@ module _ (laws : Laws) where
       → IsSound (message_step component message s).state
   message_step-sound component message s h =
       document_step-sound (message_effect component message)
-      (message-sound laws.trees laws.programs component message) s h
+      (message-sound laws.trees laws.programs laws.few component message) s h
 
   pub key_step-sound : (key : ℕ) (down : Bool) (s : State) → IsSound s
       → IsSound (key_step key down s).state
   key_step-sound key down s h =
       document_step-sound (key_effect key down)
-      (key-sound laws.trees laws.programs key down) s h
+      (key-sound laws.trees laws.programs laws.few key down) s h
 
   pub due_step-sound : (moment : ℕ) (s : State) → IsSound s
       → IsSound (due_step moment s).state
@@ -301,5 +324,5 @@ module _ (laws : Laws) where
       by None good none = with_clock-sound moment s h
       by (Some d) good none =
           step-sound (with_clock moment s) (due_effect moment (scene_in s d)) none
-          (due_effect-sound laws.trees laws.programs moment (scene_in s d)
+          (due_effect-sound laws.trees laws.programs laws.few moment (scene_in s d)
           (scene-sound s d h good))

@@ -4,9 +4,11 @@ use Rattle.std.specs.Option.{option_map_or}
 use Rattle.ts_packets.specs.Packet.{pid_of}
 use Rattle.event_messages.specs.declared.messages.Message.{Message}
 use Rattle.psi_tables.specs.Components.{tag_in}
+use Rattle.psi_tables.specs.declared.components.Component.{Component}
 use Rattle.psi_tables.specs.Service.{reads_table}
 use Rattle.carousel_blocks.specs.declared.changes.Change.{Change}
-use Rattle.module_store.specs.Store.{Stored, changes_by, gone_by}
+use Rattle.module_locks.specs.Locks.{changes_by, with_map, with_section}
+use Rattle.module_store.specs.Store.{gone_by}
 use Rattle.page.specs.Dispatches as dispatches
 use Rattle.page.specs.Inputs.{changes_step, due_step, key_step, message_step, messages_step, with_clock, with_random}
 use Rattle.page.specs.State as page
@@ -20,7 +22,11 @@ use Rattle.page_laws.proofs.StepLemmas.{each_step-kept}
 
 -- what is known of pages: their steps keep this, where no time passes
 pub record PageLaws (Good : page.State → Type 0) : Type 0 where
-  pub turns : (stored : Stored) (s : page.State) → Good s → Good (dispatches.turn stored s).state
+  pub turns : (s : page.State) → Good s → Good (dispatches.turn s).state
+  pub sections : (component : ℕ) (section : List ℕ) (s : page.State) → Good s
+      → Good (page.with_modules (with_section component section s.modules) s)
+  pub maps : (components : List Component) (s : page.State) → Good s
+      → Good (page.with_modules (with_map components s.modules) s)
   pub changes : (changes : List (ℕ × Change)) (s : page.State) → Good s
       → Good (changes_step changes s).state
   pub messages : (component : ℕ) (message : Message) (s : page.State) → Good s
@@ -32,13 +38,19 @@ module _ (Good : page.State → Type 0) (laws : PageLaws Good) where
   -- ---- sections
 
   table-kept : (s : State) → Good s.page → Good (step_of_table s).state.page
-  table-kept s h = laws.changes (gone_by (services s).map s.store) s.page h
+  table-kept s h =
+      let components = (services s).map in
+      laws.changes (gone_by components s.page.modules.stored)
+      (page.with_modules (with_map components s.page.modules) s.page)
+      (laws.maps components s.page h)
 
   modules-kept : (component : ℕ) (section : List ℕ) (s : State) → Good s.page
       → Good (step_of_modules component section s).state.page
   modules-kept component section s h =
-      laws.changes (map (λ change. (component, change)) (changes_by component section s.store))
-      s.page h
+      laws.changes
+      (map (λ change. (component, change)) (changes_by component section s.page.modules))
+      (page.with_modules (with_section component section s.page.modules) s.page)
+      (laws.sections component section s.page h)
 
   messages-kept : (component : ℕ) (messages : List Message) (s : page.State) → Good s
       → Good (messages_step component messages s).state
@@ -68,7 +80,7 @@ module _ (Good : page.State → Type 0) (laws : PageLaws Good) where
   unfolding turn
   turn-kept pid section s h =
       let next : State = (step_of_section pid section s).state in
-      laws.turns next.store next.page (section-kept pid section s h)
+      laws.turns next.page (section-kept pid section s h)
 
   turns-kept : (pid : ℕ) (sections : List (List ℕ)) (s : State) → Good s.page
       → Good (state_behind_turns pid sections s).page
@@ -89,7 +101,7 @@ module _ (Good : page.State → Type 0) (laws : PageLaws Good) where
       → Good (key_turn key down s).state.page
   unfolding key_turn
   key-kept key down s h =
-      laws.turns s.store (key_step key down s.page).state (laws.keys key down s.page h)
+      laws.turns (key_step key down s.page).state (laws.keys key down s.page h)
 
   module _ (ticks : (count : ℕ) (s : State) → Good s.page → Good (state_after (Tick count) s).page) where
     after-kept : (input : Input) (s : State) → Good s.page → Good (state_after input s).page
@@ -119,7 +131,7 @@ module _ (laws : SoundLaws) where
       → IsSound (due_turn moment s).state.page
   unfolding due_turn
   due-sound moment s h =
-      laws.steps.turns s.store (due_step moment s.page).state (laws.due moment s.page h)
+      laws.steps.turns (due_step moment s.page).state (laws.due moment s.page h)
 
   time-sound : (more end : ℕ) (s : State) → IsSound s.page
       → IsSound (time_passes more end s).state.page

@@ -19,10 +19,12 @@ use Rattle.es_eval.specs.Worlds.{Run}
 use Rattle.es_eval.specs.Worlds.Run.{Over, Reads, Writes, Calls}
 use Rattle.script_laws.specs.Passing.{PassesOwn, is_named}
 use Rattle.script_laws.specs.Staying.{AnswerPasses, AreFit, IsFit, StaysWithin}
-use Rattle.document_stages.specs.Acting.{Acting, called, read_by, written}
+use Rattle.document_stages.specs.Acting.{read_by, written}
+use Rattle.document_stages.specs.Hosting.{Hosted, called}
 use Rattle.acting_documents.specs.Runs.{End, ended}
 use Rattle.page_laws.specs.Soundness.{is_good, names_well}
-use Rattle.page_laws.proofs.ActingLemmas.{IsGivenAnswer, IsSoundActing, TreeLaws, called-sound, read-given, written-sound}
+use Rattle.page_laws.proofs.ActingLemmas.{IsGivenAnswer, TreeLaws, read-given, written-sound}
+use Rattle.page_laws.proofs.HostedLemmas.{IsSoundHosted, LockLaws, called-sound}
 use Rattle.page_laws.proofs.ReadLemmas.{IsGiven, given-good, given-plain}
 
 -- that what programs and called globals hand over and leave passes
@@ -66,30 +68,35 @@ same-heap heap arguments = record {
 -- ---- runs
 
 pub record EndsSound (items : List Item) (limit least : ℕ) (e : End) : Type 0 where
-  pub acting : IsSoundActing items e.acting
+  pub hosted : IsSoundHosted items e.hosted
   pub fit : AreFit (is_good items limit) least e.world.globals e.world.heap
 
-pub run-sound : TreeLaws → (items : List Item) (limit least : ℕ) (run : Run) (a : Acting)
-    → StaysWithin (is_good items limit) least run → IsSoundActing items a
-    → EndsSound items limit least (ended run a)
+pub run-sound : TreeLaws → LockLaws → (items : List Item) (limit least : ℕ) (run : Run)
+    (h : Hosted) → StaysWithin (is_good items limit) least run → IsSoundHosted items h
+    → EndsSound items limit least (ended run h)
 unfolding ended
-run-sound laws items limit least (Over outcome w) a stays s = record { acting = s; fit = stays }
-run-sound laws items limit least (Reads base name go) a stays s =
-    let given = read-given laws items a s base name in
-    let value = read_by a base name in
-    run-sound laws items limit least (go value) a
+run-sound laws few items limit least (Over outcome w) h stays s =
+    record { hosted = s; fit = stays }
+run-sound laws few items limit least (Reads base name go) h stays s =
+    let given = read-given laws items h.acting s.acting base name in
+    let value = read_by h.acting base name in
+    run-sound laws few items limit least (go value) h
     (stays.1 value (given-plain items value given) (given-good items limit value given)) s
-run-sound laws items limit least (Writes base name value heap go) a stays s =
-    run-sound laws items limit least go (written a base name value heap) stays.4
-    (written-sound laws items a s base name value heap)
-run-sound laws items limit least (Calls base name arguments heap go) a stays s =
-    let r = called-sound laws items heap a s base name arguments in
-    let c = called a base name arguments heap in
-    run-sound laws items limit least (go c.answer c.heap) c.acting
+run-sound laws few items limit least (Writes base name value heap go) h stays s =
+    run-sound laws few items limit least go
+    (record h { acting = written h.acting base name value heap }) stays.4
+    (record {
+      acting = written-sound laws items h.acting s.acting base name value heap;
+      locks = s.locks;
+    })
+run-sound laws few items limit least (Calls base name arguments heap go) h stays s =
+    let r = called-sound laws few items heap h s base name arguments in
+    let c = called h base name arguments heap in
+    run-sound laws few items limit least (go c.answer c.heap) c.hosted
     (stays.2 c.answer c.heap (answer-is items c.heap c.answer r.answer)
     (subst (KeepsHeap heap arguments) (sym r.heap_is) (same-heap heap arguments))
     (answer-passes items limit c.answer r.answer)
-    (subst (IsFit (is_good items limit)) (sym r.heap_is) stays.1.fit)) r.acting
+    (subst (IsFit (is_good items limit)) (sym r.heap_is) stays.1.fit)) r.hosted
 
 -- ---- programs
 

@@ -71,7 +71,7 @@ module _ (laws : SoundLaws) where
       → PageTimely moment (due_turn moment s).state.page
   unfolding due_turn
   due_turn-timely moment s h next =
-      turn-timely moment s.store (due_step moment s.page).state
+      turn-timely moment (due_step moment s.page).state
       (due_step-timely moment s.page h.0 h.1
       (subst (λ (o : Option ℕ). IfSome o (λ due. moment ≤ due)) (sym next) (omega arith)))
 
@@ -187,7 +187,9 @@ module _ (laws : SoundLaws) where
 
   good-steps : PageLaws IsGoodPage
   good-steps = record {
-    turns = λ stored p h. (laws.steps.turns stored p h.0, turn-later stored p h.1);
+    turns = λ p h. (laws.steps.turns p h.0, turn-later p h.1);
+    sections = λ component section p h. (laws.steps.sections component section p h.0, h.1);
+    maps = λ components p h. (laws.steps.maps components p h.0, h.1);
     changes = λ changes p h. (laws.steps.changes changes p h.0, changes-later changes p h.1);
     messages = λ component message p h.
         (laws.steps.messages component message p h.0, message_step-later component message p h.1);

@@ -22,6 +22,7 @@ use Rattle.event_queue.specs.declared.events.Event.TheVariants as events
 use Rattle.document_load.specs.Scripts.{HandlerState}
 use Rattle.script_laws.specs.Passing.{HeapPasses}
 use Rattle.acting_documents.specs.Documents.{Document}
+use Rattle.module_locks.specs.Locks.{most_locks}
 use Rattle.page.specs.State.{State}
 use Rattle.page.specs.State.Wanted.{NoDocument}
 
@@ -109,3 +110,5 @@ pub record IsSound (s : State) : Type 0 where
   pub timers : AreTimers s.browser.timers
   pub none_without : s.document ≡ None → s.browser.timers ≡ no_timers
   pub wanted : IfSome s.document (λ d. s.wanted ≡ NoDocument)
+  -- the locks on modules
+  pub locks : length s.modules.locks ≤ most_locks

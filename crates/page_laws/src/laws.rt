@@ -1,10 +1,10 @@
 //! What holds of pages. Each function is a law: its contract is what it is for, and it does nothing
 //! when it runs.
 
-ghost use Rattle.std.specs.Prelude.{◌≡◌, ℕ, ◌+◌, ◌≤◌, [], Bool, List, IfSome};
+ghost use Rattle.std.specs.Prelude.{◌≡◌, ℕ, ◌+◌, ◌≤◌, [], Bool, List, IfSome, length};
 ghost use Rattle.carousel_blocks.specs.declared.changes.Change.{Change};
 ghost use Rattle.event_messages.specs.declared.messages.Message.{Message};
-ghost use Rattle.module_store.specs.Store.{Stored};
+ghost use Rattle.module_locks.specs.Locks.{Modules, most_locks};
 ghost use Rattle.es_reader.specs.Readers.{Reader};
 ghost use Rattle.page.specs.Dispatches.{turn};
 ghost use Rattle.page.specs.Inputs.{
@@ -16,7 +16,7 @@ ghost use Rattle.page.specs.Inputs.{
   with_clock,
   with_random,
 };
-ghost use Rattle.page.specs.State.{State, opening, still};
+ghost use Rattle.page.specs.State.{State, opening, still, with_modules};
 ghost use Rattle.psi_tables.specs.declared.services.Selection.{Selection};
 ghost use Rattle.receiver_core.specs.Outputs.{Input, state_after, state_behind, time_passes};
 ghost use Rattle.receiver_core.specs.Outputs.Input.{Tick};
@@ -31,14 +31,17 @@ use dom_tree::{
 };
 use event_items::law_of_event_items;
 use event_messages::law_of_item_firings;
+use module_locks::law_of_few_locks;
 use script_laws::law_of_passing_values;
 
-/// A page is sound before anything came. Behind each turn, each change in modules, each event
-/// message, each key, each moment when timers are due, each move of the clock and each random word
-/// it is sound where it was so before.
+/// A page is sound before anything came. Behind each turn, with other modules that have few locks,
+/// behind each change in modules, each event message, each key, each moment when timers are due,
+/// each move of the clock and each random word it is sound where it was so before.
 pub fn law_of_soundness()
     ensures opening { (read : Reader) (area : List ℕ) → IsSound (opening read area) }
-    ensures turn { (stored : Stored) (s : State) → IsSound s → IsSound (turn stored s).state }
+    ensures turn { (s : State) → IsSound s → IsSound (turn s).state }
+    ensures modules { (modules : Modules) (s : State) → IsSound s
+        → length modules.locks ≤ most_locks → IsSound (with_modules modules s) }
     ensures changes { (changes : List (ℕ × Change)) (s : State) → IsSound s
         → IsSound (changes_step changes s).state }
     ensures messages { (component : ℕ) (message : Message) (s : State) → IsSound s
@@ -56,6 +59,7 @@ pub fn law_of_soundness()
     law_of_readings();
     law_of_event_items();
     law_of_passing_values();
+    law_of_few_locks();
 }
 
 /// Whatever came to a receiver, its page is sound.
@@ -65,16 +69,19 @@ pub fn law_of_sound_receivers()
         → IsSound (state_behind (receiver.opening read selection area) inputs).page }
 {
     law_of_soundness();
+    law_of_few_locks();
 }
 
 /// A turn makes dispatches until there is none to make, or until it has made 256.
 pub fn law_of_turns()
-    ensures { (stored : Stored) (s : State) → Turned stored s (turn stored s).state }
+    ensures { (s : State) → Turned s (turn s).state }
 {}
 
-/// A turn leaves the clock as it is.
+/// A turn leaves the clock as it is, and the modules of the service: of these it changes the locks
+/// alone.
 pub fn law_of_clocks()
-    ensures { (stored : Stored) (s : State) → (turn stored s).state.clock ≡ s.clock }
+    ensures clock { (s : State) → (turn s).state.clock ≡ s.clock }
+    ensures service { (s : State) → (turn s).state.modules.stored ≡ s.modules.stored }
 {}
 
 /// No timer of a page is overdue: each is due later than the clock. It is so before anything came.
@@ -85,7 +92,9 @@ pub fn law_of_clocks()
 /// nothing. So no timer is overdue, whatever came to a receiver.
 pub fn law_of_time()
     ensures opening { (read : Reader) (area : List ℕ) → AreLater (opening read area) }
-    ensures turn { (stored : Stored) (s : State) → AreLater s → AreLater (turn stored s).state }
+    ensures turn { (s : State) → AreLater s → AreLater (turn s).state }
+    ensures modules { (modules : Modules) (s : State) → AreLater s
+        → AreLater (with_modules modules s) }
     ensures changes { (changes : List (ℕ × Change)) (s : State) → AreLater s
         → AreLater (changes_step changes s).state }
     ensures messages { (component : ℕ) (message : Message) (s : State) → AreLater s
@@ -107,6 +116,7 @@ pub fn law_of_time()
         → AreLater (state_behind (receiver.opening read selection area) inputs).page }
 {
     law_of_soundness();
+    law_of_few_locks();
 }
 
 /// A message that is repeated fires no item again: where none of its events was lost, the same

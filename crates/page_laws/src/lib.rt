@@ -2,11 +2,12 @@
 //!
 //! A page is sound where what it keeps names what is there: nodes of its document, objects of its
 //! heap, functions of its programs; and where its timers and the document that is wanted fit the one
-//! that is there (`specs/Soundness.antt`). [`law_of_soundness`] says that it is so at first, and
-//! stays so, and [`law_of_sound_receivers`] that the page of a receiver is sound whatever came to
-//! it. [`law_of_turns`] says how far a turn goes (`specs/Turns.antt`), and [`law_of_clocks`] that it
-//! leaves the clock. [`law_of_repeated_messages`] says that a message that is repeated fires no item
-//! again. [`law_of_time`] says that no timer is overdue (`specs/Times.antt`).
+//! that is there, and few locks stand (`specs/Soundness.antt`). [`law_of_soundness`] says that it is
+//! so at first, and stays so, and [`law_of_sound_receivers`] that the page of a receiver is sound
+//! whatever came to it. [`law_of_turns`] says how far a turn goes (`specs/Turns.antt`), and
+//! [`law_of_clocks`] that it leaves the clock, and of the modules changes the locks alone.
+//! [`law_of_repeated_messages`] says that a message that is repeated fires no item again.
+//! [`law_of_time`] says that no timer is overdue (`specs/Times.antt`).
 #![tactic(auto)]
 
 mod laws;

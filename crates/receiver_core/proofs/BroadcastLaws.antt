@@ -1,12 +1,13 @@
 -- What is kept of a broadcast, behind one step more.
 use Rattle.std.proofs.Common.{◌≡◌, ℕ, Bool, true, false, cond, List, [], ◌∷◌, ◌++◌, refl, sym, ap, ap₂, ◌∙◌, subst, append-nil, append_assoc}
 use Rattle.std.specs.Prelude.{◌↔◌, AllPairs, OnOk, Option, Some, None, Result, Ok, Err}
+use Rattle.std.specs.List.{flat_map, range_with_len}
 use Rattle.bml_bytes.specs.declared.refusals.TableFault.{TableFault}
 use Rattle.es_reader.specs.Readers.{Reader, IsReader}
 use Rattle.psi_tables.specs.declared.components.Component.{Component}
 use Rattle.psi_tables.specs.declared.pat.PatEntry.{PatEntry}
 use Rattle.psi_tables.specs.declared.services.Selection.{Selection}
-use Rattle.psi_tables.specs.Components.{AreApart, AreSameMap, pid_in, tag_in}
+use Rattle.psi_tables.specs.Components.{AreApart, tag_in}
 use Rattle.psi_tables.specs.History.{Handled, service_of, map_of}
 use Rattle.psi_tables.specs.Service.{ServicesState, reads_table}
 use Rattle.psi_tables.specs.Service as services_of
@@ -14,9 +15,11 @@ use Rattle.carousel_blocks.specs.declared.changes.Change.{Change}
 use Rattle.event_messages.specs.Messages.{HasMessages}
 use Rattle.event_messages.specs.Reading.{messages_in}
 use Rattle.event_messages.specs.declared.messages.Message.{Message}
-use Rattle.module_store.specs.Store.{Stored, at_start, changes_by, pid_of, with_section, gone_by, with_map}
-use Rattle.module_store.specs.Standing.{StoreState}
-use Rattle.module_store.specs.Standing as store
+use Rattle.module_store.specs.Store.{gone_by, gone_with, tag_bound}
+use Rattle.module_locks.specs.Locks.{Modules, at_start, changes_by, with_map, with_section}
+use Rattle.module_locks.specs.Standing.{ForModules, ModulesState}
+use Rattle.module_locks.specs.Standing as of_modules
+use Rattle.page.specs.Dispatches as dispatches
 use Rattle.page.specs.Inputs.{messages_step, with_random}
 use Rattle.page.specs.Standing.{PageState, page_area}
 use Rattle.page.specs.Standing as pages
@@ -26,9 +29,8 @@ use Rattle.receiver_core.specs.Broadcasts.{BroadcastState, HasMade, Makes, Makes
 use Rattle.receiver_core.specs.Outputs.{Piece, with_piece, without_piece}
 use Rattle.receiver_core.specs.State.{State, opening, services, wants}
 use Rattle.receiver_core.specs.Turns.{Step, due_turn, key_turn, messages_of_reading, of_page, page_turn, section_messages, step_of_modules, step_of_section, step_of_table, step_of_tag, turn}
-use Rattle.receiver_core.specs.Turns.{with_changes, with_handled, with_messages, with_turn}
-use Rattle.receiver_core.proofs.MapLaws.{IsSameMap, none_gone, pids_of_map, pids_of_section, stands_still}
-use Rattle.receiver_core.proofs.PostingLaws.{in_component, posts_none}
+use Rattle.receiver_core.specs.Turns.{with_changes, with_handled, with_messages, with_modules, with_turn}
+use Rattle.receiver_core.proofs.PostingLaws.{in_component}
 
 same_services : (a b : ServicesState) → a.selection ≡ b.selection → a.service ≡ b.service → a.map ≡ b.map → a ≡ b
 same_services a b selection service map =
@@ -42,31 +44,59 @@ services_are state s stands = same_services state.services (services s) stands.s
     (stands.services.service ∙ ap (λ (x : Selection). service_of x s.handled) stands.selection)
     (stands.services.map ∙ ap (λ (x : Selection). map_of x s.handled) stands.selection)
 
+-- ---- changes in the modules
+
+-- behind what a section leaves in the modules, the page is in the same state but for them, and the changes are still to be posted
+abbrev pub StaysInSections : Type 0
+StaysInSections = (page : PageState) (old new : ModulesState) (s : paging.State) (component : ℕ) (section : List ℕ) → pages.StandsFor page old s
+    → of_modules.StandsFor new (with_section component section s.modules)
+    → pages.StandsAmid page new (in_component component (changes_by component section s.modules)) (paging.with_modules (with_section component section s.modules) s)
+
+-- and behind what a map leaves
+abbrev pub StaysInMaps : Type 0
+StaysInMaps = (page : PageState) (old new : ModulesState) (s : paging.State) (components : List Component) → AllPairs AreApart components → pages.StandsFor page old s
+    → of_modules.StandsFor new (with_map components s.modules)
+    → pages.StandsAmid page new (gone_by components s.modules.stored) (paging.with_modules (with_map components s.modules) s)
+
+-- the components of a map have different tags
+abbrev pub HasDistinctTags : Type 0
+HasDistinctTags = (selection : Selection) (handled : List Handled) → AllPairs AreApart (map_of selection handled)
+
 -- ---- before the first section
 
-pub stands_first : (services : ServicesState) (before new : StoreState) (page : PageState) (selection : Selection) (area : List ℕ) → services.selection ≡ selection → services_of.StandsFor services [] → store.StandsFor before at_start
-    → ((stored : Stored) → store.StandsFor before stored → store.StandsFor new (with_map services.map stored))
-    → ((read : Reader) (stored : Stored) → IsReader read → pages.StandsFor page stored (paging.opening read area))
-    → (read : Reader) → IsReader read → StandsFor (record { services = services; store = new; page = page }) (opening read selection area)
-stands_first services before new page selection area same stands first sets fresh read right = record {
-  selection = same;
-  services = stands;
-  store = subst (λ (map : List Component). store.StandsFor new (with_map map at_start)) (stands.map ∙ ap (λ (x : Selection). map_of x []) same) (sets at_start first);
-  pids = λ tag. pids_of_map (map_of selection []) at_start tag ∙ ap (λ (l : List Component). pid_in l tag) (sym (stands.map ∙ ap (λ (x : Selection). map_of x []) same));
-  page = fresh read (with_map (map_of selection []) at_start) right;
-}
+none_of_each : (f : ℕ → List (ℕ × Change)) (tags : List ℕ) → ((tag : ℕ) → f tag ≡ []) → flat_map f tags ≡ []
+none_of_each f [] none = refl
+none_of_each f (tag ∷ tags) none = ap (λ (l : List (ℕ × Change)). l ++ flat_map f tags) (none tag) ∙ none_of_each f tags none
+
+-- where there are no components nothing is gone
+none_gone_at_start : (components : List Component) → gone_by components at_start.stored ≡ []
+none_gone_at_start components = none_of_each (λ tag. gone_with components None) (range_with_len 0 tag_bound) (λ tag. refl)
+
+pub stands_first : HasDistinctTags → StaysInMaps → (services : ServicesState) (before new : ModulesState) (page : PageState) (selection : Selection) (area : List ℕ) → services.selection ≡ selection
+    → services_of.StandsFor services [] → of_modules.StandsFor before at_start
+    → ForModules before (λ modules. of_modules.StandsFor new (with_map services.map modules))
+    → ((read : Reader) → IsReader read → (modules : ModulesState) → of_modules.StandsFor modules at_start → pages.StandsFor page modules (paging.opening read area))
+    → (read : Reader) → IsReader read → StandsFor (record { services = services; modules = new; page = page }) (opening read selection area)
+stands_first apart stays services before new page selection area same stands first sets fresh read right =
+    let map : List Component = map_of selection [] in
+    let map_is : services.map ≡ map = stands.map ∙ ap (λ (x : Selection). map_of x []) same in
+    let set : of_modules.StandsFor new (with_map map at_start) = subst (λ (l : List Component). of_modules.StandsFor new (with_map l at_start)) map_is (sets at_start first) in
+    record {
+      selection = same;
+      services = stands;
+      page = subst (λ (l : List (ℕ × Change)). pages.StandsAmid page new l (paging.with_modules (with_map map at_start) (paging.opening read area))) (none_gone_at_start map)
+          (stays page before new (paging.opening read area) map (apart selection []) (fresh read right before first) set);
+    }
 
 -- ---- steps of the page
 
 abbrev pub with_page : BroadcastState → PageState → BroadcastState
-with_page state page = record { services = state.services; store = state.store; page = page }
+with_page state page = record { services = state.services; modules = state.modules; page = page }
 
-pub stands_with : (state : BroadcastState) (page : PageState) (s : State) (t : paging.State) → StandsFor state s → pages.StandsFor page s.store t → StandsFor (with_page state page) (record s { page = t })
+pub stands_with : (state : BroadcastState) (page : PageState) (s : State) (t : paging.State) → StandsFor state s → pages.StandsFor page state.modules t → StandsFor (with_page state page) (record s { page = t })
 stands_with state page s t stands its = record {
   selection = stands.selection;
   services = stands.services;
-  store = stands.store;
-  pids = stands.pids;
   page = its;
 }
 
@@ -75,8 +105,22 @@ page_made step old page before after made = record {
   text = made.text;
   printed = made.printed;
   makes = λ s stands.
-      let its = made.makes s.store s.page stands.page in
+      let its = made.makes old.modules s.page stands.page in
       record { stands = stands_with old page s (step s.page).state stands its.stands; text_is = its.text_is };
+}
+
+-- the turn of the page, which may lock and unlock modules
+pub turn_made : (old : BroadcastState) (modules : ModulesState) (page : PageState) (before after : List ℕ) → pages.MakesWith old.modules modules dispatches.turn old.page page before after
+    → Makes page_turn old (record { services = old.services; modules = modules; page = page }) before after
+turn_made old modules page before after made = record {
+  text = made.text;
+  printed = made.printed;
+  makes = λ s stands.
+      let its = made.makes s.page stands.page in
+      record {
+        stands = record { selection = stands.selection; services = stands.services; page = its.stands };
+        text_is = its.text_is;
+      };
 }
 
 -- ---- the persistent area
@@ -114,20 +158,20 @@ outcome_without state old new before after same stands = record {
   gives = λ s stood. record { stands = stands s stood; pieces_are = refl };
 }
 
-pub random_added : (old : BroadcastState) (page : PageState) (word : ℕ) → ((stored : Stored) (s : paging.State) → pages.StandsFor old.page stored s → pages.StandsFor page stored (with_random word s))
+pub random_added : (old : BroadcastState) (page : PageState) (word : ℕ) → ((modules : ModulesState) (s : paging.State) → pages.StandsFor old.page modules s → pages.StandsFor page modules (with_random word s))
     → (s : State) → StandsFor old s → StandsFor (with_page old page) (record s { page = with_random word s.page })
-random_added old page word added s stands = stands_with old page s (with_random word s.page) stands (added s.store s.page stands.page)
+random_added old page word added s stands = stands_with old page s (with_random word s.page) stands (added old.modules s.page stands.page)
 
--- ---- changes in modules
+-- ---- changes that are posted
 
--- the store went on, and its changes are posted to the page
+-- the modules went on, and their changes are posted to the page
 has_posted : (state : BroadcastState) (old : PageState) (before after : List ℕ) (changes there : List (ℕ × Change)) (now : State) → changes ≡ there
-    → (posted : pages.Posts changes old state.page before after) → pages.StandsAmid old now.store there now.page
-    → state.services.selection ≡ now.selection → services_of.StandsFor state.services now.handled → store.StandsFor state.store now.store → ((tag : ℕ) → pid_of now.store tag ≡ pid_in state.services.map tag)
+    → (posted : pages.Posts changes old state.page before after) → pages.StandsAmid old state.modules there now.page
+    → state.services.selection ≡ now.selection → services_of.StandsFor state.services now.handled
     → HasMade state posted.text (with_changes there now)
-has_posted state old before after changes there now same posted amid selection handled stored pids =
-    let made = posted.makes now.store [] now.page (subst (λ (l : List (ℕ × Change)). pages.StandsAmid old now.store l now.page) (sym (append-nil changes ∙ same)) amid) in
-    let stands : StandsFor state (with_changes changes now).state = record { selection = selection; services = handled; store = stored; pids = pids; page = made.stands } in
+has_posted state old before after changes there now same posted amid selection handled =
+    let made = posted.makes state.modules [] now.page (subst (λ (l : List (ℕ × Change)). pages.StandsAmid old state.modules l now.page) (sym (append-nil changes ∙ same)) amid) in
+    let stands : StandsFor state (with_changes changes now).state = record { selection = selection; services = handled; page = made.stands } in
     subst (λ (l : List (ℕ × Change)). HasMade state posted.text (with_changes l now)) same (record { stands = stands; text_is = made.text_is })
 
 -- ---- a section that isn't read as a table
@@ -141,8 +185,6 @@ handled_unread : PassesUnread → (state : BroadcastState) (s : State) (pid : �
 handled_unread passing state s pid section stands unread = record {
   selection = stands.selection;
   services = passing state.services s.handled (record { pid = pid; section = section }) unread stands.services;
-  store = stands.store;
-  pids = stands.pids;
   page = stands.page;
 }
 
@@ -170,32 +212,24 @@ passes passing state pid section before unread none = record {
 
 -- ---- a section of a component
 
--- behind what a section leaves in the store, the page is in the same state, and the changes are still to be posted
-abbrev pub StaysInSections : Type 0
-StaysInSections = (page : PageState) (stored : Stored) (s : paging.State) (component : ℕ) (section : List ℕ) → pages.StandsFor page stored s
-    → pages.StandsAmid page (with_section component section stored) (in_component component (changes_by component section stored)) s
-
--- and behind what a map leaves
-abbrev pub StaysInMaps : Type 0
-StaysInMaps = (page : PageState) (stored : Stored) (s : paging.State) (components : List Component) → AllPairs AreApart components → pages.StandsFor page stored s
-    → pages.StandsAmid page (with_map components stored) (gone_by components stored) s
-
 -- the changes that it makes
-pub changes_taken : PassesUnread → StaysInSections → (old : BroadcastState) (new : StoreState) (page : PageState) (changes : List Change) (pid component : ℕ) (section before after : List ℕ)
+pub changes_taken : PassesUnread → StaysInSections → (old : BroadcastState) (new : ModulesState) (page : PageState) (changes : List Change) (pid component : ℕ) (section before after : List ℕ)
     → reads_table old.services.selection old.services.service pid ≡ false
-    → ((stored : Stored) → store.StandsFor old.store stored → store.StandsFor new (with_section component section stored))
-    → ((stored : Stored) → store.StandsFor old.store stored → changes ≡ changes_by component section stored)
+    → ForModules old.modules (λ modules. of_modules.StandsFor new (with_section component section modules))
+    → ForModules old.modules (λ modules. changes ≡ changes_by component section modules)
     → pages.Posts (in_component component changes) old.page page before after
-    → Makes (λ s. step_of_modules component section (with_handled pid section s)) old (record { services = old.services; store = new; page = page }) before after
+    → Makes (λ s. step_of_modules component section (with_handled pid section s)) old (record { services = old.services; modules = new; page = page }) before after
 changes_taken passing stays old new page changes pid component section before after unread feeds told posted = record {
   text = posted.text;
   printed = posted.printed;
   makes = λ s stands.
       let handled = handled_unread passing old s pid section stands unread in
-      has_posted (record { services = old.services; store = new; page = page }) old.page before after (in_component component changes) (in_component component (changes_by component section s.store))
-      (record (with_handled pid section s) { store = with_section component section s.store })
-      (ap (in_component component) (told s.store stands.store)) posted (stays old.page s.store s.page component section stands.page)
-      handled.selection handled.services (feeds s.store stands.store) (λ tag. pids_of_section component section s.store tag ∙ stands.pids tag);
+      let modules : Modules = s.page.modules in
+      let had : of_modules.StandsFor old.modules modules = stands.page.modules_are in
+      has_posted (record { services = old.services; modules = new; page = page }) old.page before after (in_component component changes) (in_component component (changes_by component section modules))
+      (with_modules (with_section component section modules) (with_handled pid section s))
+      (ap (in_component component) (told modules had)) posted (stays old.page old.modules new s.page component section stands.page (feeds modules had))
+      handled.selection handled.services;
 }
 
 -- its event messages
@@ -220,58 +254,32 @@ none_read section read none = by (messages_in section) (λ messages is. none mes
 abbrev pub Feeds : ServicesState → ServicesState → ℕ → List ℕ → Type 0
 Feeds old new pid section = (handled : List Handled) → services_of.StandsFor old handled → services_of.StandsFor new (handled ++ record { pid = pid; section = section } ∷ [])
 
--- the components of a map have different tags
-abbrev pub HasDistinctTags : Type 0
-HasDistinctTags = (selection : Selection) (handled : List Handled) → AllPairs AreApart (map_of selection handled)
-
 map_behind : (old : BroadcastState) (tables : ServicesState) (pid : ℕ) (section : List ℕ) (s : State) → tables.selection ≡ old.services.selection → Feeds old.services tables pid section → StandsFor old s
     → tables.map ≡ (services (with_handled pid section s)).map
 map_behind old tables pid section s same feeds stands =
     (feeds s.handled stands.services).map ∙ ap (λ (x : Selection). map_of x (with_handled pid section s).handled) (same ∙ stands.selection)
 
-pub table_taken : HasDistinctTags → StaysInMaps → (old : BroadcastState) (tables : ServicesState) (new : StoreState) (page : PageState) (went : List (ℕ × Change)) (pid : ℕ) (section before after : List ℕ)
+pub table_taken : HasDistinctTags → StaysInMaps → (old : BroadcastState) (tables : ServicesState) (new : ModulesState) (page : PageState) (went : List (ℕ × Change)) (pid : ℕ) (section before after : List ℕ)
     → tables.selection ≡ old.services.selection → Feeds old.services tables pid section
-    → ((stored : Stored) → store.StandsFor old.store stored → store.StandsFor new (with_map tables.map stored))
-    → ((stored : Stored) → store.StandsFor old.store stored → went ≡ gone_by tables.map stored)
+    → ForModules old.modules (λ modules. of_modules.StandsFor new (with_map tables.map modules))
+    → ForModules old.modules (λ modules. went ≡ gone_by tables.map modules.stored)
     → pages.Posts went old.page page before after
-    → Makes (λ s. step_of_table (with_handled pid section s)) old (record { services = tables; store = new; page = page }) before after
+    → Makes (λ s. step_of_table (with_handled pid section s)) old (record { services = tables; modules = new; page = page }) before after
 table_taken apart stays old tables new page went pid section before after same feeds sets told posted = record {
   text = posted.text;
   printed = posted.printed;
   makes = λ s stands.
       let now = with_handled pid section s in
-      let map_is : tables.map ≡ (services now).map = map_behind old tables pid section s same feeds stands in
-      has_posted (record { services = tables; store = new; page = page }) old.page before after went (gone_by (services now).map s.store) (record now { store = with_map (services now).map s.store })
-      (told s.store stands.store ∙ ap (λ (map : List Component). gone_by map s.store) map_is) posted
-      (stays old.page s.store s.page (services now).map (apart s.selection now.handled) stands.page)
-      (same ∙ stands.selection) (feeds s.handled stands.services)
-      (subst (λ (map : List Component). store.StandsFor new (with_map map s.store)) map_is (sets s.store stands.store))
-      (λ tag. pids_of_map (services now).map s.store tag ∙ ap (λ (l : List Component). pid_in l tag) (sym map_is));
+      let map : List Component = (services now).map in
+      let map_is : tables.map ≡ map = map_behind old tables pid section s same feeds stands in
+      let modules : Modules = s.page.modules in
+      let had : of_modules.StandsFor old.modules modules = stands.page.modules_are in
+      has_posted (record { services = tables; modules = new; page = page }) old.page before after went (gone_by map modules.stored) (with_modules (with_map map modules) now)
+      (told modules had ∙ ap (λ (l : List Component). gone_by l modules.stored) map_is) posted
+      (stays old.page old.modules new s.page map (apart s.selection now.handled) stands.page
+      (subst (λ (l : List Component). of_modules.StandsFor new (with_map l modules)) map_is (sets modules had)))
+      (same ∙ stands.selection) (feeds s.handled stands.services);
 }
-
-same_map : (old : BroadcastState) (tables : ServicesState) (s now : State) → tables.map ≡ (services now).map → AreSameMap old.services.map tables.map → StandsFor old s → IsSameMap (services now).map s.store
-same_map old tables s now map_is same stands tag = ap (λ (l : List Component). pid_in l tag) (sym map_is) ∙ sym (same tag) ∙ sym (stands.pids tag)
-
--- a table that leaves the map as it was
-pub table_kept : HasDistinctTags → StaysInMaps → (old : BroadcastState) (tables : ServicesState) (pid : ℕ) (section before : List ℕ) → tables.selection ≡ old.services.selection → Feeds old.services tables pid section
-    → AreSameMap old.services.map tables.map
-    → Makes (λ s. step_of_table (with_handled pid section s)) old (record { services = tables; store = old.store; page = old.page }) before before
-table_kept apart stays old tables pid section before same feeds unchanged =
-    let posted = posts_none old.page before in
-    record {
-      text = posted.text;
-      printed = posted.printed;
-      makes = λ s stands.
-          let now = with_handled pid section s in
-          let map_is : tables.map ≡ (services now).map = map_behind old tables pid section s same feeds stands in
-          let unchanged_now = same_map old tables s now map_is unchanged stands in
-          has_posted (record { services = tables; store = old.store; page = old.page }) old.page before before [] (gone_by (services now).map s.store) (record now { store = with_map (services now).map s.store })
-          (sym (none_gone (services now).map s.store unchanged_now)) posted
-          (stays old.page s.store s.page (services now).map (apart s.selection now.handled) stands.page)
-          (same ∙ stands.selection) (feeds s.handled stands.services)
-          (stands_still old.store s.store (services now).map unchanged_now stands.store)
-          (λ tag. pids_of_map (services now).map s.store tag ∙ ap (λ (l : List Component). pid_in l tag) (sym map_is));
-    }
 
 -- ---- two steps
 

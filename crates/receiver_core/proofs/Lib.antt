@@ -1,5 +1,4 @@
 pub mod OutputLaws
-pub mod MapLaws
 pub mod PostingLaws
 pub mod BroadcastLaws
 pub mod TimeLaws

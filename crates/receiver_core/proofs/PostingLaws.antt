@@ -29,7 +29,7 @@ pub posts_none : (page : PageState) (before : List ℕ) → Posts [] page page b
 posts_none page before = record {
   text = [];
   printed = sym (append-nil before);
-  makes = λ stored changes s stands. record { stands = stands; text_is = refl };
+  makes = λ modules changes s stands. record { stands = stands; text_is = refl };
 }
 
 -- some changes, and then others
@@ -37,10 +37,10 @@ posts_both : (xs ys : List (ℕ × Change)) (old mid new : PageState) (before be
 posts_both xs ys old mid new before between after one two = record {
   text = one.text ++ two.text;
   printed = two.printed ∙ ap (λ (l : List ℕ). l ++ two.text) one.printed ∙ append_assoc before one.text two.text;
-  makes = λ stored changes s stands.
-      let first = one.makes stored (ys ++ changes) s (subst (λ (l : List (ℕ × Change)). StandsAmid old stored l s) (append_assoc xs ys changes) stands) in
-      let second = two.makes stored changes (changes_step xs s).state first.stands in
-      subst (λ (t : Step). HasMadeAmid new stored changes (one.text ++ two.text) t) (sym (each_append (λ (change : ℕ × Change). change_step change.0 change.1) xs ys s))
+  makes = λ modules changes s stands.
+      let first = one.makes modules (ys ++ changes) s (subst (λ (l : List (ℕ × Change)). StandsAmid old modules l s) (append_assoc xs ys changes) stands) in
+      let second = two.makes modules changes (changes_step xs s).state first.stands in
+      subst (λ (t : Step). HasMadeAmid new modules changes (one.text ++ two.text) t) (sym (each_append (λ (change : ℕ × Change). change_step change.0 change.1) xs ys s))
       (record { stands = second.stands; text_is = ap₂ (λ (a b : List ℕ). a ++ b) first.text_is second.text_is });
 }
 
@@ -72,7 +72,7 @@ pub makes_none : (component : ℕ) (page : PageState) (before : List ℕ) → Ma
 makes_none component page before = record {
   text = [];
   printed = sym (append-nil before);
-  makes = λ stored s stands. record { stands = stands; text_is = refl };
+  makes = λ modules s stands. record { stands = stands; text_is = refl };
 }
 
 messages_next : (component : ℕ) (messages : List Message) (index : ℕ) (message : Message) (s : State) → index < length messages → message ≡ get_or messages index message
@@ -92,9 +92,9 @@ pub makes_more : (component : ℕ) (messages : List Message) (index : ℕ) (mess
 makes_more component messages index message old mid new before between after within is one two = record {
   text = one.text ++ two.text;
   printed = two.printed ∙ ap (λ (l : List ℕ). l ++ two.text) one.printed ∙ append_assoc before one.text two.text;
-  makes = λ stored s stands.
-      let first = one.makes stored s stands in
-      let second = two.makes stored (messages_step component (take index messages) s).state first.stands in
-      subst (λ (t : Step). HasMade new stored (one.text ++ two.text) t) (sym (messages_next component messages index message s within is))
+  makes = λ modules s stands.
+      let first = one.makes modules s stands in
+      let second = two.makes modules (messages_step component (take index messages) s).state first.stands in
+      subst (λ (t : Step). HasMade new modules (one.text ++ two.text) t) (sym (messages_next component messages index message s within is))
       (record { stands = second.stands; text_is = ap₂ (λ (a b : List ℕ). a ++ b) first.text_is second.text_is });
 }

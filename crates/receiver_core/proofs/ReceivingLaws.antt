@@ -165,7 +165,7 @@ takes_silent input old new before after none idle made read selection area input
 
 -- the state with one packet more is one for the same broadcast
 same_broadcast : (b : BroadcastState) (s : State) (packet : List ℕ) → broadcasts.StandsFor b s → broadcasts.StandsFor b (with_packet packet s)
-same_broadcast b s packet p = record { selection = p.selection; services = p.services; store = p.store; pids = p.pids; page = p.page }
+same_broadcast b s packet p = record { selection = p.selection; services = p.services; page = p.page }
 
 not_both : {A : Type 0} (w e : Bool) (x y : A) → (e ≡ true → w ≡ false) → cond (w && e) x y ≡ y
 not_both true true x y h = absurd (true≢false (h refl))

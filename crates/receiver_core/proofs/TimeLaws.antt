@@ -80,8 +80,9 @@ clock_gone : (state : BroadcastState) (page : PageState) (s : State) (end : ℕ)
     → StandsFor (with_page state page) (record s { page = with_clock end s.page })
 clock_gone state page s end is stands =
     stands_with state page s (with_clock end s.page) stands
-    (subst (λ (p : PageState). pages.StandsFor p s.store (with_clock end s.page)) (sym is)
+    (subst (λ (p : PageState). pages.StandsFor p state.modules (with_clock end s.page)) (sym is)
     (record {
+      modules_are = stands.page.modules_are;
       reader = stands.page.reader;
       document = stands.page.document;
       wanted = stands.page.wanted;

@@ -1,13 +1,10 @@
 -- A device of the proofs: what is kept of a broadcast, and for which state it stands.
 use Rattle.std.specs.Prelude.{◌≡◌, ℕ, List, ◌++◌, Option, option_and_then}
 use Rattle.std.specs.List.{concat}
-use Rattle.psi_tables.specs.Components.{pid_in}
 use Rattle.psi_tables.specs.Service.{ServicesState}
 use Rattle.psi_tables.specs.Service as services_of
 use Rattle.event_queue.specs.Timers.{least_moment}
-use Rattle.module_store.specs.Standing.{StoreState}
-use Rattle.module_store.specs.Standing as store
-use Rattle.module_store.specs.Store.{pid_of}
+use Rattle.module_locks.specs.Standing.{ModulesState}
 use Rattle.page.specs.Standing.{PageState}
 use Rattle.page.specs.Standing as page
 use Rattle.receiver_core.specs.Outputs.{Outcome, Piece, not_after, texts_of}
@@ -16,17 +13,14 @@ use Rattle.receiver_core.specs.Turns.{Step}
 
 pub record BroadcastState : Type 0 where
   pub services : ServicesState
-  pub store : StoreState
+  pub modules : ModulesState
   pub page : PageState
 
 -- what is kept is what there is to be kept of the state
 pub record StandsFor (state : BroadcastState) (s : State) : Type 0 where
   pub selection : state.services.selection ≡ s.selection
   pub services : services_of.StandsFor state.services s.handled
-  pub store : store.StandsFor state.store s.store
-  -- the store follows the components of the map, each on its PID
-  pub pids : (tag : ℕ) → pid_of s.store tag ≡ pid_in state.services.map tag
-  pub page : page.StandsFor state.page s.store s.page
+  pub page : page.StandsFor state.page state.modules s.page
 
 -- what is kept stands for the state that is left, and this is the text of the step
 pub record HasMade (state : BroadcastState) (text : List ℕ) (t : Step) : Type 0 where

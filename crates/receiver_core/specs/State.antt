@@ -4,8 +4,7 @@ use Rattle.psi_tables.specs.declared.services.Selection.{Selection}
 use Rattle.psi_tables.specs.History.{Handled, service_of, map_of}
 use Rattle.psi_tables.specs.Service.{ServicesState}
 use Rattle.psi_tables.specs.Service as services_of
-use Rattle.module_store.specs.Store.{Stored}
-use Rattle.module_store.specs.Store as store
+use Rattle.module_locks.specs.Locks.{at_start, with_map}
 use Rattle.es_reader.specs.Readers.{Reader}
 use Rattle.page.specs.State as page
 
@@ -17,9 +16,7 @@ pub record State : Type 0 where
   -- for each PID the packets on it since it was wanted without a break; none of one that isn't
   -- wanted
   pub packets : ℕ → List (List ℕ)
-  -- the components with their messages
-  pub store : Stored
-  -- the documents, the time, and the persistent area
+  -- the documents, the time, the persistent area, and the modules of the service
   pub page : page.State
 
 -- the service and the component map at present
@@ -39,6 +36,5 @@ opening read selection area = record {
   selection = selection;
   handled = [];
   packets = λ pid. [];
-  store = store.with_map (map_of selection []) store.at_start;
-  page = page.opening read area;
+  page = page.with_modules (with_map (map_of selection []) at_start) (page.opening read area);
 }

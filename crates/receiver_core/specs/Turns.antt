@@ -6,7 +6,8 @@ use Rattle.psi_tables.specs.Service.{reads_table}
 use Rattle.carousel_blocks.specs.declared.changes.Change.{Change}
 use Rattle.event_messages.specs.Reading.{messages_in}
 use Rattle.event_messages.specs.declared.messages.Message.{Message}
-use Rattle.module_store.specs.Store as store
+use Rattle.module_locks.specs.Locks.{Modules, changes_by, with_map, with_section}
+use Rattle.module_store.specs.Store.{gone_by}
 use Rattle.page.specs.Dispatches as dispatches
 use Rattle.page.specs.Inputs.{changes_step, due_step, key_step, messages_step}
 use Rattle.page.specs.State as page
@@ -29,6 +30,10 @@ with_handled pid section s =
     let now = record s { handled = s.handled ++ record { pid = pid; section = section } ∷ [] } in
     record now { packets = λ other. if wants now other then s.packets other else [] }
 
+-- the modules become these
+abbrev pub with_modules : Modules → State → State
+with_modules modules now = record now { page = page.with_modules modules now.page }
+
 -- the page is told of changes in modules, each with its component
 abbrev pub with_changes : List (ℕ × Change) → State → Step
 with_changes changes now = of_page now (changes_step changes now.page)
@@ -36,8 +41,8 @@ with_changes changes now = of_page now (changes_step changes now.page)
 -- A table: the components are those of the map that it leaves; what left is gone.
 abbrev pub step_of_table : State → Step
 step_of_table now =
-    with_changes (store.gone_by (services now).map now.store)
-    (record now { store = store.with_map (services now).map now.store })
+    with_changes (gone_by (services now).map now.page.modules.stored)
+    (with_modules (with_map (services now).map now.page.modules) now)
 
 -- the event messages of a section; one of another table, and one that isn't read, has none
 abbrev pub messages_of_reading : Result (List Message) TableFault → List Message
@@ -57,8 +62,8 @@ with_messages component messages t =
 abbrev pub step_of_modules : ℕ → List ℕ → State → Step
 step_of_modules component section now =
     with_changes
-    (map (λ change. (component, change)) (store.changes_by component section now.store))
-    (record now { store = store.with_section component section now.store })
+    (map (λ change. (component, change)) (changes_by component section now.page.modules))
+    (with_modules (with_section component section now.page.modules) now)
 
 -- A section of a component: its changes, and then its event messages
 abbrev pub step_of_component : ℕ → List ℕ → State → Step
@@ -81,7 +86,7 @@ step_of_section pid section s =
 
 -- the turn of the page
 abbrev pub page_turn : State → Step
-page_turn s = of_page s (dispatches.turn s.store s.page)
+page_turn s = of_page s (dispatches.turn s.page)
 
 -- a step and the turn that follows it
 abbrev pub with_turn : Step → Step

@@ -19,7 +19,7 @@ ghost use Rattle.receiver_core.specs.Turns.{turn, with_handled};
 
 use bml_bytes::{AreaBytes, NoMemory, TableRefusal, law_of_fronts};
 use event_messages::{Message, law_of_messages, read_messages};
-use module_store::{Change, Store};
+use module_locks::{Change, Modules};
 use page::{Page, law_of_posted_changes};
 use psi_tables::{Selection, Services, law_of_component_map, law_of_unread_sections};
 use std::alloc::Global;
@@ -45,7 +45,7 @@ pub enum Input {
 pub struct Broadcast {
     alloc: Global,
     services: Services,
-    store: Store,
+    modules: Modules,
     page: Page,
 }
 
@@ -54,7 +54,7 @@ impl Model for Broadcast {
 
     ghost Value = { BroadcastState };
 
-    ghost view = { λ b. record { services = b.services; store = b.store; page = b.page } };
+    ghost view = { λ b. record { services = b.services; modules = b.modules; page = b.page } };
 }
 
 impl Broadcast {
@@ -66,14 +66,16 @@ impl Broadcast {
         ensures clock { IfOk result (λ broadcast. broadcast.page.clock ≡ 0) }
         ensures area { IfOk result (λ broadcast. page_area broadcast.page ≡ area) }
     {
+        law_of_component_map();
+        law_of_posted_changes();
         let services = Services::new(alloc, selection);
-        let mut store = Store::new(alloc);
-        store.set_components(&services)?;
+        let mut modules = Modules::new(alloc);
+        modules.set_components(&services)?;
         let page = Page::fresh(alloc, area)?;
         Ok(Broadcast {
             alloc,
             services,
-            store,
+            modules,
             page,
         })
     }
@@ -211,7 +213,7 @@ impl Broadcast {
         ensures clock { self.new.page.clock ≡ self.old.page.clock }
         ensures grows { StartsWith out.new.items out.old.items }
     {
-        self.page.turn(&mut self.store, out)
+        self.page.turn(&mut self.modules, out)
     }
 
     // Takes a section as a table, or as one of the component on its PID.
@@ -243,10 +245,8 @@ impl Broadcast {
     {
         law_of_posted_changes();
         law_of_component_map();
-        if !self.services.feed(pid, section)? {
-            return Ok(());
-        }
-        let gone = self.store.set_components(&self.services)?;
+        self.services.feed(pid, section)?;
+        let gone = self.modules.set_components(&self.services)?;
         post_gone(&mut self.page, gone.as_slice(), out)
     }
 
@@ -291,7 +291,7 @@ impl Broadcast {
     {
         law_of_unread_sections();
         law_of_posted_changes();
-        let changes = self.store.feed(component, section)?;
+        let changes = self.modules.feed(component, section)?;
         post_changes(&mut self.page, component, changes.as_slice(), out)
     }
 

@@ -12,28 +12,27 @@ ghost use Rattle.es_values.specs.declared.numbers.Num.TheVariants.{NotANumber};
 ghost use Rattle.es_values.specs.declared.values.Value.TheVariants.{Number};
 ghost use Rattle.browser_objects.specs.Calls.{Answers, call_of};
 ghost use Rattle.dom_objects.specs.Reads.{read_value};
-ghost use Rattle.document_stages.specs.Acting.{browser_call, browser_value as spec_browser_value, document_call, done_for, first_argument, is_subscription, is_unload, launch, node_call, parts_of, register_value as spec_register_value, text_written, with_browser};
-ghost use Rattle.document_stages.specs.Stages.{HasCalled, HasRead, HasWritten};
+ghost use Rattle.document_stages.specs.Acting.{browser_value as spec_browser_value, document_call, first_argument, is_subscription, is_unload, launch, node_call, parts_of, read_by, register_value as spec_register_value, text_written, with_browser, with_line, written};
+ghost use Rattle.document_stages.specs.EventLines.{kept_line, sound_line};
 
 use crate::event_lines::{push_kept_line, push_launch_line, push_sound_line};
 use crate::stages::Stage;
 use bml_bytes::{NoMemory, Text};
-use browser_objects::{Effect, call_browser, law_of_plain_answers, register, set_register};
+use browser_objects::{Effect, call_browser, register, set_register};
 use dom_objects::{get_node, set_node};
 use dom_tree::NodeId;
-use es_values::{Heap, Host, HostAnswer, HostRef, Num, Value};
+use es_values::{Heap, HostAnswer, HostRef, Num, Value};
 use event_items::is_event_item;
 use event_queue::Event;
 use multipart_entities::Path;
 
-impl Host for Stage {
-    ghost reads = { HasRead };
-
-    ghost writes = { HasWritten };
-
-    ghost calls = { HasCalled };
-
-    fn get(&mut self, base: HostRef, name: &Text) -> Result<Value, NoMemory> {
+impl Stage {
+    /// What a name of a reference reads as.
+    pub(crate) fn read(&mut self, base: HostRef, name: &Text) -> Result<Value, NoMemory>
+        ensures value { IfOk result (λ value. value ≡ read_by self.old.acting base name.now) }
+        ensures plain { IfOk result (λ value. is_plain value ≡ true) }
+        ensures same { OnOk result (self.new.acting ≡ self.old.acting) }
+    {
         match base {
             HostRef::Node(number) if self.is_subscription(NodeId(number), name) => {
                 Ok(Value::Bool(self.items.is_subscribed(NodeId(number))))
@@ -45,13 +44,18 @@ impl Host for Stage {
         }
     }
 
-    fn set(
+    /// Writes a value under a name of a reference: a subscription as a truth, and all else as text.
+    pub(crate) fn write(
         &mut self,
         base: HostRef,
         name: &Text,
         value: &Value,
         heap: &Heap,
-    ) -> Result<(), NoMemory> {
+    ) -> Result<(), NoMemory>
+        requires { IsLive heap.now value.now }
+        ensures { OnOk result
+            (self.new.acting ≡ written self.old.acting base name.now value.now heap.now) }
+    {
         match base {
             HostRef::Node(number) if self.is_subscription(NodeId(number), name) => {
                 self.items.subscribe(NodeId(number), value.truth());
@@ -64,26 +68,6 @@ impl Host for Stage {
         }
     }
 
-    #[tactic(auto, unfolding(crate::specs::Acting::called))]
-    fn call(
-        &mut self,
-        base: HostRef,
-        name: &Text,
-        args: &[Value],
-        heap: &mut Heap,
-    ) -> Result<HostAnswer, NoMemory> {
-        match base {
-            HostRef::Document => self.call_document(name, args, heap),
-            HostRef::Node(number) => self.call_node(NodeId(number), name),
-            HostRef::Browser => self.call_browser(name, args, heap),
-            HostRef::Ureg | HostRef::Greg | HostRef::Event | HostRef::Style(_, _) => {
-                Ok(HostAnswer::NotCallable)
-            }
-        }
-    }
-}
-
-impl Stage {
     // Whether a node is an event item, and the name is that of its subscription.
     fn is_subscription(&self, node: NodeId, name: &Text) -> bool
         ensures { result ≡ is_subscription self.now.acting node.0 name.now }
@@ -121,8 +105,8 @@ impl Stage {
         }
     }
 
-    // Calls a member of the document: `getElementById` gives the first element with an id, or Null.
-    fn call_document(
+    /// Calls a member of the document: `getElementById` gives the first element with an id, or Null.
+    pub(crate) fn call_document(
         &self,
         name: &Text,
         args: &[Value],
@@ -143,8 +127,8 @@ impl Stage {
         }))
     }
 
-    // Calls a member of a node: `focus` and `blur` of an element.
-    fn call_node(&mut self, node: NodeId, name: &Text) -> Result<HostAnswer, NoMemory>
+    /// Calls a member of a node: `focus` and `blur` of an element.
+    pub(crate) fn call_node(&mut self, node: NodeId, name: &Text) -> Result<HostAnswer, NoMemory>
         ensures answer { (heap : List ObjectState) → IfOk result
             (λ answer. answer ≡ (node_call self.old.acting node.0 name.now heap).answer) }
         ensures safe { (heap : List ObjectState) → IfOk result (λ answer. IsAnswer heap answer) }
@@ -164,27 +148,8 @@ impl Stage {
         Ok(HostAnswer::Value(Value::Undefined))
     }
 
-    // Calls the browser object, and does what this comes to.
-    fn call_browser(
-        &mut self,
-        name: &Text,
-        args: &[Value],
-        heap: &Heap,
-    ) -> Result<HostAnswer, NoMemory>
-        requires { All (IsLive heap.now) args.now }
-        ensures answer { IfOk result (λ answer. answer
-            ≡ (browser_call self.old.acting name.now args.now heap.now).answer) }
-        ensures acting { OnOk result (self.new.acting
-            ≡ (browser_call self.old.acting name.now args.now heap.now).acting) }
-        ensures safe { IfOk result (λ answer. IsAnswer heap.now answer) }
-    {
-        law_of_plain_answers();
-        let (value, effect) = self.ask_browser(name, args, heap)?;
-        self.do_effect(effect, value)
-    }
-
-    // What a call of the browser object gives, and what has to be done beside.
-    fn ask_browser(
+    /// What a call of the browser object gives, and what has to be done beside.
+    pub(crate) fn ask_browser(
         &mut self,
         name: &Text,
         args: &[Value],
@@ -207,38 +172,24 @@ impl Stage {
         )
     }
 
-    // Does what a call that gives this value comes to: a line is printed, or a document is launched.
-    fn do_effect(&mut self, effect: Effect, value: Value) -> Result<HostAnswer, NoMemory>
-        requires { is_plain value ≡ true }
-        ensures answer { (heap : List ObjectState) → IfOk result (λ answer. answer
-            ≡ (done_for effect value self.old.acting heap).answer) }
-        ensures acting { (heap : List ObjectState) → OnOk result (self.new.acting
-            ≡ (done_for effect value self.old.acting heap).acting) }
-        ensures safe { (heap : List ObjectState) → IfOk result (λ answer. IsAnswer heap answer) }
+    /// Tells a sound.
+    pub(crate) fn tell_sound(&mut self, sound: u32) -> Result<(), NoMemory>
+        ensures told { OnOk result
+            (self.new.acting ≡ with_line (sound_line sound) self.old.acting) }
     {
-        match effect {
-            Effect::Nothing => Ok(HostAnswer::Value(value)),
-            Effect::Sound(sound) => {
-                push_sound_line(sound, &mut self.text)?;
-                Ok(HostAnswer::Value(value))
-            }
-            Effect::Kept(slot, size) => {
-                push_kept_line(slot, size, &mut self.text)?;
-                Ok(HostAnswer::Value(value))
-            }
-            Effect::Launch(path) => {
-                drop(value);
-                self.launch(path)
-            }
-            Effect::Lock(_) | Effect::Unlock(_) => {
-                drop(value);
-                Ok(refusal())
-            }
-        }
+        push_sound_line(sound, &mut self.text)
     }
 
-    // A script launches the document at a path, which ends this one. The handler of `unload` can't.
-    fn launch(&mut self, path: Path) -> Result<HostAnswer, NoMemory>
+    /// Tells that bytes were kept in a slot of the persistent area.
+    pub(crate) fn tell_kept(&mut self, slot: u8, size: u8) -> Result<(), NoMemory>
+        ensures told { OnOk result
+            (self.new.acting ≡ with_line (kept_line slot size) self.old.acting) }
+    {
+        push_kept_line(slot, size, &mut self.text)
+    }
+
+    /// A script launches the document at a path, which ends this one. The handler of `unload` can't.
+    pub(crate) fn launch(&mut self, path: Path) -> Result<HostAnswer, NoMemory>
         ensures answer { (heap : List ObjectState) → IfOk result (λ answer. answer
             ≡ (launch path self.old.acting heap).answer) }
         ensures acting { (heap : List ObjectState) → OnOk result (self.new.acting
@@ -291,8 +242,8 @@ fn register_value(registers: &[Text], name: &Text) -> Result<Value, NoMemory>
     }
 }
 
-// NaN.
-fn refusal() -> HostAnswer
+/// NaN.
+pub(crate) fn refusal() -> HostAnswer
     ensures { result ≡ Answer (Number NotANumber) }
 {
     HostAnswer::Value(Value::Number(Num::NotANumber))

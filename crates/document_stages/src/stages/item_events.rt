@@ -4,7 +4,7 @@ ghost use Rattle.std.specs.Prelude.{◌≡◌, ◌==◌, if◌then◌else◌, On
 ghost use Rattle.std.specs.Option.{option_map_or};
 ghost use Rattle.focus_keys.specs.KeyTables.{key_number};
 ghost use Rattle.focus_keys.specs.declared.keys.Key.TheVariants as keys;
-ghost use Rattle.document_stages.specs.Acting.{button_posts, button_post, change_posts, each_item, fired, message_posts, message_post, module_post};
+ghost use Rattle.document_stages.specs.Acting.{button_posts, button_post, change_posts, each_item, fired, lock_post, lock_posts, message_posts, message_post, module_post, update_posts};
 
 use crate::stages::Stage;
 use bml_bytes::NoMemory;
@@ -68,34 +68,54 @@ impl Stage {
         Ok(())
     }
 
-    /// A module of a component changed: each item that fires for it posts its event, in document order.
+    /// A module of a component changed: each item that fires for it posts its event, in document
+    /// order; and then each item that is told that a lock got the module's bytes, where one did.
     #[tactic(auto, unfolding(crate::specs::Acting::change_posts))]
     pub fn post_change(&mut self, component: u8, change: &Change) -> Result<(), NoMemory>
         ensures posted { OnOk result
             (self.new.acting ≡ change_posts component change.now self.old.acting) }
         ensures worked { self.new.worked ≡ self.old.worked }
     {
-        match change.status {
-            Some(status) => self.tell_all_module(component, change.module, status),
+        self.post_updated(component, change.module, change.status)?;
+        if change.locked {
+            self.post_locked(component, change.module)?;
+        }
+        Ok(())
+    }
+
+    // Each item that fires for a module posts its event, with the status of the change, where it has
+    // one.
+    fn post_updated(
+        &mut self,
+        component: u8,
+        module: u16,
+        status: Option<u8>,
+    ) -> Result<(), NoMemory>
+        ensures posted { OnOk result (self.new.acting
+            ≡ update_posts component «module» status self.old.acting) }
+        ensures worked { self.new.worked ≡ self.old.worked }
+    {
+        match status {
+            Some(status) => self.tell_all_updated(component, module, status),
             None => Ok(()),
         }
     }
 
-    // Each item that fires for a module posts its event, with the status of the change.
-    fn tell_all_module(&mut self, component: u8, module: u16, status: u8) -> Result<(), NoMemory>
+    // Each item that fires for a module posts its event, with this status.
+    fn tell_all_updated(&mut self, component: u8, module: u16, status: u8) -> Result<(), NoMemory>
         ensures told { OnOk result (self.new.acting
             ≡ each_item (module_post component «module» status) self.old.acting) }
         ensures worked { self.new.worked ≡ self.old.worked }
     {
         let count = self.items.count();
         'items: for place in 0..count {
-            self.tell_module(place, component, module, status)?;
+            self.tell_updated(place, component, module, status)?;
         }
         Ok(())
     }
 
     // The item at a place posts its event, where it fires for a module.
-    fn tell_module(
+    fn tell_updated(
         &mut self,
         place: usize,
         component: u8,
@@ -114,6 +134,41 @@ impl Stage {
                 self.post(Event::Updated {
                     item: node.0,
                     status,
+                })
+            }
+            _ => Ok(()),
+        }
+    }
+
+    /// A lock keeps a module of a component from now on: each item that is told of it posts its
+    /// event, in document order.
+    #[tactic(auto, unfolding(crate::specs::Acting::lock_posts))]
+    pub fn post_locked(&mut self, component: u8, module: u16) -> Result<(), NoMemory>
+        ensures posted { OnOk result
+            (self.new.acting ≡ lock_posts component «module» self.old.acting) }
+        ensures worked { self.new.worked ≡ self.old.worked }
+    {
+        let count = self.items.count();
+        'items: for place in 0..count {
+            self.tell_locked(place, component, module)?;
+        }
+        Ok(())
+    }
+
+    // The item at a place posts its event, where it is told that a module is locked.
+    fn tell_locked(&mut self, place: usize, component: u8, module: u16) -> Result<(), NoMemory>
+        ensures told { OnOk result (self.new.acting
+            ≡ option_map_or (λ item. lock_post component «module» item self.old.acting)
+            (slice_get self.old.acting.items.items place) self.old.acting) }
+        ensures worked { self.new.worked ≡ self.old.worked }
+    {
+        let kind = ItemKind::ModuleLocked;
+        match self.items.get(place) {
+            Some(item) if self.items.fires_for_module(kind, component, module, item) => {
+                let node = item.node();
+                self.post(Event::Locked {
+                    item: node.0,
+                    status: 0,
                 })
             }
             _ => Ok(()),

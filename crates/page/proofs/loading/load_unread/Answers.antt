@@ -4,7 +4,7 @@ use Rattle.page.proofs.loading.load_unread.Goals as goal
 
 pub returns-in-Ok-clause-loads : goal.returns-in-Ok-clause-loads
 returns-in-Ok-clause-loads c =
-    loads_read c.load.result c.args.store.now c.args.is_start c.args.path c.new.result c.args.out.now.items c.load.new.out.items c.new.ensures.is_start c.new.ensures.path
-    (λ stored stands start. is_read stored c.args.is_start c.args.path c.in-Found.bytes.now c.in-Ok.draft c.new.result c.new.ensures.is_start c.new.ensures.path c.new.ensures.draft start (search rules) (search rules)
-    (sym (c.in-Found.ensures.look stored stands)) c.in-Ok.ensures.reading)
+    loads_read c.load.result c.args.modules.now c.args.is_start c.args.path c.new.result c.args.out.now.items c.load.new.out.items c.new.ensures.is_start c.new.ensures.path
+    (λ modules stands start. is_read modules c.args.is_start c.args.path c.in-Found.bytes.now c.in-Ok.draft c.new.result c.new.ensures.is_start c.new.ensures.path c.new.ensures.draft start (search rules) (search rules)
+    (sym (c.in-Found.ensures.look modules stands)) c.in-Ok.ensures.reading)
     c.load.ensures.loads

@@ -5,7 +5,7 @@ use Rattle.page.proofs.pending.give_all_found.Goals as goal
 
 pub gifts-init : goal.gifts-init
 gifts-init c = record {
-  gives = GivesBelow-start c.args.store.now c.args.draft.now;
+  gives = GivesBelow-start c.args.modules.now c.args.draft.now;
   all = ap length c.needs-count.ensures;
 }
 
@@ -20,7 +20,7 @@ gifts-preserved c =
     let so_far = c.gifts.invariant in
     let within : c.gifts.number < length c.args.draft.now.needs = omega (arith, so_far.all) in
     record {
-      gives = GivesBelow-more c.args.store.now c.gifts.number c.args.draft.now _ _ within so_far.gives (c.in_ok-give_found.ensures {u = tt}).needs (c.in_ok-give_found.ensures {u = tt}).found;
+      gives = GivesBelow-more c.args.modules.now c.gifts.number c.args.draft.now _ _ within so_far.gives (c.in_ok-give_found.ensures {u = tt}).needs (c.in_ok-give_found.ensures {u = tt}).found;
       all = so_far.all;
     }
 
@@ -28,4 +28,4 @@ pub returns : goal.returns
 returns c =
     let so_far = c.gifts.invariant in
     let all : c.gifts.number ≡ length c.args.draft.now.needs = omega (arith, so_far.all) in
-    GivesBelow-end c.args.store.now c.gifts.number c.args.draft.now _ all so_far.gives
+    GivesBelow-end c.args.modules.now c.gifts.number c.args.draft.now _ all so_far.gives

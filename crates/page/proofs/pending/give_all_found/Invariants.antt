@@ -3,4 +3,4 @@ use Rattle.page.proofs.GiftLaws.{GivesBelow}
 use Rattle.page.proofs.pending.give_all_found.Given as goal
 
 abbrev pub invariant-gifts : goal.invariant-gifts
-invariant-gifts l = record { gives : GivesBelow l.store l.number l.fn.draft l.draft; all : l.count ≡ length l.fn.draft.needs }
+invariant-gifts l = record { gives : GivesBelow l.modules l.number l.fn.draft l.draft; all : l.count ≡ length l.fn.draft.needs }

@@ -1,4 +1,4 @@
-use Rattle.page_laws.proofs.PageLemmas.{Laws, changes-sound, due_step-sound, key_step-sound, message_step-sound, opening-sound, turn-sound, with_clock-sound, with_random-sound}
+use Rattle.page_laws.proofs.PageLemmas.{Laws, changes-sound, due_step-sound, key_step-sound, message_step-sound, opening-sound, turn-sound, with_clock-sound, with_modules-sound, with_random-sound}
 use Rattle.page_laws.proofs.laws.law_of_soundness.Goals as goal
 
 pub returns : goal.returns
@@ -17,10 +17,15 @@ returns c =
         places = c.law_of_passing_values.ensures.places;
         globals = c.law_of_passing_values.ensures.globals;
       };
+      few = record {
+        locks = c.law_of_few_locks.ensures.locks;
+        unlocks = c.law_of_few_locks.ensures.unlocks;
+      };
     } in
     record {
       opening = opening-sound;
       turn = turn-sound laws;
+      modules = with_modules-sound;
       changes = changes-sound laws;
       messages = message_step-sound laws;
       keys = key_step-sound laws;

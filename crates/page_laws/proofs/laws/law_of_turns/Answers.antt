@@ -4,6 +4,6 @@ use Rattle.page_laws.proofs.laws.law_of_turns.Goals as goal
 
 pub returns : goal.returns
 unfolding turn
-returns c stored s =
-    let m = as-many stored most_dispatches s in
+returns c s =
+    let m = as-many most_dispatches s in
     record { count = m.count; made = m.made; most = m.fits; ends = m.ends }

@@ -9,4 +9,4 @@ pub returns-in-None-clause-does : goal.returns-in-None-clause-does
 returns-in-None-clause-does c =
     let out = c.args.out.now.items in
     subst (λ (target : Option NodeId). Does (handled_at (number_of target) c.args.event) c.args.self.now c.do_nothing.new.self out out)
-    (sym c.in-None.is) (c.do_nothing.ensures out)
+    (sym c.in-None.is) (c.do_nothing.ensures.does out)

@@ -14,7 +14,7 @@ returns-in_default-clause-does c =
     let none : option_map (λ timer. timer.function) (timer_of c.args.number c.args.self.now.lent.timers) ≡ None =
     ap (λ (k : KeptDocument). option_map (λ timer. timer.function) (timer_of c.args.number k.lent.timers)) (sym c.self.view_is)
     ∙ (sym (c.in_ok-function.ensures {u = tt}) ∙ c.in_default.is) in
-    does_no_timer c.args.number c.args.self.now c.do_nothing.new.self out none (c.do_nothing.ensures out)
+    does_no_timer c.args.number c.args.self.now c.do_nothing.new.self out none (c.do_nothing.ensures.does out)
 
 pub returns-clause-does : goal.returns-clause-does
 returns-clause-does c =

@@ -1,6 +1,6 @@
 use Rattle.document_stages.specs.Acting.{change_posts}
 use Rattle.acting_documents.specs.Handling.{change_effect}
-use Rattle.acting_documents.proofs.DoingLemmas.{gives, prepared}
+use Rattle.acting_documents.proofs.DoingLemmas.{gives_apart, prepared}
 use Rattle.acting_documents.proofs.EndedLemmas.{change_posts-stays}
 use Rattle.acting_documents.proofs.documents.ActingDocument.post_change.Goals as goal
 
@@ -8,6 +8,6 @@ pub returns-clause-does : goal.returns-clause-does
 unfolding change_effect
 returns-clause-does c =
     let d = c.self.inside in
-    gives c.give_text.result (change_posts c.args.component c.args.change.now) c.args.self.now d.stage c.prepare.new.self c.post_change.new.self c.give_text.new.self d.programs.items d.handlers d.globals d.heap d.body c.args.out.now.items c.give_text.new.out.items
-    c.self.view_is (prepared d.stage c.prepare.new.self c.none.result c.none.ensures c.prepare.ensures.acting) c.in_ok-post_change.ensures.posted (change_posts-stays c.args.component c.args.change.now)
+    gives_apart c.give_text.result (change_posts c.args.component c.args.change.now) c.args.self.now d.host.stage c.prepare.new.self c.post_change.new.self c.give_text.new.self d.host.modules d.programs.items d.handlers d.globals d.heap d.body c.args.out.now.items c.give_text.new.out.items
+    c.self.view_is (prepared d.host.stage c.prepare.new.self c.none.result c.none.ensures c.prepare.ensures.acting) c.in_ok-post_change.ensures.posted (change_posts-stays c.args.component c.args.change.now)
     c.give_text.ensures.acting c.give_text.ensures.given

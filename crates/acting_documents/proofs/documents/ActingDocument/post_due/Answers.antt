@@ -9,6 +9,6 @@ unfolding due_effect
 returns-clause-does c =
     let d = c.self.inside in
     let moment = c.args.moment in
-    gives_later c.give_text.result moment (due_posted moment) c.args.self.now d.stage c.prepare.new.self c.post_due.new.self c.give_text.new.self d.programs.items d.handlers d.globals d.heap d.body c.args.out.now.items c.give_text.new.out.items
-    c.self.view_is (prepared d.stage c.prepare.new.self c.none.result c.none.ensures c.prepare.ensures.acting) c.in_ok-post_due.ensures.posted (due_posted-stays moment)
+    gives_later c.give_text.result moment (due_posted moment) c.args.self.now d.host.stage c.prepare.new.self c.post_due.new.self c.give_text.new.self d.host.modules d.programs.items d.handlers d.globals d.heap d.body c.args.out.now.items c.give_text.new.out.items
+    c.self.view_is (prepared d.host.stage c.prepare.new.self c.none.result c.none.ensures c.prepare.ensures.acting) c.in_ok-post_due.ensures.posted (due_posted-stays moment)
     c.give_text.ensures.acting c.give_text.ensures.given

@@ -12,4 +12,4 @@ returns-in_default-clause-does c =
     let none : option_and_then (handler_in c.args.self.now.handlers c.args.node.0) (kind_of c.args.event) ≡ None =
     ap (λ (k : KeptDocument). option_and_then (handler_in k.handlers c.args.node.0) (kind_of c.args.event)) (sym c.self.view_is)
     ∙ (sym c.program_of.ensures ∙ c.in_default.is) in
-    does_no_handler c.args.event c.args.node.0 c.args.self.now c.do_nothing.new.self out none (c.do_nothing.ensures out)
+    does_no_handler c.args.event c.args.node.0 c.args.self.now c.do_nothing.new.self out none (c.do_nothing.ensures.does out)

@@ -10,7 +10,7 @@ use Rattle.acting_documents.proofs.documents.ActingDocument.run_places.Goals as 
 pub scripts-init : goal.scripts-init
 scripts-init c =
     let out = c.args.out.now.items in
-    let does = c.do_nothing.ensures out in
+    let does = c.do_nothing.ensures.does out in
     (does, does_grows _ c.args.self.now c.do_nothing.new.self out out does)
 
 pub returns-then-has_launched-clause-does : goal.returns-then-has_launched-clause-does

@@ -7,4 +7,4 @@ pub returns-else-place-len-clause-does : goal.returns-else-place-len-clause-does
 returns-else-place-len-clause-does c =
     let h : length c.self.inside.programs.items ≤ c.args.place = omega arith in
     does_no_program c.args.name.now c.args.event c.args.place c.args.self.now c.do_nothing.new.self c.args.out.now.items
-    (subst (λ (k : KeptDocument). length k.programs ≤ c.args.place) c.self.view_is h) (c.do_nothing.ensures c.args.out.now.items)
+    (subst (λ (k : KeptDocument). length k.programs ≤ c.args.place) c.self.view_is h) (c.do_nothing.ensures.does c.args.out.now.items)

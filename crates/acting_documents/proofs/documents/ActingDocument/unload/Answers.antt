@@ -1,4 +1,3 @@
-use Rattle.std.proofs.Common.{refl}
 use Rattle.std.proofs.lemmas.Result.{on_ok_weaker}
 use Rattle.event_queue.specs.declared.events.Event.TheVariants as events
 use Rattle.acting_documents.specs.Beginnings.{unload_effect, without_waiting}
@@ -15,5 +14,5 @@ returns-clause-does c =
     let before = c.args.out.now.items in
     let after = c.handle.new.out.items in
     on_ok_weaker {Q = Does unload_effect old new before after} c.handle.result
-    (λ does. does_changed without_waiting (handled events.Unload) old c.drop_waiting.new.self new before after (λ s. refl) c.drop_waiting.ensures does)
+    (λ does. does_changed without_waiting (handled events.Unload) old c.drop_waiting.new.self new before after c.drop_waiting.ensures does)
     c.handle.ensures.does

@@ -1,4 +1,4 @@
-use Rattle.std.proofs.Common.{◌∙◌, ℕ, true, false, List, length, ap, sym, subst, inr}
+use Rattle.std.proofs.Common.{◌∙◌, ℕ, List, length, ap, sym, subst, inr}
 use Rattle.std.proofs.lemmas.List.{length-replicate}
 use Rattle.std.proofs.lemmas.Bool.{eqb-true, eqb-false}
 use Rattle.carousel_blocks.specs.Changes.{number_bound}

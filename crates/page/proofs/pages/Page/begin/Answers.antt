@@ -9,7 +9,7 @@ use Rattle.page.proofs.pages.Page.begin.Goals as goal
 pub returns-clause-begins : goal.returns-clause-begins
 returns-clause-begins c =
     let browser = c.begin-begun.new.browser in
-    subst (λ (page : PageState). Begins c.args.document page c.go_on.new.self c.args.out.now.items c.begin-begun.new.out.items) c.self.view_is (record {
+    subst (λ (page : PageState). Begins c.args.modules.now c.begin-begun.new.modules c.args.document page c.go_on.new.self c.args.out.now.items c.begin-begun.new.out.items) c.self.view_is (record {
       launched = c.in_ok-launched.launched;
       document = c.begin-begun.new.document;
       browser = browser;

@@ -9,7 +9,7 @@ returns-clause-shown c =
     elim c.match-self.branch [
       | in-Some w ↦
           displayed_with c.args.self.now (the_view c.self.inside) (the_view c.match-self.self-inside) w.in-Some.document w.show.new.self c.args.out.now.items c.push_clock_line.new.out.items w.show.new.out.items c.match-self.out.items
-          w.show.result c.match-self.result c.self.view_is w.in-Some.is (ap the_view w.self-inside-is) c.in_ok-push_clock_line.ensures.ok w.show.ensures.shown w.show.ensures.same w.show.ensures.grows (cc) w.result-is
+          w.show.result c.match-self.result c.self.view_is w.in-Some.is (ap the_view w.self-inside-is) c.in_ok-push_clock_line.ensures.ok w.show.ensures.shown w.show.ensures.kept w.show.ensures.grows (cc) w.result-is
       | in-None w ↦
           displayed_without c.args.self.now (the_view c.self.inside) (the_view c.match-self.self-inside) c.args.out.now.items c.match-self.out.items c.match-self.result
           c.self.view_is w.in-None.is (ap the_view w.self-inside-is) (cc c.in_ok-push_clock_line.ensures.ok)

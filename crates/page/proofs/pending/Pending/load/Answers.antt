@@ -1,5 +1,5 @@
 use Rattle.std.proofs.Common.{◌≡◌, refl, sym, subst, true}
-use Rattle.module_store.specs.Standing.{ForStored}
+use Rattle.module_locks.specs.Standing.{ForModules}
 use Rattle.page.specs.Loading.{are_settled}
 use Rattle.page.specs.Pendings.{WaitsAt}
 use Rattle.page.specs.PendingStates.{PendingState}
@@ -9,11 +9,11 @@ use Rattle.page.proofs.pending.Pending.load.Goals as goal
 pub returns-in-Some-clause-loads : goal.returns-in-Some-clause-loads
 returns-in-Some-clause-loads c =
     let pending : PendingState = record { is_start = c.self.inside.is_start; path = c.self.inside.path; draft = c.self.inside.draft; place = c.self.inside.place } in
-    rw (← c.self.view_is) (goes_on c.args.store.now pending c.in-Some.place c.args.out.now.items
-    (subst (λ (p : PendingState). WaitsAt c.args.store.now p.draft.needs c.in-Some.place) (sym c.self.view_is) c.in-Some.ensures.waits))
+    rw (← c.self.view_is) (goes_on c.args.modules.now pending c.in-Some.place c.args.out.now.items
+    (subst (λ (p : PendingState). WaitsAt c.args.modules.now p.draft.needs c.in-Some.place) (sym c.self.view_is) c.in-Some.ensures.waits))
 
 pub returns-in_ok-acting-in-None-clause-loads : goal.returns-in_ok-acting-in-None-clause-loads
 returns-in_ok-acting-in-None-clause-loads c =
     let settled =
-    subst (λ (p : PendingState). ForStored c.args.store.now (λ stored. are_settled stored p.draft.needs ≡ true)) (sym c.self.view_is) (c.in-None.ensures.settled refl) in
+    subst (λ (p : PendingState). ForModules c.args.modules.now (λ modules. are_settled modules p.draft.needs ≡ true)) (sym c.self.view_is) (c.in-None.ensures.settled refl) in
     rw (← c.self.view_is) (c.in_ok-acting-in-None.ensures.loads c.self.inside.is_start c.self.inside.place settled)

@@ -8,7 +8,7 @@ pub returns-clause-makes : goal.returns-clause-makes
 unfolding due_turn
 returns-clause-makes c =
     let inside = c.self.inside in
-    let old : BroadcastState = record { services = inside.services; store = inside.store; page = inside.page } in
+    let old : BroadcastState = record { services = inside.services; modules = inside.modules; page = inside.page } in
     let step = due_step c.args.moment in
     let before = c.args.out.now.items in
     let between = c.post_due.new.out.items in

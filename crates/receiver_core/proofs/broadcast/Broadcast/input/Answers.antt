@@ -24,7 +24,7 @@ returns-in-Release-clause-makes c =
 pub returns-in-Random-clause-makes : goal.returns-in-Random-clause-makes
 returns-in-Random-clause-makes c =
     let inside = c.self.inside in
-    let old : BroadcastState = record { services = inside.services; store = inside.store; page = inside.page } in
+    let old : BroadcastState = record { services = inside.services; modules = inside.modules; page = inside.page } in
     let before = c.args.out.now.items in
     rw c.in-Random.is
     (rw (← c.self.view_is)
@@ -37,7 +37,7 @@ returns-in-Random-clause-makes c =
 pub returns-in-Show-clause-makes : goal.returns-in-Show-clause-makes
 returns-in-Show-clause-makes c =
     let inside = c.self-in-Show.inside in
-    let old : BroadcastState = record { services = inside.services; store = inside.store; page = inside.page } in
+    let old : BroadcastState = record { services = inside.services; modules = inside.modules; page = inside.page } in
     let before = c.args.out.now.items in
     let after = c.show.new.out.items in
     rw c.in-Show.is

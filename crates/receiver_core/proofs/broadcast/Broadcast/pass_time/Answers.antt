@@ -8,7 +8,7 @@ use Rattle.receiver_core.proofs.broadcast.Broadcast.pass_time.Goals as goal
 pub returns-clause-makes : goal.returns-clause-makes
 returns-clause-makes c =
     let inside = c.self-2.inside in
-    let mid : BroadcastState = record { services = inside.services; store = inside.store; page = inside.page } in
+    let mid : BroadcastState = record { services = inside.services; modules = inside.modules; page = inside.page } in
     let page = c.pass_time.new.self in
     let before = c.args.out.now.items in
     let after = c.due_turns.new.out.items in

@@ -1,0 +1,10 @@
+use Rattle.std.proofs.Common.{◌≡◌}
+use Rattle.document_stages.specs.Acting.{module_post}
+use Rattle.document_stages.proofs.ItemLemmas.{HaveBeenTold}
+use Rattle.document_stages.proofs.stages.Stage.tell_all_updated.Given as goal
+
+abbrev pub invariant-items : goal.invariant-items
+invariant-items l = record {
+  told : HaveBeenTold (module_post l.component l.«module» l.status) l.place l.fn.self.acting l.self.acting;
+  worked : l.self.worked ≡ l.fn.self.worked;
+}

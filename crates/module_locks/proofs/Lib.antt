@@ -1,0 +1,5 @@
+pub mod ListLaws
+pub mod HeldLaws
+pub mod KeptLaws
+pub mod StandingLaws
+pub mod CopyLaws

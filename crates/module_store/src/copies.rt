@@ -1,0 +1,71 @@
+//! A copy of a module that was held.
+
+ghost use Rattle.std.specs.Prelude.{◌≡◌, ◌≤◌, IfOk, length};
+ghost use Rattle.carousel_blocks.specs.InForce.{size_limit};
+ghost use Rattle.module_store.specs.Resources.{HasAtMost, found_or_missing, named_as, resource_of};
+
+use crate::entities::{named, parts_of};
+use crate::resources::Look;
+use bml_bytes::{NoMemory, Text};
+use multipart_entities::Parts;
+use std::alloc::Global;
+use std::marker::Model;
+
+/// The bytes of a module that was held, and whether they are an entity by the Type that it had then. Contracts see both.
+#[derive(Drop)]
+pub struct ModuleCopy {
+    is_entity: bool,
+    bytes: Vec<u8>,
+    /// The parts of an entity.
+    parts: Option<Parts>,
+}
+
+impl Model for ModuleCopy {
+    ghost use Rattle.std.specs.Prelude.{◌≡◌, true};
+    ghost use Rattle.module_store.specs.Copies.{IsCopy, KeptModule};
+
+    ghost Value = { KeptModule };
+
+    ghost view = { λ c. record { is_entity = c.is_entity; bytes = c.bytes.items } };
+
+    ghost invariant = { λ c. IsCopy c.is_entity c.bytes.items c.parts };
+}
+
+impl ModuleCopy {
+    /// Copies the bytes of a module, at most 1,048,576, and finds the parts of an entity.
+    pub fn new(alloc: Global, is_entity: bool, bytes: &[u8]) -> Result<ModuleCopy, NoMemory>
+        requires { length bytes.now ≤ size_limit }
+        ensures { IfOk result
+            (λ made. made ≡ record { is_entity = is_entity; bytes = bytes.now }) }
+    {
+        let parts = if is_entity {
+            parts_of(alloc, bytes)?
+        } else {
+            None
+        };
+        let mut copied = Vec::new(alloc);
+        copied.extend_from_slice(bytes)?;
+        Ok(ModuleCopy {
+            is_entity,
+            bytes: copied,
+            parts,
+        })
+    }
+
+    /// Whether the module held an entity.
+    pub fn is_entity(&self) -> bool
+        ensures { result ≡ self.now.is_entity }
+    {
+        self.is_entity
+    }
+
+    /// What is there under a name of it. This takes no memory.
+    pub fn resource(&self, name: &Text) -> Look<'_>
+        ensures look { resource_of result
+            ≡ found_or_missing (named_as self.now.is_entity self.now.bytes name.now) }
+        ensures bound { HasAtMost size_limit (resource_of result) }
+    {
+        let bytes = self.bytes.as_slice();
+        Look::found_or_missing(named(self.parts.as_ref(), self.is_entity, bytes, name))
+    }
+}
