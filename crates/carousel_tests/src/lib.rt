@@ -1,6 +1,6 @@
 //! Tests of the libraries that bring modules: bytes and texts, ports in memory, packets, sections,
-//! tables, messages, carousels and entities, and of those that write and draw them. It has no code
-//! of its own.
+//! tables, messages, carousels, entities and locks on modules, and of those that write and draw them.
+//! It has no code of its own.
 //!
 //! What they answer is stated exactly by their contracts, so a test has values from outside, as bytes
 //! written out by hand, and calls with memory to spare. What whole runs show has no test here: the
@@ -17,6 +17,8 @@ mod carousels;
 mod entities;
 #[cfg(test)]
 mod generated;
+#[cfg(test)]
+mod locks;
 #[cfg(test)]
 mod messages;
 #[cfg(test)]
