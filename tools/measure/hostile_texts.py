@@ -409,7 +409,7 @@ BLANKS = [b" ", b"\n", b"\t", b"\r", b"/* a */", b"/*\n*/", b"// a\n", b"/*", b"
 NAMES_OF_HOSTS = "document browser currentEvent currentFocus getElementById parentNode firstChild lastChild previousSibling nextSibling data length"
 NAMES_OF_HOSTS += " tagName id className accessKey normalStyle focusStyle activeStyle focus blur value type target keyCode epgTune writePersistentArray"
 NAMES_OF_HOSTS += " subscribe status moduleRef esRef messageGroupId messageId messageVersion privateData"
-NAMES_OF_HOSTS += " browser Ureg Greg setInterval clearTimer launchDocument random playRomSound lockModuleOnMemory"
+NAMES_OF_HOSTS += " browser Ureg Greg setInterval clearTimer launchDocument random playRomSound lockModuleOnMemory unlockModuleOnMemory"
 BUILT_IN = "Object Array String Number Boolean isNaN parseInt fromCharCode charAt charCodeAt indexOf lastIndexOf substring split toString valueOf"
 BUILT_IN += " join reverse sort NaN MAX_VALUE MIN_VALUE prototype constructor"
 OWN_NAMES = "a b c d e f g i m n o s x"
@@ -425,7 +425,7 @@ METHODS = {
     b"o": [b"f"],
     b"n": [b"focus", b"blur"],
     b"d": [b"getElementById"],
-    b"browser": [b"setInterval", b"clearTimer", b"launchDocument", b"random", b"playRomSound"],
+    b"browser": [b"setInterval", b"clearTimer", b"launchDocument", b"random", b"playRomSound", b"lockModuleOnMemory", b"unlockModuleOnMemory"],
     b"i": [b"toString", b"valueOf"],
     b"String": [b"fromCharCode"],
 }

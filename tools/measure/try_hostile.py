@@ -68,7 +68,7 @@ ITEMS = {
 WHOLE, PLUS = rb"-?(?:0|[1-9][0-9]*)", rb"(?:0|[1-9][0-9]*)"
 BYTES, WORD = rb"(?:[^\x00-\x1f%\x7f]|%(?:[01][0-9A-F]|25|7F))*", rb"(?:[^\x00-\x20%\x7f]|%(?:[01][0-9A-F]|20|25|7F))+"
 MODULE, PATH, PLACE = rb"[0-9a-f]{2} [0-9a-f]{4}", rb"/[0-9a-f]{2}/[0-9a-f]{4}(?:/%b)?" % WORD, rb"%b %b %b %b" % (WHOLE, WHOLE, PLUS, PLUS)
-ITEM_EVENTS = rb"EventMessageFired|ModuleUpdated|DataButtonPressed"
+ITEM_EVENTS = rb"EventMessageFired|ModuleUpdated|ModuleLocked|DataButtonPressed"
 FORMS = {
     b"module": rb"%b [0-9a-f]{2} %b" % (MODULE, PLUS),
     b"skip": rb"%b (?:compressed|large)" % MODULE,
