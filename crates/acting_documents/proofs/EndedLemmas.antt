@@ -30,7 +30,7 @@ use Rattle.event_queue.specs.Timers.{first_due, most_timers, with_fired}
 use Rattle.event_queue.specs.declared.events.Event.{Event}
 use Rattle.event_queue.specs.declared.events.Event.TheVariants as events
 use Rattle.event_queue.specs.declared.item_kinds.ItemKind.TheVariants as kinds
-use Rattle.browser_objects.specs.Calls.{Called, call_of, number}
+use Rattle.browser_objects.specs.Calls.{CallOutcome, call_of, number}
 use Rattle.browser_objects.specs.declared.effects.Effect as of_browser
 use Rattle.browser_objects.specs.declared.effects.Effect.TheVariants as effects
 use Rattle.dom_objects.specs.Writes.{change_of}
@@ -229,14 +229,15 @@ done_for-stays (effects.Lock path) value h heap = lock_answered-stays (lock_answ
 done_for-stays (effects.Unlock path) value h heap =
     chosen (is_some (lock_on h.modules.locks path.component path.«module»)) (gives (number 1) h.acting heap) (refused h.acting heap) (stays_of h.acting) refl refl
 
-browser_done-stays : (c : Called) (h : Hosted) (heap : List ObjectState) → stays_of (browser_done c h heap).hosted.acting ≡ stays_of h.acting
-browser_done-stays c h heap = done_for-stays c.effect c.value (record h { acting = with_browser c.state h.acting }) heap
+browser_done-stays : (outcome : CallOutcome) (h : Hosted) → stays_of (browser_done outcome h).hosted.acting ≡ stays_of h.acting
+browser_done-stays outcome h =
+    done_for-stays outcome.called.effect outcome.called.value (record h { acting = with_browser outcome.called.state h.acting }) outcome.heap
 
 called-stays : (h : Hosted) (base : HostRef) (name : List ℕ) (arguments : List Value) (heap : List ObjectState) → stays_of (called h base name arguments heap).hosted.acting ≡ stays_of h.acting
 unfolding called
 called-stays h host.Document name arguments heap = chosen (is_same name (codes "getElementById")) _ _ (stays_of h.acting) refl refl
 called-stays h (host.Node node) name arguments heap = chosen (is_some (tag_of h.acting.tree.items node)) _ _ (stays_of h.acting) (element_call-stays h.acting node name heap) refl
-called-stays h host.Browser name arguments heap = browser_done-stays (call_of name h.acting.path h.acting.now arguments heap h.acting.browser) h heap
+called-stays h host.Browser name arguments heap = browser_done-stays (call_of name h.acting.path h.acting.now arguments heap h.acting.browser) h
 called-stays h _ name arguments heap = refl
 
 -- ---- by runs

@@ -7,14 +7,20 @@ ghost use Rattle.bml_ports_std.specs.Files.{told_by_area_file};
 use crate::faults::Faults;
 use bml_ports::{AreaBytes, Failed, Keeper};
 use std::fs::{self, File};
-use std::io::{self, ErrorKind, Read};
+use std::io::{self, ErrorKind, Read, Write};
 use std::marker::Model;
 
 /// The file of the kept area, in the current folder.
 const NAME: &str = "nvram.bin";
 
+/// The name under which a new area is written, before it becomes the kept one.
+const NEW_NAME: &str = "nvram.bin.new";
+
 /// Keeps the area in the file `nvram.bin` of the current folder. A missing file is loaded as an area of
-/// length 0, and a store writes the whole file.
+/// length 0. A store writes the whole area to `nvram.bin.new`, has the system put it on the disk, and
+/// then gives it the other name. So a stop in the middle leaves the old area or the new one, where
+/// renaming a file is one step, as POSIX asks of a system that goes on. What a disk keeps of the
+/// renaming when the power fails is the file system's to say.
 #[derive(Drop)]
 pub struct AreaFile {
     rt: HostRuntime,
@@ -53,7 +59,7 @@ impl Keeper for AreaFile {
 
     fn store(&mut self, from: &AreaBytes) -> Result<(), Failed> {
         self.calls = self.calls.saturating_add(1);
-        self.faults.count(fs::write(&self.rt, NAME, from.bytes()))
+        self.faults.count(store_area(&self.rt, from.bytes()))
     }
 }
 
@@ -71,4 +77,13 @@ fn load_area(rt: &HostRuntime, area: &mut [u8]) -> io::Result<u64> {
         .min(usize::try_from(length).unwrap_or(area.len()));
     file.read_exact(&mut area[..fits])?;
     Ok(length)
+}
+
+// Writes the area under another name, and puts it in the place of the kept one.
+fn store_area(rt: &HostRuntime, area: &[u8]) -> io::Result<()> {
+    let mut file = File::create(rt, NEW_NAME)?;
+    file.write_all(area)?;
+    file.sync_all()?;
+    drop(file);
+    fs::rename(rt, NEW_NAME, NAME)
 }

@@ -9,23 +9,31 @@ use std::env;
 use std::io::ErrorKind;
 
 /// What is printed behind the status line of a faulty command line.
-pub const SYNOPSIS: &str = "bml_replay replay [--service N | --data-pid N] STREAM RECORD\n";
+pub const SYNOPSIS: &str = "\
+bml_replay replay [--service N | --data-pid N] STREAM RECORD
+bml_replay gen SEED COUNT
+";
 
 /// What `--help` prints.
 pub const HELP: &str = "\
 bml_replay replays a recorded MPEG-2 transport stream as a receiver of data broadcasting would see it.
 
 bml_replay replay [--service N | --data-pid N] STREAM RECORD
+bml_replay gen SEED COUNT
 
     --service N   receives the service with that program_number, 1 to 65535, in place of the first one
     --data-pid N  receives the data carousel on that PID, 16 to 8190, without any table
     STREAM        the recorded stream
     RECORD        what the receiver is to do, an item on each line: all, packets N (take them), key C, release C,
                   tick M (milliseconds), random W, show
+    SEED, COUNT   what a stream is generated from, 0 to 4294967295, and how many modules it has beside its page, 1 to 100
 
-It prints a line for each module that comes, goes or is skipped, one for the start document, one for each script that is
-bad or stopped and for each event that is lost, and the display lists that the record asks for, and at the end the number
-of packets taken.
+replay prints a line for each module that comes, goes or is skipped, one for the start document, one for each script that
+is bad or stopped, for each event that is lost and for each persistent array that is written, and the display lists that
+the record asks for, and at the end the number of packets taken. What pages write to persistent arrays is kept in the file
+nvram.bin of the current folder, where the next run finds it.
+gen generates a stream, replays it in memory, and prints its packets, the bytes of its modules and the lines of the
+replay. It uses no file.
 The status is 0 where all was done. Otherwise standard error says what was not.
 ";
 

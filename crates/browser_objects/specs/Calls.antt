@@ -1,7 +1,7 @@
 -- What scripts call on the browser object (after ARIB STD-B24 volume 2, in this project's own profile): for each
--- call its value, what the page has to do beside, and what becomes of timers and random words. The calls on
--- persistent arrays aren't here yet: they are unknown names.
-use Rattle.std.specs.Prelude.{◌≡◌, ℕ, ◌+◌, ◌%◌, nat_le, ◌&&◌, if◌then◌else◌, pos, negsuc, ℤ, List, [], ◌∷◌, find, length, take, drop, Option, Some, None, unwrap_or, is_some, codes, slice_get}
+-- call its value, what the page has to do beside, and what becomes of timers, random words, the persistent area and the
+-- objects of scripts.
+use Rattle.std.specs.Prelude.{◌≡◌, ℕ, ◌+◌, ◌%◌, nat_le, ◌&&◌, if◌then◌else◌, pos, negsuc, ℤ, List, [], ◌∷◌, find, length, take, drop, Option, Some, None, unwrap_or, is_some, codes, option_and_then, slice_get}
 use Rattle.std.specs.Option.{option_map_or}
 use Rattle.bml_bytes.specs.Numerals.{decimal_field}
 use Rattle.bml_bytes.specs.Words.{is_same}
@@ -10,14 +10,22 @@ use Rattle.multipart_entities.specs.Paths.{path_of_text}
 use Rattle.es_values.specs.declared.numbers.Num.{Num}
 use Rattle.es_values.specs.declared.numbers.Num.TheVariants.{NotANumber, Whole}
 use Rattle.es_values.specs.declared.values.Value.{Value}
-use Rattle.es_values.specs.declared.values.Value.TheVariants.{Number, Undefined}
+use Rattle.es_values.specs.declared.values.Value.TheVariants.{Null, Number, Object, Undefined}
 use Rattle.es_values.specs.Conversions.{number_of, text_of}
 use Rattle.es_values.specs.Objects.{ObjectState}
+use Rattle.persistent_arrays.specs.declared.fields.Field.{Field}
+use Rattle.persistent_arrays.specs.declared.kinds.FieldKind.{FieldKind}
+use Rattle.persistent_arrays.specs.Arrays.{array_in, with_array}
+use Rattle.persistent_arrays.specs.Names.{array_named}
+use Rattle.persistent_arrays.specs.Packing.{packed_in_array}
+use Rattle.persistent_arrays.specs.Reading.{unpacked}
+use Rattle.persistent_arrays.specs.Structures.{structure_spelled}
 use Rattle.event_queue.specs.Timers.{TimersState, has_place, timer_of, timer_set, with_timer, without_timer}
 use Rattle.browser_objects.specs.declared.calls.BrowserCall.{BrowserCall}
 use Rattle.browser_objects.specs.declared.calls.BrowserCall.TheVariants as the
 use Rattle.browser_objects.specs.declared.effects.Effect.{Effect}
-use Rattle.browser_objects.specs.declared.effects.Effect.TheVariants.{Nothing, Sound, Launch, Lock, Unlock}
+use Rattle.browser_objects.specs.declared.effects.Effect.TheVariants.{Nothing, Kept, Sound, Launch, Lock, Unlock}
+use Rattle.browser_objects.specs.ArrayCalls.{fields_of, values_of_array, with_array_of}
 use Rattle.browser_objects.specs.Functions.{named_function}
 
 -- what calls act on
@@ -36,6 +44,11 @@ pub record Called : Type 0 where
   pub effect : Effect
   pub state : BrowserParts
 
+-- a call with the objects that it leaves
+pub record CallOutcome : Type 0 where
+  pub called : Called
+  pub heap : List ObjectState
+
 -- a call answered so, and left this
 pub record Answers (called : Called) (answer : Value × Effect) (left : BrowserParts) : Type 0 where
   pub value : answer.0 ≡ called.value
@@ -51,12 +64,15 @@ name_of_call the.LaunchDocument = codes "launchDocument"
 name_of_call the.LockModuleOnMemory = codes "lockModuleOnMemory"
 name_of_call the.UnlockModuleOnMemory = codes "unlockModuleOnMemory"
 name_of_call the.Random = codes "random"
+name_of_call the.ReadPersistentArray = codes "readPersistentArray"
+name_of_call the.WritePersistentArray = codes "writePersistentArray"
 name_of_call the.PlayRomSound = codes "playRomSound"
 
 abbrev pub all_calls : List BrowserCall
 all_calls =
     the.SetInterval ∷ the.ClearTimer ∷ the.LaunchDocument ∷ the.LockModuleOnMemory
-    ∷ the.UnlockModuleOnMemory ∷ the.Random ∷ the.PlayRomSound ∷ []
+    ∷ the.UnlockModuleOnMemory ∷ the.ReadPersistentArray ∷ the.WritePersistentArray ∷ the.Random
+    ∷ the.PlayRomSound ∷ []
 
 abbrev pub call_named : List ℕ → Option BrowserCall
 call_named name = find (λ call. is_same name (name_of_call call)) all_calls
@@ -73,7 +89,7 @@ gives value s = record { value = value; effect = Nothing; state = s }
 abbrev pub refused : BrowserParts → Called
 refused s = gives (Number NotANumber) s
 
--- the page does this, and what it comes to is the value
+-- The page does this, and the value is what it comes to: that which stands here is never given.
 abbrev pub hands_on : Effect → BrowserParts → Called
 hands_on effect s = record { value = Undefined; effect = effect; state = s }
 
@@ -118,7 +134,9 @@ abbrev pub with_interval : ℕ → List ℕ → ℕ → ℕ → BrowserParts →
 with_interval now function interval turns s =
     if has_place s.timers
     then gives (number s.timers.next)
-    (record s { timers = with_timer (timer_set s.timers.next function interval turns now) s.timers })
+    (record s {
+      timers = with_timer (timer_set s.timers.next function interval turns now) s.timers;
+    })
     else refused s
 
 -- a timer of these arguments, if each is of its form
@@ -131,8 +149,8 @@ timer_called now (Some function) (Some interval) None s = refused s
 
 abbrev pub set_interval : ℕ → List Value → List ObjectState → BrowserParts → Called
 set_interval now arguments heap s =
-    timer_called now (named_function (text_argument heap arguments 0)) (whole_argument heap arguments 1)
-    (count_argument heap arguments 2) s
+    timer_called now (named_function (text_argument heap arguments 0))
+    (whole_argument heap arguments 1) (count_argument heap arguments 2) s
 
 -- the timer of this number ends
 abbrev pub cleared : ℕ → BrowserParts → Called
@@ -192,18 +210,76 @@ play_sound arguments heap s =
     option_map_or (λ sound. record { value = number 1; effect = Sound sound; state = s })
     (sound_of (text_argument heap arguments 0)) (refused s)
 
+-- ---- persistent arrays
+
+-- a call that makes no object
+abbrev pub over : List ObjectState → Called → CallOutcome
+over heap called = record { called = called; heap = heap }
+
+-- What is done with the array and the fields that the first two arguments name. Where one of them names none, the
+-- form is wrong.
+abbrev pub with_named : (ℕ → List FieldKind → CallOutcome) → Option ℕ → Option (List FieldKind)
+    → CallOutcome → CallOutcome
+with_named call (Some slot) (Some kinds) wrong = call slot kinds
+with_named call None kinds wrong = wrong
+with_named call (Some slot) None wrong = wrong
+
+abbrev pub with_names : (ℕ → List FieldKind → CallOutcome) → List Value → List ObjectState
+    → BrowserParts → CallOutcome
+with_names call arguments heap s =
+    with_named call (array_named (text_argument heap arguments 0))
+    (structure_spelled (text_argument heap arguments 1)) (over heap (refused s))
+
+-- a new array of what was read, and Null where a field passes the end of the persistent array
+abbrev pub array_read : Option (List Field) → List ObjectState → BrowserParts → CallOutcome
+array_read None heap s = over heap (gives Null s)
+array_read (Some values) heap s =
+    record { called = gives (Object (length heap)) s; heap = with_array_of heap values }
+
+abbrev pub read_array : List Value → List ObjectState → BrowserParts → CallOutcome
+read_array arguments heap s =
+    with_names (λ slot kinds. array_read (unpacked kinds (array_in s.area slot)) heap s) arguments
+    heap s
+
+-- The number of the bytes that are written, which the page tells; where none can be, the form is wrong.
+abbrev pub array_written : ℕ → Option (List ℕ) → BrowserParts → Called
+array_written slot None s = refused s
+array_written slot (Some bytes) s = record {
+  value = number (length bytes);
+  effect = Kept slot (length bytes);
+  state = record s { area = with_array s.area slot bytes };
+}
+
+-- the values of an array as those of fields, and their bytes
+abbrev pub packed_values : List ObjectState → List FieldKind → Option (List Value) → Option (List ℕ)
+packed_values heap kinds values =
+    option_and_then (packed_in_array kinds) (option_and_then (fields_of heap kinds) values)
+
+abbrev pub write_array : List Value → List ObjectState → BrowserParts → CallOutcome
+write_array arguments heap s =
+    with_names (λ slot kinds. over heap (array_written slot
+    (packed_values heap kinds (values_of_array heap (argument arguments 2))) s)) arguments heap s
+
 -- ---- the table
 
-abbrev pub called_of : BrowserCall → Path → ℕ → List Value → List ObjectState → BrowserParts → Called
-called_of the.SetInterval base now arguments heap s = set_interval now arguments heap s
-called_of the.ClearTimer base now arguments heap s = clear_timer arguments heap s
-called_of the.LaunchDocument base now arguments heap s = with_path Launch (path_argument base arguments heap) s
-called_of the.LockModuleOnMemory base now arguments heap s = with_path Lock (path_argument base arguments heap) s
-called_of the.UnlockModuleOnMemory base now arguments heap s = with_path Unlock (path_argument base arguments heap) s
-called_of the.Random base now arguments heap s = random_called arguments heap s
-called_of the.PlayRomSound base now arguments heap s = play_sound arguments heap s
+abbrev pub called_of : BrowserCall → Path → ℕ → List Value → List ObjectState → BrowserParts
+    → CallOutcome
+called_of the.SetInterval base now arguments heap s = over heap (set_interval now arguments heap s)
+called_of the.ClearTimer base now arguments heap s = over heap (clear_timer arguments heap s)
+called_of the.LaunchDocument base now arguments heap s =
+    over heap (with_path Launch (path_argument base arguments heap) s)
+called_of the.LockModuleOnMemory base now arguments heap s =
+    over heap (with_path Lock (path_argument base arguments heap) s)
+called_of the.UnlockModuleOnMemory base now arguments heap s =
+    over heap (with_path Unlock (path_argument base arguments heap) s)
+called_of the.ReadPersistentArray base now arguments heap s = read_array arguments heap s
+called_of the.WritePersistentArray base now arguments heap s = write_array arguments heap s
+called_of the.Random base now arguments heap s = over heap (random_called arguments heap s)
+called_of the.PlayRomSound base now arguments heap s = over heap (play_sound arguments heap s)
 
 -- the call of this name, which has to be one of these
-abbrev pub call_of : List ℕ → Path → ℕ → List Value → List ObjectState → BrowserParts → Called
+abbrev pub call_of : List ℕ → Path → ℕ → List Value → List ObjectState → BrowserParts
+    → CallOutcome
 call_of name base now arguments heap s =
-    option_map_or (λ call. called_of call base now arguments heap s) (call_named name) (refused s)
+    option_map_or (λ call. called_of call base now arguments heap s) (call_named name)
+    (over heap (refused s))

@@ -25,7 +25,8 @@ name_in text = if is_name text then Some text else None
 -- what stands before an ending, where the text ends so
 abbrev pub before_ending : List ℕ → List ℕ → Option (List ℕ)
 before_ending ending text =
-    if nat_le (length ending) (length text) && is_same (drop (length text - length ending) text) ending
+    if nat_le (length ending) (length text)
+    && is_same (drop (length text - length ending) text) ending
     then Some (take (length text - length ending) text) else None
 
 -- the name that stands before an ending
@@ -36,7 +37,8 @@ name_before ending text = option_and_then name_in (before_ending ending text)
 -- call as a statement. `law_of_function_texts` says so.
 abbrev pub named_function : List ℕ → Option (List ℕ)
 named_function text =
-    option_or (name_in text) (option_or (name_before (codes "()") text) (name_before (codes "();") text))
+    option_or (name_in text)
+    (option_or (name_before (codes "()") text) (name_before (codes "();") text))
 
 -- the three forms of the text that calls a function of a name
 pub record Calls (name text : List ℕ) : Type 0 where

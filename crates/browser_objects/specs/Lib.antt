@@ -1,3 +1,4 @@
 pub mod Registers
 pub mod Functions
+pub mod ArrayCalls
 pub mod Calls

@@ -28,4 +28,5 @@ register_text registers name = option_and_then (slice_get registers) (register_o
 -- a write keeps the first codes of the text; where the name is of no register it does nothing
 abbrev pub with_register : List ℕ → List ℕ → List (List ℕ) → List (List ℕ)
 with_register name text registers =
-    option_map_or (λ number. slice_set registers number (take most_codes text)) (register_of name) registers
+    option_map_or (λ number. slice_set registers number (take most_codes text)) (register_of name)
+    registers

@@ -1,9 +1,10 @@
 //! The calls of the browser object.
 
-ghost use Rattle.std.specs.Prelude.{◌≡◌, ◌<◌, ◌^◌, All, IfOk, OnErr};
+ghost use Rattle.std.specs.Prelude.{◌≡◌, ◌<◌, ◌^◌, All, IfOk, OnErr, OnOk};
 ghost use Rattle.es_values.specs.Heaps.{IsLive};
 ghost use Rattle.browser_objects.specs.Calls.{Answers, all_calls, call_named, call_of, called_of, name_of_call};
 
+use crate::array_calls::{read_persistent_array, write_persistent_array};
 use crate::effects::{Effect, refusal};
 use crate::page_calls::{launch_document, lock_module, unlock_module};
 use crate::random_calls::random;
@@ -23,13 +24,15 @@ pub enum BrowserCall {
     LaunchDocument,
     LockModuleOnMemory,
     UnlockModuleOnMemory,
+    ReadPersistentArray,
+    WritePersistentArray,
     Random,
     PlayRomSound,
 }
 
 impl BrowserCall {
     /// All of them.
-    pub fn all() -> [BrowserCall; 7]
+    pub fn all() -> [BrowserCall; 9]
         ensures { result ≡ all_calls }
     {
         [
@@ -38,6 +41,8 @@ impl BrowserCall {
             BrowserCall::LaunchDocument,
             BrowserCall::LockModuleOnMemory,
             BrowserCall::UnlockModuleOnMemory,
+            BrowserCall::ReadPersistentArray,
+            BrowserCall::WritePersistentArray,
             BrowserCall::Random,
             BrowserCall::PlayRomSound,
         ]
@@ -53,6 +58,8 @@ impl BrowserCall {
             BrowserCall::LaunchDocument => "launchDocument",
             BrowserCall::LockModuleOnMemory => "lockModuleOnMemory",
             BrowserCall::UnlockModuleOnMemory => "unlockModuleOnMemory",
+            BrowserCall::ReadPersistentArray => "readPersistentArray",
+            BrowserCall::WritePersistentArray => "writePersistentArray",
             BrowserCall::Random => "random",
             BrowserCall::PlayRomSound => "playRomSound",
         }
@@ -71,7 +78,7 @@ impl BrowserCall {
 
 /// Calls the browser object by a name. Paths are seen from the base, which is that of the document. An
 /// unknown name and arguments of a wrong form give NaN and change nothing. After `NoMemory` the state
-/// is as it was.
+/// and the objects are as they were.
 pub fn call_browser(
     alloc: Global,
     state: &mut BrowserState,
@@ -79,13 +86,15 @@ pub fn call_browser(
     now: u64,
     name: &Text,
     args: &[Value],
-    heap: &Heap,
+    heap: &mut Heap,
 ) -> Result<(Value, Effect), NoMemory>
-    requires args { All (IsLive heap.now) args.now }
+    requires args { All (IsLive heap.old) args.now }
     requires now { now < 2 ^ 62 }
     ensures answers { IfOk result (λ answer. Answers
-        (call_of name.now base.now now args.now heap.now state.old) answer state.new) }
-    ensures err { OnErr result (state.new ≡ state.old) }
+        (call_of name.now base.now now args.now heap.old state.old).called answer state.new) }
+    ensures objects { OnOk result (heap.new
+        ≡ (call_of name.now base.now now args.now heap.old state.old).heap) }
+    ensures err { OnErr result ((state.new ≡ state.old) × (heap.new ≡ heap.old)) }
 {
     match BrowserCall::of_name(name) {
         Some(call) => called(alloc, call, state, base, now, args, heap),
@@ -100,21 +109,25 @@ fn called(
     base: &Path,
     now: u64,
     args: &[Value],
-    heap: &Heap,
+    heap: &mut Heap,
 ) -> Result<(Value, Effect), NoMemory>
-    requires args { All (IsLive heap.now) args.now }
+    requires args { All (IsLive heap.old) args.now }
     requires now { now < 2 ^ 62 }
     ensures answers { IfOk result (λ answer. Answers
-        (called_of call base.now now args.now heap.now state.old) answer state.new) }
-    ensures err { OnErr result (state.new ≡ state.old) }
+        (called_of call base.now now args.now heap.old state.old).called answer state.new) }
+    ensures objects { OnOk result (heap.new
+        ≡ (called_of call base.now now args.now heap.old state.old).heap) }
+    ensures err { OnErr result ((state.new ≡ state.old) × (heap.new ≡ heap.old)) }
 {
     match call {
-        BrowserCall::SetInterval => set_interval(alloc, state, now, args, heap),
-        BrowserCall::ClearTimer => clear_timer(state, args, heap),
-        BrowserCall::LaunchDocument => launch_document(alloc, base, args, heap),
-        BrowserCall::LockModuleOnMemory => lock_module(alloc, base, args, heap),
-        BrowserCall::UnlockModuleOnMemory => unlock_module(alloc, base, args, heap),
-        BrowserCall::Random => random(state, args, heap),
-        BrowserCall::PlayRomSound => play_sound(args, heap),
+        BrowserCall::SetInterval => set_interval(alloc, state, now, args, &*heap),
+        BrowserCall::ClearTimer => clear_timer(state, args, &*heap),
+        BrowserCall::LaunchDocument => launch_document(alloc, base, args, &*heap),
+        BrowserCall::LockModuleOnMemory => lock_module(alloc, base, args, &*heap),
+        BrowserCall::UnlockModuleOnMemory => unlock_module(alloc, base, args, &*heap),
+        BrowserCall::ReadPersistentArray => read_persistent_array(alloc, state, args, heap),
+        BrowserCall::WritePersistentArray => write_persistent_array(alloc, state, args, &*heap),
+        BrowserCall::Random => random(state, args, &*heap),
+        BrowserCall::PlayRomSound => play_sound(args, &*heap),
     }
 }

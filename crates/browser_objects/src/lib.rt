@@ -2,13 +2,16 @@
 //! project's own profile).
 //!
 //! `specs/Calls.antt` is the table of the calls: what each gives, what the page has to do beside, and
-//! what it leaves of timers and random words. [`call_browser`] does just that. An [`Effect`] is handed
-//! to the page, which alone knows documents, modules and sounds. `specs/Registers.antt` has the texts
+//! what it leaves of timers, random words, the persistent area and the objects of scripts.
+//! [`call_browser`] does just that. An [`Effect`] is handed to the page, which alone knows documents,
+//! modules and sounds. `specs/Registers.antt` has the texts
 //! of Ureg and Greg, and `specs/Functions.antt` how a text names the function of a timer.
-//! `readPersistentArray` and `writePersistentArray` aren't answered yet: they are unknown names.
+//! `specs/ArrayCalls.antt` says how values of scripts become those of persistent arrays, and back.
 #![tactic(auto)]
 
 mod arguments;
+mod array_calls;
+mod array_fields;
 mod calls;
 mod effects;
 mod functions;
@@ -22,6 +25,8 @@ mod timer_calls;
 
 pub use crate::calls::{BrowserCall, call_browser};
 pub use crate::effects::Effect;
-pub use crate::laws::{law_of_function_texts, law_of_plain_answers, law_of_register_names};
+pub use crate::laws::{
+    law_of_call_outcomes, law_of_function_texts, law_of_new_objects, law_of_register_names,
+};
 pub use crate::registers::{register, set_register};
 pub use crate::states::BrowserState;

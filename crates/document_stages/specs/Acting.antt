@@ -192,7 +192,8 @@ fired component message node a =
 -- EventMessageFired for an item, where it fires for the message of a component
 abbrev pub message_post : ℕ → Message → EventItem → Acting → Acting
 message_post component message item a =
-    if fires_for_message component message a.items item then fired component message item.node a else a
+    if fires_for_message component message a.items item
+    then fired component message item.node a else a
 
 -- and for each item of the document
 unfoldable pub message_posts : ℕ → Message → Acting → Acting

@@ -21,8 +21,8 @@ pub record HasWritten (old : ScriptHost) (base : HostRef) (name : List ℕ) (val
   pub modules : new.modules ≡ old.modules
 
 -- it answered so, and is what is acted on behind that
-pub record Replies (new : ScriptHost) (answer : HostAnswer) (heap : List ObjectState) (reply : Reply)
-    : Type 0 where
+pub record Replies (new : ScriptHost) (answer : HostAnswer) (heap : List ObjectState)
+    (reply : Reply) : Type 0 where
   pub answer_is : answer ≡ reply.answer
   pub acting_is : new.stage.acting ≡ reply.hosted.acting
   pub modules_stand : StandsFor new.modules reply.hosted.modules

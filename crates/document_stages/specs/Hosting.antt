@@ -11,7 +11,7 @@ use Rattle.es_values.specs.declared.values.HostRef.TheVariants.{Browser, Documen
 use Rattle.es_values.specs.declared.values.Value.{Value}
 use Rattle.es_values.specs.Conversions.{text_of}
 use Rattle.es_values.specs.Objects.{ObjectState}
-use Rattle.browser_objects.specs.Calls.{Called, call_of, number}
+use Rattle.browser_objects.specs.Calls.{CallOutcome, call_of, number}
 use Rattle.browser_objects.specs.declared.effects.Effect.{Effect}
 use Rattle.browser_objects.specs.declared.effects.Effect.TheVariants as effects
 use Rattle.document_stages.specs.Acting.{Acting, Answered, document_call, first_argument, gives, launch, lock_posts, node_call, not_callable, refused, with_browser, with_line}
@@ -79,20 +79,22 @@ done_for (effects.Launch path) value h heap = reply_with h.modules (launch path 
 done_for (effects.Lock path) value h heap = lock path h heap
 done_for (effects.Unlock path) value h heap = unlock path h heap
 
-abbrev pub browser_done : Called → Hosted → List ObjectState → Reply
-browser_done called h heap =
-    done_for called.effect called.value (record h { acting = with_browser called.state h.acting }) heap
+abbrev pub browser_done : CallOutcome → Hosted → Reply
+browser_done outcome h =
+    done_for outcome.called.effect outcome.called.value
+    (record h { acting = with_browser outcome.called.state h.acting }) outcome.heap
 
 abbrev pub browser_call : Hosted → List ℕ → List Value → List ObjectState → Reply
 browser_call h name arguments heap =
-    browser_done (call_of name h.acting.path h.acting.now arguments heap h.acting.browser) h heap
+    browser_done (call_of name h.acting.path h.acting.now arguments heap h.acting.browser) h
 
 -- ---- all calls
 
 -- what a call of a member of a reference answers and does
 unfoldable pub called : Hosted → HostRef → List ℕ → List Value → List ObjectState → Reply
 called h Document name arguments heap =
-    reply_with h.modules (document_call h.acting name (text_of heap (first_argument arguments)) heap)
+    reply_with h.modules
+    (document_call h.acting name (text_of heap (first_argument arguments)) heap)
 called h (Node node) name arguments heap =
     reply_with h.modules (node_call h.acting node name heap)
 called h Browser name arguments heap = browser_call h name arguments heap

@@ -1,9 +1,8 @@
 //! The host of the scripts of a document: what they read, write and call.
 
-ghost use Rattle.std.specs.Prelude.{◌≡◌, All, IfOk, OnOk, true};
+ghost use Rattle.std.specs.Prelude.{◌≡◌, All, IfOk};
 ghost use Rattle.es_values.specs.Heaps.{IsLive};
-ghost use Rattle.es_values.specs.Hosts.{IsAnswer};
-ghost use Rattle.es_values.specs.Values.{is_plain};
+ghost use Rattle.es_values.specs.Hosts.{IsAnswer, KeepsHeap};
 ghost use Rattle.es_values.specs.declared.hosts.HostAnswer.TheVariants.{Value as Answer};
 ghost use Rattle.browser_objects.specs.Calls.{number};
 ghost use Rattle.module_locks.specs.Standing.{ForModules};
@@ -12,7 +11,7 @@ ghost use Rattle.document_stages.specs.Hosting.{browser_call, done_for, lock as 
 
 use crate::stages::{Stage, refusal};
 use bml_bytes::{NoMemory, Text};
-use browser_objects::{Effect, law_of_plain_answers};
+use browser_objects::{Effect, law_of_call_outcomes};
 use dom_tree::NodeId;
 use es_values::{Heap, Host, HostAnswer, HostRef, Num, Value};
 use module_locks::{LockAnswer, Modules};
@@ -71,29 +70,30 @@ impl ScriptHost {
         &mut self,
         name: &Text,
         args: &[Value],
-        heap: &Heap,
+        heap: &mut Heap,
     ) -> Result<HostAnswer, NoMemory>
-        requires { All (IsLive heap.now) args.now }
+        requires { All (IsLive heap.old) args.now }
         ensures replies { IfOk result (λ answer. ForModules self.old.modules (λ modules.
-            Replies self.new answer heap.now (browser_call
+            Replies self.new answer heap.new (browser_call
             (record { acting = self.old.stage.acting; modules = modules })
-            name.now args.now heap.now))) }
-        ensures safe { IfOk result (λ answer. IsAnswer heap.now answer) }
+            name.now args.now heap.old))) }
+        ensures safe { IfOk result (λ answer. IsAnswer heap.new answer) }
+        ensures heap { KeepsHeap heap.old args.now heap.new }
     {
-        law_of_plain_answers();
+        law_of_call_outcomes();
         let (value, effect) = self.stage.ask_browser(name, args, heap)?;
         self.do_effect(effect, value, heap)
     }
 
-    // Does what a call that gives this value comes to: a line is printed, a document is launched, or
-    // a module is locked or unlocked.
+    // Does what is left to do for a call that would give this value: a line is printed, a document is
+    // launched, or a module is locked or unlocked.
     fn do_effect(
         &mut self,
         effect: Effect,
         value: Value,
         heap: &Heap,
     ) -> Result<HostAnswer, NoMemory>
-        requires { is_plain value ≡ true }
+        requires { IsAnswer heap.now (Answer value) }
         ensures replies { IfOk result (λ answer. ForModules self.old.modules (λ modules.
             Replies self.new answer heap.now (done_for effect value
             (record { acting = self.old.stage.acting; modules = modules }) heap.now))) }
@@ -101,14 +101,8 @@ impl ScriptHost {
     {
         match effect {
             Effect::Nothing => Ok(HostAnswer::Value(value)),
-            Effect::Sound(sound) => {
-                self.stage.tell_sound(sound)?;
-                Ok(HostAnswer::Value(value))
-            }
-            Effect::Kept(slot, size) => {
-                self.stage.tell_kept(slot, size)?;
-                Ok(HostAnswer::Value(value))
-            }
+            Effect::Sound(sound) => self.stage.tell_sound(sound, value),
+            Effect::Kept(slot, size) => self.stage.tell_kept(slot, size, value),
             Effect::Launch(path) => {
                 drop(value);
                 self.stage.launch(path)

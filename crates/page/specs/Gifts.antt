@@ -24,7 +24,8 @@ GivesFound state old new =
     → ForModules state (λ modules. new ≡ with_gifts (map (text_at modules) old.needs) old)
 
 -- the document of a draft, to which what is found of its needs is given
-pub record IsFinished (state : ModulesState) (draft : DraftState) (document : Document) : Type 0 where
+pub record IsFinished (state : ModulesState) (draft : DraftState) (document : Document)
+    : Type 0 where
   pub given : DraftState
   pub found : GivesFound state draft given
   pub tree_is : document.tree ≡ given.items

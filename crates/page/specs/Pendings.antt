@@ -79,8 +79,9 @@ KnowsItsPlace state (load.Waits (kept.Pending pending)) =
     WaitsAt state pending.draft.needs pending.place
 KnowsItsPlace state _ = Unit {0}
 
-pub record GoesOn (modules : Modules) (wanted : Wanted) (reading : Option (Result DraftState DocFault))
-    (loading : Loading) (text : List ℕ) : Type 0 where
+pub record GoesOn (modules : Modules) (wanted : Wanted)
+    (reading : Option (Result DraftState DocFault)) (loading : Loading) (text : List ℕ)
+    : Type 0 where
   pub none : reading ≡ None
   pub still : wanted_of loading ≡ wanted
   pub current : IsCurrent modules loading

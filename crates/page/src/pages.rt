@@ -236,6 +236,7 @@ impl Page {
         ensures added { OnOk result ((modules : ModulesState) (s : State)
             → StandsFor self.old modules s → StandsFor self.new modules (with_random word s)) }
         ensures clock { self.new.clock ≡ self.old.clock }
+        ensures area { page_area self.new ≡ page_area self.old }
         ensures unspent { OnOk result (self.new.spent ≡ false) }
         ensures spent { OnErr result (IsSpent self.new) }
         ensures after_spent { IsSpent self.old → IsErr result }

@@ -1,107 +1,174 @@
--- What scripts call on the browser object gives a number or Undefined, and leaves timers as they have to be.
-use Rattle.std.proofs.Common.{◌≡◌, ℕ, Bool, true, false, List, Option, Some, None, refl}
-use Rattle.std.specs.Prelude.{if◌then◌else◌, ◌%◌, ◌+◌, is_some, nat_le, ℤ}
+-- What scripts call on the browser object gives neither a function nor a reference, and leaves timers as they are, with
+-- one that is set, or without one.
+use Rattle.std.proofs.Common.{◌≡◌, ◌≤◌, ℕ, Bool, true, false, List, Option, Some, None, refl, arith}
+use Rattle.std.specs.Prelude.{if◌then◌else◌, ◌%◌, ◌+◌, is_some, nat_le, ℤ, pos, negsuc}
 use Rattle.std.specs.Option.{option_map_or}
+use Rattle.std.proofs.lemmas.Bool.{leb-true}
 use Rattle.dom_tree.specs.Items.{Item}
 use Rattle.multipart_entities.specs.declared.paths.Path.{Path}
 use Rattle.es_values.specs.Objects.{ObjectState}
 use Rattle.es_values.specs.declared.values.Value.{Value}
-use Rattle.event_queue.specs.Timers.{has_place, timer_of, timer_set, with_timer, without_timer}
-use Rattle.browser_objects.specs.Calls.{BrowserParts, Called, call_named, call_of, called_of, cleared, count_argument, drawn, first_word, gives, interval_of, number, other_words, path_argument, play_sound, refused, sound_of, text_argument, timer_called, whole_argument, with_interval, with_path}
+use Rattle.es_values.specs.declared.values.Value.TheVariants.{Function, Host}
+use Rattle.persistent_arrays.specs.Arrays.{array_in}
+use Rattle.persistent_arrays.specs.Names.{array_named}
+use Rattle.persistent_arrays.specs.Reading.{unpacked}
+use Rattle.persistent_arrays.specs.Structures.{structure_spelled}
+use Rattle.persistent_arrays.specs.declared.fields.Field.{Field}
+use Rattle.persistent_arrays.specs.declared.kinds.FieldKind.{FieldKind}
+use Rattle.event_queue.specs.Timers.{TimersState, has_place, timer_of, timer_set, with_timer, without_timer}
+use Rattle.browser_objects.specs.ArrayCalls.{values_of_array}
+use Rattle.browser_objects.specs.Calls.{BrowserParts, CallOutcome, Called, argument, array_read, array_written, call_named, call_of, called_of, cleared, count_argument, drawn, first_word, gives, interval_of, least_interval, number, other_words, over, packed_values, path_argument, play_sound, refused, sound_of, text_argument, timer_called, whole_argument, with_interval, with_named, with_path}
 use Rattle.browser_objects.specs.Functions.{named_function}
 use Rattle.browser_objects.specs.declared.calls.BrowserCall.{BrowserCall}
 use Rattle.browser_objects.specs.declared.calls.BrowserCall.TheVariants as the
 use Rattle.browser_objects.specs.declared.effects.Effect.{Effect}
 use Rattle.browser_objects.specs.declared.effects.Effect.TheVariants.{Launch, Lock, Unlock}
-use Rattle.page_laws.specs.Soundness.{AreTimers}
-use Rattle.page_laws.proofs.ReadLemmas.{IsGiven}
-use Rattle.page_laws.proofs.TimerLemmas.{with_timer-sound, without_timer-sound}
+use Rattle.page_laws.specs.Soundness.{is_good}
+use Rattle.page_laws.proofs.TimerLemmas.{HoldsOfTimers}
 
-pub record IsGoodCall (items : List Item) (c : Called) : Type 0 where
-  pub value : IsGiven items c.value
-  pub timers : AreTimers c.state.timers
+-- neither a function nor a reference
+abbrev pub is_bare : Value → Bool
+is_bare (Function number) = false
+is_bare (Host reference) = false
+is_bare other = true
 
-module _ (items : List Item) (s : BrowserParts) (h : AreTimers s.timers) where
-  refused-good : IsGoodCall items (refused s)
-  refused-good = record { value = refl; timers = h }
+pub bare-good : (items : List Item) (limit : ℕ) (value : Value) → is_bare value ≡ true
+    → is_good items limit value ≡ true
+bare-good items limit (Function number) h = absurd (cc h)
+bare-good items limit (Host reference) h = absurd (cc h)
+bare-good items limit _ h = refl
 
-  chosen-good : (t : Bool) (one : Called) → (t ≡ true → IsGoodCall items one)
-      → IsGoodCall items (if t then one else refused s)
+pub record IsGoodCall (Good : TimersState → Type 0) (c : Called) : Type 0 where
+  pub value : is_bare c.value ≡ true
+  pub timers : Good c.state.timers
+
+interval-least : (interval : ℤ) → least_interval ≤ interval_of interval
+interval-least (negsuc n) = omega arith
+interval-least (pos n) = by (nat_le least_interval n) refl
+  where
+    by : (t : Bool) → nat_le least_interval n ≡ t
+        → least_interval ≤ (if t then n else least_interval)
+    by true e = leb-true least_interval n e
+    by false e = omega arith
+
+module _ (Good : TimersState → Type 0) (now : ℕ) (s : BrowserParts)
+    (holds : HoldsOfTimers Good now s.timers) where
+  abbrev Holds : Called → Type 0
+  Holds c = IsGoodCall Good c
+
+  refused-good : Holds (refused s)
+  refused-good = record { value = refl; timers = holds.stays }
+
+  chosen-good : (t : Bool) (one : Called) → (t ≡ true → Holds one)
+      → Holds (if t then one else refused s)
   chosen-good true one good = good refl
   chosen-good false one good = refused-good
 
-  may-good : {A : Type 0} (f : A → Called) (o : Option A) → ((x : A) → IsGoodCall items (f x))
-      → IsGoodCall items (option_map_or f o (refused s))
+  may-good : {A : Type 0} (f : A → Called) (o : Option A) → ((x : A) → Holds (f x))
+      → Holds (option_map_or f o (refused s))
   may-good f None good = refused-good
   may-good f (Some x) good = good x
 
   -- ---- timers
 
-  set-good : (now : ℕ) (function : List ℕ) (interval turns : ℕ)
-      → IsGoodCall items (with_interval now function interval turns s)
-  set-good now function interval turns =
+  set-good : (function : List ℕ) (interval turns : ℕ) → least_interval ≤ interval
+      → Holds (with_interval now function interval turns s)
+  set-good function interval turns least =
       chosen-good (has_place s.timers)
       (gives (number s.timers.next) (record s {
         timers = with_timer (timer_set s.timers.next function interval turns now) s.timers;
       }))
       (λ place. record {
         value = refl;
-        timers = with_timer-sound function interval turns now s.timers place h;
+        timers = holds.sets function interval turns place least;
       })
 
-  timer-good : (now : ℕ) (function : Option (List ℕ)) (interval : Option ℤ) (turns : Option ℕ)
-      → IsGoodCall items (timer_called now function interval turns s)
-  timer-good now None interval turns = refused-good
-  timer-good now (Some function) None turns = refused-good
-  timer-good now (Some function) (Some interval) None = refused-good
-  timer-good now (Some function) (Some interval) (Some turns) =
-      set-good now function (interval_of interval) turns
+  timer-good : (function : Option (List ℕ)) (interval : Option ℤ) (turns : Option ℕ)
+      → Holds (timer_called now function interval turns s)
+  timer-good None interval turns = refused-good
+  timer-good (Some function) None turns = refused-good
+  timer-good (Some function) (Some interval) None = refused-good
+  timer-good (Some function) (Some interval) (Some turns) =
+      set-good function (interval_of interval) turns (interval-least interval)
 
-  cleared-good : (n : ℕ) → IsGoodCall items (cleared n s)
+  cleared-good : (n : ℕ) → Holds (cleared n s)
   cleared-good n =
       chosen-good (is_some (timer_of n s.timers))
       (gives (number 1) (record s { timers = without_timer n s.timers }))
-      (λ there. record { value = refl; timers = without_timer-sound n s.timers h })
+      (λ there. record { value = refl; timers = holds.ends n })
 
-  -- ---- what else there is
+  -- ---- paths, random numbers and sounds
 
-  path-good : (effect : Path → Effect) (path : Option Path)
-      → IsGoodCall items (with_path effect path s)
-  path-good effect path = may-good _ path (λ path. record { value = refl; timers = h })
+  path-good : (effect : Path → Effect) (path : Option Path) → Holds (with_path effect path s)
+  path-good effect path = may-good _ path (λ path. record { value = refl; timers = holds.stays })
 
-  drawn-good : (n : ℕ) → IsGoodCall items (drawn n s)
+  drawn-good : (n : ℕ) → Holds (drawn n s)
   drawn-good n =
       chosen-good (nat_le 1 n)
       (gives (number (1 + first_word s.random % n))
       (record s { random = other_words s.random }))
-      (λ one. record { value = refl; timers = h })
+      (λ one. record { value = refl; timers = holds.stays })
 
   sound-good : (arguments : List Value) (heap : List ObjectState)
-      → IsGoodCall items (play_sound arguments heap s)
+      → Holds (play_sound arguments heap s)
   sound-good arguments heap =
       may-good _ (sound_of (text_argument heap arguments 0))
-      (λ sound. record { value = refl; timers = h })
+      (λ sound. record { value = refl; timers = holds.stays })
+
+  -- ---- persistent arrays
+
+  named-good : (call : ℕ → List FieldKind → CallOutcome) (heap : List ObjectState)
+      → ((slot : ℕ) (kinds : List FieldKind) → Holds (call slot kinds).called)
+      → (slot : Option ℕ) (kinds : Option (List FieldKind))
+      → Holds (with_named call slot kinds (over heap (refused s))).called
+  named-good call heap good (Some slot) (Some kinds) = good slot kinds
+  named-good call heap good None kinds = refused-good
+  named-good call heap good (Some slot) None = refused-good
+
+  read-good : (values : Option (List Field)) (heap : List ObjectState)
+      → Holds (array_read values heap s).called
+  read-good None heap = record { value = refl; timers = holds.stays }
+  read-good (Some values) heap = record { value = refl; timers = holds.stays }
+
+  written-good : (slot : ℕ) (bytes : Option (List ℕ)) → Holds (array_written slot bytes s)
+  written-good slot None = refused-good
+  written-good slot (Some bytes) = record { value = refl; timers = holds.stays }
 
   -- ---- the table
 
-  one-good : (call : BrowserCall) (base : Path) (now : ℕ) (arguments : List Value)
-      (heap : List ObjectState) → IsGoodCall items (called_of call base now arguments heap s)
-  one-good the.SetInterval base now arguments heap =
-      timer-good now (named_function (text_argument heap arguments 0))
+  one-good : (call : BrowserCall) (base : Path) (arguments : List Value)
+      (heap : List ObjectState) → Holds (called_of call base now arguments heap s).called
+  one-good the.SetInterval base arguments heap =
+      timer-good (named_function (text_argument heap arguments 0))
       (whole_argument heap arguments 1) (count_argument heap arguments 2)
-  one-good the.ClearTimer base now arguments heap =
+  one-good the.ClearTimer base arguments heap =
       may-good _ (count_argument heap arguments 0) cleared-good
-  one-good the.LaunchDocument base now arguments heap =
+  one-good the.LaunchDocument base arguments heap =
       path-good Launch (path_argument base arguments heap)
-  one-good the.LockModuleOnMemory base now arguments heap =
+  one-good the.LockModuleOnMemory base arguments heap =
       path-good Lock (path_argument base arguments heap)
-  one-good the.UnlockModuleOnMemory base now arguments heap =
+  one-good the.UnlockModuleOnMemory base arguments heap =
       path-good Unlock (path_argument base arguments heap)
-  one-good the.Random base now arguments heap =
+  one-good the.ReadPersistentArray base arguments heap =
+      named-good _ heap
+      (λ slot kinds. read-good (unpacked kinds (array_in s.area slot)) heap)
+      (array_named (text_argument heap arguments 0))
+      (structure_spelled (text_argument heap arguments 1))
+  one-good the.WritePersistentArray base arguments heap =
+      named-good _ heap
+      (λ slot kinds. written-good slot
+      (packed_values heap kinds (values_of_array heap (argument arguments 2))))
+      (array_named (text_argument heap arguments 0))
+      (structure_spelled (text_argument heap arguments 1))
+  one-good the.Random base arguments heap =
       may-good _ (count_argument heap arguments 0) drawn-good
-  one-good the.PlayRomSound base now arguments heap = sound-good arguments heap
+  one-good the.PlayRomSound base arguments heap = sound-good arguments heap
 
-  pub call-good : (name : List ℕ) (base : Path) (now : ℕ) (arguments : List Value)
-      (heap : List ObjectState) → IsGoodCall items (call_of name base now arguments heap s)
-  call-good name base now arguments heap =
-      may-good _ (call_named name) (λ call. one-good call base now arguments heap)
+  pub call-good : (name : List ℕ) (base : Path) (arguments : List Value)
+      (heap : List ObjectState) → Holds (call_of name base now arguments heap s).called
+  call-good name base arguments heap = by (call_named name)
+    where
+      by : (call : Option BrowserCall) → Holds (option_map_or
+          (λ call. called_of call base now arguments heap s) call (over heap (refused s))).called
+      by None = refused-good
+      by (Some call) = one-good call base arguments heap

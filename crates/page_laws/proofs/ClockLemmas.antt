@@ -1,7 +1,7 @@
--- Turns leave the clock as it is, and the modules of the service.
+-- Turns leave the clock as it is, and the modules of the service. Moments bring it to themselves.
 use Rattle.std.proofs.Common.{◌≡◌, ℕ, zero, suc, Option, Some, None, refl, ◌∙◌}
 use Rattle.std.specs.Prelude.{IfSome, Result, Ok, Err, option_and_then, option_map}
-use Rattle.std.specs.Option.{option_or}
+use Rattle.std.specs.Option.{option_map_or, option_or}
 use Rattle.bml_reader.specs.declared.faults.DocFault.{DocFault}
 use Rattle.multipart_entities.specs.declared.paths.Path.{Path}
 use Rattle.event_queue.specs.Queues.{first_of}
@@ -9,11 +9,12 @@ use Rattle.event_queue.specs.declared.events.Event.{Event}
 use Rattle.document_load.specs.Drafts.{DraftState}
 use Rattle.acting_documents.specs.Beginnings.{load_effect}
 use Rattle.acting_documents.specs.Documents.{Document}
-use Rattle.acting_documents.specs.Handling.{handled, without_first}
+use Rattle.acting_documents.specs.Handling.{due_effect, handled, without_first}
 use Rattle.acting_documents.specs.Runs.{Effect}
 use Rattle.page.specs.Dispatches.{dispatch, dispatches, event_in, load_at, most_dispatches, next_and, next_event, next_load, turn}
+use Rattle.page.specs.Inputs.{due_step, with_clock}
 use Rattle.page.specs.Loading.{load, loadable_reading, opened, wanted_path}
-use Rattle.page.specs.State.{State, Step, scene_in, stays_or_goes, step_of}
+use Rattle.page.specs.State.{State, Step, scene_in, stays_or_goes, step_of, still}
 use Rattle.page.specs.State.Wanted.{NoDocument}
 use Rattle.page_laws.proofs.ServiceLemmas.{handled-service, load-service, unload-service}
 
@@ -86,6 +87,17 @@ dispatches-clock (suc count) s =
 pub turn-clock : (s : State) → (turn s).state.clock ≡ s.clock
 unfolding turn
 turn-clock s = dispatches-clock most_dispatches s
+
+-- ---- moments
+
+pub due_step-clock : (moment : ℕ) (s : State) → (due_step moment s).state.clock ≡ moment
+due_step-clock moment s = by s.document
+  where
+    by : (document : Option Document) → (option_map_or
+        (λ d. step_of (with_clock moment s) (due_effect moment (scene_in s d))) document
+        (still (with_clock moment s))).state.clock ≡ moment
+    by None = refl
+    by (Some d) = step-clock (with_clock moment s) (due_effect moment (scene_in s d))
 
 -- ---- the modules of the service
 

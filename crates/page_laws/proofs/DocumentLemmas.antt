@@ -39,7 +39,7 @@ use Rattle.page_laws.specs.Soundness.{AreTimers, IsGoodHandler, IsSoundDocument,
 use Rattle.page_laws.proofs.ActingLemmas.{IsSoundActing, TreeLaws, acted-sound, begun-sound, due-sound, element-same, event-same, good-same, place-same}
 use Rattle.page_laws.proofs.EventItemLemmas.{AreGoodItems, ItemNodes, first-good, moved-good}
 use Rattle.page_laws.proofs.HandlerLemmas.{read-handlers}
-use Rattle.page_laws.proofs.HostedLemmas.{HasFewLocks, IsSoundHosted, LockLaws}
+use Rattle.page_laws.proofs.HostedLemmas.{HasFewLocks, HostLaws, IsSoundHosted}
 use Rattle.page_laws.proofs.ItemPostLemmas.{changes-sound, keys-sound, messages-sound}
 use Rattle.page_laws.proofs.ReadLemmas.{has_target, place-below}
 use Rattle.page_laws.proofs.RunLemmas.{EndsSound, RunsStay, own-pass, run-sound}
@@ -193,7 +193,7 @@ opened-sound law read path draft tree =
       objects = All-nil (heaps.AreLiveAmong 0);
     }
 
-module _ (laws : TreeLaws) (stay : RunsStay) (few : LockLaws) where
+module _ (laws : TreeLaws) (stay : RunsStay) (hosts : HostLaws) where
   -- ---- programs
 
   end-sound : (name : List ℕ) (event : CurrentEvent) (run : Run) (scene : Scene)
@@ -204,7 +204,7 @@ module _ (laws : TreeLaws) (stay : RunsStay) (few : LockLaws) where
       let limit = limit_of scene.document in
       let end = ended run (hosted_in event scene) in
       let ends : EndsSound (items_of scene) limit 0 end =
-      run-sound laws few (items_of scene) limit 0 run (hosted_in event scene) stays
+      run-sound laws hosts (items_of scene) limit 0 run (hosted_in event scene) stays
       (record { acting = acting-first scene event s h; locks = s.locks }) in
       left-sound scene end.hosted end.world s ends.hosted ends.fit
 

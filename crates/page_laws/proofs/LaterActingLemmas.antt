@@ -27,14 +27,15 @@ use Rattle.event_queue.specs.declared.events.Event.{Event}
 use Rattle.event_queue.specs.declared.events.Event.TheVariants as events
 use Rattle.event_items.specs.EventItems.{EventItem}
 use Rattle.event_items.specs.Subscriptions.{fires_for_message}
-use Rattle.browser_objects.specs.Calls.{BrowserParts, Called, call_of}
+use Rattle.browser_objects.specs.Calls.{BrowserParts, CallOutcome, call_of}
 use Rattle.browser_objects.specs.declared.effects.Effect as of_browser
 use Rattle.browser_objects.specs.declared.effects.Effect.TheVariants as effects
 use Rattle.document_stages.specs.Acting.{Acting, Answered, acted, begun, button_posts, button_post, change_posts, each_item, element_call, fired, focus_on, focused, has_room, is_subscription, is_unload, key_posts, launch, left_by, lock_posts, lock_post, message_posts, message_post, module_post, moved_to, node_written, posted, posted_for, posted_where, pressed, read_by, text_written, update_posts, with_browser, with_focus, written}
 use Rattle.document_stages.specs.Hosting.{Hosted, Reply, browser_call, called, done_for, lock_answered}
 use Rattle.acting_documents.specs.Runs.{ended}
+use Rattle.page_laws.proofs.BrowserLemmas.{call-good}
 use Rattle.page_laws.proofs.EventItemLemmas.{told_in_turn}
-use Rattle.page_laws.proofs.LaterLemmas.{LaterThan, call-later}
+use Rattle.page_laws.proofs.LaterLemmas.{LaterThan, calls-later}
 
 -- the time is that of the clock, and these timers of the browser are due later
 pub record IsTimely (clock now : ℕ) (browser : BrowserParts) : Type 0 where
@@ -234,14 +235,17 @@ module _ (clock : ℕ) where
       → RepliesTimely (browser_call s name arguments heap)
   browser-timely s name arguments heap h =
       let a : Acting = s.acting in
-      let call : Called = call_of name a.path a.now arguments heap a.browser in
+      let outcome : CallOutcome = call_of name a.path a.now arguments heap a.browser in
       let all : LaterThan a.now a.browser.timers =
       subst (λ (n : ℕ). LaterThan n a.browser.timers) (sym h.is_now) h.timers in
-      done-timely call.effect call.value (record s { acting = with_browser call.state a }) heap
+      let good =
+      call-good (LaterThan a.now) a.now a.browser (calls-later a.now a.browser.timers all) name
+      a.path arguments heap in
+      done-timely outcome.called.effect outcome.called.value
+      (record s { acting = with_browser outcome.called.state a }) outcome.heap
       (record {
         is_now = h.is_now;
-        timers = subst (λ (n : ℕ). LaterThan n call.state.timers) h.is_now
-            (call-later a.now a.browser all name a.path arguments heap);
+        timers = subst (λ (n : ℕ). LaterThan n outcome.called.state.timers) h.is_now good.timers;
       })
 
   called-timely : (s : Hosted) (base : HostRef) (name : List ℕ) (arguments : List Value)

@@ -30,13 +30,13 @@ use Rattle.page_laws.proofs.LaterSceneLemmas.{SceneTimely, change-timely, handle
 use Rattle.page_laws.proofs.StepLemmas.{each_step-kept}
 
 -- the time is this, and the timers are due later
-abbrev pub PageTimely : ℕ → State → Type 0
+abbrev PageTimely : ℕ → State → Type 0
 PageTimely clock s = IsTimely clock s.clock s.browser
 
-pub page-timely : (s : State) → AreLater s → PageTimely s.clock s
+page-timely : (s : State) → AreLater s → PageTimely s.clock s
 page-timely s h = record { is_now = refl; timers = h }
 
-pub timely-later : (clock : ℕ) (s : State) → PageTimely clock s → AreLater s
+timely-later : (clock : ℕ) (s : State) → PageTimely clock s → AreLater s
 timely-later clock s h =
     subst (λ (n : ℕ). LaterThan n s.browser.timers) (sym h.is_now) h.timers
 
@@ -123,7 +123,7 @@ module _ (clock : ℕ) where
       and-timely (dispatches count) (dispatches-timely count) s h (dispatch s)
       (dispatch-may s h)
 
-  pub turn-timely : (s : State) → PageTimely clock s
+  turn-timely : (s : State) → PageTimely clock s
       → PageTimely clock (turn s).state
   unfolding turn
   turn-timely s h = dispatches-timely most_dispatches s h
@@ -161,7 +161,7 @@ module _ (clock : ℕ) where
 -- ---- moments
 
 -- Nothing is due before the moment: what is due then fires, and comes later.
-pub due_step-timely : (moment : ℕ) (s : State) → IsSound s → AreLater s
+due_step-timely : (moment : ℕ) (s : State) → IsSound s → AreLater s
     → IfSome (due_next s) (λ due. moment ≤ due) → PageTimely moment (due_step moment s).state
 due_step-timely moment s sound h reached = by s.document refl
   where

@@ -5,6 +5,7 @@ pub mod TargetLemmas
 pub mod QueueLemmas
 pub mod TimerLemmas
 pub mod BrowserLemmas
+pub mod ArrayLemmas
 pub mod EventItemLemmas
 pub mod ActingLemmas
 pub mod ItemPostLemmas

@@ -32,7 +32,7 @@ use Rattle.page_laws.specs.Soundness.{IsSound, IsSoundDocument, is_good_event}
 use Rattle.page_laws.proofs.ActingLemmas.{TreeLaws}
 use Rattle.page_laws.proofs.DocumentLemmas.{IsSoundScene, change-sound, due_effect-sound, handled-sound, key-sound, load_effect-sound, message-sound, opened-sound, unload_effect-sound}
 use Rattle.page_laws.proofs.EventItemLemmas.{ItemNodes}
-use Rattle.page_laws.proofs.HostedLemmas.{HasFewLocks, LockLaws}
+use Rattle.page_laws.proofs.HostedLemmas.{HasFewLocks, HostLaws}
 use Rattle.page_laws.proofs.ItemLemmas.{OneIsTree, read-tree}
 use Rattle.page_laws.proofs.RunLemmas.{RunsStay}
 use Rattle.page_laws.proofs.StepLemmas.{each_step-kept}
@@ -46,7 +46,7 @@ pub record Laws : Type 0 where
       → (reading_of bytes ≡ reading) ↔ IsReading bytes reading
   pub items : ItemNodes
   pub programs : RunsStay
-  pub few : LockLaws
+  pub hosts : HostLaws
 
 -- a step that is there or not leaves a sound state
 abbrev pub MaySound : Option Step → Type 0
@@ -137,7 +137,7 @@ module _ (laws : Laws) where
         timers = none-sound;
         none_without = λ same. refl;
         wanted = tt;
-        locks = (unload_effect-sound laws.trees laws.programs laws.few e.scene h).locks;
+        locks = (unload_effect-sound laws.trees laws.programs laws.hosts e.scene h).locks;
       }
 
   -- where a document is wanted there is none, and no timer
@@ -157,7 +157,7 @@ module _ (laws : Laws) where
   load-sound s path (Some (Ok draft)) h sound none =
       let d : Document = opened s.read path draft in
       step-sound (record s { wanted = NoDocument }) (load_effect (scene_in s d)) refl
-      (load_effect-sound laws.trees laws.programs laws.few (scene_in s d)
+      (load_effect-sound laws.trees laws.programs laws.hosts (scene_in s d)
       (record {
         document = opened-sound laws.items s.read path draft h;
         timers = sound.timers;
@@ -231,7 +231,7 @@ module _ (laws : Laws) where
       by None may = tt
       by (Some event) may =
           step-sound s (handled event (without_first (scene_in s d))) none
-          (handled-sound laws.trees laws.programs laws.few event (without_first (scene_in s d))
+          (handled-sound laws.trees laws.programs laws.hosts event (without_first (scene_in s d))
           (without_first-sound (scene_in s d) (scene-sound s d h good)) may)
 
   next_event-sound : (s : State) → IsSound s → MaySound (next_event s)
@@ -293,7 +293,7 @@ module _ (laws : Laws) where
       → IsSound (change_step component change s).state
   change_step-sound component change s h =
       document_step-sound (change_effect component change)
-      (change-sound laws.trees laws.programs laws.few component change) s h
+      (change-sound laws.trees laws.programs laws.hosts component change) s h
 
   pub changes-sound : (changes : List (ℕ × Change)) (s : State) → IsSound s
       → IsSound (changes_step changes s).state
@@ -305,13 +305,13 @@ module _ (laws : Laws) where
       → IsSound (message_step component message s).state
   message_step-sound component message s h =
       document_step-sound (message_effect component message)
-      (message-sound laws.trees laws.programs laws.few component message) s h
+      (message-sound laws.trees laws.programs laws.hosts component message) s h
 
   pub key_step-sound : (key : ℕ) (down : Bool) (s : State) → IsSound s
       → IsSound (key_step key down s).state
   key_step-sound key down s h =
       document_step-sound (key_effect key down)
-      (key-sound laws.trees laws.programs laws.few key down) s h
+      (key-sound laws.trees laws.programs laws.hosts key down) s h
 
   pub due_step-sound : (moment : ℕ) (s : State) → IsSound s
       → IsSound (due_step moment s).state
@@ -324,5 +324,5 @@ module _ (laws : Laws) where
       by None good none = with_clock-sound moment s h
       by (Some d) good none =
           step-sound (with_clock moment s) (due_effect moment (scene_in s d)) none
-          (due_effect-sound laws.trees laws.programs laws.few moment (scene_in s d)
+          (due_effect-sound laws.trees laws.programs laws.hosts moment (scene_in s d)
           (scene-sound s d h good))

@@ -1,6 +1,8 @@
--- Whatever comes to a receiver, its page stays as its own steps leave it, and so it stays sound.
-use Rattle.std.specs.Prelude.{ℕ, zero, suc, ◌+◌, Bool, true, false, if◌then◌else◌, List, [], ◌∷◌, map, Option, Some, None}
+-- Whatever comes to a receiver, its page stays as its own steps leave it.
+use Rattle.std.proofs.Common.{◌≡◌, ℕ, zero, suc, ◌+◌, ◌<◌, Bool, true, false, List, [], ◌∷◌, Option, Some, None, refl}
+use Rattle.std.specs.Prelude.{IfSome, if◌then◌else◌, map, nat_le}
 use Rattle.std.specs.Option.{option_map_or}
+use Rattle.std.proofs.lemmas.Bool.{leb-false}
 use Rattle.ts_packets.specs.Packet.{pid_of}
 use Rattle.event_messages.specs.declared.messages.Message.{Message}
 use Rattle.psi_tables.specs.Components.{tag_in}
@@ -10,17 +12,16 @@ use Rattle.carousel_blocks.specs.declared.changes.Change.{Change}
 use Rattle.module_locks.specs.Locks.{changes_by, with_map, with_section}
 use Rattle.module_store.specs.Store.{gone_by}
 use Rattle.page.specs.Dispatches as dispatches
-use Rattle.page.specs.Inputs.{changes_step, due_step, key_step, message_step, messages_step, with_clock, with_random}
+use Rattle.page.specs.Inputs.{changes_step, due_next, due_step, key_step, message_step, messages_step, with_clock, with_random}
 use Rattle.page.specs.State as page
-use Rattle.receiver_core.specs.Outputs.{Input, due_by, intact_sections, state_after, state_behind, time_passes, waits_until, with_first}
-use Rattle.receiver_core.specs.Outputs.{state_behind_turns, with_packet}
+use Rattle.receiver_core.specs.Outputs.{Input, at_moment, intact_sections, is_due_by, reaches, state_after, state_behind, state_behind_turns, time_passes}
+use Rattle.receiver_core.specs.Outputs.{with_packet, with_piece, without_piece}
 use Rattle.receiver_core.specs.Outputs.Input.{Packet, Key, Random, Release, Show, Tick}
 use Rattle.receiver_core.specs.State.{State, services, wants}
 use Rattle.receiver_core.specs.Turns.{due_turn, key_turn, section_messages, step_of_modules, step_of_section, step_of_table, step_of_tag, turn, with_handled}
-use Rattle.page_laws.specs.Soundness.{IsSound}
 use Rattle.page_laws.proofs.StepLemmas.{each_step-kept}
 
--- what is known of pages: their steps keep this, where no time passes
+-- what is known of pages: their steps keep this
 pub record PageLaws (Good : page.State → Type 0) : Type 0 where
   pub turns : (s : page.State) → Good s → Good (dispatches.turn s).state
   pub sections : (component : ℕ) (section : List ℕ) (s : page.State) → Good s
@@ -33,6 +34,17 @@ pub record PageLaws (Good : page.State → Type 0) : Type 0 where
       → Good (message_step component message s).state
   pub keys : (key : ℕ) (down : Bool) (s : page.State) → Good s → Good (key_step key down s).state
   pub random : (word : ℕ) (s : page.State) → Good s → Good (with_random word s)
+  -- a millisecond passes: timers are due at its end, or none is
+  pub due : (s : page.State) → Good s → Good (due_step (s.clock + 1) s).state
+  pub clock : (s : page.State) → Good s → IfSome (due_next s) (λ due. s.clock + 1 < due)
+      → Good (with_clock (s.clock + 1) s)
+
+-- where no timer is due by a moment, what is due next comes later
+none-by : (moment : ℕ) (next : Option ℕ)
+    → option_map_or (λ due. nat_le due moment) next false ≡ false
+    → IfSome next (λ due. moment < due)
+none-by moment None e = tt
+none-by moment (Some due) e = leb-false due moment e
 
 module _ (Good : page.State → Type 0) (laws : PageLaws Good) where
   -- ---- sections
@@ -95,6 +107,24 @@ module _ (Good : page.State → Type 0) (laws : PageLaws Good) where
       by true more = more
       by false more = h
 
+  -- ---- time
+
+  reached-kept : (s : State) → Good s.page → Good (reaches (s.page.clock + 1) s).state.page
+  unfolding due_turn
+  reached-kept s h = by (is_due_by (s.page.clock + 1) s) refl
+    where
+      by : (due : Bool) → is_due_by (s.page.clock + 1) s ≡ due → Good
+          (if due then with_piece (due_turn (s.page.clock + 1) s)
+          else without_piece (at_moment (s.page.clock + 1) s)).state.page
+      by true e = laws.turns (due_step (s.page.clock + 1) s.page).state (laws.due s.page h)
+      by false e = laws.clock s.page h (none-by (s.page.clock + 1) (due_next s.page) e)
+
+  pub time-kept : (count : ℕ) (s : State) → Good s.page → Good (time_passes count s).state.page
+  unfolding time_passes
+  time-kept zero s h = h
+  time-kept (suc more) s h =
+      time-kept more (reaches (s.page.clock + 1) s).state (reached-kept s h)
+
   -- ---- inputs
 
   key-kept : (key : ℕ) (down : Bool) (s : State) → Good s.page
@@ -103,53 +133,17 @@ module _ (Good : page.State → Type 0) (laws : PageLaws Good) where
   key-kept key down s h =
       laws.turns (key_step key down s.page).state (laws.keys key down s.page h)
 
-  module _ (ticks : (count : ℕ) (s : State) → Good s.page → Good (state_after (Tick count) s).page) where
-    after-kept : (input : Input) (s : State) → Good s.page → Good (state_after input s).page
-    after-kept (Packet packet) s h =
-        turns-kept (pid_of packet) (intact_sections packet s) (with_packet packet s) h
-    after-kept (Key key) s h = key-kept key true s h
-    after-kept (Release key) s h = key-kept key false s h
-    after-kept (Tick count) s h = ticks count s h
-    after-kept (Random word) s h = laws.random word s.page h
-    after-kept Show s h = h
+  after-kept : (input : Input) (s : State) → Good s.page → Good (state_after input s).page
+  after-kept (Packet packet) s h =
+      turns-kept (pid_of packet) (intact_sections packet s) (with_packet packet s) h
+  after-kept (Key key) s h = key-kept key true s h
+  after-kept (Release key) s h = key-kept key false s h
+  after-kept (Tick count) s h = time-kept count s h
+  after-kept (Random word) s h = laws.random word s.page h
+  after-kept Show s h = h
 
-    pub behind-kept : (inputs : List Input) (s : State) → Good s.page
-        → Good (state_behind s inputs).page
-    behind-kept [] s h = h
-    behind-kept (input ∷ inputs) s h =
-        behind-kept inputs (state_after input s) (after-kept input s h)
-
--- ---- sound pages, while time passes
-
-pub record SoundLaws : Type 0 where
-  pub steps : PageLaws IsSound
-  pub due : (moment : ℕ) (s : page.State) → IsSound s → IsSound (due_step moment s).state
-  pub clock : (moment : ℕ) (s : page.State) → IsSound s → IsSound (with_clock moment s)
-
-module _ (laws : SoundLaws) where
-  pub due-sound : (moment : ℕ) (s : State) → IsSound s.page
-      → IsSound (due_turn moment s).state.page
-  unfolding due_turn
-  due-sound moment s h =
-      laws.steps.turns (due_step moment s.page).state (laws.due moment s.page h)
-
-  time-sound : (more end : ℕ) (s : State) → IsSound s.page
-      → IsSound (time_passes more end s).state.page
-  unfolding time_passes
-  time-sound zero end s h = laws.clock end s.page h
-  time-sound (suc more) end s h = by (time-sound more end) (due_by end s)
-    where
-      by : ((s : State) → IsSound s.page → IsSound (time_passes more end s).state.page)
-          → (moment : Option ℕ) → IsSound (option_map_or
-          (λ moment. with_first (due_turn moment s)
-          (time_passes more end (due_turn moment s).state)) moment (waits_until end s)).state.page
-      by rest None = laws.clock end s.page h
-      by rest (Some moment) = rest (due_turn moment s).state (due-sound moment s h)
-
-  pub tick-sound : (count : ℕ) (s : State) → IsSound s.page
-      → IsSound (state_after (Tick count) s).page
-  tick-sound count s h = time-sound count (s.page.clock + count) s h
-
-  pub behind-sound : (inputs : List Input) (s : State) → IsSound s.page
-      → IsSound (state_behind s inputs).page
-  behind-sound inputs s h = behind-kept IsSound laws.steps tick-sound inputs s h
+  pub behind-kept : (inputs : List Input) (s : State) → Good s.page
+      → Good (state_behind s inputs).page
+  behind-kept [] s h = h
+  behind-kept (input ∷ inputs) s h =
+      behind-kept inputs (state_after input s) (after-kept input s h)

@@ -17,7 +17,7 @@ use Rattle.event_queue.specs.Events.{name_of}
 use Rattle.event_queue.specs.Timers.{Timer, timer_of}
 use Rattle.event_queue.specs.declared.events.Event.{Event}
 use Rattle.event_queue.specs.declared.events.Event.TheVariants as events
-use Rattle.browser_objects.specs.Calls.{Called, call_of}
+use Rattle.browser_objects.specs.Calls.{CallOutcome, call_of}
 use Rattle.browser_objects.specs.declared.effects.Effect as of_browser
 use Rattle.browser_objects.specs.declared.effects.Effect.TheVariants as effects
 use Rattle.multipart_entities.specs.declared.paths.Path.{Path}
@@ -50,8 +50,9 @@ called-service h ref.Document name arguments heap = refl
 called-service h (ref.Node node) name arguments heap = refl
 called-service h ref.Browser name arguments heap =
     let a = h.acting in
-    let call : Called = call_of name a.path a.now arguments heap a.browser in
-    done-service call.effect call.value (record h { acting = with_browser call.state a }) heap
+    let outcome : CallOutcome = call_of name a.path a.now arguments heap a.browser in
+    done-service outcome.called.effect outcome.called.value
+    (record h { acting = with_browser outcome.called.state a }) outcome.heap
 called-service h _ name arguments heap = refl
 
 run-service : (run : Run) (h : Hosted) → (ended run h).hosted.modules.stored ≡ h.modules.stored

@@ -7,8 +7,17 @@ use Rattle.std.proofs.lemmas.List.Elements.{All-append, All-cons, All-head, All-
 use Rattle.std.proofs.lemmas.List.Kept.{AllPairs-cons}
 use Rattle.std.proofs.lemmas.List.Quantifiers.{all_pairs_push}
 use Rattle.event_queue.specs.Timers.{Timer, TimersState, fired, has_number, has_place, is_due, most_timers, no_timers, replaced, settled_or_ended, settled, goes_on, timer_set, with_fired, with_settled, with_timer, without_timer}
+use Rattle.browser_objects.specs.Calls.{least_interval}
 use Rattle.page_laws.specs.Soundness.{AreTimers}
 use Rattle.page_laws.proofs.TargetLemmas.{both-first}
+
+-- this holds of timers as they are, with one that is set now, and without one
+pub record HoldsOfTimers (Good : TimersState → Type 0) (now : ℕ) (s : TimersState) : Type 0 where
+  pub stays : Good s
+  pub sets : (function : List ℕ) (interval turns : ℕ) → has_place s ≡ true
+      → least_interval ≤ interval
+      → Good (with_timer (timer_set s.next function interval turns now) s)
+  pub ends : (number : ℕ) → Good (without_timer number s)
 
 abbrev IsBefore : Timer → Timer → Type 0
 IsBefore one other = one.number < other.number
@@ -121,7 +130,7 @@ dropped-sound next = record {
 pub none-sound : AreTimers no_timers
 none-sound = dropped-sound 1
 
-pub with_timer-sound : (function : List ℕ) (interval turns now : ℕ) (s : TimersState)
+with_timer-sound : (function : List ℕ) (interval turns now : ℕ) (s : TimersState)
     → has_place s ≡ true → AreTimers s
     → AreTimers (with_timer (timer_set s.next function interval turns now) s)
 with_timer-sound function interval turns now s place h =
@@ -139,9 +148,17 @@ with_timer-sound function interval turns now s place h =
       );
     }
 
-pub without_timer-sound : (number : ℕ) (s : TimersState) → AreTimers s
+without_timer-sound : (number : ℕ) (s : TimersState) → AreTimers s
     → AreTimers (without_timer number s)
 without_timer-sound number s h = replaced-sound (has_number number) (λ timer. []) (λ timer. tt) s h
+
+pub calls-sound : (now : ℕ) (s : TimersState) → AreTimers s → HoldsOfTimers AreTimers now s
+calls-sound now s h = record {
+  stays = h;
+  sets = λ function interval turns place least.
+      with_timer-sound function interval turns now s place h;
+  ends = λ number. without_timer-sound number s h;
+}
 
 pub with_fired-sound : (moment : ℕ) (s : TimersState) → AreTimers s → AreTimers (with_fired moment s)
 with_fired-sound moment s h =

@@ -1,7 +1,7 @@
 //! What holds of pages. Each function is a law: its contract is what it is for, and it does nothing
 //! when it runs.
 
-ghost use Rattle.std.specs.Prelude.{◌≡◌, ℕ, ◌+◌, ◌≤◌, [], Bool, List, IfSome, length};
+ghost use Rattle.std.specs.Prelude.{◌≡◌, ℕ, ◌+◌, ◌<◌, ◌≤◌, [], Bool, List, IfSome, length};
 ghost use Rattle.carousel_blocks.specs.declared.changes.Change.{Change};
 ghost use Rattle.event_messages.specs.declared.messages.Message.{Message};
 ghost use Rattle.module_locks.specs.Locks.{Modules, most_locks};
@@ -18,7 +18,7 @@ ghost use Rattle.page.specs.Inputs.{
 };
 ghost use Rattle.page.specs.State.{State, opening, still, with_modules};
 ghost use Rattle.psi_tables.specs.declared.services.Selection.{Selection};
-ghost use Rattle.receiver_core.specs.Outputs.{Input, state_after, state_behind, time_passes};
+ghost use Rattle.receiver_core.specs.Outputs.{Input, state_after, state_behind};
 ghost use Rattle.receiver_core.specs.Outputs.Input.{Tick};
 ghost use Rattle.receiver_core.specs.State as receiver;
 ghost use Rattle.page_laws.specs.Soundness.{IsSound};
@@ -26,9 +26,11 @@ ghost use Rattle.page_laws.specs.Times.{AreLater};
 ghost use Rattle.page_laws.specs.Turns.{Turned};
 
 use bml_reader::law_of_readings;
+use browser_objects::{law_of_call_outcomes, law_of_new_objects};
 use dom_tree::{
     law_of_attribute_changes, law_of_nested_nodes, law_of_parents, law_of_text_changes,
 };
+use es_values::law_of_arrays;
 use event_items::law_of_event_items;
 use event_messages::law_of_item_firings;
 use module_locks::law_of_few_locks;
@@ -60,6 +62,9 @@ pub fn law_of_soundness()
     law_of_event_items();
     law_of_passing_values();
     law_of_few_locks();
+    law_of_call_outcomes();
+    law_of_new_objects();
+    law_of_arrays();
 }
 
 /// Whatever came to a receiver, its page is sound.
@@ -88,9 +93,9 @@ pub fn law_of_clocks()
 /// Behind each turn, each change in modules, each event message, each key and each random word it is
 /// so where it was so before. A moment before which nothing was due may come too: what is due then
 /// fires, and comes later. A tick moves the clock of a receiver on by as much as it says, and behind
-/// it no timer is overdue. As many rounds as milliseconds are enough for it: more rounds change
-/// nothing. So no timer is overdue, whatever came to a receiver.
+/// it no timer is overdue. So no timer is overdue, whatever came to a receiver.
 pub fn law_of_time()
+    ensures later { (s : State) → AreLater s → IfSome (due_next s) (λ due. s.clock < due) }
     ensures opening { (read : Reader) (area : List ℕ) → AreLater (opening read area) }
     ensures turn { (s : State) → AreLater s → AreLater (turn s).state }
     ensures modules { (modules : Modules) (s : State) → AreLater s
@@ -108,9 +113,6 @@ pub fn law_of_time()
         → AreLater (state_after (Tick count) s).page }
     ensures clock { (count : ℕ) (s : receiver.State)
         → (state_after (Tick count) s).page.clock ≡ s.page.clock + count }
-    ensures bound { (count more : ℕ) (s : receiver.State) → IsSound s.page → AreLater s.page
-        → time_passes (count + more) (s.page.clock + count) s
-        ≡ time_passes count (s.page.clock + count) s }
     ensures receivers { (read : Reader) (selection : Selection) (area : List ℕ)
         (inputs : List Input)
         → AreLater (state_behind (receiver.opening read selection area) inputs).page }

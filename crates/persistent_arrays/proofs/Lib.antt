@@ -1,5 +1,7 @@
+pub mod FindingLemmas
 pub mod NumeralLemmas
 pub mod SpellingLemmas
+pub mod SpelledLemmas
 pub mod NameLemmas
 pub mod PackingLemmas
 pub mod BitLemmas

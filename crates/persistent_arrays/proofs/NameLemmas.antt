@@ -1,26 +1,17 @@
 -- The name of an array is its front and its number.
-use Rattle.std.proofs.Common.{◌≡◌, ℕ, ◌<◌, nat_eq, nat_lt, Bool, true, cond, List, [], ◌∷◌, ◌++◌, length, take, drop, Option, Some, None, refl, sym, ap, subst, ◌∙◌, arith}
-use Rattle.std.specs.Prelude.{◌&&◌, codes as ascii, MatchOption}
+use Rattle.std.proofs.Common.{◌≡◌, ◌↔◌, ℕ, zero, suc, ◌+◌, ◌<◌, ◌≤◌, nat_eq, nat_lt, Bool, true, cond, List, [], ◌++◌, length, take, drop, Option, Some, None, ◌⊎◌, inl, inr, refl, sym, ap, subst, ◌∙◌, arith}
+use Rattle.std.specs.Prelude.{◌&&◌, codes as ascii, IfSome, MatchOption}
 use Rattle.bml_bytes.specs.Fields.{◌>>=◌}
-use Rattle.std.specs.Cmp.Lexicographic.{pointwise}
-use Rattle.std.proofs.lemmas.Bool.{eqb-true, and_parts, lt-ltb, ltb-true}
+use Rattle.std.specs.List.{range_with_len}
+use Rattle.std.proofs.lemmas.Bool.{eqb-true, and_parts, cases_lt, lt-ltb, ltb-true}
 use Rattle.std.proofs.lemmas.List.{append-nil, drop_at, take-append-drop, nil_from_length}
 use Rattle.std.proofs.lemmas.Option.{cond_some, none-some, some_pair_parts}
 use Rattle.bml_bytes.specs.Numerals.{decimal_digits}
 use Rattle.bml_bytes.specs.Words.{is_same}
-use Rattle.persistent_arrays.specs.Names.{Names}
+use Rattle.persistent_arrays.specs.Names.{Names, array_name, array_named}
 use Rattle.persistent_arrays.specs.devices.Spelling.{number_of_array, numeral_at}
+use Rattle.persistent_arrays.proofs.FindingLemmas.{IsAmong, found-written, same_codes, written-found}
 use Rattle.persistent_arrays.proofs.NumeralLemmas.{numeral-again, numeral-parts}
-
-same_codes : (xs ys : List ℕ) → is_same xs ys ≡ true → xs ≡ ys
-same_codes [] [] e = refl
-same_codes [] (y ∷ ys) e = absurd (cc e)
-same_codes (x ∷ xs) [] e = absurd (cc e)
-same_codes (x ∷ xs) (y ∷ ys) e =
-    let parts = and_parts (nat_eq x y) (pointwise nat_eq xs ys) e in
-    let first : x ≡ y = eqb-true x y parts.0 in
-    let rest : xs ≡ ys = same_codes xs ys parts.1 in
-    cc
 
 front : List ℕ
 front = ascii "nvram://~/"
@@ -75,3 +66,46 @@ slot-read name codes begun digits (Some slot) c f d s e =
 -- a text names at most one array
 pub named-once : (name : List ℕ) (slot other : ℕ) → Names name slot → Names name other → slot ≡ other
 named-once name slot other h g = (some_pair_parts slot other [] [] (sym (digits-of name slot h) ∙ digits-of name other g)).0
+
+-- ---- the array that a text names, worked out
+
+among-range : (from count number : ℕ) → from ≤ number → number < from + count → IsAmong number (range_with_len from count)
+among-range from zero number h g = absurd (omega arith)
+among-range from (suc count) number h g = by (cases_lt from number) (λ above. among-range (from + 1) count number (omega arith) (omega arith))
+  where
+    by : (from < number) ⊎ (number ≤ from) → (from < number → IsAmong number (range_with_len (from + 1) count)) → IsAmong number (range_with_len from (suc count))
+    by (inl above) later = inr (later above)
+    by (inr below) later = inl (omega arith)
+
+range-bounds : (from count number : ℕ) → IsAmong number (range_with_len from count) → number < from + count
+range-bounds from zero number is = absurd is
+range-bounds from (suc count) number (inl here) = omega arith
+range-bounds from (suc count) number (inr later) = let below = range-bounds (from + 1) count number later in omega arith
+
+names-array : (name : List ℕ) (slot : ℕ) → array_named name ≡ Some slot → Names name slot
+names-array name slot e =
+    let found = found-written array_name name (range_with_len 0 16) slot e in
+    record { is_array = range-bounds 0 16 slot found.0; written = found.1 }
+
+array-found : (name : List ℕ) (slot : ℕ) → Names name slot → array_named name ≡ Some slot
+array-found name slot h =
+    ap array_named h.written ∙ written-found array_name (range_with_len 0 16) slot one (among-range 0 16 slot (omega arith) h.is_array)
+  where
+    one : (other : ℕ) → IsAmong other (range_with_len 0 16) → array_name slot ≡ array_name other → other ≡ slot
+    one other among e =
+        named-once name other slot (record { is_array = range-bounds 0 16 other among; written = h.written ∙ e }) h
+
+pub named-worked_out : (name : List ℕ) (slot : ℕ) → (array_named name ≡ Some slot) ↔ Names name slot
+named-worked_out name slot = (names-array name slot, array-found name slot)
+
+pub read-array_named : (name : List ℕ) (found : Option ℕ) → MatchOption found ((slot : ℕ) → ¬ Names name slot) (λ slot. Names name slot) → found ≡ array_named name
+read-array_named name (Some slot) names = sym (array-found name slot names)
+read-array_named name None none = by (array_named name) refl
+  where
+    by : (found : Option ℕ) → array_named name ≡ found → None ≡ found
+    by None e = refl
+    by (Some slot) e = absurd (none slot (names-array name slot e))
+
+pub few-arrays : (name : List ℕ) (found : Option ℕ) → MatchOption found ((slot : ℕ) → ¬ Names name slot) (λ slot. Names name slot) → IfSome found (λ slot. slot < 16)
+few-arrays name None none = tt
+few-arrays name (Some slot) names = names.is_array

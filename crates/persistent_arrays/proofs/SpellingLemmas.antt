@@ -115,7 +115,7 @@ kind_with-again (Signed size) is = ap (λ (t : Bool). cond t (Some (Signed size)
 kind_with-again (Fixed size) is = ap (λ (t : Bool). cond t (Some (Fixed size)) None) (and_from (nat_le 1 size) (nat_le size 64) (le-leb 1 size is.0) (le-leb size 64 is.1))
 kind_with-again Varying is = refl
 
-small_number : (size : ℕ) → (size ≡ 1) ⊎ ((size ≡ 2) ⊎ (size ≡ 4)) → size < 100
+pub small_number : (size : ℕ) → (size ≡ 1) ⊎ ((size ≡ 2) ⊎ (size ≡ 4)) → size < 100
 small_number size (inl one) = omega arith
 small_number size (inr (inl two)) = omega arith
 small_number size (inr (inr four)) = omega arith

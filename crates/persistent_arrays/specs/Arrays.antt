@@ -8,7 +8,8 @@ first_byte slot = 64 * slot
 
 -- the area with these bytes at the front of an array, and all others as they were
 abbrev pub with_array : List ℕ → ℕ → List ℕ → List ℕ
-with_array area slot bytes = take (first_byte slot) area ++ (bytes ++ drop (first_byte slot + length bytes) area)
+with_array area slot bytes =
+    take (first_byte slot) area ++ (bytes ++ drop (first_byte slot + length bytes) area)
 
 -- the area after these bytes were written, and as it was where there are none to write
 abbrev pub area_after : List ℕ → ℕ → Option (List ℕ) → List ℕ

@@ -25,12 +25,14 @@ field_bytes (Signed size) (fields.Whole number) = Some (big_bytes size (low_numb
 field_bytes (Fixed size) (fields.Words text) =
     if nat_le (length (bytes_of text)) size then Some (filled size (bytes_of text)) else None
 field_bytes Varying (fields.Words text) =
-    if nat_lt (length (bytes_of text)) 256 then Some (length (bytes_of text) ∷ bytes_of text) else None
+    if nat_lt (length (bytes_of text)) 256
+    then Some (length (bytes_of text) ∷ bytes_of text) else None
 field_bytes kind field = None
 
 -- a number below 256 ^ size as a whole number with a sign, in two's complement
 abbrev pub signed_number : ℕ → ℕ → ℤ
-signed_number size number = if nat_lt (number * 2) (256 ^ size) then pos number else pos number -ℤ pos (256 ^ size)
+signed_number size number =
+    if nat_lt (number * 2) (256 ^ size) then pos number else pos number -ℤ pos (256 ^ size)
 
 -- a number without a sign as a whole number of 32 bits, where one that passes 31 bits wraps
 abbrev pub unsigned_number : ℕ → ℤ

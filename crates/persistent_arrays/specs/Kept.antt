@@ -11,9 +11,12 @@ use Rattle.persistent_arrays.specs.Fields.{low_number, signed_number, unsigned_n
 -- What is kept of a value: a bit itself, of a number what its low bytes are read as, of a text the codes of its bytes,
 -- in a field of a fixed size without those at the end that are 0.
 abbrev pub kept_value : FieldKind → Field → Field
-kept_value (Unsigned size) (fields.Whole number) = fields.Whole (unsigned_number (low_number size number))
-kept_value (Signed size) (fields.Whole number) = fields.Whole (signed_number size (low_number size number))
-kept_value (Fixed size) (fields.Words text) = fields.Words (codes (without_last_zeros (bytes_of text)))
+kept_value (Unsigned size) (fields.Whole number) =
+    fields.Whole (unsigned_number (low_number size number))
+kept_value (Signed size) (fields.Whole number) =
+    fields.Whole (signed_number size (low_number size number))
+kept_value (Fixed size) (fields.Words text) =
+    fields.Words (codes (without_last_zeros (bytes_of text)))
 kept_value Varying (fields.Words text) = fields.Words (codes (bytes_of text))
 kept_value kind field = field
 

@@ -1,7 +1,9 @@
 -- The names of persistent arrays (after ARIB STD-B24, volume 2, the name space `nvram:`; that there are sixteen arrays
 -- under `nvram://~/` is this project's own profile).
-use Rattle.std.specs.Prelude.{◌≡◌, ◌<◌, ℕ, List, ◌++◌, codes as ascii}
+use Rattle.std.specs.Prelude.{◌≡◌, ◌<◌, ℕ, List, ◌++◌, find, Option, codes as ascii}
+use Rattle.std.specs.List.{range_with_len}
 use Rattle.bml_bytes.specs.Numerals.{decimal_digits}
+use Rattle.bml_bytes.specs.Words.{is_same}
 
 -- the name of an array: `nvram://~/` and its number, 0 to 15, in decimal digits
 abbrev pub array_name : ℕ → List ℕ
@@ -11,3 +13,7 @@ array_name slot = ascii "nvram://~/" ++ decimal_digits slot
 pub record Names (text : List ℕ) (slot : ℕ) : Type 0 where
   pub is_array : slot < 16
   pub written : text ≡ array_name slot
+
+-- the array that a text names, worked out; `law_of_array_names` says that this is the same
+abbrev pub array_named : List ℕ → Option ℕ
+array_named text = find (λ slot. is_same text (array_name slot)) (range_with_len 0 16)

@@ -26,7 +26,9 @@ with_bit bit (Bytes bytes ∷ pieces) = Bits (bit ∷ []) ∷ Bytes bytes ∷ pi
 abbrev pub pieces : List FieldKind → List Field → Option (List Piece)
 pieces [] [] = Some []
 pieces (Bit ∷ kinds) (fields.Bit bit ∷ values) = option_map (with_bit bit) (pieces kinds values)
-pieces (kind ∷ kinds) (value ∷ values) = field_bytes kind value >>= λ bytes. option_map (λ rest. Bytes bytes ∷ rest) (pieces kinds values)
+pieces (kind ∷ kinds) (value ∷ values) =
+    field_bytes kind value >>= λ bytes.
+    option_map (λ rest. Bytes bytes ∷ rest) (pieces kinds values)
 pieces kinds values = None
 
 -- the number that bits are where the first has this weight, and each one half the weight of the one before it

@@ -45,13 +45,16 @@ field_at Bit bytes = None
 -- the values of a run at the front of bytes, and the bytes behind it; none where they end before
 abbrev pub run_at : Run → List ℕ → Option (List Field × List ℕ)
 run_at (BitRun count) bytes =
-    option_map (λ read. (map fields.Bit (take count (flat_map bits_of read.0)), read.1)) (bytes_at (div_ceil count 8) bytes)
-run_at (Single kind) bytes = option_map (λ read. (field_value kind read.0 ∷ [], read.1)) (field_at kind bytes)
+    option_map (λ read. (map fields.Bit (take count (flat_map bits_of read.0)), read.1))
+    (bytes_at (div_ceil count 8) bytes)
+run_at (Single kind) bytes =
+    option_map (λ read. (field_value kind read.0 ∷ [], read.1)) (field_at kind bytes)
 
 -- the values of runs, one after another
 abbrev pub values_of : List Run → List ℕ → Option (List Field)
 values_of [] bytes = Some []
-values_of (run ∷ runs) bytes = run_at run bytes >>= λ read. option_map (λ values. read.0 ++ values) (values_of runs read.1)
+values_of (run ∷ runs) bytes =
+    run_at run bytes >>= λ read. option_map (λ values. read.0 ++ values) (values_of runs read.1)
 
 -- the values of fields in the bytes of an array; none where a field passes the bytes' end
 abbrev pub unpacked : List FieldKind → List ℕ → Option (List Field)

@@ -1,7 +1,11 @@
 -- The structure of a persistent array: which fields it has, and how a text spells them (after ARIB STD-B24, volume 2,
 -- readPersistentArray and writePersistentArray; which kinds and sizes there are is this project's own profile).
-use Rattle.std.specs.Prelude.{◌≡◌, ◌≢◌, ◌≤◌, ◌⊎◌, ℕ, List, [], ◌∷◌, ◌++◌, map, All, codes as ascii}
+use Rattle.std.specs.Prelude.{◌≡◌, ◌≢◌, ◌≤◌, ◌⊎◌, ◌==◌, ℕ, if◌then◌else◌, List, [], ◌∷◌, ◌++◌, map, find, All, Option, Some, option_map, codes as ascii}
+use Rattle.std.specs.List.{range_with_len}
+use Rattle.std.specs.Str.{byte}
+use Rattle.bml_bytes.specs.Fields.{◌>>=◌}
 use Rattle.bml_bytes.specs.Numerals.{decimal_digits}
+use Rattle.bml_bytes.specs.Words.{is_same}
 use Rattle.persistent_arrays.specs.declared.kinds.FieldKind.{FieldKind}
 use Rattle.persistent_arrays.specs.declared.kinds.FieldKind.TheVariants.{Bit, Unsigned, Signed, Fixed, Varying}
 
@@ -37,3 +41,36 @@ pub record Spells (text : List ℕ) (kinds : List FieldKind) : Type 0 where
   pub some : kinds ≢ []
   pub sizes : All IsKind kinds
   pub written : text ≡ with_commas (map spelling kinds)
+
+-- ---- what a text spells, worked out; `law_of_structures` says that this is the same
+
+-- all kinds of fields
+abbrev pub all_kinds : List FieldKind
+all_kinds =
+    Bit ∷ Unsigned 1 ∷ Unsigned 2 ∷ Unsigned 4 ∷ Signed 1 ∷ Signed 2 ∷ Signed 4 ∷ Varying
+    ∷ map Fixed (range_with_len 1 64)
+
+abbrev pub kind_spelled : List ℕ → Option FieldKind
+kind_spelled text = find (λ kind. is_same text (spelling kind)) all_kinds
+
+-- the texts with one more code in front of the first
+abbrev pub code_in_front : ℕ → List (List ℕ) → List (List ℕ)
+code_in_front code [] = (code ∷ []) ∷ []
+code_in_front code (text ∷ texts) = (code ∷ text) ∷ texts
+
+-- the texts between the commas of a text, in their order
+unfoldable pub between_commas : List ℕ → List (List ℕ)
+between_commas [] = [] ∷ []
+between_commas (code ∷ codes) =
+    if code == byte "," then [] ∷ between_commas codes
+    else code_in_front code (between_commas codes)
+
+-- the kinds that texts spell, where each spells one
+abbrev pub kinds_spelled : List (List ℕ) → Option (List FieldKind)
+kinds_spelled [] = Some []
+kinds_spelled (text ∷ texts) =
+    kind_spelled text >>= λ kind. option_map (λ kinds. kind ∷ kinds) (kinds_spelled texts)
+
+-- the fields that a text spells
+abbrev pub structure_spelled : List ℕ → Option (List FieldKind)
+structure_spelled text = kinds_spelled (between_commas text)

@@ -1,7 +1,7 @@
 //! What the definitions of this crate say together. A law's contract is what it is for, and it does nothing when it
 //! runs.
 
-ghost use Rattle.std.specs.Prelude.{◌≡◌, ◌≢◌, ◌<◌, ◌≤◌, ◌-◌, ◌*◌, ◌^◌, ◌++◌, ◌-ℤ◌, ℕ, ℤ, pos, Bool, false, List, Some, length, replicate};
+ghost use Rattle.std.specs.Prelude.{◌≡◌, ◌≢◌, ◌↔◌, ◌<◌, ◌≤◌, ◌-◌, ◌*◌, ◌^◌, ◌++◌, ◌-ℤ◌, ℕ, ℤ, pos, Bool, false, List, Some, length, replicate};
 ghost use Rattle.bml_bytes.specs.Codes.{bytes_of, codes};
 ghost use Rattle.persistent_arrays.specs.declared.fields.Field.{Field};
 ghost use Rattle.persistent_arrays.specs.declared.fields.Field.TheVariants.{Whole, Words};
@@ -9,22 +9,26 @@ ghost use Rattle.persistent_arrays.specs.declared.kinds.FieldKind.{FieldKind};
 ghost use Rattle.persistent_arrays.specs.declared.kinds.FieldKind.TheVariants.{Unsigned, Signed, Varying};
 ghost use Rattle.persistent_arrays.specs.Arrays.{array_in, with_array};
 ghost use Rattle.persistent_arrays.specs.Kept.{kept_value, kept_values};
-ghost use Rattle.persistent_arrays.specs.Names.{Names};
+ghost use Rattle.persistent_arrays.specs.Names.{Names, array_named};
 ghost use Rattle.persistent_arrays.specs.Packing.{packed, packed_in_array, weighed};
 ghost use Rattle.persistent_arrays.specs.Reading.{bits_of, unpacked};
-ghost use Rattle.persistent_arrays.specs.Structures.{IsKind, Spells};
+ghost use Rattle.persistent_arrays.specs.Structures.{IsKind, Spells, structure_spelled};
 
 use bml_bytes::{law_of_big_numbers, law_of_fields};
 
-/// A text spells at most one structure.
+/// A text spells at most one structure, which is the one that is worked out.
 pub fn law_of_structures()
-    ensures { (text : List ℕ) (kinds others : List FieldKind) →
+    ensures one { (text : List ℕ) (kinds others : List FieldKind) →
         Spells text kinds → Spells text others → kinds ≡ others }
+    ensures spelled { (text : List ℕ) (kinds : List FieldKind) →
+        (structure_spelled text ≡ Some kinds) ↔ Spells text kinds }
 {}
 
-/// A text names at most one array.
+/// A text names at most one array, which is the one that is worked out.
 pub fn law_of_array_names()
-    ensures { (name : List ℕ) (slot other : ℕ) → Names name slot → Names name other → slot ≡ other }
+    ensures one { (name : List ℕ) (slot other : ℕ)
+        → Names name slot → Names name other → slot ≡ other }
+    ensures named { (name : List ℕ) (slot : ℕ) → (array_named name ≡ Some slot) ↔ Names name slot }
 {}
 
 /// What was packed is read again as it is kept: from the bytes, whatever stands behind them, and so from the array
@@ -42,7 +46,8 @@ pub fn law_of_kept_fields()
     law_of_big_numbers();
 }
 
-/// A number that its field has room for is kept as it is, and so is a text that is read from its own bytes.
+/// A number that its field has room for is kept as it is, and so is a text of varying size that its own bytes are read
+/// as.
 pub fn law_of_kept_values()
     ensures unsigned { (size number : ℕ) → IsKind (Unsigned size) →
         number < 256 ^ size → number < 2 ^ 31 →

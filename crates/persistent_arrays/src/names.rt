@@ -1,7 +1,7 @@
 //! The names of persistent arrays.
 
-ghost use Rattle.std.specs.Prelude.{◌≡◌, ◌==◌, ◌&&◌, ℕ, nat_lt, length, MatchOption};
-ghost use Rattle.persistent_arrays.specs.Names.{Names};
+ghost use Rattle.std.specs.Prelude.{◌≡◌, ◌<◌, ◌==◌, ◌&&◌, ℕ, nat_lt, length, IfSome, MatchOption};
+ghost use Rattle.persistent_arrays.specs.Names.{Names, array_named};
 ghost use Rattle.persistent_arrays.specs.devices.Spelling.{number_of_array};
 
 use crate::spelling::numeral_at;
@@ -15,8 +15,10 @@ const ARRAY_COUNT: u8 = 16;
 
 /// The number of the array that a text names, and None exactly where it names none. This takes no memory.
 pub fn slot_of(name: &Text) -> Option<u8>
-    ensures { MatchOption result ((slot : ℕ) → ¬ Names name.now slot)
+    ensures names { MatchOption result ((slot : ℕ) → ¬ Names name.now slot)
         (λ slot. Names name.now slot) }
+    ensures named { result ≡ array_named name.now }
+    ensures bound { IfSome result (λ slot. slot < 16) }
 {
     let codes = name.codes();
     if codes.len() < FRONT.len() {

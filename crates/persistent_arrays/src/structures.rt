@@ -2,7 +2,7 @@
 
 ghost use Rattle.std.specs.Prelude.{◌≡◌, List, All, slice_get, IfOk, MatchOption};
 ghost use Rattle.persistent_arrays.specs.declared.kinds.FieldKind.{FieldKind};
-ghost use Rattle.persistent_arrays.specs.Structures.{IsKind, Spells};
+ghost use Rattle.persistent_arrays.specs.Structures.{IsKind, Spells, structure_spelled};
 
 use crate::kinds::{FieldKind, read_kind};
 use crate::spelling::next_code;
@@ -31,9 +31,10 @@ impl Model for Structure {
 impl Structure {
     /// The structure that a text spells, and None exactly where it spells none.
     pub fn read(alloc: Global, text: &Text) -> Result<Option<Structure>, NoMemory>
-        ensures { IfOk result (λ found. MatchOption found
+        ensures spells { IfOk result (λ found. MatchOption found
             ((kinds : List FieldKind) → ¬ Spells text.now kinds)
             (λ structure. Spells text.now structure)) }
+        ensures spelled { IfOk result (λ found. found ≡ structure_spelled text.now) }
     {
         let mut kinds = Vec::new(alloc);
         let mut left = text.codes();
@@ -57,8 +58,8 @@ impl Structure {
         self.kinds.as_slice().get(place).copied()
     }
 
-    // All of its kinds.
-    pub(crate) fn kinds(&self) -> &[FieldKind]
+    /// All of its kinds. This takes no memory.
+    pub fn kinds(&self) -> &[FieldKind]
         ensures kinds { result.now ≡ self.now }
         ensures sizes { All IsKind result.now }
     {

@@ -20,16 +20,18 @@ use Rattle.module_locks.specs.Locks.{Modules, at_start, changes_by, with_map, wi
 use Rattle.module_locks.specs.Standing.{ForModules, ModulesState}
 use Rattle.module_locks.specs.Standing as of_modules
 use Rattle.page.specs.Dispatches as dispatches
-use Rattle.page.specs.Inputs.{messages_step, with_random}
+use Rattle.page.specs.Inputs.{display_of, messages_step, with_random}
 use Rattle.page.specs.Standing.{PageState, page_area}
 use Rattle.page.specs.Standing as pages
 use Rattle.page.specs.State as paging
 use Rattle.page.specs.State.{area_of}
-use Rattle.receiver_core.specs.Broadcasts.{BroadcastState, HasMade, Makes, MakesOutcome, StandsFor}
-use Rattle.receiver_core.specs.Outputs.{Piece, with_piece, without_piece}
+use Rattle.receiver_core.specs.BroadcastCalls.{MakesInput}
+use Rattle.receiver_core.specs.Broadcasts.{BroadcastState, HasMade, HasOutcome, Makes, StandsFor}
+use Rattle.receiver_core.specs.Outputs.{Piece, with_piece}
 use Rattle.receiver_core.specs.State.{State, opening, services, wants}
 use Rattle.receiver_core.specs.Turns.{Step, due_turn, key_turn, messages_of_reading, of_page, page_turn, section_messages, step_of_modules, step_of_section, step_of_table, step_of_tag, turn}
 use Rattle.receiver_core.specs.Turns.{with_changes, with_handled, with_messages, with_modules, with_turn}
+use Rattle.receiver_core.specs.declared.broadcast.Input.TheVariants as handed
 use Rattle.receiver_core.proofs.PostingLaws.{in_component}
 
 same_services : (a b : ServicesState) → a.selection ≡ b.selection → a.service ≡ b.service → a.map ≡ b.map → a ≡ b
@@ -132,35 +134,58 @@ area_kept state s stands = ap (λ b. b.area) stands.page.browser
 -- ---- inputs that are handed in whole
 
 -- a step, whose text is a piece
-pub outcome_with : (step : State → Step) (old new : BroadcastState) (before after : List ℕ)
-    → Makes step old new before after → MakesOutcome (λ s. with_piece (step s)) old new before after
-outcome_with step old new before after made = record {
-  pieces = piece made.text (page_area new.page) ∷ [];
-  printed = made.printed ∙ ap (λ (l : List ℕ). before ++ l) (sym (append-nil made.text));
-  gives = λ s stands.
-      let has = made.makes s stands in
-      record {
-        stands = has.stands;
-        pieces_are = ap₂ (λ (text area : List ℕ). piece text area ∷ []) has.text_is (area_kept new (step s).state has.stands);
-      };
+pub has_piece : (new : BroadcastState) (text : List ℕ) (t : Step) → HasMade new text t
+    → HasOutcome new (record { text = text; area = page_area new.page } ∷ []) (with_piece t)
+has_piece new text t has = record {
+  stands = has.stands;
+  pieces_are = ap₂ piece has.text_is (area_kept new t.state has.stands);
 }
   where
-    piece : List ℕ → List ℕ → Piece
-    piece text area = record { text = text; area = area }
+    piece : List ℕ → List ℕ → List Piece
+    piece text area = record { text = text; area = area } ∷ []
 
--- another state, and no piece
-pub outcome_without : (state : State → State) (old new : BroadcastState) (before after : List ℕ) → after ≡ before
-    → ((s : State) → StandsFor old s → StandsFor new (state s))
-    → MakesOutcome (λ s. without_piece (state s)) old new before after
-outcome_without state old new before after same stands = record {
-  pieces = [];
-  printed = same ∙ sym (append-nil before);
-  gives = λ s stood. record { stands = stands s stood; pieces_are = refl };
+pub key_made : (key : ℕ) (old new : BroadcastState) (before after : List ℕ)
+    → Makes (key_turn key true) old new before after → MakesInput (handed.Key key) old new before after
+key_made key old new before after made = record {
+  text = made.text;
+  printed = made.printed;
+  area = λ silent. absurd silent;
+  gives = λ s stands. has_piece new made.text (key_turn key true s) (made.makes s stands);
 }
 
-pub random_added : (old : BroadcastState) (page : PageState) (word : ℕ) → ((modules : ModulesState) (s : paging.State) → pages.StandsFor old.page modules s → pages.StandsFor page modules (with_random word s))
-    → (s : State) → StandsFor old s → StandsFor (with_page old page) (record s { page = with_random word s.page })
-random_added old page word added s stands = stands_with old page s (with_random word s.page) stands (added old.modules s.page stands.page)
+pub release_made : (key : ℕ) (old new : BroadcastState) (before after : List ℕ)
+    → Makes (key_turn key false) old new before after → MakesInput (handed.Release key) old new before after
+release_made key old new before after made = record {
+  text = made.text;
+  printed = made.printed;
+  area = λ silent. absurd silent;
+  gives = λ s stands. has_piece new made.text (key_turn key false s) (made.makes s stands);
+}
+
+pub shown : (old new : BroadcastState) (before after : List ℕ)
+    → Makes (λ s. record { state = s; text = display_of s.page }) old new before after
+    → MakesInput handed.Show old new before after
+shown old new before after made = record {
+  text = made.text;
+  printed = made.printed;
+  area = λ silent. absurd silent;
+  gives = λ s stands.
+      has_piece new made.text (record { state = s; text = display_of s.page }) (made.makes s stands);
+}
+
+pub random_added : (word : ℕ) (old : BroadcastState) (page : PageState) (before : List ℕ)
+    → ((modules : ModulesState) (s : paging.State) → pages.StandsFor old.page modules s → pages.StandsFor page modules (with_random word s))
+    → page_area page ≡ page_area old.page
+    → MakesInput (handed.Random word) old (with_page old page) before before
+random_added word old page before added same = record {
+  text = [];
+  printed = sym (append-nil before);
+  area = λ silent. same;
+  gives = λ s stands. record {
+    stands = stands_with old page s (with_random word s.page) stands (added old.modules s.page stands.page);
+    pieces_are = refl;
+  };
+}
 
 -- ---- changes that are posted
 

@@ -1,5 +1,5 @@
 -- What a receiver stands for, behind one input or one section more.
-use Rattle.std.proofs.Common.{◌≡◌, ◌≢◌, ◌≤◌, ◌<◌, ◌+◌, ℕ, suc, Bool, true, false, cond, eqb, List, [], ◌∷◌, ◌++◌, refl, sym, ap, ap₂, ◌∙◌, subst, append_assoc, append-nil, arith, length, filter, ⊎_elim, true≢false}
+use Rattle.std.proofs.Common.{◌≡◌, ◌≢◌, ◌≤◌, ◌<◌, ◌-◌, ◌⊎◌, ℕ, suc, Bool, true, false, cond, eqb, List, [], ◌∷◌, ◌++◌, refl, sym, ap, ap₂, ◌∙◌, subst, append_assoc, append-nil, arith, length, filter, ⊎_elim, inl, inr, true≢false}
 use Rattle.std.specs.Prelude.{◌&&◌, if◌then◌else◌}
 use Rattle.std.proofs.lemmas.Bool.{eqb-true, ne_eqb, eq-eqb, cases_eq}
 use Rattle.ts_packets.specs.Packet.{pid_of}
@@ -12,21 +12,23 @@ use Rattle.section_demultiplexer.specs.Demultiplexing as demultiplexing
 use Rattle.section_demultiplexer.specs.Laws.{SameLists}
 use Rattle.es_reader.specs.Readers.{Reader}
 use Rattle.page.specs.Standing.{page_area}
-use Rattle.receiver_core.specs.Broadcasts.{BroadcastState, HasMade, MakesOutcome}
+use Rattle.receiver_core.specs.BroadcastCalls.{MakesInput, TakesTurn, Waits}
+use Rattle.receiver_core.specs.BroadcastCalls as calls
+use Rattle.receiver_core.specs.Broadcasts.{BroadcastState, HasMade, HasOutcome}
 use Rattle.receiver_core.specs.Broadcasts as broadcasts
 use Rattle.receiver_core.specs.declared.broadcast.Input.{Input as HandedIn}
 use Rattle.receiver_core.specs.declared.broadcast.Input.TheVariants as handed
 use Rattle.receiver_core.specs.Fronts.{IsFront}
 use Rattle.receiver_core.specs.Outputs.{Input, Piece, input_of, outcome_of, outputs, piece_of, pieces_of, pieces_of_turns, sections_by}
 use Rattle.receiver_core.specs.Outputs.{state_after, state_behind, state_behind_turns, with_packet}
-use Rattle.receiver_core.specs.Receiving.{Answers, Gives, IsIdle, IsOver, MakesTurn, PassesDamaged, ReceiverState, StandsFor, Stays, Takes}
+use Rattle.receiver_core.specs.Receiving.{Answers, Gives, IsIdle, IsOver, MakesDueTurn, MakesTurn, PassesDamaged, PassesTime, ReceiverState, StandsFor, Stays, Takes, piece_for}
 use Rattle.receiver_core.specs.State.{State, opening, services}
-use Rattle.receiver_core.specs.Outputs.Input.{Packet, Show}
+use Rattle.receiver_core.specs.Outputs.Input.{Packet, Random, Tick}
 use Rattle.receiver_core.specs.Turns.{turn}
 use Rattle.receiver_core.specs.State as state_of
 use Rattle.receiver_core.proofs.OutputLaws.{behind_one_more, no_outputs, outputs_one_more}
 use Rattle.receiver_core.proofs.BroadcastLaws.{area_kept, key_packets, services_are, turn_packets}
-use Rattle.receiver_core.proofs.TimeLaws.{time_packets}
+use Rattle.receiver_core.proofs.TickLaws.{time_packets}
 
 -- what callers see of a receiver that keeps this
 abbrev pub seen : DemultiplexerState → BroadcastState → Bool → ReceiverState
@@ -87,58 +89,65 @@ stands_first read selection area d b none assembled stands = record {
   kept = record { broadcast = stands; sections = λ pid. []; assembled = assembled };
 }
 
+-- ---- one input more
+
+-- what the broadcast makes of it, where nothing waits, and the packets stay
+took : (input : Input) (pieces : List Piece) (d : DemultiplexerState) (b c : BroadcastState) (spent still : Bool) (read : Reader) (selection : Selection) (area : List ℕ) (inputs : List Input) (given : List Piece)
+    → (s : StandsFor read selection area (seen d b spent) inputs given) → still ≡ false → d.waiting ≡ []
+    → HasOutcome c pieces (outcome_of input s.now) → (state_after input s.now).packets ≡ s.now.packets
+    → StandsFor read selection area (seen d c still) (inputs ++ input ∷ []) (given ++ pieces)
+took input pieces d b c spent still read selection area inputs given s unspent none has packets =
+    let state = seen d b spent in
+    let now = state_after input s.now in
+    record {
+      now = now;
+      left = next_state read selection area state inputs given s input none ∙ sym (no_turns d.pid d.waiting now none);
+      pieces =
+          next_pieces read selection area state inputs given s input none
+          ∙ ap (λ (l : List Piece). given ++ l) (sym has.pieces_are)
+          ∙ sym (append-nil (given ++ pieces))
+          ∙ ap (λ (l : List Piece). (given ++ pieces) ++ l) (sym (no_pieces d.pid d.waiting now none));
+      services_are = services_are c now has.stands;
+      clock_is = has.stands.page.clock;
+      area_is = area_kept c now has.stands;
+      unspent = unspent;
+      kept = record {
+        broadcast = has.stands;
+        sections = s.kept.sections;
+        assembled = subst (λ (packets : ℕ → List (List ℕ)). demultiplexing.StandsFor d packets s.kept.sections) (sym packets) s.kept.assembled;
+      };
+    }
+
 -- ---- an input that is handed in whole
 
 -- it leaves the packets
-pub keeps_packets : (input : HandedIn) (s : State) → (state_after (input_of input) s).packets ≡ s.packets
+keeps_packets : (input : HandedIn) (s : State) → (state_after (input_of input) s).packets ≡ s.packets
 keeps_packets (handed.Key key) s = key_packets key true s
 keeps_packets (handed.Release key) s = key_packets key false s
-keeps_packets (handed.Tick count) s = time_packets count (s.page.clock + count) s
-keeps_packets _ s = refl
+keeps_packets (handed.Random word) s = refl
+keeps_packets handed.Show s = refl
 
 -- what the broadcast makes of it is the receiver's answer
 pub answers : (input : HandedIn) (d : DemultiplexerState) (b c : BroadcastState) (spent still : Bool)
-    (before after : List ℕ) → still ≡ false → MakesOutcome (outcome_of (input_of input)) b c before after
-    → Answers (input_of input) (seen d b spent) (seen d c still) before after
-answers handed_in d b c spent still before after unspent made = record {
-  pieces = made.pieces;
+    (before after : List ℕ) → still ≡ false → MakesInput input b c before after
+    → Answers input (seen d b spent) (seen d c still) before after
+answers input d b c spent still before after unspent made = record {
+  text = made.text;
   printed = made.printed;
-  pieces_are = λ read selection area inputs given s. (made.gives s.now s.kept.broadcast).pieces_are;
+  area = made.area;
+  pieces_are = λ read selection area inputs given s. sym (made.gives s.now s.kept.broadcast).pieces_are;
   taken = λ idle read selection area inputs given s.
-      let input = input_of handed_in in
-      let state = seen d b spent in
-      let none = idle s.unspent in
-      let now = state_after input s.now in
-      let has = made.gives s.now s.kept.broadcast in
-      record {
-        now = now;
-        left = next_state read selection area state inputs given s input none ∙ sym (no_turns d.pid d.waiting now none);
-        pieces =
-            next_pieces read selection area state inputs given s input none
-            ∙ ap (λ (l : List Piece). given ++ l) (sym has.pieces_are)
-            ∙ sym (append-nil (given ++ made.pieces))
-            ∙ ap (λ (l : List Piece). (given ++ made.pieces) ++ l) (sym (no_pieces d.pid d.waiting now none));
-        services_are = services_are c now has.stands;
-        clock_is = has.stands.page.clock;
-        area_is = area_kept c now has.stands;
-        unspent = unspent;
-        kept = record {
-          broadcast = has.stands;
-          sections = s.kept.sections;
-          assembled =
-              subst (λ (packets : ℕ → List (List ℕ)). demultiplexing.StandsFor d packets s.kept.sections)
-              (sym (keeps_packets handed_in s.now)) s.kept.assembled;
-        };
-      };
+      took (input_of input) (piece_for input made.text (page_area c.page)) d b c spent still read selection area inputs given s
+      unspent (idle s.unspent) (made.gives s.now s.kept.broadcast) (keeps_packets input s.now);
 }
 
 -- the wish to see the display leaves what the receiver stands for, also while sections wait
 pub stays_shown : (input : HandedIn) (d : DemultiplexerState) (b c : BroadcastState) (spent still : Bool)
-    (before after : List ℕ) → still ≡ false → MakesOutcome (outcome_of (input_of input)) b c before after
-    → input_of input ≡ Show → Stays (seen d b spent) (seen d c still)
-stays_shown handed_in d b c spent still before after unspent made shows read selection area inputs given s =
+    (before after : List ℕ) → still ≡ false → MakesInput input b c before after
+    → input ≡ handed.Show → Stays (seen d b spent) (seen d c still)
+stays_shown input d b c spent still before after unspent made shows read selection area inputs given s =
     let stands : broadcasts.StandsFor c s.now =
-    subst (λ (input : Input). broadcasts.StandsFor c (state_after input s.now)) shows
+    subst (λ (it : HandedIn). broadcasts.StandsFor c (state_after (input_of it) s.now)) shows
     (made.gives s.now s.kept.broadcast).stands in
     record {
       now = s.now;
@@ -151,15 +160,45 @@ stays_shown handed_in d b c spent still before after unspent made shows read sel
       kept = record { broadcast = stands; sections = s.kept.sections; assembled = s.kept.assembled };
     }
 
--- one that gives no piece
-pub takes_silent : (input : Input) (old new : ReceiverState) (before after : List ℕ)
-    → ((s : State) → pieces_of input s ≡ []) → IsIdle old → Answers input old new before after
-    → Takes input old new
-takes_silent input old new before after none idle made read selection area inputs given s =
-    subst (λ (l : List Piece). StandsFor read selection area new (inputs ++ input ∷ []) l)
-    (ap (λ (l : List Piece). given ++ l) (made.pieces_are read selection area inputs given s ∙ none s.now)
-    ∙ append-nil given)
+-- a random word gives no piece
+pub takes_random : (word : ℕ) (old new : ReceiverState) (before after : List ℕ) → IsIdle old
+    → Answers (handed.Random word) old new before after → Takes (Random word) old new
+takes_random word old new before after idle made read selection area inputs given s =
+    subst (λ (l : List Piece). StandsFor read selection area new (inputs ++ Random word ∷ []) l) (append-nil given)
     (made.taken idle read selection area inputs given s)
+
+-- ---- time
+
+time_waits : (left : ℕ) (d : DemultiplexerState) (b c : BroadcastState) (spent still : Bool) (before after : List ℕ) → still ≡ false → IsIdle (seen d b spent)
+    → Waits left b c before after → PassesTime left (seen d b spent) (seen d c still) before after
+time_waits left d b c spent still before after unspent idle made = record {
+  silent = made.silent;
+  area = made.area;
+  takes = λ read selection area inputs given s.
+      subst (λ (l : List Piece). StandsFor read selection area (seen d c still) (inputs ++ Tick left ∷ []) l) (append-nil given)
+      (took (Tick left) [] d b c spent still read selection area inputs given s unspent (idle s.unspent) (made.passes s.now s.kept.broadcast) (time_packets left s.now));
+}
+
+time_turns : (passed : ℕ) (d : DemultiplexerState) (b c : BroadcastState) (spent still : Bool) (before after : List ℕ) → still ≡ false → IsIdle (seen d b spent)
+    → TakesTurn passed b c before after → MakesDueTurn passed (seen d b spent) (seen d c still) before after
+time_turns passed d b c spent still before after unspent idle made = record {
+  text = made.text;
+  printed = made.printed;
+  taken = λ read selection area inputs given s.
+      took (Tick passed) (record { text = made.text; area = page_area c.page } ∷ []) d b c spent still read selection area inputs given s
+      unspent (idle s.unspent) (made.passes s.now s.kept.broadcast) (time_packets passed s.now);
+}
+
+-- to its end, or to a turn
+pub passes_time : (left rest : ℕ) (d : DemultiplexerState) (b c : BroadcastState) (spent still : Bool) (before after : List ℕ) → still ≡ false → IsIdle (seen d b spent)
+    → calls.PassesTime left rest b c before after
+    → ((rest ≡ 0) × PassesTime left (seen d b spent) (seen d c still) before after)
+    ⊎ MakesDueTurn (left - rest) (seen d b spent) (seen d c still) before after
+passes_time left rest d b c spent still before after unspent idle made =
+    ⊎_elim
+    (λ (made : (rest ≡ 0) × Waits left b c before after). inl (made.0, time_waits left d b c spent still before after unspent idle made.1))
+    (λ (made : TakesTurn (left - rest) b c before after). inr (time_turns (left - rest) d b c spent still before after unspent idle made))
+    made
 
 -- ---- a packet
 
@@ -287,6 +326,7 @@ no_turn old new b spent text over = record {
   none = over.none;
   left = over.left;
   silent = refl;
+  area = refl;
   stays = λ read selection area inputs given s. record {
     now = s.now;
     left = s.left ∙ no_turns old.pid old.waiting s.now over.none ∙ sym (no_turns new.pid new.waiting s.now over.left);
@@ -315,6 +355,7 @@ passes_damaged old new b spent section text gives damaged =
       next = gives.next;
       damaged = damaged;
       silent = refl;
+      area = refl;
       stays = λ read selection area inputs given s. record {
         now = s.now;
         left = s.left ∙ ap₂ (λ (p : ℕ) (l : List (List ℕ)). state_behind_turns p l s.now) (sym gives.pid) same;

@@ -1,3 +1,4 @@
+pub mod BroadcastCalls
 pub mod Broadcasts
 pub mod Fronts
 pub mod Keeping

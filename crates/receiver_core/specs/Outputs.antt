@@ -1,6 +1,6 @@
 -- What comes to a receiver, and what it prints for that: a list of pieces, one for each turn and one
 -- for each display list that is asked for. (This project's own.)
-use Rattle.std.specs.Prelude.{ℕ, zero, suc, ◌+◌, ◌==◌, nat_le, true, false, ◌&&◌, if◌then◌else◌, List, [], ◌∷◌, ◌++◌, filter, map, Option, Some, None, option_and_then}
+use Rattle.std.specs.Prelude.{ℕ, zero, suc, ◌+◌, ◌==◌, nat_le, Bool, true, false, ◌&&◌, if◌then◌else◌, List, [], ◌∷◌, ◌++◌, filter, map}
 use Rattle.std.specs.Option.{option_map_or}
 use Rattle.ts_packets.specs.Packet.{pid_of}
 use Rattle.ts_sections.specs.Sections.{completed_by}
@@ -27,18 +27,12 @@ pub data Input : Type 0 where
   -- the wish to see what is displayed
   Show : Input
 
--- the input that a call hands in whole; packets are handed in by themselves
+-- the input that a call hands in whole; packets and time are handed in by themselves
 abbrev pub input_of : HandedIn → Input
 input_of (handed.Key key) = Key key
 input_of (handed.Release key) = Release key
-input_of (handed.Tick count) = Tick count
 input_of (handed.Random word) = Random word
 input_of handed.Show = Show
-
--- how many milliseconds an input lets pass
-abbrev pub milliseconds_of : Input → ℕ
-milliseconds_of (Tick count) = count
-milliseconds_of _ = 0
 
 -- a text, and the persistent area behind it
 pub record Piece : Type 0 where
@@ -98,30 +92,31 @@ without_piece s = record { state = s; pieces = [] }
 
 -- ---- time
 
--- a step gives its piece, and then this comes of the state that it leaves
-abbrev pub with_first : Step → Outcome → Outcome
-with_first step outcome =
-    record { state = outcome.state; pieces = piece_of step ∷ outcome.pieces }
+-- a timer is due by a moment
+abbrev pub is_due_by : ℕ → State → Bool
+is_due_by moment s = option_map_or (λ due. nat_le due moment) (due_next s.page) false
 
--- the clock goes to the end, without a turn
-abbrev pub waits_until : ℕ → State → Outcome
-waits_until end s = without_piece (record s { page = with_clock end s.page })
+-- the clock goes to a moment, without a turn
+abbrev pub at_moment : ℕ → State → State
+at_moment moment s = record s { page = with_clock moment s.page }
 
-abbrev pub not_after : ℕ → ℕ → Option ℕ
-not_after end moment = if nat_le moment end then Some moment else None
+-- the clock reaches a moment: where a timer is due by then, its turn is made
+abbrev pub reaches : ℕ → State → Outcome
+reaches moment s =
+    if is_due_by moment s
+    then with_piece (due_turn moment s)
+    else without_piece (at_moment moment s)
 
--- the next moment when a timer is due, where it comes by the end
-abbrev pub due_by : ℕ → State → Option ℕ
-due_by end s = option_and_then (not_after end) (due_next s.page)
+-- what comes first, and then this of the state that it leaves
+abbrev pub followed_by : Outcome → (State → Outcome) → Outcome
+followed_by first next =
+    record { state = (next first.state).state; pieces = first.pieces ++ (next first.state).pieces }
 
--- Time passes from due moment to due moment, each with its turn, and then to the end. There are no more due moments than
--- milliseconds, since each comes later than the one before.
-unfoldable pub time_passes : ℕ → ℕ → State → Outcome
-time_passes zero end s = waits_until end s
-time_passes (suc more) end s =
-    option_map_or
-    (λ moment. with_first (due_turn moment s) (time_passes more end (due_turn moment s).state))
-    (due_by end s) (waits_until end s)
+-- So many milliseconds pass, one behind the other. `law_of_ticks` says that so time goes from due
+-- moment to due moment, each with its turn, and then to its end.
+unfoldable pub time_passes : ℕ → State → Outcome
+time_passes zero s = without_piece s
+time_passes (suc more) s = followed_by (reaches (s.page.clock + 1) s) (time_passes more)
 
 -- ---- all of them
 
@@ -134,7 +129,7 @@ outcome_of (Packet packet) s = record {
 }
 outcome_of (Key key) s = with_piece (key_turn key true s)
 outcome_of (Release key) s = with_piece (key_turn key false s)
-outcome_of (Tick count) s = time_passes count (s.page.clock + count) s
+outcome_of (Tick count) s = time_passes count s
 outcome_of (Random word) s = without_piece (record s { page = with_random word s.page })
 outcome_of Show s = with_piece (record { state = s; text = display_of s.page })
 

@@ -1,17 +1,20 @@
 -- What a receiver stands for: what came to it so far, and the pieces that it gave for that. (This
 -- project's own.)
-use Rattle.std.specs.Prelude.{◌≡◌, ℕ, Bool, true, false, if◌then◌else◌, List, [], ◌∷◌, ◌++◌}
-use Rattle.std.specs.Prelude.{filter, length}
-use Rattle.std.specs.List.{concat}
+use Rattle.std.specs.Prelude.{◌≡◌, ℕ, ◌+◌, max, min, Bool, true, false, if◌then◌else◌, List, []}
+use Rattle.std.specs.Prelude.{◌∷◌, ◌++◌, filter, length}
+use Rattle.std.specs.Option.{option_map_or}
 use Rattle.ts_sections.specs.Intact.{is_intact}
 use Rattle.psi_tables.specs.declared.services.Selection.{Selection}
 use Rattle.psi_tables.specs.Service.{ServicesState, wants}
 use Rattle.es_reader.specs.Readers.{Reader}
+use Rattle.page.specs.Inputs.{due_next}
 use Rattle.page.specs.State.{area_of}
 use Rattle.receiver_core.specs.Keeping.{KeptState, Keeps}
-use Rattle.receiver_core.specs.Outputs.{Input, Piece, outputs, pieces_of, pieces_of_turns}
-use Rattle.receiver_core.specs.Outputs.{state_behind, state_behind_turns, texts_of}
-use Rattle.receiver_core.specs.Outputs.Input.{Random}
+use Rattle.receiver_core.specs.Outputs.{Input, Piece, input_of, outputs, pieces_of, pieces_of_turns}
+use Rattle.receiver_core.specs.Outputs.{state_behind, state_behind_turns}
+use Rattle.receiver_core.specs.Outputs.Input.{Tick}
+use Rattle.receiver_core.specs.declared.broadcast.Input.{Input as HandedIn}
+use Rattle.receiver_core.specs.declared.broadcast.Input.TheVariants as handed
 use Rattle.receiver_core.specs.State.{State, opening, services}
 
 pub record ReceiverState : Type 0 where
@@ -26,7 +29,7 @@ pub record ReceiverState : Type 0 where
   pub area : List ℕ
   -- whether a call found no memory
   pub spent : Bool
-  -- a device of the proofs, of which no clause speaks
+  -- a device of the proofs, which clauses name by `StandsFor` alone
   pub kept : KeptState
 
 -- The inputs came, and these pieces were given so far. What the turns so far left is one state, and
@@ -100,6 +103,7 @@ pub record IsOver (old new : ReceiverState) (before after : List ℕ) : Type 0 w
   pub none : old.waiting ≡ []
   pub left : new.waiting ≡ []
   pub silent : after ≡ before
+  pub area : new.area ≡ old.area
   pub stays : Stays old new
 
 -- The next section is damaged: it is passed over, and nothing is printed.
@@ -108,6 +112,7 @@ pub record PassesDamaged (old new : ReceiverState) (before after : List ℕ) : T
   pub next : old.waiting ≡ section ∷ new.waiting
   pub damaged : is_intact section ≡ false
   pub silent : after ≡ before
+  pub area : new.area ≡ old.area
   pub stays : Stays old new
 
 -- The next section is intact: its turn is made, and its text printed. As long as their PID is
@@ -122,18 +127,57 @@ pub record MakesTurn (old new : ReceiverState) (before after : List ℕ) : Type 
   pub printed : after ≡ before ++ text
   pub gives : Gives text old new
 
--- An input gave pieces, whose texts are printed: those of the state that the turns so far left. Where
--- no turn was still to come, the receiver took the input, and gave these for it.
-pub record Answers (input : Input) (old new : ReceiverState) (before after : List ℕ)
+-- nothing is printed for it: for a random word
+abbrev pub IsSilent : HandedIn → Type 0
+IsSilent (handed.Key key) = ⊥
+IsSilent (handed.Release key) = ⊥
+IsSilent (handed.Random word) = Unit {0}
+IsSilent handed.Show = ⊥
+
+-- the piece that an input gave: this text, with the area behind it. A random word gives none.
+abbrev pub piece_for : HandedIn → List ℕ → List ℕ → List Piece
+piece_for (handed.Key key) text area = record { text = text; area = area } ∷ []
+piece_for (handed.Release key) text area = record { text = text; area = area } ∷ []
+piece_for (handed.Random word) text area = []
+piece_for handed.Show text area = record { text = text; area = area } ∷ []
+
+-- An input gave its piece, whose text is printed: that of the state that the turns so far left.
+-- Where no turn was still to come, the receiver took the input, and gave this piece for it. An input
+-- without a piece leaves the area.
+pub record Answers (input : HandedIn) (old new : ReceiverState) (before after : List ℕ)
     : Type 0 where
-  pub pieces : List Piece
-  pub printed : after ≡ before ++ concat (texts_of pieces)
-  pub pieces_are : ForState old (λ now. pieces ≡ pieces_of input now)
+  pub text : List ℕ
+  pub printed : after ≡ before ++ text
+  pub area : IsSilent input → new.area ≡ old.area
+  pub pieces_are : ForState old
+      (λ now. pieces_of (input_of input) now ≡ piece_for input text new.area)
   pub taken : IsIdle old → (read : Reader) (selection : Selection) (area : List ℕ)
       (inputs : List Input) (given : List Piece) → StandsFor read selection area old inputs given
-      → StandsFor read selection area new (inputs ++ input ∷ []) (given ++ pieces)
+      → StandsFor read selection area new (inputs ++ input_of input ∷ [])
+      (given ++ piece_for input text new.area)
 
--- nothing is printed for it: for a random word
-abbrev pub IsSilent : Input → Type 0
-IsSilent (Random word) = Unit {0}
-IsSilent _ = ⊥
+-- ---- time
+
+-- where time stops that passes for so many milliseconds: at the first moment when a timer is due,
+-- and at its end if none is. No timer is overdue (`law_of_time` of the laws of pages); one that were
+-- would be due a millisecond later.
+abbrev pub next_stop : ℕ → State → ℕ
+next_stop left s =
+    option_map_or (λ due. min (max due (s.page.clock + 1)) (s.page.clock + left)) (due_next s.page)
+    (s.page.clock + left)
+
+-- Time passed to its end, and no turn was made.
+pub record PassesTime (left : ℕ) (old new : ReceiverState) (before after : List ℕ) : Type 0 where
+  pub silent : after ≡ before
+  pub area : new.area ≡ old.area
+  pub takes : Takes (Tick left) old new
+
+-- So many milliseconds passed, and at their end a turn was made: its text is printed.
+pub record MakesDueTurn (passed : ℕ) (old new : ReceiverState) (before after : List ℕ)
+    : Type 0 where
+  pub text : List ℕ
+  pub printed : after ≡ before ++ text
+  pub taken : (read : Reader) (selection : Selection) (area : List ℕ)
+      (inputs : List Input) (given : List Piece) → StandsFor read selection area old inputs given
+      → StandsFor read selection area new (inputs ++ Tick passed ∷ [])
+      (given ++ record { text = text; area = new.area } ∷ [])

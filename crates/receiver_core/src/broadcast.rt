@@ -1,16 +1,14 @@
 //! The broadcast that is received, with its tables, its modules and its page; and what comes to it
 //! beside sections.
 
-ghost use Rattle.std.specs.Prelude.{◌≡◌, ◌≤◌, ◌<◌, ◌+◌, ◌^◌, false, length, map, IfOk, IfSome, OnOk};
+ghost use Rattle.std.specs.Prelude.{◌≡◌, ◌≤◌, ◌<◌, ◌+◌, ◌^◌, false, length, map, IfOk, OnOk};
 ghost use Rattle.std.specs.Io.{StartsWith};
 ghost use Rattle.psi_tables.specs.Service.{reads_table};
 ghost use Rattle.es_reader.specs.Readers.{Reader, IsReader};
 ghost use Rattle.page.specs.Inputs.{messages_step};
 ghost use Rattle.page.specs.Standing.{Makes as page_makes, Posts, page_area};
-ghost use Rattle.receiver_core.specs.Broadcasts.{Makes, MakesFirst, MakesOutcome, StandsFor, due_in};
-ghost use Rattle.receiver_core.specs.Outputs.{input_of, milliseconds_of, outcome_of};
-ghost use Rattle.receiver_core.specs.Outputs.{time_passes, waits_until};
-ghost use Rattle.receiver_core.specs.Outputs.Input.{Tick};
+ghost use Rattle.receiver_core.specs.BroadcastCalls.{MakesInput, PassesTime, Stops};
+ghost use Rattle.receiver_core.specs.Broadcasts.{Makes, StandsFor};
 ghost use Rattle.receiver_core.specs.Receiving.{IsSilent};
 ghost use Rattle.receiver_core.specs.State.{opening};
 ghost use Rattle.receiver_core.specs.Turns.{due_turn, key_turn, of_page, page_turn, section_messages};
@@ -25,15 +23,14 @@ use psi_tables::{Selection, Services, law_of_component_map, law_of_unread_sectio
 use std::alloc::Global;
 use std::marker::Model;
 
-/// An input that is handed in whole: each but packets, whose sections have their turns one by one.
+/// An input that is handed in whole: each but packets, whose sections have their turns one by one,
+/// and time, which stops at each turn.
 #[derive(Clone, Copy, Debug, PartialEq, Eq)]
 pub enum Input {
     /// A key is pressed: 1 to 14 or 18 to 24.
     Key(u8),
     /// A key is released: 1 to 14 or 18 to 24.
     Release(u8),
-    /// So many milliseconds pass.
-    Tick(u32),
     /// A random word, which waits behind those that are left.
     Random(u32),
     /// The wish to see what is displayed.
@@ -111,20 +108,16 @@ impl Broadcast {
     /// Takes an input that is handed in whole, and appends what it prints. After `NoMemory` nothing
     /// is said of it, and what was appended stops anywhere.
     pub fn input(&mut self, input: Input, out: &mut Vec<u8>) -> Result<(), NoMemory>
-        requires { 0 < milliseconds_of (input_of input)
-            → self.old.page.clock + milliseconds_of (input_of input) < 2 ^ 62 }
-        ensures makes { OnOk result (MakesOutcome (outcome_of (input_of input))
+        ensures makes { OnOk result (MakesInput input
             self.old self.new out.old.items out.new.items) }
         ensures services { self.new.services ≡ self.old.services }
-        ensures clock { OnOk result
-            (self.new.page.clock ≡ self.old.page.clock + milliseconds_of (input_of input)) }
-        ensures silent { IsSilent (input_of input) → out.new ≡ out.old }
+        ensures clock { self.new.page.clock ≡ self.old.page.clock }
+        ensures silent { IsSilent input → out.new ≡ out.old }
         ensures grows { StartsWith out.new.items out.old.items }
     {
         match input {
             Input::Key(code) => self.key_turn(code, true, out),
             Input::Release(code) => self.key_turn(code, false, out),
-            Input::Tick(count) => self.pass_time(count, out),
             Input::Random(word) => self.page.add_random(word),
             Input::Show => self.page.show(out),
         }
@@ -143,51 +136,33 @@ impl Broadcast {
         self.page_turn(out)
     }
 
-    // Lets so many milliseconds pass, and makes the turn of each moment on the way when timers are
-    // due.
-    fn pass_time(&mut self, count: u32, out: &mut Vec<u8>) -> Result<(), NoMemory>
-        requires { 0 < count → self.old.page.clock + count < 2 ^ 62 }
-        ensures makes { OnOk result (MakesOutcome (outcome_of (Tick count))
-            self.old self.new out.old.items out.new.items) }
+    /// Lets time pass, to the first moment when timers are due, whose turn it makes, or else to the
+    /// end of so many milliseconds, and appends what is printed. Answers the milliseconds that are
+    /// left. After `NoMemory` nothing is said of it, and what was appended stops anywhere.
+    pub fn pass_time(&mut self, left: u32, out: &mut Vec<u8>) -> Result<u32, NoMemory>
+        requires some { 0 < left }
+        requires within { self.old.page.clock + left < 2 ^ 62 }
+        ensures steps { IfOk result (λ rest. PassesTime left rest self.old self.new
+            out.old.items out.new.items) }
+        ensures moment { IfOk result (λ rest. Stops left self.old self.new) }
         ensures services { self.new.services ≡ self.old.services }
-        ensures clock { OnOk result (self.new.page.clock ≡ self.old.page.clock + count) }
+        ensures clock { IfOk result
+            (λ rest. self.new.page.clock + rest ≡ self.old.page.clock + left) }
+        ensures fewer { IfOk result (λ rest. rest < left) }
         ensures grows { StartsWith out.new.items out.old.items }
     {
-        let end = self.page.clock() + u64::from(count);
-        self.due_turns(count, end, out)?;
-        self.page.pass_time(end);
-        Ok(())
-    }
-
-    // Makes the turns of the moments by the end when timers are due, of which there are at most so
-    // many.
-    fn due_turns(&mut self, most: u32, end: u64, out: &mut Vec<u8>) -> Result<(), NoMemory>
-        requires behind { self.old.page.clock ≤ end }
-        requires bound { end < 2 ^ 62 }
-        ensures makes { OnOk result (MakesFirst (time_passes most end) (waits_until end)
-            self.old self.new out.old.items out.new.items) }
-        ensures services { self.new.services ≡ self.old.services }
-        ensures behind { OnOk result (self.new.page.clock ≤ end) }
-        ensures grows { StartsWith out.new.items out.old.items }
-    {
-        law_of_fronts();
-        'moments: for _round in 0..most {
-            let Some(moment) = self.due_by(end) else {
-                return Ok(());
-            };
-            self.due_turn(moment, out)?;
-        }
-        Ok(())
-    }
-
-    // The next moment when a timer is due, where it comes by the end.
-    fn due_by(&self, end: u64) -> Option<u64>
-        ensures due { result ≡ due_in end self.now.page }
-        ensures within { IfSome result (λ moment. moment ≤ end) }
-    {
+        let now = self.page.clock();
+        let end = now + u64::from(left);
         match self.page.next_due() {
-            Some(moment) if moment <= end => Some(moment),
-            _ => None,
+            Some(due) if due <= end => {
+                let moment = due.max(now + 1);
+                self.due_turn(moment, out)?;
+                Ok((end - moment) as u32)
+            }
+            _ => {
+                self.page.pass_time(end);
+                Ok(0)
+            }
         }
     }
 

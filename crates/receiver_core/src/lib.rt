@@ -9,7 +9,9 @@
 //! list of inputs: what it prints for them is `specs/Outputs`, whatever it keeps. Which scripts are
 //! programs is told by a reader of programs that is right by their grammar.
 //! [`law_of_outputs`] and [`law_of_receivers`] say what the layer above builds on: more inputs only
-//! add pieces, and the pieces given so far are the first of those that the inputs come to.
+//! add pieces, and the pieces given so far are the first of those that the inputs come to. Time
+//! passes millisecond by millisecond there; [`law_of_ticks`] says that it goes from due moment to
+//! due moment, and [`law_of_passing_time`] that it may be handed in in parts.
 #![tactic(auto)]
 
 mod broadcast;
@@ -17,5 +19,7 @@ mod laws;
 mod receiver;
 
 pub use crate::broadcast::Input;
-pub use crate::laws::{law_of_outputs, law_of_receivers, law_of_wanted_sections};
+pub use crate::laws::{
+    law_of_outputs, law_of_passing_time, law_of_receivers, law_of_ticks, law_of_wanted_sections,
+};
 pub use crate::receiver::Receiver;

@@ -1,7 +1,7 @@
 //! The receiver: from what comes to it to what it prints.
 
-ghost use Rattle.std.specs.Prelude.{◌≡◌, ◌≢◌, ◌⊎◌, ℕ, ◌+◌, ◌^◌, ◌<◌, [], List, true, false, IfOk, OnOk};
-ghost use Rattle.std.specs.Prelude.{Ok, is_err};
+ghost use Rattle.std.specs.Prelude.{◌≡◌, ◌≢◌, ◌⊎◌, ℕ, ◌+◌, ◌-◌, ◌^◌, ◌<◌, [], List, true, false};
+ghost use Rattle.std.specs.Prelude.{IfOk, OnOk, Ok, is_err};
 ghost use Rattle.std.specs.Io.{StartsWith};
 ghost use Rattle.ts_packets.specs.Packet.{pid_of};
 ghost use Rattle.psi_tables.specs.Service.{wants as wants_by};
@@ -22,8 +22,9 @@ use ts_sections::is_intact;
 /// act on keys and as time passes.
 ///
 /// Hand in a packet by [`packet`](Receiver::packet), and then make the turns of the sections that
-/// it completes by [`section_turn`](Receiver::section_turn), until that answers `false`. Once a
-/// call has answered `NoMemory` the receiver is spent: each later one that can answer it does.
+/// it completes by [`section_turn`](Receiver::section_turn), until that answers `false`. Let time
+/// pass by [`clock_step`](Receiver::clock_step), until none is left. Once a call has answered
+/// `NoMemory` the receiver is spent: each later one that can answer it does.
 #[derive(Drop)]
 pub struct Receiver {
     alloc: Global,
@@ -55,10 +56,11 @@ impl Model for Receiver {
 
 impl Receiver {
     ghost use Rattle.receiver_core.specs.Receiving.{Answers, ForState, IsIdle, IsOver, IsSilent};
-    ghost use Rattle.receiver_core.specs.Receiving.{MakesTurn, PassesDamaged, Spends, StandsFor};
-    ghost use Rattle.receiver_core.specs.Receiving.{Stays, Takes, sections_left};
-    ghost use Rattle.receiver_core.specs.Outputs.{input_of, milliseconds_of};
-    ghost use Rattle.receiver_core.specs.Outputs.Input.{Key, Random, Release, Show, Tick};
+    ghost use Rattle.receiver_core.specs.Receiving.{MakesDueTurn, MakesTurn, PassesDamaged};
+    ghost use Rattle.receiver_core.specs.Receiving.{PassesTime, Spends, StandsFor, Stays, Takes};
+    ghost use Rattle.receiver_core.specs.Receiving.{next_stop, sections_left};
+    ghost use Rattle.receiver_core.specs.Outputs.Input.{Random as ARandom};
+    ghost use Rattle.receiver_core.specs.declared.broadcast.Input.TheVariants.{Key, Release, Show};
 
     /// A receiver of the service or the data that is asked for, with this persistent area, to which
     /// nothing came.
@@ -159,20 +161,17 @@ impl Receiver {
         }
     }
 
-    /// Takes an input that is handed in whole, and appends what it prints. All but the wish to see
-    /// the display ask that no turn is still to come.
+    /// Takes an input that is handed in whole, and appends what it prints, which is one piece at
+    /// most. All but the wish to see the display ask that no turn is still to come.
     pub fn input(&mut self, input: Input, out: &mut Vec<u8>) -> Result<(), NoMemory>
-        requires idle { input_of input ≢ Show → IsIdle self.old }
-        requires within { 0 < milliseconds_of (input_of input)
-            → self.old.clock + milliseconds_of (input_of input) < 2 ^ 62 }
+        requires idle { input ≢ Show → IsIdle self.old }
         ensures answers { OnOk result
-            (Answers (input_of input) self.old self.new out.old.items out.new.items) }
-        ensures stays { OnOk result (input_of input ≡ Show → Stays self.old self.new) }
+            (Answers input self.old self.new out.old.items out.new.items) }
+        ensures stays { OnOk result (input ≡ Show → Stays self.old self.new) }
         ensures waiting { self.new.waiting ≡ self.old.waiting }
         ensures idle { IsIdle self.old → IsIdle self.new }
-        ensures clock { OnOk result
-            (self.new.clock ≡ self.old.clock + milliseconds_of (input_of input)) }
-        ensures silent { IsSilent (input_of input) → out.new ≡ out.old }
+        ensures clock { self.new.clock ≡ self.old.clock }
+        ensures silent { IsSilent input → out.new ≡ out.old }
         ensures begins { StartsWith out.new.items out.old.items }
         ensures spends { Spends (is_err result) self.old self.new }
     {
@@ -215,27 +214,41 @@ impl Receiver {
         self.input(Input::Release(code), out)
     }
 
-    /// Lets time pass: makes the turn of each moment on the way when timers are due, and appends what
-    /// they print. Answers the milliseconds that are left, which are none.
+    /// Lets time pass, for so many milliseconds at most: it stops at the first moment on the way
+    /// when timers are due, whose turn it makes, and else at the end. What the turn prints is
+    /// appended. Answers the milliseconds that are left; where some are, it is to be called again.
     pub fn clock_step(&mut self, left: u32, out: &mut Vec<u8>) -> Result<u32, NoMemory>
         requires idle { IsIdle self.old }
+        requires some { 0 < left }
         requires within { self.old.clock + left < 2 ^ 62 }
-        ensures answers { OnOk result
-            (Answers (Tick left) self.old self.new out.old.items out.new.items) }
-        ensures whole { IfOk result (λ rest. rest ≡ 0) }
-        ensures clock { OnOk result (self.new.clock ≡ self.old.clock + left) }
+        ensures steps { IfOk result (λ rest.
+            ((rest ≡ 0) × PassesTime left self.old self.new out.old.items out.new.items)
+            ⊎ MakesDueTurn (left - rest) self.old self.new out.old.items out.new.items) }
+        ensures moment { IfOk result (λ rest. ForState self.old
+            (λ now. self.new.clock ≡ next_stop left now)) }
+        ensures clock { IfOk result
+            (λ rest. self.new.clock + rest ≡ self.old.clock + left) }
+        ensures fewer { IfOk result (λ rest. rest < left) }
         ensures idle { IsIdle self.new }
         ensures begins { StartsWith out.new.items out.old.items }
         ensures spends { Spends (is_err result) self.old self.new }
     {
-        self.input(Input::Tick(left), out)?;
-        Ok(0)
+        if self.spent {
+            return Err(NoMemory);
+        }
+        match self.broadcast.pass_time(left, out) {
+            Ok(rest) => Ok(rest),
+            Err(error) => {
+                self.spent = true;
+                Err(error)
+            }
+        }
     }
 
     /// Takes a random word, which waits behind those that are left.
     pub fn random(&mut self, word: u32) -> Result<(), NoMemory>
         requires idle { IsIdle self.old }
-        ensures taken { OnOk result (Takes (Random word) self.old self.new) }
+        ensures taken { OnOk result (Takes (ARandom word) self.old self.new) }
         ensures idle { IsIdle self.new }
         ensures clock { OnOk result (self.new.clock ≡ self.old.clock) }
         ensures spends { Spends (is_err result) self.old self.new }

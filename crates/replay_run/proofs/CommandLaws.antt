@@ -4,12 +4,15 @@ use Rattle.std.proofs.Common.{[], ◌∷◌, ◌++◌, codes, Option, Some, None
 use Rattle.std.proofs.Common.{refl, sym, ap, ap₂, ◌∙◌, subst, true≢false, ne_eqb, leb-true, le-leb}
 use Rattle.std.proofs.lemmas.Option.{cond_some, none-some}
 use Rattle.std.specs.Cmp.Lexicographic.{bytes_decides}
+use Rattle.std.specs.Option.{option_or}
 use Rattle.bml_bytes.specs.Words.{is_same}
 use Rattle.bml_bytes.specs.Numerals.{decimal_field}
 use Rattle.psi_tables.specs.declared.services.Selection.{Selection}
 use Rattle.psi_tables.specs.declared.services.Selection.TheVariants.{First, Service, Pid}
-use Rattle.replay_run.specs.Words.{CommandWords, is_file_name, service, data_pid}
-use Rattle.replay_run.specs.Words.{selection_of, replay_of, command, IsFileName, AskFor, IsReplay}
+use Rattle.replay_run.specs.Words.{Command, ReplayWords, is_file_name, service, data_pid}
+use Rattle.replay_run.specs.Words.{module_count, selection_of, replay_of, generation_of, command}
+use Rattle.replay_run.specs.Words.{IsFileName, AskFor, IsReplay, IsGeneration, IsCommand}
+use Rattle.replay_run.specs.Words.Command.{Generate, Replay}
 
 both : (a b : Bool) → a ≡ true → b ≡ true → (a && b) ≡ true
 both a b e f = ap₂ (λ s t. s && t) e f
@@ -35,26 +38,26 @@ file_name_written [] is_name = absurd (is_name.some refl)
 file_name_written (first ∷ more) is_name =
     ap not (ne_eqb first 45 (λ same. is_name.no_option (ap Some same)))
 
--- ---- an option's number
+-- ---- a number of a range
 
-abbrev in_range : (ℕ → Selection) → ℕ → ℕ → ℕ → Option Selection
+abbrev in_range : {A : Type 0} → (ℕ → A) → ℕ → ℕ → ℕ → Option A
 in_range asked least most n = cond (nat_le least n && nat_le n most) (Some (asked n)) None
 
-record IsNumber (asked : ℕ → Selection) (least most : ℕ) (word : List ℕ) (selection : Selection) :
+record IsNumber {A : Type 0} (asked : ℕ → A) (least most : ℕ) (word : List ℕ) (wanted : A) :
     Type 0 where
   value : ℕ
   field : decimal_field word ≡ Some value
   least_is : least ≤ value
   most_is : value ≤ most
-  same : asked value ≡ selection
+  same : asked value ≡ wanted
 
-number_in : (asked : ℕ → Selection) (least most : ℕ) (word : List ℕ) (o : Option ℕ)
-    (selection : Selection) → decimal_field word ≡ o
-    → option_and_then (in_range asked least most) o ≡ Some selection
-    → IsNumber asked least most word selection
-number_in asked least most word None selection f e = absurd (none-some selection e)
-number_in asked least most word (Some n) selection f e =
-    let h = cond_some (nat_le least n && nat_le n most) (asked n) selection e in
+number_in : {A : Type 0} (asked : ℕ → A) (least most : ℕ) (word : List ℕ) (o : Option ℕ)
+    (wanted : A) → decimal_field word ≡ o
+    → option_and_then (in_range asked least most) o ≡ Some wanted
+    → IsNumber asked least most word wanted
+number_in asked least most word None wanted f e = absurd (none-some wanted e)
+number_in asked least most word (Some n) wanted f e =
+    let h = cond_some (nat_le least n && nat_le n most) (asked n) wanted e in
     record {
       value = n;
       field = f;
@@ -63,7 +66,7 @@ number_in asked least most word (Some n) selection f e =
       same = h.1;
     }
 
-number_written : (asked : ℕ → Selection) (least most value : ℕ) (word : List ℕ)
+number_written : {A : Type 0} (asked : ℕ → A) (least most value : ℕ) (word : List ℕ)
     → decimal_field word ≡ Some value → least ≤ value → value ≤ most
     → option_and_then (in_range asked least most) (decimal_field word) ≡ Some (asked value)
 number_written asked least most value word f l m =
@@ -76,19 +79,22 @@ number_written asked least most value word f l m =
 same_word : (word : List ℕ) → is_same word word ≡ true
 same_word word = (bytes_decides word word).1 refl
 
-abbrev words_of : List ℕ → List ℕ → Selection → CommandWords
+abbrev words_of : List ℕ → List ℕ → Selection → ReplayWords
 words_of stream notes selection = record { selection = selection; stream = stream; notes = notes }
+
+abbrev replay_with : List ℕ → List ℕ → Selection → Command
+replay_with stream notes selection = Replay (words_of stream notes selection)
 
 replay_written : (stream notes : List ℕ) (o : Option Selection) (selection : Selection)
     → IsFileName stream → IsFileName notes → o ≡ Some selection
-    → replay_of (codes "replay") o stream notes ≡ Some (words_of stream notes selection)
+    → replay_of (codes "replay") o stream notes ≡ Some (replay_with stream notes selection)
 replay_written stream notes o selection s n e =
     let all : (is_same (codes "replay") (codes "replay") &&
     (is_file_name stream && is_file_name notes)) ≡ true =
     both _ _ (same_word (codes "replay"))
     (both _ _ (file_name_written stream s) (file_name_written notes n)) in
-    ap (λ b. cond b (option_map (words_of stream notes) o) None) all
-    ∙ ap (option_map (words_of stream notes)) e
+    ap (λ b. cond b (option_map (replay_with stream notes) o) None) all
+    ∙ ap (option_map (replay_with stream notes)) e
 
 service_written : (number : List ℕ) (value : ℕ) → decimal_field number ≡ Some value → 1 ≤ value
     → value ≤ 65535 → selection_of (codes "--service") number ≡ Some (Service value)
@@ -107,10 +113,11 @@ data_pid_written number value f l m =
 written_for : (selection : Selection) (option : List (List ℕ)) (stream notes : List ℕ)
     → AskFor selection option → IsFileName stream → IsFileName notes
     → command (codes "replay" ∷ (option ++ stream ∷ notes ∷ []))
-    ≡ Some (words_of stream notes selection)
+    ≡ Some (replay_with stream notes selection)
 written_for First option stream notes a s n =
     ap (λ (o : List (List ℕ)). command (codes "replay" ∷ (o ++ stream ∷ notes ∷ []))) a
-    ∙ replay_written stream notes (Some First) First s n refl
+    ∙ ap (λ o. option_or o (generation_of (codes "replay") (decimal_field stream) (module_count notes)))
+    (replay_written stream notes (Some First) First s n refl)
 written_for (Service value) option stream notes a s n =
     ap (λ (o : List (List ℕ)). command (codes "replay" ∷ (o ++ stream ∷ notes ∷ []))) a.written
     ∙ replay_written stream notes (selection_of (codes "--service") a.number) (Service value) s n
@@ -120,37 +127,57 @@ written_for (Pid value) option stream notes a s n =
     ∙ replay_written stream notes (selection_of (codes "--data-pid") a.number) (Pid value) s n
     (data_pid_written a.number value a.field a.least_is a.most_is)
 
-pub command_written : (words : List (List ℕ)) (asked : CommandWords) → IsReplay words asked
+-- no replay begins with `gen`
+no_replay : (stream notes : List ℕ) → replay_of (codes "gen") (Some First) stream notes ≡ None
+no_replay stream notes = refl
+
+count_written : (word : List ℕ) (count : ℕ) → decimal_field word ≡ Some count → 1 ≤ count
+    → count ≤ 100 → module_count word ≡ Some count
+count_written word count f l m = number_written (λ n. n) 1 100 count word f l m
+
+generation_written : (first second : List ℕ) (seed count : ℕ) → decimal_field first ≡ Some seed
+    → module_count second ≡ Some count
+    → command (codes "gen" ∷ first ∷ second ∷ []) ≡ Some (Generate seed count)
+generation_written first second seed count s c =
+    ap (λ o. option_or o (generation_of (codes "gen") (decimal_field first) (module_count second)))
+    (no_replay first second)
+    ∙ ap₂ (λ s c. generation_of (codes "gen") s c) s c
+    ∙ ap (λ b. cond b (Some (Generate seed count)) None) (same_word (codes "gen"))
+
+pub command_written : (words : List (List ℕ)) (asked : Command) → IsCommand words asked
     → command words ≡ Some asked
-command_written words asked r = ap command r.written
+command_written words (Replay asked) r = ap command r.written
     ∙ written_for asked.selection r.option asked.stream asked.notes r.asks r.stream r.notes
+command_written words (Generate seed count) g = ap command g.written
+    ∙ generation_written g.first g.second seed count g.seed_is
+    (count_written g.second count g.count_is g.least g.most)
 
 -- ---- back
 
-when_some : (b : Bool) (o : Option CommandWords) (x : CommandWords) → cond b o None ≡ Some x
+when_some : (b : Bool) (o : Option Command) (x : Command) → cond b o None ≡ Some x
     → (b ≡ true) × (o ≡ Some x)
 when_some true o x e = (refl, e)
 when_some false o x e = absurd (none-some x e)
 
-record MappedTo (stream notes : List ℕ) (o : Option Selection) (asked : CommandWords) : Type 0 where
+record MappedTo (stream notes : List ℕ) (o : Option Selection) (asked : Command) : Type 0 where
   selection : Selection
   there : o ≡ Some selection
-  same : words_of stream notes selection ≡ asked
+  same : replay_with stream notes selection ≡ asked
 
-mapped : (stream notes : List ℕ) (o : Option Selection) (asked : CommandWords)
-    → option_map (words_of stream notes) o ≡ Some asked → MappedTo stream notes o asked
+mapped : (stream notes : List ℕ) (o : Option Selection) (asked : Command)
+    → option_map (replay_with stream notes) o ≡ Some asked → MappedTo stream notes o asked
 mapped stream notes None asked e = absurd (none-some asked e)
 mapped stream notes (Some selection) asked e =
     record { selection = selection; there = refl; same = cc }
 
 record IsReplayOf (name : List ℕ) (o : Option Selection) (stream notes : List ℕ)
-    (asked : CommandWords) : Type 0 where
+    (asked : Command) : Type 0 where
   named : name ≡ codes "replay"
   stream_is : IsFileName stream
   notes_is : IsFileName notes
   mapped_to : MappedTo stream notes o asked
 
-replay_read : (name : List ℕ) (o : Option Selection) (stream notes : List ℕ) (asked : CommandWords)
+replay_read : (name : List ℕ) (o : Option Selection) (stream notes : List ℕ) (asked : Command)
     → replay_of name o stream notes ≡ Some asked → IsReplayOf name o stream notes asked
 replay_read name o stream notes asked e =
     let h = when_some (is_same name (codes "replay") &&
@@ -210,28 +237,75 @@ first_asked : (selection : Selection) → Some First ≡ Some selection → AskF
 first_asked selection e = let same : First ≡ selection = cc in subst (λ s. AskFor s []) same refl
 
 is_replay : (option : List (List ℕ)) (name : List ℕ) (o : Option Selection) (stream notes : List ℕ)
-    (asked : CommandWords)
+    (asked : Command)
     → ((selection : Selection) → o ≡ Some selection → AskFor selection option)
     → replay_of name o stream notes ≡ Some asked
-    → IsReplay (name ∷ (option ++ stream ∷ notes ∷ [])) asked
+    → IsCommand (name ∷ (option ++ stream ∷ notes ∷ [])) asked
 is_replay option name o stream notes asked asks_for e =
     let r = replay_read name o stream notes asked e in
     let m = r.mapped_to in
-    subst (IsReplay (name ∷ (option ++ stream ∷ notes ∷ []))) m.same (record {
+    let is : IsReplay (name ∷ (option ++ stream ∷ notes ∷ [])) (words_of stream notes m.selection) =
+    record {
       option = option;
       written = ap (λ w. w ∷ (option ++ stream ∷ notes ∷ [])) r.named;
       asks = asks_for m.selection m.there;
       stream = r.stream_is;
       notes = r.notes_is;
-    })
+    } in
+    subst (IsCommand (name ∷ (option ++ stream ∷ notes ∷ []))) m.same is
 
-pub command_read : (words : List (List ℕ)) (asked : CommandWords) → command words ≡ Some asked
-    → IsReplay words asked
+-- generated files
+
+record Generated (seed count : Option ℕ) (asked : Command) : Type 0 where
+  first : ℕ
+  second : ℕ
+  seed_is : seed ≡ Some first
+  count_is : count ≡ Some second
+  same : Generate first second ≡ asked
+
+generated : (seed count : Option ℕ) (asked : Command)
+    → option_and_then (λ seed. option_map (λ count. Generate seed count) count) seed ≡ Some asked
+    → Generated seed count asked
+generated None count asked e = absurd (none-some asked e)
+generated (Some seed) None asked e = absurd (none-some asked e)
+generated (Some seed) (Some count) asked e =
+    record { first = seed; second = count; seed_is = refl; count_is = refl; same = cc }
+
+is_generation : (name first second : List ℕ) (asked : Command)
+    → generation_of name (decimal_field first) (module_count second) ≡ Some asked
+    → IsCommand (name ∷ first ∷ second ∷ []) asked
+is_generation name first second asked e =
+    let h = when_some (is_same name (codes "gen")) _ asked e in
+    let g = generated (decimal_field first) (module_count second) asked (h.1) in
+    let n = number_in (λ (n : ℕ). n) 1 100 second (decimal_field second) g.second refl g.count_is in
+    let is : IsGeneration (name ∷ first ∷ second ∷ []) g.first g.second =
+    record {
+      first = first;
+      second = second;
+      written = ap (λ w. w ∷ first ∷ second ∷ []) ((bytes_decides name (codes "gen")).0 (h.0));
+      seed_is = g.seed_is;
+      count_is = n.field ∙ ap Some n.same;
+      least = subst (λ k. 1 ≤ k) n.same n.least_is;
+      most = subst (λ k. k ≤ 100) n.same n.most_is;
+    } in
+    subst (IsCommand (name ∷ first ∷ second ∷ [])) g.same is
+
+-- three words are one of both
+is_either : (name first second : List ℕ) (asked : Command) (replay : Option Command)
+    → replay_of name (Some First) first second ≡ replay
+    → option_or replay (generation_of name (decimal_field first) (module_count second)) ≡ Some asked
+    → IsCommand (name ∷ first ∷ second ∷ []) asked
+is_either name first second asked None is e = is_generation name first second asked e
+is_either name first second asked (Some replay) is e =
+    is_replay [] name (Some First) first second asked first_asked (is ∙ e)
+
+pub command_read : (words : List (List ℕ)) (asked : Command) → command words ≡ Some asked
+    → IsCommand words asked
 command_read [] asked e = absurd (none-some asked e)
 command_read (a ∷ []) asked e = absurd (none-some asked e)
 command_read (a ∷ b ∷ []) asked e = absurd (none-some asked e)
-command_read (name ∷ stream ∷ notes ∷ []) asked e =
-    is_replay [] name (Some First) stream notes asked first_asked e
+command_read (name ∷ first ∷ second ∷ []) asked e =
+    is_either name first second asked (replay_of name (Some First) first second) refl e
 command_read (a ∷ b ∷ c ∷ d ∷ []) asked e = absurd (none-some asked e)
 command_read (name ∷ option ∷ number ∷ stream ∷ notes ∷ []) asked e =
     is_replay (option ∷ number ∷ []) name (selection_of option number) stream notes asked

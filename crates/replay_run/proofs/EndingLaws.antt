@@ -1,85 +1,66 @@
 -- How a replay ends, over plain values.
-use Rattle.std.proofs.Common.{◌≡◌, ℕ, ◌≤◌, List, [], ◌∷◌, ◌++◌, refl, sym, ap, ◌∙◌, subst}
-use Rattle.std.proofs.Common.{append_assoc, append-nil, Option, Some, None, Result, Ok, Err, OnOk}
-use Rattle.std.proofs.Common.{IfErr, inl, inr}
+use Rattle.std.proofs.Common.{◌≡◌, ◌≢◌, ℕ, ◌≤◌, List, [], ◌∷◌, ◌++◌, refl, sym, ap, ap₂, ◌∙◌, subst}
+use Rattle.std.proofs.Common.{arith, append-nil, Option, Some, None, Result, Ok, Err, OnOk, IfErr, inl, inr}
 use Rattle.std.specs.Io.KnownBytes.{Appends}
-use Rattle.std.proofs.KnownBytes.{Appends-nil}
 use Rattle.bml_ports.specs.declared.outside.Port.TheVariants.{Stream, Notes}
-use Rattle.bml_ports.specs.declared.outside.Port.{Port}
+use Rattle.bml_ports.specs.Keepers.{KeeperState}
 use Rattle.bml_ports.specs.Worlds.{WorldState, PortState}
 use Rattle.ts_packets.specs.Packets.{packets_of}
-use Rattle.psi_tables.specs.declared.services.Selection.{Selection}
-use Rattle.es_reader.specs.Readers.{Reader, IsReader}
+use Rattle.es_reader.specs.Readers.{IsReader}
 use Rattle.receiver_core.specs.Fronts.{IsFront, front_of_self, front_of_append, front_of_front}
-use Rattle.receiver_core.specs.Fronts.{front_of_concat, front_of_map}
-use Rattle.receiver_core.specs.Outputs.{Input, Piece, outputs, texts_of}
-use Rattle.receiver_core.specs.Receiving.{ReceiverState, StandsFor, IsIdle}
+use Rattle.receiver_core.specs.Outputs.{Input, Piece, outputs}
+use Rattle.receiver_core.specs.Receiving.{IsIdle}
 use Rattle.replay_run.specs.declared.record.RecordItem.{RecordItem}
 use Rattle.replay_run.specs.declared.status.Status.{Status}
 use Rattle.replay_run.specs.declared.status.Status.TheVariants.{Done, Usage, BadRecord, OpenFault}
 use Rattle.replay_run.specs.declared.status.Status.TheVariants.{ReadFault, WriteFault, KeepFault}
 use Rattle.replay_run.specs.declared.status.Status.TheVariants.{BadArea, TooLong, NoMemory}
-use Rattle.replay_run.specs.Ending.{EndsAs}
+use Rattle.replay_run.specs.Ending.{Begins, EndsAs, WritesWhole}
+use Rattle.replay_run.specs.Files.{file, GaveAtMost, record_limit}
 use Rattle.replay_run.specs.Lines.{end_line}
-use Rattle.replay_run.specs.Meaning.{Meaning, replay_inputs, replay_meaning, replay_pieces}
-use Rattle.replay_run.specs.Meaning.{end_piece, last_pieces, status_behind}
+use Rattle.replay_run.specs.Meaning.{Meaning, area_meaning, end_piece, last_pieces, replay_inputs}
+use Rattle.replay_run.specs.Meaning.{replay_pieces, status_behind}
 use Rattle.replay_run.specs.Midway.{StopsIn}
-use Rattle.replay_run.specs.RecordProgress.{RecordState, IsAt, IsBadBehind, IsWhole, LeavesItems}
-use Rattle.replay_run.specs.Outside.{Outside, Account, account}
-use Rattle.replay_run.specs.Play.{inputs_of, packet_count}
-use Rattle.replay_run.specs.Progress.{Replay, Moment, IsBetween}
-use Rattle.replay_run.specs.Record.{items_before_bad, first_bad}
 use Rattle.replay_run.specs.Order.{IsReadOn, OnlyReadsBoth}
-use Rattle.replay_run.specs.Replaying.{StopsLine, StopsOpening, outcome_of}
-use Rattle.replay_run.specs.Output.{WritesPieces, WritesBytes, bytes_of}
-use Rattle.replay_run.specs.Files.{file, GaveAtMost, stream_limit, record_limit}
-use Rattle.replay_run.specs.Stopping.{LeavesPackets, OnlyReads}
-use Rattle.replay_run.specs.Writing.{WritesOn, WritesShort}
-use Rattle.replay_run.proofs.RecordProgressLaws.{items_of_whole}
+use Rattle.replay_run.specs.Outside.{Outside}
+use Rattle.replay_run.specs.Play.{inputs_of}
+use Rattle.replay_run.specs.Progress.{HasBegun, Replay, Moment, IsBetween}
+use Rattle.replay_run.specs.Kept.{Keeps, stores}
+use Rattle.replay_run.specs.Output.{bytes_of}
+use Rattle.replay_run.specs.Putting.{CutsPiece, HasPut, KeepsOn, PutsPiece, change, outlets_of}
+use Rattle.replay_run.specs.Record.{items_before_bad, first_bad}
+use Rattle.replay_run.specs.RecordProgress.{RecordState, IsAt, IsBadBehind, IsWhole, LeavesItems}
+use Rattle.replay_run.specs.Replaying.{StopsLine}
+use Rattle.replay_run.specs.Status.{outcome_of}
+use Rattle.replay_run.specs.Stopping.{LeavesPackets, OnlyReads, StreamWithin, run_of}
+use Rattle.replay_run.specs.Writing.{WritesOn}
+use Rattle.replay_run.proofs.KeptLaws.{keeps_none}
+use Rattle.replay_run.proofs.OutputLaws.{ReceiverLaws, first_outputs, idle_area}
 use Rattle.replay_run.proofs.PlayLaws.{front_of_inputs}
+use Rattle.replay_run.proofs.PuttingLaws.{lost_further, put_more, put_none, put_short, put_whole}
+use Rattle.replay_run.proofs.PuttingLaws.{short_further, whole_further}
+use Rattle.replay_run.proofs.RecordProgressLaws.{items_of_whole}
 use Rattle.replay_run.proofs.StoppingLaws.{midway_within, read_on_none, read_on_more}
-use Rattle.replay_run.proofs.WritingLaws.{appends_from, appends_more, bytes-append}
 
--- what is known of receivers
-pub record ReceiverLaws : Type 0 where
-  pub more : (read : Reader) (selection : Selection) (area : List ℕ) (inputs further : List Input)
-      → IsFront (outputs read selection area inputs)
-      (outputs read selection area (inputs ++ further))
-  pub front : (read : Reader) (selection : Selection) (area : List ℕ) (state : ReceiverState)
-      (inputs : List Input) (given : List Piece)
-      → StandsFor read selection area state inputs given
-      → IsFront given (outputs read selection area inputs)
-  pub all : (read : Reader) (selection : Selection) (area : List ℕ) (state : ReceiverState)
-      (inputs : List Input) (given : List Piece)
-      → StandsFor read selection area state inputs given → IsIdle state
-      → given ≡ outputs read selection area inputs
-
--- what a run is of: which programs texts are, the service or data that is asked for, the area at its
--- start, the stream, the record, and what the outside told before it
-pub record Course : Type 0 where
-  pub read : Reader
-  pub right : IsReader read
-  pub selection : Selection
-  pub area : List ℕ
-  pub stream : List ℕ
-  pub notes : List ℕ
-  pub before : Outside
-
-abbrev pub replay_of : Course → Replay
-replay_of run = record {
-  read = run.read;
-  selection = run.selection;
-  area = run.area;
-  stream = run.stream;
-  first = run.before.sink.written;
-}
-
-abbrev pub means : Course → Meaning
-means run = replay_meaning run.read run.selection run.area run.stream run.notes
+abbrev pub means : Replay → Meaning
+means replay =
+    area_meaning replay.read replay.selection replay.area replay.stream replay.notes
 
 -- it ends as it should
-abbrev pub Ends : Course → Outside → Status → Type 0
-Ends run behind status = EndsAs (means run) (account run.stream run.notes run.before behind) status
+abbrev pub Ends : Replay → Outside → Status → Type 0
+Ends replay behind status = EndsAs (means replay) (run_of replay behind) status
+
+-- the record gave no more than it may, as far as it was read
+abbrev pub RecordWithin : Replay → Outside → Type 0
+RecordWithin replay behind = GaveAtMost record_limit (run_of replay behind).notes
+
+-- a replay has begun
+begins_by : (bad : Option ℕ) (size : ℕ) → status_behind bad ≢ BadArea size
+begins_by None size e = let clash : Done ≡ BadArea size = e in cc
+begins_by (Some line) size e = let clash : BadRecord line ≡ BadArea size = e in cc
+
+begins : (replay : Replay) → Begins (means replay)
+begins replay = begins_by (first_bad replay.notes)
 
 -- what the first items hand over stands in front of all
 front_of_items : (stream notes : List ℕ) (items : List RecordItem)
@@ -89,55 +70,89 @@ front_of_items stream notes items front =
     subst (λ l. IsFront (inputs_of (packets_of stream) items) (inputs_of (packets_of stream) l))
     (sym front.joined) (front_of_inputs (packets_of stream) items front.rest)
 
--- pieces that a receiver gave for the first inputs stand in front of all
-front_of_given : ReceiverLaws → (run : Course) (receiver : ReceiverState) (inputs : List Input)
-    (given : List Piece)
-    → IsFront inputs (replay_inputs run.stream run.notes)
-    → StandsFor run.read run.selection run.area receiver inputs given
-    → IsFront given (means run).pieces
+-- what some inputs print stands in front of all pieces
+front_of_prints : ReceiverLaws → (replay : Replay) (some : List Input)
+    → IsFront some (replay_inputs replay.stream replay.notes)
+    → IsFront (outputs replay.read replay.selection replay.area some) (means replay).pieces
 unfolding replay_pieces
-front_of_given laws run receiver inputs given front stands =
-    let all = replay_inputs run.stream run.notes in
-    let first : IsFront given (outputs run.read run.selection run.area inputs) =
-    laws.front run.read run.selection run.area receiver inputs given stands in
-    let more : IsFront (outputs run.read run.selection run.area inputs)
-    (outputs run.read run.selection run.area all) =
-    subst (λ l. IsFront (outputs run.read run.selection run.area inputs)
-    (outputs run.read run.selection run.area l))
-    (sym front.joined) (laws.more run.read run.selection run.area inputs front.rest) in
-    let last = last_pieces (first_bad run.notes) (end_piece run.read run.selection run.area all) in
-    front_of_front given (outputs run.read run.selection run.area all)
-    (replay_pieces run.read run.selection run.area run.stream run.notes)
-    (front_of_front given (outputs run.read run.selection run.area inputs)
-    (outputs run.read run.selection run.area all) first more)
-    (front_of_append (outputs run.read run.selection run.area all) last)
+front_of_prints laws replay some front =
+    let all = replay_inputs replay.stream replay.notes in
+    let last = last_pieces (first_bad replay.notes)
+    (end_piece replay.read replay.selection replay.area all) in
+    front_of_front (outputs replay.read replay.selection replay.area some)
+    (outputs replay.read replay.selection replay.area all)
+    (replay_pieces replay.read replay.selection replay.area replay.stream replay.notes)
+    (first_outputs laws replay.read replay.selection replay.area some all (inl front))
+    (front_of_append (outputs replay.read replay.selection replay.area all) last)
 
--- pieces that were written stand in front of all
-writes_in_front : (old new : Option (List ℕ)) (pieces all : List Piece) → IsFront pieces all
-    → WritesPieces old new pieces → WritesPieces old new all
-writes_in_front old new pieces all front w =
-    record {
-      whole = w.whole;
-      front = front_of_front w.whole pieces all w.front front;
-      appended = w.appended;
-    }
+-- ---- an item stops the replay
 
-bytes_in_front : (old new : Option (List ℕ)) (pieces all : List Piece) → IsFront pieces all
-    → WritesBytes old new pieces → WritesBytes old new all
-bytes_in_front old new pieces all front w = record {
-  bytes = w.bytes;
-  front = front_of_front w.bytes (bytes_of pieces) (bytes_of all) w.front
-      (front_of_concat (texts_of pieces) (texts_of all)
-      (front_of_map (λ (piece : Piece). piece.text) pieces all front));
-  appended = w.appended;
-}
+-- pieces that were given in the first items stand in front of all
+front_of_stop : ReceiverLaws → (status : Status) (replay : Replay) (behind : Outside)
+    (items : List RecordItem)
+    → IsReader replay.read → IsFront items (items_before_bad replay.notes)
+    → (s : StopsIn status replay behind (inputs_of (packets_of replay.stream) items))
+    → IsFront s.given (means replay).pieces
+front_of_stop laws status replay behind items right front s =
+    let some = inputs_of (packets_of replay.stream) items in
+    let prints : List Input → List Piece =
+    λ l. outputs replay.read replay.selection replay.area l in
+    front_of_front s.given (prints some) (means replay).pieces
+    (front_of_front s.given (prints s.inputs) (prints some)
+    (laws.front replay.read replay.selection replay.area s.receiver s.inputs s.given (s.stands right))
+    (first_outputs laws replay.read replay.selection replay.area s.inputs some s.first))
+    (front_of_prints laws replay some (front_of_items replay.stream replay.notes items front))
 
--- neither file gave more than it may, as far as it was read
-abbrev pub StreamWithin : Course → Outside → Type 0
-StreamWithin run behind = GaveAtMost stream_limit (file run.stream behind.world.stream.left)
+leaves_in_front : (status : Status) (replay : Replay) (behind : Outside) (given : List Piece)
+    → IsFront given (means replay).pieces → RecordWithin replay behind
+    → LeavesPackets status replay behind given → Ends replay behind status
+leaves_in_front ReadFault replay behind given front within l = (
+  begins replay,
+  record { stream = l.0; notes = within },
+  whole_further replay.area given (means replay).pieces Done (means replay).status
+      (run_of replay behind) front l.1,
+)
+leaves_in_front NoMemory replay behind given front within l =
+    whole_further replay.area given (means replay).pieces Done (means replay).status
+    (run_of replay behind) front l.1
+leaves_in_front TooLong replay behind given front within l = (
+  begins replay,
+  inl l.0,
+  whole_further replay.area given (means replay).pieces Done (means replay).status
+      (run_of replay behind) front l.1,
+)
+leaves_in_front WriteFault replay behind given front within l = (
+  record { stream = l.0; notes = within },
+  short_further replay.area given (means replay).pieces Done (means replay).status
+      (run_of replay behind) front l.1,
+)
+leaves_in_front KeepFault replay behind given front within l = inr (
+  record { stream = l.0; notes = within },
+  lost_further replay.area given (means replay).pieces Done (means replay).status
+      (run_of replay behind) front l.1,
+)
+leaves_in_front Done replay behind given front within l = absurd l
+leaves_in_front Usage replay behind given front within l = absurd l
+leaves_in_front (BadRecord line) replay behind given front within l = absurd l
+leaves_in_front OpenFault replay behind given front within l = absurd l
+leaves_in_front (BadArea size) replay behind given front within l = absurd l
 
-abbrev pub RecordWithin : Course → Outside → Type 0
-RecordWithin run behind = GaveAtMost record_limit (file run.notes behind.world.notes.left)
+pub ends_in_item : ReceiverLaws → (status : Status) (replay : Replay) (behind : Outside)
+    (items : List RecordItem)
+    → IsReader replay.read → IsFront items (items_before_bad replay.notes)
+    → RecordWithin replay behind
+    → StopsIn status replay behind (inputs_of (packets_of replay.stream) items)
+    → Ends replay behind status
+ends_in_item laws status replay behind items right front within s =
+    leaves_in_front status replay behind s.given
+    (front_of_stop laws status replay behind items right front s) within s.leaves
+
+-- ---- the record stops the replay
+
+-- the moment tells what the outside tells behind the run
+pub record IsTold (now : Moment) (behind : Outside) : Type 0 where
+  pub left : now.left ≡ behind.world.stream.left
+  pub outlets : now.outlets ≡ outlets_of behind
 
 -- the stream gave no more than it may
 pub between_within : (replay : Replay) (now : Moment) (items : List RecordItem) (limit : ℕ)
@@ -146,232 +161,234 @@ pub between_within : (replay : Replay) (now : Moment) (items : List RecordItem) 
 between_within replay now items limit within b =
     midway_within replay now _ _ limit within b
 
+-- what was put out, as it is told behind the run
+put_told : (replay : Replay) (now : Moment) (behind : Outside) (given : List Piece)
+    → IsTold now behind → HasPut replay.area replay.before now.kept now.outlets given
+    → HasPut replay.area replay.before now.kept (outlets_of behind) given
+put_told replay now behind given told put =
+    subst (λ o. HasPut replay.area replay.before now.kept o given) told.outlets put
+
 -- whole pieces between two items
-between_pieces : ReceiverLaws → (run : Course) (now : Moment) (items : List RecordItem)
-    → IsFront items (items_before_bad run.notes) → IsBetween (replay_of run) now items
-    → WritesPieces run.before.sink.written now.written (means run).pieces
-between_pieces laws run now items front b = record {
-  whole = b.given;
-  front = front_of_given laws run now.receiver _ b.given
-      (front_of_items run.stream run.notes items front) (b.stands run.right);
-  appended = b.wrote;
-}
-
--- ---- an item stops the replay
-
-leaves_in_front : (status : Status) (run : Course) (behind : Outside) (given : List Piece)
-    → IsFront given (means run).pieces → RecordWithin run behind
-    → LeavesPackets status (file run.stream behind.world.stream.left) run.before.sink.written
-    behind.sink.written given
-    → Ends run behind status
-leaves_in_front ReadFault run behind given front within l =
-    (record { stream = l.0; notes = within }, writes_in_front _ _ given _ front l.1)
-leaves_in_front WriteFault run behind given front within l =
-    (record { stream = l.0; notes = within }, bytes_in_front _ _ given _ front l.1)
-leaves_in_front TooLong run behind given front within l =
-    (inl l.0, writes_in_front _ _ given _ front l.1)
-leaves_in_front NoMemory run behind given front within l = writes_in_front _ _ given _ front l.1
-leaves_in_front Done run behind given front within l = absurd l
-leaves_in_front Usage run behind given front within l = absurd l
-leaves_in_front (BadRecord line) run behind given front within l = absurd l
-leaves_in_front OpenFault run behind given front within l = absurd l
-leaves_in_front KeepFault run behind given front within l = absurd l
-leaves_in_front (BadArea size) run behind given front within l = absurd l
-
-pub ends_in_item : ReceiverLaws → (status : Status) (run : Course) (behind : Outside)
+between_whole : ReceiverLaws → (replay : Replay) (now : Moment) (behind : Outside)
     (items : List RecordItem)
-    → IsFront items (items_before_bad run.notes) → RecordWithin run behind
-    → StopsIn status (replay_of run) behind (inputs_of (packets_of run.stream) items)
-    → Ends run behind status
-ends_in_item laws status run behind items front within s =
-    let some : IsFront s.inputs (replay_inputs run.stream run.notes) =
-    front_of_front s.inputs (inputs_of (packets_of run.stream) items)
-    (replay_inputs run.stream run.notes) s.front
-    (front_of_items run.stream run.notes items front) in
-    leaves_in_front status run behind s.given
-    (front_of_given laws run s.receiver s.inputs s.given some
-    (s.stands run.right)) within s.leaves
-
--- ---- the record stops the replay
-
--- the moment tells what the outside tells behind the run
-pub record IsTold (now : Moment) (behind : Outside) : Type 0 where
-  pub left : now.left ≡ behind.world.stream.left
-  pub written : now.written ≡ behind.sink.written
-
-stream_told : (run : Course) (now : Moment) (behind : Outside) → IsTold now behind
-    → GaveAtMost stream_limit (file run.stream now.left) → StreamWithin run behind
-stream_told run now behind told g =
-    subst (λ l. GaveAtMost stream_limit (file run.stream l)) told.left g
+    → IsReader replay.read → IsFront items (items_before_bad replay.notes) → IsTold now behind
+    → IsBetween replay now items → WritesWhole (means replay) (run_of replay behind)
+between_whole laws replay now behind items right front told b =
+    let some = inputs_of (packets_of replay.stream) items in
+    put_whole (means replay) (run_of replay behind) now.kept b.given
+    (put_told replay now behind b.given told b.put)
+    (front_of_front b.given (outputs replay.read replay.selection replay.area some)
+    (means replay).pieces
+    (laws.front replay.read replay.selection replay.area now.receiver some b.given (b.stands right))
+    (front_of_prints laws replay some (front_of_items replay.stream replay.notes items front)))
 
 -- a bad line behind these items
-ends_bad : ReceiverLaws → (line : ℕ) (run : Course) (now : Moment) (behind : Outside)
+ends_bad : ReceiverLaws → (line : ℕ) (replay : Replay) (now : Moment) (behind : Outside)
     (items : List RecordItem)
-    → IsBadBehind line (file run.notes behind.world.notes.left) items → IsTold now behind
-    → StreamWithin run behind
-    → IsIdle now.receiver → IsBetween (replay_of run) now items
-    → Ends run behind (BadRecord line)
+    → IsReader replay.read → IsBadBehind line (file replay.notes behind.world.notes.left) items
+    → IsTold now behind → StreamWithin replay behind
+    → IsIdle now.receiver → IsBetween replay now items
+    → Ends replay behind (BadRecord line)
 unfolding replay_pieces
-ends_bad laws line run now behind items bad told within idle b =
-    let packets = packets_of run.stream in
+ends_bad laws line replay now behind items right bad told within idle b =
+    let packets = packets_of replay.stream in
     let inputs = inputs_of packets items in
-    let all = replay_inputs run.stream run.notes in
-    let pieces : (means run).pieces ≡ b.given =
-    ap (λ n. outputs run.read run.selection run.area all
-    ++ last_pieces n (end_piece run.read run.selection run.area all)) bad.number
-    ∙ append-nil (outputs run.read run.selection run.area all)
-    ∙ ap (λ l. outputs run.read run.selection run.area (inputs_of packets l)) bad.items_are
-    ∙ sym (laws.all run.read run.selection run.area now.receiver inputs b.given
-    (b.stands run.right) idle) in
+    let all = replay_inputs replay.stream replay.notes in
+    let prints : List Input → List Piece =
+    λ l. outputs replay.read replay.selection replay.area l in
+    let pieces : b.given ≡ (means replay).pieces =
+    sym (ap (λ n. prints all
+    ++ last_pieces n (end_piece replay.read replay.selection replay.area all)) bad.number
+    ∙ append-nil (prints all)
+    ∙ ap (λ l. prints (inputs_of packets l)) bad.items_are
+    ∙ sym (laws.all replay.read replay.selection replay.area now.receiver inputs b.given
+    (b.stands right) idle)) in
+    let put : HasPut replay.area replay.before now.kept (outlets_of behind) (means replay).pieces =
+    subst (λ (l : List Piece). HasPut replay.area replay.before now.kept (outlets_of behind) l)
+    pieces (put_told replay now behind b.given told b.put) in
     record {
       same = ap status_behind bad.number;
       within = record { stream = within; notes = bad.within };
-      written = subst (λ o. Appends run.before.sink.written o (bytes_of (means run).pieces))
-          told.written
-          (subst (λ l. Appends run.before.sink.written now.written (bytes_of l))
-          (sym pieces) b.wrote);
+      written = put.wrote;
+      kept = put.keeps;
     }
 
-pub ends_in_items : ReceiverLaws → (status : Status) (run : Course) (now : Moment)
+pub ends_in_items : ReceiverLaws → (status : Status) (replay : Replay) (now : Moment)
     (behind : Outside) (items : List RecordItem)
-    → IsFront items (items_before_bad run.notes) → IsTold now behind → StreamWithin run behind
-    → IsIdle now.receiver → IsBetween (replay_of run) now items
-    → LeavesItems status (file run.notes behind.world.notes.left) items
-    → Ends run behind status
-ends_in_items laws ReadFault run now behind items front told within idle b l = (
+    → IsReader replay.read → IsFront items (items_before_bad replay.notes) → IsTold now behind
+    → StreamWithin replay behind
+    → IsIdle now.receiver → IsBetween replay now items
+    → LeavesItems status (file replay.notes behind.world.notes.left) items
+    → Ends replay behind status
+ends_in_items laws ReadFault replay now behind items right front told within idle b l = (
+  begins replay,
   record { stream = within; notes = l },
-  subst (λ o. WritesPieces run.before.sink.written o (means run).pieces) told.written
-      (between_pieces laws run now items front b),
+  between_whole laws replay now behind items right front told b,
 )
-ends_in_items laws TooLong run now behind items front told within idle b l = (
+ends_in_items laws TooLong replay now behind items right front told within idle b l = (
+  begins replay,
   inr l,
-  subst (λ o. WritesPieces run.before.sink.written o (means run).pieces) told.written
-      (between_pieces laws run now items front b),
+  between_whole laws replay now behind items right front told b,
 )
-ends_in_items laws (BadRecord line) run now behind items front told within idle b l =
-    ends_bad laws line run now behind items l told within idle b
-ends_in_items laws Done run now behind items front told within idle b l = absurd l
-ends_in_items laws Usage run now behind items front told within idle b l = absurd l
-ends_in_items laws OpenFault run now behind items front told within idle b l = absurd l
-ends_in_items laws WriteFault run now behind items front told within idle b l = absurd l
-ends_in_items laws KeepFault run now behind items front told within idle b l = absurd l
-ends_in_items laws (BadArea size) run now behind items front told within idle b l = absurd l
-ends_in_items laws NoMemory run now behind items front told within idle b l = absurd l
+ends_in_items laws (BadRecord line) replay now behind items right front told within idle b l =
+    ends_bad laws line replay now behind items right l told within idle b
+ends_in_items laws Done replay now behind items right front told within idle b l = absurd l
+ends_in_items laws Usage replay now behind items right front told within idle b l = absurd l
+ends_in_items laws OpenFault replay now behind items right front told within idle b l = absurd l
+ends_in_items laws WriteFault replay now behind items right front told within idle b l = absurd l
+ends_in_items laws KeepFault replay now behind items right front told within idle b l = absurd l
+ends_in_items laws (BadArea size) replay now behind items right front told within idle b l =
+    absurd l
+ends_in_items laws NoMemory replay now behind items right front told within idle b l = absurd l
 
 -- ---- the last line
 
--- the bytes of a record of good lines
-all_bytes : ReceiverLaws → (run : Course) (now : Moment) (left : Option (List ℕ))
+-- the piece of the last line
+abbrev end_of : Moment → Piece
+end_of now = record { text = end_line now.packets; area = now.kept }
+
+same_piece : (text area : List ℕ) (other : Piece) → other.text ≡ text → other.area ≡ area
+    → other ≡ record { text = text; area = area }
+same_piece text area other texts areas =
+    ap₂ (λ t a. let piece : Piece = record { text = t; area = a } in piece) texts areas
+
+-- the pieces of a record of good lines
+all_pieces : ReceiverLaws → (replay : Replay) (now : Moment) (left : Option (List ℕ))
     (items : List RecordItem)
-    → IsWhole (file run.notes left) items → IsIdle now.receiver
-    → (b : IsBetween (replay_of run) now items)
-    → bytes_of (means run).pieces ≡ bytes_of b.given ++ end_line now.packets
+    → IsReader replay.read → IsWhole (file replay.notes left) items → IsIdle now.receiver
+    → now.kept ≡ now.receiver.area
+    → (b : IsBetween replay now items) → b.given ++ end_of now ∷ [] ≡ (means replay).pieces
 unfolding replay_pieces
-all_bytes laws run now left items whole idle b =
-    let good = items_of_whole run.notes left items whole in
-    let packets = packets_of run.stream in
+all_pieces laws replay now left items right whole idle same b =
+    let good = items_of_whole replay.notes left items whole in
+    let packets = packets_of replay.stream in
     let inputs = inputs_of packets items in
-    let all = replay_inputs run.stream run.notes in
-    let printed = outputs run.read run.selection run.area all in
-    let last = end_piece run.read run.selection run.area all in
-    ap (λ n. bytes_of (printed ++ last_pieces n last)) good.0
-    ∙ bytes-append printed (last ∷ [])
-    ∙ ap (λ l. bytes_of printed ++ l) (append-nil last.text)
-    ∙ ap (λ l. bytes_of (outputs run.read run.selection run.area (inputs_of packets l))
-    ++ end_line (packet_count (inputs_of packets l))) good.1
-    ∙ ap (λ l. bytes_of l ++ end_line (packet_count inputs))
-    (sym (laws.all run.read run.selection run.area now.receiver inputs b.given
-    (b.stands run.right) idle))
-    ∙ ap (λ n. bytes_of b.given ++ end_line n) (sym b.packets)
+    let prints : List Input → List Piece =
+    λ l. outputs replay.read replay.selection replay.area l in
+    let last : List Input → Piece =
+    λ l. end_piece replay.read replay.selection replay.area l in
+    let all = replay_inputs replay.stream replay.notes in
+    let stands = b.stands right in
+    let end : last inputs ≡ end_of now =
+    same_piece (end_line now.packets) now.kept (last inputs)
+    (ap end_line (sym b.packets))
+    (idle_area replay.read replay.selection replay.area now.receiver inputs b.given stands idle
+    ∙ sym same) in
+    sym (ap (λ n. prints all ++ last_pieces n (last all)) good.0
+    ∙ ap (λ l. prints (inputs_of packets l) ++ last (inputs_of packets l) ∷ []) good.1
+    ∙ ap₂ (λ (l : List Piece) (p : Piece). l ++ p ∷ [])
+    (sym (laws.all replay.read replay.selection replay.area now.receiver inputs b.given stands idle))
+    end)
+
+-- nothing is stored for it
+line_keeps : (now : Moment) (keeper : KeeperState) → keeper ≡ now.outlets.keeper
+    → KeepsOn now.outlets.keeper keeper (change now.kept now.kept)
+line_keeps now keeper same =
+    let P : KeeperState → Type 0 =
+    λ k. KeepsOn now.outlets.keeper k (change now.kept now.kept) in
+    subst P (sym same) (keeps_none now.outlets.keeper now.kept now.kept refl)
 
 -- it was written
-ends_done : ReceiverLaws → (run : Course) (now : Moment) (behind : Outside)
+ends_done : ReceiverLaws → (replay : Replay) (now : Moment) (behind : Outside)
     (items : List RecordItem)
-    → IsWhole (file run.notes behind.world.notes.left) items → StreamWithin run behind
-    → WritesOn now.written behind.sink.written (end_line now.packets)
-    → IsIdle now.receiver → IsBetween (replay_of run) now items
-    → Ends run behind Done
-ends_done laws run now behind items whole within wrote idle b = record {
-  same = ap status_behind (items_of_whole run.notes _ items whole).0;
-  within = record { stream = within; notes = whole.within };
-  written = subst (λ l. Appends run.before.sink.written behind.sink.written l)
-      (sym (all_bytes laws run now _ items whole idle b))
-      (appends_more run.before.sink.written now.written behind.sink.written (bytes_of b.given)
-      (end_line now.packets) b.wrote wrote);
-}
-
--- the last bytes were cut short
-line_short : (first old new : Option (List ℕ)) (pieces : List Piece) (shown line : List ℕ)
-    → bytes_of pieces ≡ shown ++ line
-    → WritesShort old new line → Appends first old shown → WritesBytes first new pieces
-line_short None old new pieces shown line bytes short a =
-    record { bytes = []; front = record { rest = bytes_of pieces; joined = refl }; appended = tt }
-line_short (Some start) None new pieces shown line bytes short a = absurd a
-line_short (Some start) (Some told) new pieces shown line bytes short a =
-    let cut = short told refl in
+    → IsReader replay.read → IsWhole (file replay.notes behind.world.notes.left) items
+    → StreamWithin replay behind
+    → WritesOn now.outlets.sink.written behind.sink.written (end_line now.packets)
+    → behind.keeper ≡ now.outlets.keeper
+    → IsIdle now.receiver → now.kept ≡ now.receiver.area → IsBetween replay now items
+    → Ends replay behind Done
+ends_done laws replay now behind items right whole within wrote same idle area b =
+    let puts : PutsPiece now.kept (end_of now) now.outlets (outlets_of behind) =
+    record { keeps = line_keeps now behind.keeper same; writes = wrote } in
+    let put : HasPut replay.area replay.before now.kept (outlets_of behind) (means replay).pieces =
+    subst (λ (l : List Piece). HasPut replay.area replay.before now.kept (outlets_of behind) l)
+    (all_pieces laws replay now _ items right whole idle area b)
+    (put_more replay.area replay.before now.kept now.outlets (outlets_of behind) b.given
+    (end_of now) b.put puts) in
     record {
-      bytes = shown ++ cut.front;
-      front = record {
-        rest = cut.rest;
-        joined = bytes ∙ ap (λ l. shown ++ l) cut.whole
-            ∙ sym (append_assoc shown cut.front cut.rest);
-      };
-      appended = appends_from start (shown ++ cut.front) new
-          (cut.written ∙ ap Some (ap (λ l. l ++ cut.front) a ∙ append_assoc start shown cut.front));
+      same = ap status_behind (items_of_whole replay.notes _ items whole).0;
+      within = record { stream = within; notes = whole.within };
+      written = put.wrote;
+      kept = put.keeps;
     }
 
 -- it wasn't
-ends_in_line : ReceiverLaws → (status : Status) (run : Course) (now : Moment) (behind : Outside)
-    (items : List RecordItem)
-    → IsWhole (file run.notes behind.world.notes.left) items → StreamWithin run behind
-    → StopsLine status now.written behind.sink.written (end_line now.packets)
-    → IsIdle now.receiver → IsBetween (replay_of run) now items
-    → Ends run behind status
-ends_in_line laws WriteFault run now behind items whole within short idle b = (
-  record { stream = within; notes = whole.within },
-  line_short run.before.sink.written now.written behind.sink.written (means run).pieces
-      (bytes_of b.given)
-      (end_line now.packets) (all_bytes laws run now _ items whole idle b) short b.wrote,
-)
-ends_in_line laws NoMemory run now behind items whole within kept idle b =
-    let all = items_of_whole run.notes _ items whole in
-    let front : IsFront items (items_before_bad run.notes) =
-    subst (λ l. IsFront items l) (sym all.1) (front_of_self items) in
-    record {
-      whole = b.given;
-      front = front_of_given laws run now.receiver _ b.given
-          (front_of_items run.stream run.notes items front) (b.stands run.right);
-      appended = subst (λ l. Appends run.before.sink.written behind.sink.written l)
-          (append-nil (bytes_of b.given))
-          (appends_more run.before.sink.written now.written behind.sink.written
-          (bytes_of b.given) [] b.wrote kept);
-    }
-ends_in_line laws Done run now behind items whole within s idle b = absurd s
-ends_in_line laws Usage run now behind items whole within s idle b = absurd s
-ends_in_line laws (BadRecord line) run now behind items whole within s idle b = absurd s
-ends_in_line laws OpenFault run now behind items whole within s idle b = absurd s
-ends_in_line laws ReadFault run now behind items whole within s idle b = absurd s
-ends_in_line laws KeepFault run now behind items whole within s idle b = absurd s
-ends_in_line laws (BadArea size) run now behind items whole within s idle b = absurd s
-ends_in_line laws TooLong run now behind items whole within s idle b = absurd s
+ends_in_line : ReceiverLaws → (status : Status) (replay : Replay) (now : Moment)
+    (behind : Outside) (items : List RecordItem)
+    → IsReader replay.read → IsWhole (file replay.notes behind.world.notes.left) items
+    → StreamWithin replay behind
+    → StopsLine status now.outlets.sink.written behind.sink.written (end_line now.packets)
+    → behind.keeper ≡ now.outlets.keeper
+    → IsIdle now.receiver → now.kept ≡ now.receiver.area → IsBetween replay now items
+    → Ends replay behind status
+ends_in_line laws WriteFault replay now behind items right whole within short same idle area b =
+    let cuts : CutsPiece now.kept (end_of now) now.outlets (outlets_of behind) =
+    record { keeps = line_keeps now behind.keeper same; short = short } in
+    let all : IsFront (b.given ++ end_of now ∷ []) (means replay).pieces =
+    subst (λ (l : List Piece). IsFront (b.given ++ end_of now ∷ []) l)
+    (all_pieces laws replay now _ items right whole idle area b)
+    (front_of_self (b.given ++ end_of now ∷ [])) in (
+      record { stream = within; notes = whole.within },
+      put_short (means replay) (run_of replay behind) now.kept now.outlets b.given (end_of now)
+          b.put cuts all,
+    )
+ends_in_line laws NoMemory replay now behind items right whole within kept same idle area b =
+    let all : IsFront b.given (means replay).pieces =
+    subst (λ (l : List Piece). IsFront b.given l)
+    (all_pieces laws replay now _ items right whole idle area b)
+    (front_of_append b.given (end_of now ∷ [])) in
+    let put = b.put in
+    put_whole (means replay) (run_of replay behind) now.kept b.given (record {
+      wrote = subst (λ o. Appends replay.before.sink.written o (bytes_of b.given)) (sym kept)
+          put.wrote;
+      kept_is = put.kept_is;
+      keeps = subst (λ k. Keeps replay.before.keeper k (stores replay.area b.given)) (sym same)
+          put.keeps;
+    }) all
+ends_in_line laws Done replay now behind items right whole within s same idle area b = absurd s
+ends_in_line laws Usage replay now behind items right whole within s same idle area b = absurd s
+ends_in_line laws (BadRecord line) replay now behind items right whole within s same idle area b =
+    absurd s
+ends_in_line laws OpenFault replay now behind items right whole within s same idle area b =
+    absurd s
+ends_in_line laws ReadFault replay now behind items right whole within s same idle area b =
+    absurd s
+ends_in_line laws KeepFault replay now behind items right whole within s same idle area b =
+    absurd s
+ends_in_line laws (BadArea size) replay now behind items right whole within s same idle area b =
+    absurd s
+ends_in_line laws TooLong replay now behind items right whole within s same idle area b = absurd s
 
 -- the answer of writing the last line
 pub ends_with_line : ReceiverLaws → (result : Result (Unit {0}) Status) (packets : ℕ)
-    (run : Course) (now : Moment) (behind : Outside) (items : List RecordItem)
-    → packets ≡ now.packets
-    → OnOk result (WritesOn now.written behind.sink.written (end_line packets))
-    → IfErr result (λ status. StopsLine status now.written behind.sink.written (end_line packets))
-    → IsWhole (file run.notes behind.world.notes.left) items → StreamWithin run behind
-    → IsIdle now.receiver → IsBetween (replay_of run) now items
-    → Ends run behind (outcome_of result)
-ends_with_line laws (Ok u) packets run now behind items same wrote stops whole within idle b =
-    ends_done laws run now behind items whole within
-    (subst (λ n. WritesOn now.written behind.sink.written (end_line n)) same wrote) idle b
-ends_with_line laws (Err status) packets run now behind items same wrote stops whole within idle b =
-    ends_in_line laws status run now behind items whole within
-    (subst (λ n. StopsLine status now.written behind.sink.written (end_line n)) same stops) idle b
+    (replay : Replay) (now : Moment) (behind : Outside) (items : List RecordItem)
+    → IsReader replay.read → packets ≡ now.packets
+    → OnOk result (WritesOn now.outlets.sink.written behind.sink.written (end_line packets))
+    → IfErr result (λ status. StopsLine status now.outlets.sink.written behind.sink.written
+    (end_line packets))
+    → IsWhole (file replay.notes behind.world.notes.left) items → StreamWithin replay behind
+    → behind.keeper ≡ now.outlets.keeper
+    → IsIdle now.receiver → now.kept ≡ now.receiver.area → IsBetween replay now items
+    → Ends replay behind (outcome_of result)
+ends_with_line laws (Ok u) packets replay now behind items right number wrote stops whole within
+    same idle area b =
+    ends_done laws replay now behind items right whole within
+    (subst (λ n. WritesOn now.outlets.sink.written behind.sink.written (end_line n)) number wrote)
+    same idle area b
+ends_with_line laws (Err status) packets replay now behind items right number wrote stops whole
+    within same idle area b =
+    ends_in_line laws status replay now behind items right whole within
+    (subst (λ n. StopsLine status now.outlets.sink.written behind.sink.written (end_line n)) number
+    stops) same idle area b
 
 -- ---- steps between items
+
+-- a replay that begins now
+pub begun_now : (told : Outside) → HasBegun told told
+begun_now told = record {
+  written = refl;
+  keeps = record { kept = λ bytes told. told; calls = omega arith };
+}
 
 -- the stream's port stays
 pub between_same : (replay : Replay) (now : Moment) (left : Option (List ℕ))
@@ -416,22 +433,11 @@ reads_notes a b c x y = record {
   notes = read_on_more a.notes b.notes c.notes x.notes y.on;
 }
 
--- ---- a file couldn't be opened
+-- ---- nothing was played
 
-pub ends_unopened : (status : Status) (meaning : Meaning) (run : Account) (port : Port)
-    (old new : WorldState)
-    → run.written ≡ run.first → StopsOpening status port old new → EndsAs meaning run status
-ends_unopened OpenFault meaning run port old new same s = same
-ends_unopened NoMemory meaning run port old new same s = record {
-  whole = [];
-  front = record { rest = meaning.pieces; joined = refl };
-  appended = subst (λ o. Appends run.first o []) (sym same) (Appends-nil run.first);
-}
-ends_unopened Done meaning run port old new same s = absurd s
-ends_unopened Usage meaning run port old new same s = absurd s
-ends_unopened (BadRecord line) meaning run port old new same s = absurd s
-ends_unopened ReadFault meaning run port old new same s = absurd s
-ends_unopened WriteFault meaning run port old new same s = absurd s
-ends_unopened KeepFault meaning run port old new same s = absurd s
-ends_unopened (BadArea size) meaning run port old new same s = absurd s
-ends_unopened TooLong meaning run port old new same s = absurd s
+pub ends_unplayed : (replay : Replay) (behind : Outside) → HasBegun replay.before behind
+    → Ends replay behind NoMemory
+ends_unplayed replay behind begun =
+    put_whole (means replay) (run_of replay behind) replay.area []
+    (put_none replay.area replay.before behind replay.area begun refl)
+    (record { rest = (means replay).pieces; joined = refl })

@@ -8,10 +8,9 @@ use Rattle.std.proofs.lemmas.Option.{cond_some, none-some, same_Some, option_and
 use Rattle.std.specs.Cmp.Lexicographic.{bytes_decides}
 use Rattle.bml_bytes.specs.Numerals.{decimal_field}
 use Rattle.bml_bytes.specs.Words.{is_same}
-use Rattle.receiver_core.specs.declared.broadcast.Input.TheVariants.{Key, Release, Tick, Random}
-use Rattle.receiver_core.specs.declared.broadcast.Input.TheVariants.{Show}
+use Rattle.receiver_core.specs.declared.broadcast.Input.TheVariants.{Key, Release, Random, Show}
 use Rattle.replay_run.specs.declared.record.RecordItem.{RecordItem}
-use Rattle.replay_run.specs.declared.record.RecordItem.TheVariants.{All, Packets, Input}
+use Rattle.replay_run.specs.declared.record.RecordItem.TheVariants.{All, Packets, Tick, Input}
 use Rattle.replay_run.specs.declared.record.Line.{Line}
 use Rattle.replay_run.specs.declared.record.Line.TheVariants.{Item as Read, Nothing, Bad}
 use Rattle.replay_run.specs.Record.{fields, is_key, tick_limit, item_where, numbered_item}
@@ -46,9 +45,9 @@ written (Input (Key key)) words w =
 written (Input (Release key)) words w =
     number_written (codes "release") key (Input (Release key)) words w.0 refl
     (item_at (is_key key) (Input (Release key)) w.1)
-written (Input (Tick count)) words w =
-    number_written (codes "tick") count (Input (Tick count)) words w.0 refl
-    (item_at (nat_le 1 count && nat_le count tick_limit) (Input (Tick count))
+written (Tick count) words w =
+    number_written (codes "tick") count (Tick count) words w.0 refl
+    (item_at (nat_le 1 count && nat_le count tick_limit) (Tick count)
     (and_from _ _ (le-leb 1 count (omega (arith, w.1))) (le-leb count tick_limit w.2)))
 written (Input (Random word)) words w =
     number_written (codes "random") word (Input (Random word)) words w refl refl
@@ -129,12 +128,12 @@ release_words words key item has e =
 
 tick_words : (words : List (List ℕ)) (count : ℕ) (item : RecordItem)
     → HasNumber (codes "tick") count words
-    → item_where (nat_le 1 count && nat_le count tick_limit) (Input (Tick count)) ≡ Some item
+    → item_where (nat_le 1 count && nat_le count tick_limit) (Tick count) ≡ Some item
     → IsWritten item words
 tick_words words count item has e =
-    let p = cond_some (nat_le 1 count && nat_le count tick_limit) (Input (Tick count)) item e in
+    let p = cond_some (nat_le 1 count && nat_le count tick_limit) (Tick count) item e in
     let bounds = and_parts (nat_le 1 count) (nat_le count tick_limit) p.0 in
-    same_written words (Input (Tick count)) item p.1
+    same_written words (Tick count) item p.1
     (has, omega (arith, leb-true 1 count bounds.0), leb-true count tick_limit bounds.1)
 
 number_words : (name number : List ℕ) (count : ℕ) (item : RecordItem)

@@ -1,7 +1,7 @@
 -- Laws of what items hand over.
 use Rattle.std.proofs.Common.{◌≡◌, ℕ, ◌+◌, ◌-◌, ◌≤◌, List, [], ◌∷◌, ◌++◌, map, length, take, drop}
 use Rattle.std.proofs.Common.{refl, sym, ap, ◌∙◌, append_assoc, append-nil, take_all}
-use Rattle.std.proofs.Common.{take-append-drop, drop_of_length-le, length-drop, eq-eqb, true≢false}
+use Rattle.std.proofs.Common.{take-append-drop, drop_of_length-le, length-drop, eq-eqb, eqb-true, true≢false}
 use Rattle.std.proofs.Common.{arith, ◌≢◌, Bool, true, false, not, nat_eq, Option, Some, None, option_map}
 use Rattle.std.proofs.Common.{cond}
 use Rattle.std.proofs.Math.Seq.{take-add}
@@ -10,7 +10,7 @@ use Rattle.std.proofs.lemmas.List.{map-append}
 use Rattle.std.proofs.lemmas.List.Sums.{sum_by-append}
 use Rattle.receiver_core.specs.Fronts.{IsFront}
 use Rattle.receiver_core.specs.Outputs.{Input}
-use Rattle.receiver_core.specs.Outputs.Input.{Packet}
+use Rattle.receiver_core.specs.Outputs.Input.{Packet, Tick}
 use Rattle.replay_run.specs.declared.record.RecordItem.{RecordItem}
 use Rattle.replay_run.specs.Midway.{item_of_count}
 use Rattle.replay_run.specs.Play.{inputs_of_item, packets_behind, inputs_of, packets_left}
@@ -74,6 +74,12 @@ packet_count-other inputs input other =
     let none : packet_count (input ∷ []) ≡ 0 = rw other in
     packet_count-append inputs (input ∷ []) ∙ omega arith
 
+-- ticks are none
+pub same_count : (inputs : List Input) (first second : ℕ)
+    → packet_count (inputs ++ Tick second ∷ []) ≡ packet_count (inputs ++ Tick first ∷ [])
+same_count inputs first second =
+    packet_count-other inputs (Tick second) refl ∙ sym (packet_count-other inputs (Tick first) refl)
+
 -- ---- packets that are taken one by one
 
 -- behind so many packets
@@ -124,6 +130,21 @@ told_apart test last now means e same =
     let equal : option_eq nat_eq last (Some now) ≡ true =
     ap (λ o. option_eq nat_eq o (Some now)) same ∙ eq-eqb now now refl in
     true≢false (sym e ∙ means ∙ ap not equal)
+
+same_number : (last : Option ℕ) (now : ℕ) → option_eq nat_eq last (Some now) ≡ true
+    → last ≡ Some now
+same_number None now e = let clash : false ≡ true = e in cc
+same_number (Some n) now e = ap Some (eqb-true n now e)
+
+-- and one that doesn't
+pub told_alike : (test : Bool) (last : Option ℕ) (now : ℕ) → test
+    ≡ not (option_eq nat_eq last (Some now)) → test ≡ false → last ≡ Some now
+told_alike test last now means e =
+    same_number last now (not_false (option_eq nat_eq last (Some now)) (sym means ∙ e))
+  where
+    not_false : (b : Bool) → not b ≡ false → b ≡ true
+    not_false true e = refl
+    not_false false e = sym e
 
 -- they are as many as it takes
 pub took_enough : (most last : Option ℕ) (start now count : ℕ) → last

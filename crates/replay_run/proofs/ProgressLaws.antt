@@ -2,24 +2,23 @@
 use Rattle.std.proofs.Common.{◌≡◌, ℕ, ◌+◌, true, false, List, [], ◌∷◌, ◌++◌, drop, refl, sym, ap}
 use Rattle.std.proofs.Common.{◌∙◌, subst, append_assoc, append-nil, length, Option, Some}
 use Rattle.std.proofs.Common.{length-append, drop-drop}
-use Rattle.std.proofs.KnownBytes.{Appends-nil}
-use Rattle.std.specs.Io.KnownBytes.{Appends}
 use Rattle.ts_packets.specs.Cutter.{CutterState, Gives}
 use Rattle.ts_packets.specs.Packets.{packets_of}
 use Rattle.es_reader.specs.Readers.{IsReader}
 use Rattle.receiver_core.specs.Outputs.{Input, Piece}
 use Rattle.receiver_core.specs.Receiving.{ReceiverState, StandsFor}
-use Rattle.receiver_core.specs.Outputs.Input.{Packet}
+use Rattle.receiver_core.specs.Outputs.Input.{Packet, Tick}
 use Rattle.replay_run.specs.declared.record.RecordItem.{RecordItem}
 use Rattle.replay_run.specs.Midway.{item_of_count}
 use Rattle.replay_run.specs.Play.{inputs_of_item, packets_behind, inputs_of, packets_left}
 use Rattle.replay_run.specs.Play.{packet_count}
-use Rattle.replay_run.specs.Output.{bytes_of}
-use Rattle.replay_run.specs.Progress.{Replay, Moment, IsMidway, IsBetween}
+use Rattle.replay_run.specs.Outside.{Outside}
+use Rattle.replay_run.specs.Progress.{HasBegun, Replay, Moment, IsMidway, IsBetween}
+use Rattle.replay_run.specs.Putting.{HasPut, outlets_of}
 use Rattle.replay_run.proofs.PlayLaws.{inputs_of-push, packets_left-push, no_items}
 use Rattle.replay_run.proofs.PlayLaws.{packet_count-packet, with_packets, with_none, with_more}
-use Rattle.replay_run.proofs.PlayLaws.{Allows, took_all}
-use Rattle.replay_run.proofs.WritingLaws.{appends_more, bytes-append}
+use Rattle.replay_run.proofs.PlayLaws.{Allows, packet_count-other, took_all}
+use Rattle.replay_run.proofs.PuttingLaws.{put_none}
 
 -- the cutter left bytes out in front of the next packet
 pub midway_seek : (replay : Replay) (now : Moment) (inputs : List Input) (ahead : List (List ℕ))
@@ -38,7 +37,7 @@ midway_seek replay now inputs ahead cutter gives ended m = record {
   ahead_is = sym (gives m.rest m.ended) ∙ m.ahead_is;
   packets = m.packets;
   stands = m.stands;
-  wrote = m.wrote;
+  put = m.put;
 }
 
 -- what a cut packet leaves of a moment
@@ -73,34 +72,41 @@ midway_packet replay now inputs ahead cutter receiver packet gives ended pushed 
       ahead_is = refl;
       packets = ap (λ n. n + 1) m.packets ∙ sym (packet_count-packet inputs packet);
       stands = λ right. pushed inputs m.given (m.stands right);
-      wrote = m.wrote;
+      put = m.put;
     })
 
--- the receiver gave pieces, which were written
-pub midway_pieces : (replay : Replay) (now : Moment) (inputs more : List Input)
-    (ahead : List (List ℕ))
-    (receiver : ReceiverState) (pieces : List Piece) (written : Option (List ℕ))
-    → ((given : List Piece) → StandsFor replay.read replay.selection replay.area now.receiver inputs given
-    → StandsFor replay.read replay.selection replay.area receiver more (given ++ pieces))
+-- a call of the receiver that gave nothing and left its area
+pub midway_quiet : (replay : Replay) (now : Moment) (inputs more : List Input)
+    (ahead : List (List ℕ)) (receiver : ReceiverState)
+    → ((given : List Piece)
+    → StandsFor replay.read replay.selection replay.area now.receiver inputs given
+    → StandsFor replay.read replay.selection replay.area receiver more given)
     → packet_count more ≡ packet_count inputs
-    → ((start : List ℕ) → now.written ≡ Some start → written ≡ Some (start ++ bytes_of pieces))
     → IsMidway replay now inputs ahead
-    → IsMidway replay (record now { receiver = receiver; written = written }) more ahead
-midway_pieces replay now inputs more ahead receiver pieces written gave count appended m = record {
+    → IsMidway replay (record now { receiver = receiver }) more ahead
+midway_quiet replay now inputs more ahead receiver stays count m = record {
   taken = m.taken;
   rest = m.rest;
-  given = m.given ++ pieces;
+  given = m.given;
   left_is = m.left_is;
   whole = m.whole;
   counted = m.counted;
   ended = m.ended;
   ahead_is = m.ahead_is;
   packets = m.packets ∙ sym count;
-  stands = λ right. gave m.given (m.stands right);
-  wrote = subst (λ l. Appends replay.first written l) (sym (bytes-append m.given pieces))
-      (appends_more replay.first now.written written (bytes_of m.given)
-      (bytes_of pieces) m.wrote appended);
+  stands = λ right. stays m.given (m.stands right);
+  put = m.put;
 }
+
+-- no time has passed yet
+pub midway_untimed : (replay : Replay) (now : Moment) (inputs : List Input) (ahead : List (List ℕ))
+    → ((given : List Piece)
+    → StandsFor replay.read replay.selection replay.area now.receiver inputs given
+    → StandsFor replay.read replay.selection replay.area now.receiver (inputs ++ Tick 0 ∷ []) given)
+    → IsMidway replay now inputs ahead → IsMidway replay now (inputs ++ Tick 0 ∷ []) ahead
+midway_untimed replay now inputs ahead none m =
+    midway_quiet replay now inputs (inputs ++ Tick 0 ∷ []) ahead now.receiver none
+    (packet_count-other inputs (Tick 0) refl) m
 
 -- the stream gave bytes, and the cutter took them
 pub midway_read : (replay : Replay) (now : Moment) (inputs : List Input) (ahead : List (List ℕ))
@@ -131,7 +137,7 @@ midway_read replay now inputs ahead cutter left bytes gave open_end held ended m
       ahead_is = ap packets_of same ∙ m.ahead_is;
       packets = m.packets;
       stands = m.stands;
-      wrote = m.wrote;
+      put = m.put;
     }
 
 -- the stream came to its end
@@ -155,17 +161,18 @@ midway_end replay now inputs ahead cutter left gave held m =
           ∙ m.ahead_is;
       packets = m.packets;
       stands = m.stands;
-      wrote = m.wrote;
+      put = m.put;
     }
 
 -- a replay begins
-pub between_start : (replay : Replay) (now : Moment)
-    → now.left ≡ Some replay.stream → now.written ≡ replay.first
+pub between_start : (replay : Replay) (now : Moment) (told : Outside)
+    → now.left ≡ Some replay.stream → now.outlets ≡ outlets_of told → HasBegun replay.before told
+    → now.kept ≡ replay.area
     → now.cutter.held ≡ [] → now.cutter.ended ≡ false → now.bytes ≡ 0 → now.packets ≡ 0
-    → (zeros : List ℕ) → zeros ≡ replay.area
-    → (IsReader replay.read → StandsFor replay.read replay.selection zeros now.receiver [] [])
+    → (IsReader replay.read
+    → StandsFor replay.read replay.selection replay.area now.receiver [] [])
     → IsBetween replay now []
-between_start replay now l w held open_end bytes packets zeros same stands =
+between_start replay now told l same begun kept held open_end bytes packets stands =
     let none = no_items (packets_of replay.stream) in
     let P : List Input → Type 0 =
     λ inputs. IsMidway replay now inputs (packets_left (packets_of replay.stream) []) in
@@ -179,9 +186,9 @@ between_start replay now l w held open_end bytes packets zeros same stands =
       ended = λ e. let clash : true ≡ false = sym e ∙ open_end in cc;
       ahead_is = ap (λ l. packets_of (l ++ replay.stream)) held ∙ sym none.1;
       packets = packets;
-      stands = λ right. subst
-          (λ area. StandsFor replay.read replay.selection area now.receiver [] []) same (stands right);
-      wrote = subst (λ o. Appends replay.first o []) (sym w) (Appends-nil replay.first);
+      stands = stands;
+      put = subst (λ o. HasPut replay.area replay.before now.kept o []) (sym same)
+          (put_none replay.area replay.before told now.kept begun kept);
     })
 
 -- one more item was handled

@@ -6,9 +6,8 @@ use Rattle.std.specs.Str.Lines.{lines}
 use Rattle.std.specs.List.{filter_map}
 use Rattle.std.proofs.lemmas.List.Elements.{All-push, filter_map-append}
 use Rattle.receiver_core.specs.Fronts.{IsFront}
-use Rattle.receiver_core.specs.declared.broadcast.Input.TheVariants.{Tick}
 use Rattle.replay_run.specs.declared.record.RecordItem.{RecordItem}
-use Rattle.replay_run.specs.declared.record.RecordItem.TheVariants.{All as Every, Packets, Input}
+use Rattle.replay_run.specs.declared.record.RecordItem.TheVariants.{All as Every, Packets, Tick, Input}
 use Rattle.replay_run.specs.declared.record.Line.{Line}
 use Rattle.replay_run.specs.declared.record.Line.TheVariants.{Item as Read, Nothing, Bad}
 use Rattle.replay_run.specs.RecordProgress.{RecordState, IsAt, IsWhole, IsBadBehind}
@@ -234,8 +233,8 @@ time_written : (item : RecordItem) (words : List (List ℕ)) → IsWritten item 
     → milliseconds_of item ≤ tick_limit
 time_written Every words w = omega arith
 time_written (Packets count) words w = omega arith
-time_written (Input (Tick count)) words w = w.2
-time_written (Input _) words w = omega arith
+time_written (Tick count) words w = w.2
+time_written (Input input) words w = omega arith
 
 -- the first of some lines
 first_line : (bytes : List (List ℕ)) (line : Line) (more : List Line)

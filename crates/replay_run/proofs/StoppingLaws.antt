@@ -1,31 +1,30 @@
 -- What is written where a replay stops in the middle of an item, over plain values.
-use Rattle.std.proofs.Common.{◌≡◌, ℕ, ◌+◌, ◌<◌, ◌≤◌, List, [], ◌∷◌, ◌++◌, take, drop, refl, sym, ap}
-use Rattle.std.proofs.Common.{◌∙◌, subst, append_assoc, length, Option, Some, None, Result, Ok, Err}
-use Rattle.std.proofs.Common.{OnErr, IfErr, arith, length-append}
-use Rattle.std.specs.Io.KnownBytes.{Appends, Consumes, IsAtEnd, Keeps, ReadConsumes}
+use Rattle.std.proofs.Common.{◌≡◌, ℕ, ◌+◌, ◌-◌, ◌<◌, ◌≤◌, List, [], ◌∷◌, ◌++◌, take, drop, refl}
+use Rattle.std.proofs.Common.{sym, ap, ◌∙◌, subst, append_assoc, length, Option, Some, None, Result}
+use Rattle.std.proofs.Common.{Ok, Err, inl, inr, arith, length-append}
+use Rattle.std.specs.Io.KnownBytes.{Consumes, IsAtEnd, Keeps, ReadConsumes}
 use Rattle.std.proofs.KnownBytes.{Consumes-nil, Consumes-trans, Consumes-kept}
 use Rattle.bml_ports.specs.declared.outside.Port.{Port}
 use Rattle.bml_ports.specs.Counters.{Counts}
 use Rattle.bml_ports.specs.Worlds.{WorldState, PortState, port_of}
 use Rattle.ts_packets.specs.Packets.{packets_of, packets_after}
 use Rattle.receiver_core.specs.Fronts.{IsFront, front_of_self, front_of_front}
-use Rattle.receiver_core.specs.Outputs.{Input, Piece}
-use Rattle.receiver_core.specs.Receiving.{ReceiverState, StandsFor}
+use Rattle.receiver_core.specs.Outputs.{Input}
+use Rattle.receiver_core.specs.Outputs.Input.{Tick}
 use Rattle.replay_run.specs.declared.record.RecordItem.{RecordItem}
 use Rattle.replay_run.specs.declared.status.Status.{Status}
-use Rattle.replay_run.specs.declared.status.Status.TheVariants.{ReadFault, WriteFault, TooLong}
-use Rattle.replay_run.specs.declared.status.Status.TheVariants.{NoMemory}
-use Rattle.replay_run.specs.Midway.{StopsIn}
+use Rattle.replay_run.specs.declared.status.Status.TheVariants.{NoMemory, ReadFault, TooLong}
+use Rattle.replay_run.specs.Ending.{WritesWhole}
+use Rattle.replay_run.specs.Midway.{AreFirst, StopsIn}
 use Rattle.replay_run.specs.Play.{inputs_of_item, inputs_of, packets_left}
 use Rattle.replay_run.specs.Outside.{Outside}
 use Rattle.replay_run.specs.Progress.{Replay, Moment, IsMidway}
-use Rattle.replay_run.specs.Output.{WritesPieces, WritesBytes, bytes_of}
 use Rattle.replay_run.specs.Files.{file, GaveAtMost, stream_limit}
 use Rattle.replay_run.specs.Order.{IsReadOn}
-use Rattle.replay_run.specs.Stopping.{OnlyReads}
-use Rattle.replay_run.specs.Writing.{CutShort}
+use Rattle.replay_run.specs.Putting.{HasPut, outlets_of}
+use Rattle.replay_run.specs.Stopping.{OnlyReads, StreamWithin, meaning_of, run_of}
 use Rattle.replay_run.proofs.PlayLaws.{inputs_of-push, with_packets, with_more}
-use Rattle.replay_run.proofs.WritingLaws.{appends_from, bytes-append}
+use Rattle.replay_run.proofs.PuttingLaws.{put_whole}
 
 -- what a read that gave these bytes left
 pub consumed_some : (bytes : List ℕ) (old new : Option (List ℕ)) → Consumes old new bytes
@@ -42,13 +41,48 @@ ended_some (Some x) None c end rest e = absurd c
 ended_some (Some x) (Some y) c end rest e = let same : x ≡ rest = cc in
     (sym same ∙ c ∙ end, ap Some end)
 
+-- those that are the first of some are the first of more
+pub first_further : (some mid all : List Input) → AreFirst some mid → IsFront mid all
+    → AreFirst some all
+first_further some mid all (inl front) more = inl (front_of_front some mid all front more)
+first_further some mid all (inr cut) more = inr (record {
+  earlier = cut.earlier;
+  passed = cut.passed;
+  more = cut.more;
+  some_is = cut.some_is;
+  front = front_of_front (cut.earlier ++ Tick (cut.passed + cut.more) ∷ []) mid all cut.front more;
+})
+
+-- all are the first of themselves
+pub first_all : (inputs : List Input) → AreFirst inputs inputs
+first_all inputs = inl (front_of_self inputs)
+
+-- and of one more
+pub first_pushed : (inputs : List Input) (input : Input) → AreFirst inputs (inputs ++ input ∷ [])
+first_pushed inputs input = inl (record { rest = input ∷ []; joined = refl })
+
+-- and so is a part of a tick
+pub first_ticked : (inputs : List Input) (passed all : ℕ) → passed ≤ all
+    → AreFirst (inputs ++ Tick passed ∷ []) (inputs ++ Tick all ∷ [])
+first_ticked inputs passed all within =
+    let more : passed + (all - passed) ≡ all = omega arith in
+    inr (record {
+      earlier = inputs;
+      passed = passed;
+      more = all - passed;
+      some_is = refl;
+      front = subst (λ n. IsFront (inputs ++ Tick (passed + (all - passed)) ∷ [])
+          (inputs ++ Tick n ∷ [])) more
+          (front_of_self (inputs ++ Tick (passed + (all - passed)) ∷ []));
+    })
+
 -- a replay that stops in some inputs stops in more
 pub stops_further : (status : Status) (replay : Replay) (told : Outside) (some all : List Input)
     → IsFront some all
     → StopsIn status replay told some → StopsIn status replay told all
 stops_further status replay told some all front s = record {
   inputs = s.inputs;
-  front = front_of_front s.inputs some all s.front front;
+  first = first_further s.inputs some all s.first front;
   receiver = s.receiver;
   given = s.given;
   stands = s.stands;
@@ -75,12 +109,6 @@ pub stops_more : (status : Status) (replay : Replay) (told : Outside) (inputs : 
 stops_more status replay told inputs ahead count s =
     subst (λ l. StopsIn status replay told l) (with_more inputs count 1 ahead) s
 
--- whole pieces
-pub stops_whole : (replay : Replay) (now : Moment) (inputs : List Input) (ahead : List (List ℕ))
-    → (m : IsMidway replay now inputs ahead) → WritesPieces replay.first now.written m.given
-stops_whole replay now inputs ahead m =
-    record { whole = m.given; front = front_of_self m.given; appended = m.wrote }
-
 -- the stream gave no more than it may
 pub midway_within : (replay : Replay) (now : Moment) (inputs : List Input) (ahead : List (List ℕ))
     (limit : ℕ)
@@ -91,23 +119,39 @@ midway_within replay now inputs ahead limit within m = record {
   most = omega (arith, m.counted);
 }
 
--- memory was wanting
-pub stops_within : (replay : Replay) (now : Moment) (told : Outside) (inputs : List Input)
+pub stream_within : (replay : Replay) (now : Moment) (told : Outside) (inputs : List Input)
     (ahead : List (List ℕ))
-    → told.world.stream.left ≡ now.left → told.sink.written ≡ now.written
+    → told.world.stream.left ≡ now.left → now.bytes ≤ stream_limit
+    → IsMidway replay now inputs ahead → StreamWithin replay told
+stream_within replay now told inputs ahead left within m =
+    subst (λ l. GaveAtMost stream_limit (file replay.stream l)) (sym left)
+    (midway_within replay now inputs ahead stream_limit within m)
+
+-- whole pieces
+pub midway_whole : (replay : Replay) (now : Moment) (told : Outside) (inputs : List Input)
+    (ahead : List (List ℕ))
+    → now.outlets ≡ outlets_of told → (m : IsMidway replay now inputs ahead)
+    → WritesWhole (meaning_of replay m.given) (run_of replay told)
+midway_whole replay now told inputs ahead same m =
+    put_whole (meaning_of replay m.given) (run_of replay told) now.kept m.given
+    (subst (λ o. HasPut replay.area replay.before now.kept o m.given) same m.put)
+    (front_of_self m.given)
+
+-- memory was wanting
+pub stops_within : (replay : Replay) (now : Moment) (told : Outside) (inputs all : List Input)
+    (ahead : List (List ℕ))
+    → AreFirst inputs all → told.world.stream.left ≡ now.left → now.outlets ≡ outlets_of told
     → now.bytes ≤ stream_limit → IsMidway replay now inputs ahead
-    → StopsIn NoMemory replay told inputs
-stops_within replay now told inputs ahead left written within m = record {
+    → StopsIn NoMemory replay told all
+stops_within replay now told inputs all ahead first left same within m = record {
   inputs = inputs;
-  front = front_of_self inputs;
+  first = first;
   receiver = now.receiver;
   given = m.given;
   stands = m.stands;
   leaves = (
-    subst (λ l. GaveAtMost stream_limit (file replay.stream l)) (sym left)
-        (midway_within replay now inputs ahead stream_limit within m),
-    subst (λ l. WritesPieces replay.first l m.given) (sym written)
-        (stops_whole replay now inputs ahead m),
+    stream_within replay now told inputs ahead left within m,
+    midway_whole replay now told inputs ahead same m,
   );
 }
 
@@ -128,21 +172,19 @@ within_kept limit bytes (Some x) (Some y) kept g = record {
 
 pub stops_unread : (replay : Replay) (now : Moment) (told : Outside) (inputs : List Input)
     (ahead : List (List ℕ))
-    → now.bytes ≤ stream_limit → Keeps now.left told.world.stream.left → told.sink.written
-    ≡ now.written
-    → IsMidway replay now inputs ahead
+    → now.bytes ≤ stream_limit → Keeps now.left told.world.stream.left
+    → now.outlets ≡ outlets_of told → IsMidway replay now inputs ahead
     → StopsIn ReadFault replay told inputs
-stops_unread replay now told inputs ahead within kept written m = record {
+stops_unread replay now told inputs ahead within kept same m = record {
   inputs = inputs;
-  front = front_of_self inputs;
+  first = first_all inputs;
   receiver = now.receiver;
   given = m.given;
   stands = m.stands;
   leaves = (
     within_kept stream_limit replay.stream now.left told.world.stream.left kept
         (midway_within replay now inputs ahead stream_limit within m),
-    subst (λ l. WritesPieces replay.first l m.given) (sym written)
-        (stops_whole replay now inputs ahead m),
+    midway_whole replay now told inputs ahead same m,
   );
 }
 
@@ -151,15 +193,14 @@ pub stops_long : (replay : Replay) (now : Moment) (told : Outside) (inputs : Lis
     (ahead : List (List ℕ))
     (bytes : List ℕ) (count : ℕ)
     → length bytes ≡ count → stream_limit < now.bytes + count
-    → Consumes now.left told.world.stream.left bytes
-    → told.sink.written ≡ now.written
+    → Consumes now.left told.world.stream.left bytes → now.outlets ≡ outlets_of told
     → IsMidway replay now inputs ahead
     → StopsIn TooLong replay told inputs
-stops_long replay now told inputs ahead bytes count size above consumed written m =
+stops_long replay now told inputs ahead bytes count size above consumed same m =
     let g = consumed_some bytes now.left told.world.stream.left consumed m.rest m.left_is in
     record {
       inputs = inputs;
-      front = front_of_self inputs;
+      first = first_all inputs;
       receiver = now.receiver;
       given = m.given;
       stands = m.stands;
@@ -173,67 +214,9 @@ stops_long replay now told inputs ahead bytes count size above consumed written 
           };
           more = omega (arith, length-append m.taken bytes, m.counted, size);
         },
-        subst (λ l. WritesPieces replay.first l m.given) (sym written)
-            (stops_whole replay now inputs ahead m),
+        midway_whole replay now told inputs ahead same m,
       );
     }
-
--- the bytes of pieces, of which the last ones were cut short
-short_bytes : (first old new : Option (List ℕ)) (given pieces : List Piece)
-    → ((start : List ℕ) → old ≡ Some start → CutShort start new (bytes_of pieces))
-    → Appends first old (bytes_of given) → WritesBytes first new (given ++ pieces)
-short_bytes None old new given pieces cut a =
-    record {
-      bytes = [];
-      front = record { rest = bytes_of (given ++ pieces); joined = refl };
-      appended = tt;
-    }
-short_bytes (Some start) None new given pieces cut a = absurd a
-short_bytes (Some start) (Some told) new given pieces cut a =
-    let short = cut told refl in
-    record {
-      bytes = bytes_of given ++ short.front;
-      front = record {
-        rest = short.rest;
-        joined = bytes-append given pieces ∙ ap (λ l. bytes_of given ++ l) short.whole
-            ∙ sym (append_assoc (bytes_of given) short.front short.rest);
-      };
-      appended = appends_from start (bytes_of given ++ short.front) new
-          (short.written ∙ ap Some
-          (ap (λ l. l ++ short.front) a ∙ append_assoc start (bytes_of given) short.front));
-    }
-
--- pieces were cut short that the receiver gave
-pub stops_short : (replay : Replay) (now : Moment) (told : Outside) (inputs more : List Input)
-    (ahead : List (List ℕ))
-    (receiver : ReceiverState) (pieces : List Piece)
-    → ((given : List Piece) → StandsFor replay.read replay.selection replay.area now.receiver inputs given
-    → StandsFor replay.read replay.selection replay.area receiver more (given ++ pieces))
-    → told.world.stream.left ≡ now.left
-    → ((start : List ℕ) → now.written ≡ Some start → CutShort start told.sink.written
-    (bytes_of pieces))
-    → now.bytes ≤ stream_limit
-    → IsMidway replay now inputs ahead
-    → StopsIn WriteFault replay told more
-stops_short replay now told inputs more ahead receiver pieces gave left cut within m = record {
-  inputs = more;
-  front = front_of_self more;
-  receiver = receiver;
-  given = m.given ++ pieces;
-  stands = λ right. gave m.given (m.stands right);
-  leaves = (
-    subst (λ l. GaveAtMost stream_limit (file replay.stream l)) (sym left)
-        (midway_within replay now inputs ahead stream_limit within m),
-    short_bytes replay.first now.written told.sink.written m.given pieces cut m.wrote,
-  );
-}
-
--- a piece that wasn't written whole
-pub piece_stops : (result : Result (Unit {0}) Status) (P : Status → Type 0) (Q : Type 0)
-    → OnErr result Q → IfErr result (λ status. status ≡ WriteFault) → (Q → P WriteFault)
-    → IfErr result P
-piece_stops (Ok u) P Q short fault stops = tt
-piece_stops (Err status) P Q short fault stops = subst P (sym fault) (stops short)
 
 -- ---- reads one after the other
 

@@ -1,17 +1,14 @@
 -- Laws of what writes leave.
-use Rattle.std.proofs.Common.{◌≡◌, ℕ, ◌-◌, List, [], ◌∷◌, ◌++◌, refl, sym, ap, ◌∙◌, append_assoc, ◌⊎◌, inl, inr, subst}
+use Rattle.std.proofs.Common.{◌≡◌, ◌≢◌, ℕ, ◌-◌, List, [], ◌++◌, refl, sym, ap, ◌∙◌, append_assoc}
 use Rattle.std.proofs.Common.{append-nil, length, take, drop, Option, Some, None, take-append-drop}
 use Rattle.std.specs.List.{concat}
-use Rattle.std.specs.Io.KnownBytes.{Appends}
+use Rattle.std.specs.Io.KnownBytes.{Appends, Keeps as KeepsKnown}
 use Rattle.std.proofs.lemmas.List.{take_rest}
 use Rattle.std.proofs.lemmas.List.{map-append}
 use Rattle.std.proofs.lemmas.List.Folds.{concat-append}
-use Rattle.psi_tables.specs.declared.services.Selection.{Selection}
-use Rattle.es_reader.specs.Readers.{Reader}
-use Rattle.receiver_core.specs.Outputs.{Input, Piece, texts_of}
-use Rattle.receiver_core.specs.Receiving.{ReceiverState, StandsFor, PassesDamaged, MakesTurn}
+use Rattle.receiver_core.specs.Outputs.{Piece, texts_of}
 use Rattle.replay_run.specs.Output.{bytes_of}
-use Rattle.replay_run.specs.Writing.{WritesOn}
+use Rattle.replay_run.specs.Writing.{WritesOn, WritesShort}
 
 -- where the bytes told are known, appending gives the others
 pub appended_some : (start bytes : List ℕ) (mid new : Option (List ℕ)) → mid ≡ Some start
@@ -21,25 +18,69 @@ appended_some start bytes (Some x) None e a = absurd a
 appended_some start bytes (Some x) (Some y) e a = let same : x ≡ start = cc in
     ap Some (a ∙ ap (λ l. l ++ bytes) same)
 
+-- a front of a piece is written, and this is the rest of it
+pub record IsWrittenTo (old new : Option (List ℕ)) (piece rest : List ℕ) : Type 0 where
+  pub front : List ℕ
+  pub whole : piece ≡ front ++ rest
+  pub written : WritesOn old new front
+
+-- none of it is written yet
+pub none_written : (old : Option (List ℕ)) (piece : List ℕ) → IsWrittenTo old old piece piece
+none_written old piece = record {
+  front = [];
+  whole = refl;
+  written = λ start told. told ∙ ap Some (sym (append-nil start));
+}
+
 -- one more write took bytes from the front of the rest
 pub rest_written : (old mid new : Option (List ℕ)) (piece rest : List ℕ) (count : ℕ)
-    → ((start : List ℕ) → old ≡ Some start → (front : List ℕ) × (piece ≡ front ++ rest)
-    × (mid ≡ Some (start ++ front)))
-    → Appends mid new (take count rest)
-    → (start : List ℕ) → old ≡ Some start
-    → (front : List ℕ) × (piece ≡ front ++ take (length rest - count) (drop count rest))
-    × (new ≡ Some (start ++ front))
-rest_written old mid new piece rest count before appends start told =
-    let b = before start told in
+    → IsWrittenTo old mid piece rest → Appends mid new (take count rest)
+    → IsWrittenTo old new piece (take (length rest - count) (drop count rest))
+rest_written old mid new piece rest count before appends =
     let split : rest ≡ take count rest ++ take (length rest - count) (drop count rest) =
     sym (take-append-drop count rest) ∙ ap (λ l. take count rest ++ l)
-    (sym (take_rest rest count)) in (
-      b.0 ++ take count rest,
-      b.1 ∙ ap (λ l. b.0 ++ l) split
-          ∙ sym (append_assoc b.0 (take count rest) (take (length rest - count) (drop count rest))),
-      appended_some (start ++ b.0) (take count rest) mid new b.2 appends
-          ∙ ap Some (append_assoc start b.0 (take count rest)),
-    )
+    (sym (take_rest rest count)) in
+    record {
+      front = before.front ++ take count rest;
+      whole = before.whole ∙ ap (λ l. before.front ++ l) split
+          ∙ sym (append_assoc before.front (take count rest)
+          (take (length rest - count) (drop count rest)));
+      written = λ start told.
+          appended_some (start ++ before.front) (take count rest) mid new
+          (before.written start told) appends
+          ∙ ap Some (append_assoc start before.front (take count rest));
+    }
+
+-- nothing is left of it
+pub all_written : (old new : Option (List ℕ)) (piece rest : List ℕ) → rest ≡ []
+    → IsWrittenTo old new piece rest → WritesOn old new piece
+all_written old new piece rest none w = λ start told.
+    let same : w.front ≡ piece =
+    sym (append-nil w.front) ∙ ap (λ l. w.front ++ l) (sym none) ∙ sym w.whole in
+    w.written start told ∙ ap (λ l. Some (start ++ l)) same
+
+-- a failed write kept what was written
+pub kept_written : (old mid new : Option (List ℕ)) (bytes : List ℕ) → KeepsKnown mid new
+    → WritesOn old mid bytes → WritesOn old new bytes
+kept_written old mid new bytes kept w = λ start told.
+    appended_some (start ++ bytes) [] mid new (w start told) (kept_appends mid new kept)
+    ∙ ap Some (append-nil (start ++ bytes))
+  where
+    kept_appends : (mid new : Option (List ℕ)) → KeepsKnown mid new → Appends mid new []
+    kept_appends None new k = tt
+    kept_appends (Some x) None k = absurd k
+    kept_appends (Some x) (Some y) k = k ∙ sym (append-nil x)
+
+-- so what is left is wanting
+pub short_written : (old mid new : Option (List ℕ)) (piece rest : List ℕ) → KeepsKnown mid new
+    → rest ≢ [] → IsWrittenTo old mid piece rest → WritesShort old new piece
+short_written old mid new piece rest kept some w = record {
+  front = w.front;
+  rest = rest;
+  whole = w.whole;
+  wanting = some;
+  written = kept_written old mid new w.front kept w.written;
+}
 
 pub appends_from : (start bytes : List ℕ) (new : Option (List ℕ)) → new ≡ Some (start ++ bytes)
     → Appends (Some start) new bytes
@@ -65,29 +106,3 @@ pub bytes-append : (pieces more : List Piece) → bytes_of (pieces ++ more) ≡ 
 bytes-append pieces more =
     ap concat (map-append (λ (piece : Piece). piece.text) pieces more)
     ∙ concat-append (texts_of pieces) (texts_of more)
-
--- ---- what a call of a receiver gave
-
--- pieces, and it printed their texts
-pub record Turned (old new : ReceiverState) (before after : List ℕ) : Type 0 where
-  pub pieces : List Piece
-  pub printed : after ≡ before ++ bytes_of pieces
-  pub gives : (read : Reader) (selection : Selection) (area : List ℕ) (inputs : List Input)
-      (given : List Piece)
-      → StandsFor read selection area old inputs given → StandsFor read selection area new inputs (given ++ pieces)
-
--- none for a damaged section, and one for a turn
-pub turned_by : (old new : ReceiverState) (before after : List ℕ)
-    → PassesDamaged old new before after ⊎ MakesTurn old new before after → Turned old new before after
-turned_by old new before after (inl damaged) = record {
-  pieces = [];
-  printed = damaged.silent ∙ sym (append-nil before);
-  gives = λ read selection area inputs given stands.
-      subst (λ l. StandsFor read selection area new inputs l) (sym (append-nil given))
-      (damaged.stays read selection area inputs given stands);
-}
-turned_by old new before after (inr turn) = record {
-  pieces = record { text = turn.text; area = new.area } ∷ [];
-  printed = turn.printed ∙ ap (λ l. before ++ l) (sym (append-nil turn.text));
-  gives = turn.gives;
-}

@@ -3,7 +3,9 @@ pub mod CommandSeen
 pub mod Completeness
 pub mod Ending
 pub mod Files
+pub mod Generating
 pub mod Headline
+pub mod Kept
 pub mod Lines
 pub mod Meaning
 pub mod Midway
@@ -13,6 +15,7 @@ pub mod Output
 pub mod Outside
 pub mod Play
 pub mod Progress
+pub mod Putting
 pub mod Reading
 pub mod Reasons
 pub mod Record
@@ -23,3 +26,4 @@ pub mod Status
 pub mod Stopping
 pub mod Words
 pub mod Writing
+pub mod devices

@@ -1,7 +1,7 @@
--- What a run means: its words, the whole stream and the whole record fix the pieces of its output,
--- with the area behind each, and how it ends. Which programs the scripts in the stream are is told
--- by a reader of programs, of which there is one. This project's own.
-use Rattle.std.specs.Prelude.{ℕ, List, [], ◌∷◌, ◌++◌, replicate, Option, Some, None}
+-- What a replay means: the whole stream, the whole record and the kept bytes fix the pieces of its
+-- output, with the area behind each, and how it ends. Which programs the scripts in the stream are
+-- is told by a reader of programs, of which there is one. This project's own.
+use Rattle.std.specs.Prelude.{ℕ, if◌then◌else◌, List, [], ◌∷◌, ◌++◌, length, Option, Some, None}
 use Rattle.ts_packets.specs.Packets.{packets_of}
 use Rattle.psi_tables.specs.declared.services.Selection.{Selection}
 use Rattle.es_reader.specs.Readers.{Reader}
@@ -9,22 +9,17 @@ use Rattle.page.specs.State.{area_of}
 use Rattle.receiver_core.specs.Outputs.{Input, Piece, outputs, state_behind}
 use Rattle.receiver_core.specs.State.{opening}
 use Rattle.replay_run.specs.declared.status.Status.{Status}
-use Rattle.replay_run.specs.declared.status.Status.TheVariants.{Done, Usage, BadRecord}
+use Rattle.replay_run.specs.declared.status.Status.TheVariants.{BadArea, BadRecord, Done}
+use Rattle.replay_run.specs.Kept.{area_of_kept, is_area_length}
 use Rattle.replay_run.specs.Lines.{end_line}
 use Rattle.replay_run.specs.Play.{inputs_of, packet_count}
 use Rattle.replay_run.specs.Record.{items_before_bad, first_bad}
-use Rattle.replay_run.specs.Words.{CommandWords, command}
 
+-- the area before the first piece, the pieces, and how a run of them ends
 pub record Meaning : Type 0 where
+  pub area : List ℕ
   pub pieces : List Piece
   pub status : Status
-
--- how many bytes a persistent area has, and the area of a receiver that kept nothing: all are 0
-abbrev pub area_length : ℕ
-area_length = 1024
-
-abbrev pub empty_area : List ℕ
-empty_area = replicate area_length 0
 
 -- what comes to the receiver: what the items before the first bad line hand over
 abbrev pub replay_inputs : List ℕ → List ℕ → List Input
@@ -56,19 +51,20 @@ abbrev pub status_behind : Option ℕ → Status
 status_behind None = Done
 status_behind (Some line) = BadRecord line
 
--- the meaning of a replay of the service or data that is asked for, from an area
-abbrev pub replay_meaning : Reader → Selection → List ℕ → List ℕ → List ℕ → Meaning
-replay_meaning read selection area stream notes = record {
+-- the meaning of a replay of the service or data that is asked for, from the area that kept bytes are
+abbrev pub area_meaning : Reader → Selection → List ℕ → List ℕ → List ℕ → Meaning
+area_meaning read selection area stream notes = record {
+  area = area;
   pieces = replay_pieces read selection area stream notes;
   status = status_behind (first_bad notes);
 }
 
--- the meaning of a command; nothing is kept yet, so a replay starts with an empty area
-abbrev pub meaning_of : Reader → Option CommandWords → List ℕ → List ℕ → Meaning
-meaning_of read None stream notes = record { pieces = []; status = Usage }
-meaning_of read (Some request) stream notes =
-    replay_meaning read request.selection empty_area stream notes
+-- kept bytes that are no area's: nothing is replayed
+abbrev pub no_replay : List ℕ → Meaning
+no_replay kept = record { area = area_of_kept kept; pieces = []; status = BadArea (length kept) }
 
--- the meaning of words, a stream and a record
-abbrev pub meaning : Reader → List (List ℕ) → List ℕ → List ℕ → Meaning
-meaning read words stream notes = meaning_of read (command words) stream notes
+-- the meaning of a replay, with the bytes that are kept at its start
+abbrev pub replay_meaning : Reader → Selection → List ℕ → List ℕ → List ℕ → Meaning
+replay_meaning read selection kept stream notes =
+    if is_area_length (length kept) then area_meaning read selection (area_of_kept kept) stream notes
+    else no_replay kept

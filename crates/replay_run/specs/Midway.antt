@@ -1,6 +1,6 @@
 -- A device of the proofs: what the steps of a replay do to where it stands.
-use Rattle.std.specs.Prelude.{◌≡◌, ℕ, ◌+◌, ◌-◌, ◌*◌, ◌≤◌, Bool, true, false, IsTrue, length, List}
-use Rattle.std.specs.Prelude.{◌++◌}
+use Rattle.std.specs.Prelude.{◌≡◌, ℕ, ◌+◌, ◌-◌, ◌*◌, ◌≤◌, ◌⊎◌, Bool, true, false, IsTrue, length, List}
+use Rattle.std.specs.Prelude.{[], ◌∷◌, ◌++◌}
 use Rattle.std.specs.Prelude.{Option, Some, None}
 use Rattle.ts_packets.specs.Cutter.{CutterState}
 use Rattle.bml_ports.specs.Worlds.{WorldState}
@@ -8,16 +8,17 @@ use Rattle.psi_tables.specs.declared.services.Selection.{Selection}
 use Rattle.es_reader.specs.Readers.{IsReader}
 use Rattle.receiver_core.specs.Fronts.{IsFront}
 use Rattle.receiver_core.specs.Outputs.{Input, Piece}
+use Rattle.receiver_core.specs.Outputs.Input.{Tick as Passing}
 use Rattle.receiver_core.specs.Receiving.{IsIdle, ReceiverState, StandsFor}
 use Rattle.replay_run.specs.declared.player.Player.{Player}
 use Rattle.replay_run.specs.declared.record.RecordItem.{RecordItem}
 use Rattle.replay_run.specs.declared.record.RecordItem.TheVariants.{All, Packets}
 use Rattle.replay_run.specs.declared.status.Status.{Status}
-use Rattle.replay_run.specs.Files.{File, file, stream_limit}
-use Rattle.replay_run.specs.Meaning.{empty_area}
+use Rattle.replay_run.specs.Files.{stream_limit}
 use Rattle.replay_run.specs.Outside.{Outside}
 use Rattle.replay_run.specs.Play.{inputs_of_item, packets_behind}
 use Rattle.replay_run.specs.Progress.{Replay, Moment, IsMidway, StartsReplay}
+use Rattle.replay_run.specs.Putting.{outlets_of}
 use Rattle.replay_run.specs.Stopping.{LeavesPackets}
 
 -- what a player holds, and what the outside tells
@@ -25,11 +26,16 @@ abbrev pub moment : Player → Outside → Moment
 moment player told = record {
   cutter = player.cutter;
   receiver = player.receiver;
+  kept = player.kept;
   bytes = player.bytes;
   packets = player.packets;
   left = told.world.stream.left;
-  written = told.sink.written;
+  outlets = outlets_of told;
 }
+
+-- the area that is kept is the receiver's
+abbrev pub KeepsArea : Player → Type 0
+KeepsArea player = player.kept ≡ player.receiver.area
 
 -- until the cutter knows of the stream's end, the stream may be read
 abbrev pub IsReadable : CutterState → WorldState → Type 0
@@ -37,8 +43,9 @@ IsReadable cutter world = cutter.ended ≡ false → IsTrue world.stream.readabl
 
 -- a player to which nothing came
 pub record StartsPlayer (selection : Selection) (player : Player) : Type 0 where
-  pub start : (told : Outside) → StartsReplay selection empty_area told (moment player told)
+  pub start : (told : Outside) → StartsReplay selection player.kept told (moment player told)
   pub idle : IsIdle player.receiver
+  pub keeps : KeepsArea player
   pub clock : player.receiver.clock ≡ 0
   pub within : player.bytes ≤ stream_limit
   pub readable : (world : WorldState) → IsTrue world.stream.readable
@@ -65,6 +72,12 @@ Goes old new =
     (replay : Replay) (inputs : List Input) (ahead : List (List ℕ))
     → IsMidway replay old inputs ahead → IsMidway replay new inputs ahead
 
+-- and with so many milliseconds more that passed
+abbrev pub Passes : ℕ → Moment → Moment → Type 0
+Passes count old new =
+    (replay : Replay) (inputs : List Input) (ahead : List (List ℕ))
+    → IsMidway replay old inputs ahead → IsMidway replay new (inputs ++ Passing count ∷ []) ahead
+
 -- and with what this item hands over more
 abbrev pub Handles : RecordItem → Moment → Moment → Type 0
 Handles item old new =
@@ -72,18 +85,29 @@ Handles item old new =
     → IsMidway replay old inputs ahead
     → IsMidway replay new (inputs ++ inputs_of_item item ahead) (packets_behind item ahead)
 
+-- of the time that an input lets pass, only the first part passed, behind the inputs before it
+pub record IsCutTick (some all : List Input) : Type 0 where
+  pub earlier : List Input
+  pub passed : ℕ
+  pub more : ℕ
+  pub some_is : some ≡ earlier ++ Passing passed ∷ []
+  pub front : IsFront (earlier ++ Passing (passed + more) ∷ []) all
+
+-- some are the first of all these inputs
+abbrev pub AreFirst : List Input → List Input → Type 0
+AreFirst some all = IsFront some all ⊎ IsCutTick some all
+
 -- The replay stopped somewhere in these inputs: a front of the pieces is written that a receiver
 -- gave for the first of them.
 pub record StopsIn (status : Status) (replay : Replay) (told : Outside)
     (all : List Input) : Type 0 where
   pub inputs : List Input
-  pub front : IsFront inputs all
+  pub first : AreFirst inputs all
   pub receiver : ReceiverState
   pub given : List Piece
   pub stands : IsReader replay.read
       → StandsFor replay.read replay.selection replay.area receiver inputs given
-  pub leaves : LeavesPackets status (file replay.stream told.world.stream.left)
-      replay.first told.sink.written given
+  pub leaves : LeavesPackets status replay told given
 
 -- whatever replay it is, it stops in the inputs that came
 abbrev pub Stops : Status → Moment → Outside → Type 0

@@ -8,7 +8,8 @@ use Rattle.bml_ports.specs.declared.outside.Port.TheVariants.{Stream, Notes}
 use Rattle.bml_ports.specs.Worlds.{WorldState, PortState, port_of, other_port}
 use Rattle.replay_run.specs.declared.status.Status.{Status}
 use Rattle.replay_run.specs.declared.status.Status.TheVariants.{OpenFault}
-use Rattle.replay_run.specs.Words.{CommandWords}
+use Rattle.replay_run.specs.Words.{Command}
+use Rattle.replay_run.specs.Words.Command.{Generate, Replay}
 
 -- between the two, this name was asked for at this port, and that was all; the opening succeeded, or
 -- it didn't
@@ -51,8 +52,9 @@ OpensInOrder stream notes status before behind =
     (behind ≡ opened) ⊎ OpensThen Notes notes status opened behind (λ ready.
     OnlyReadsBoth ready behind))
 
--- the same of a command's two names; where there is no command, nothing is asked
-abbrev pub AsksInOrder : Option CommandWords → Status → WorldState → WorldState → Type 0
+-- the same of the two names of a replay; for any other words nothing is asked
+abbrev pub AsksInOrder : Option Command → Status → WorldState → WorldState → Type 0
 AsksInOrder None status before behind = behind ≡ before
-AsksInOrder (Some request) status before behind =
+AsksInOrder (Some (Replay request)) status before behind =
     OpensInOrder request.stream request.notes status before behind
+AsksInOrder (Some (Generate seed count)) status before behind = behind ≡ before

@@ -1,7 +1,6 @@
--- A device of the proofs: how far a replay has come; the stream, the inputs, the pieces and what was
--- written hang together. (What a run means is in `Meaning`.)
+-- A device of the proofs: how far a replay has come; the stream, the inputs, the pieces, what was
+-- written and what is kept hang together. (What a run means is in `Meaning`.)
 use Rattle.std.specs.Prelude.{◌≡◌, ℕ, true, List, [], ◌++◌, length, Option, Some}
-use Rattle.std.specs.Io.KnownBytes.{Appends}
 use Rattle.ts_packets.specs.Cutter.{CutterState}
 use Rattle.ts_packets.specs.Packets.{packets_of}
 use Rattle.psi_tables.specs.declared.services.Selection.{Selection}
@@ -9,34 +8,38 @@ use Rattle.es_reader.specs.Readers.{Reader, IsReader}
 use Rattle.receiver_core.specs.Outputs.{Input, Piece}
 use Rattle.receiver_core.specs.Receiving.{ReceiverState, StandsFor}
 use Rattle.replay_run.specs.declared.record.RecordItem.{RecordItem}
-use Rattle.replay_run.specs.Output.{bytes_of}
+use Rattle.replay_run.specs.Kept.{Keeps}
 use Rattle.replay_run.specs.Outside.{Outside}
 use Rattle.replay_run.specs.Play.{inputs_of, packets_left, packet_count}
+use Rattle.replay_run.specs.Putting.{HasPut, Outlets}
 
 -- what a replay is of: which programs texts are, the service or data that is asked for, the area at
--- the start, the stream, and what the sink told at the start
+-- the start, the stream, the record, and what the outside told before the keeper was called
 pub record Replay : Type 0 where
   pub read : Reader
   pub selection : Selection
   pub area : List ℕ
   pub stream : List ℕ
-  pub first : Option (List ℕ)
+  pub notes : List ℕ
+  pub before : Outside
 
 -- What a replay holds between two of its steps, and what the outside tells then.
 pub record Moment : Type 0 where
   -- the bytes of the stream that aren't cut yet, and whether the stream's end came
   pub cutter : CutterState
   pub receiver : ReceiverState
+  -- the area that was loaded or stored last
+  pub kept : List ℕ
   -- bytes that the stream gave, and packets that were cut
   pub bytes : ℕ
   pub packets : ℕ
-  -- what is left of the stream, and what was written
+  -- what is left of the stream, and what the keeper and the sink tell
   pub left : Option (List ℕ)
-  pub written : Option (List ℕ)
+  pub outlets : Outlets
 
--- These inputs came to the receiver, all pieces that it gave for them so far are written, and these
--- packets are ahead. By a reader of programs that is right the receiver stands for this; the rest
--- hangs on no reader.
+-- These inputs came to the receiver, all pieces that it gave for them so far are written, the area
+-- behind the last of them is kept, and these packets are ahead. By a reader of programs that is
+-- right the receiver stands for this; the rest hangs on no reader.
 pub record IsMidway (replay : Replay) (now : Moment) (inputs : List Input)
     (ahead : List (List ℕ)) : Type 0 where
   pub taken : List ℕ
@@ -50,7 +53,7 @@ pub record IsMidway (replay : Replay) (now : Moment) (inputs : List Input)
   pub packets : now.packets ≡ packet_count inputs
   pub stands : IsReader replay.read
       → StandsFor replay.read replay.selection replay.area now.receiver inputs given
-  pub wrote : Appends replay.first now.written (bytes_of given)
+  pub put : HasPut replay.area replay.before now.kept now.outlets given
 
 -- Between two items: the inputs and the packets ahead are those of the items so far.
 abbrev pub IsBetween : Replay → Moment → List RecordItem → Type 0
@@ -58,15 +61,22 @@ IsBetween replay now items =
     IsMidway replay now (inputs_of (packets_of replay.stream) items)
     (packets_left (packets_of replay.stream) items)
 
--- A replay begins with an area: where the stream is told, nothing came yet, and nothing is written
--- but what the sink tells. This is so whatever programs are read.
+-- a replay has begun: what was written and what is kept are as before it, but for a load
+pub record HasBegun (before now : Outside) : Type 0 where
+  pub written : now.sink.written ≡ before.sink.written
+  pub keeps : Keeps before.keeper now.keeper []
+
+-- A replay starts with an area: where the stream is told, nothing came yet, and nothing was written
+-- or stored. This is so whatever programs are read.
 abbrev pub StartsReplay : Selection → List ℕ → Outside → Moment → Type 0
 StartsReplay selection area told now =
-    (read : Reader) (stream : List ℕ) → told.world.stream.left ≡ Some stream
+    (read : Reader) (stream notes : List ℕ) (before : Outside) → HasBegun before told
+    → told.world.stream.left ≡ Some stream
     → IsBetween (record {
       read = read;
       selection = selection;
       area = area;
       stream = stream;
-      first = told.sink.written;
+      notes = notes;
+      before = before;
     }) now []

@@ -8,10 +8,9 @@ use Rattle.std.specs.List.{slice_split}
 use Rattle.std.specs.Str.Lines.{lines}
 use Rattle.bml_bytes.specs.Numerals.{decimal_field}
 use Rattle.bml_bytes.specs.Words.{is_same}
-use Rattle.receiver_core.specs.declared.broadcast.Input.TheVariants.{Key, Release, Tick, Random}
-use Rattle.receiver_core.specs.declared.broadcast.Input.TheVariants.{Show}
+use Rattle.receiver_core.specs.declared.broadcast.Input.TheVariants.{Key, Release, Random, Show}
 use Rattle.replay_run.specs.declared.record.RecordItem.{RecordItem}
-use Rattle.replay_run.specs.declared.record.RecordItem.TheVariants.{All, Packets, Input}
+use Rattle.replay_run.specs.declared.record.RecordItem.TheVariants.{All, Packets, Tick, Input}
 use Rattle.replay_run.specs.declared.record.Line.{Line}
 use Rattle.replay_run.specs.declared.record.Line.TheVariants.{Item as Read, Nothing, Bad}
 
@@ -71,7 +70,7 @@ item_where test item = if test then Some item else None
 abbrev pub numbered_value : List ℕ → ℕ → Option RecordItem
 numbered_value name number =
     if is_same name (codes "tick")
-    then item_where (nat_le 1 number && nat_le number tick_limit) (Input (Tick number))
+    then item_where (nat_le 1 number && nat_le number tick_limit) (Tick number)
     else if is_same name (codes "random") then Some (Input (Random number))
     else None
 
@@ -155,7 +154,7 @@ IsWritten All words = words ≡ codes "all" ∷ []
 IsWritten (Packets count) words = HasNumber (codes "packets") count words × (0 < count)
 IsWritten (Input (Key key)) words = HasNumber (codes "key") key words × IsTrue (is_key key)
 IsWritten (Input (Release key)) words = HasNumber (codes "release") key words × IsTrue (is_key key)
-IsWritten (Input (Tick count)) words =
+IsWritten (Tick count) words =
     HasNumber (codes "tick") count words × (0 < count) × (count ≤ tick_limit)
 IsWritten (Input (Random word)) words = HasNumber (codes "random") word words
 IsWritten (Input Show) words = words ≡ codes "show" ∷ []

@@ -13,7 +13,7 @@ use Rattle.replay_run.specs.declared.status.Status.{Status}
 use Rattle.replay_run.specs.declared.status.Status.TheVariants.{Done, Usage, BadRecord, OpenFault}
 use Rattle.replay_run.specs.declared.status.Status.TheVariants.{ReadFault, WriteFault, KeepFault}
 use Rattle.replay_run.specs.declared.status.Status.TheVariants.{BadArea, TooLong, NoMemory}
-use Rattle.replay_run.specs.Files.{File, file, GaveMore, GaveAtMost, record_limit}
+use Rattle.replay_run.specs.Files.{File, GaveMore, GaveAtMost, record_limit}
 use Rattle.replay_run.specs.Midway.{ends_to_come}
 use Rattle.replay_run.specs.Record.{lines_of, items_before_bad, first_bad, item_in}
 use Rattle.replay_run.specs.RecordReader.{ReaderState}

@@ -1,6 +1,6 @@
 -- How a run ends, as the number that the process ends with and as the line for standard error. Both
 -- are this project's own.
-use Rattle.std.specs.Prelude.{ℕ, List, ◌++◌, codes, decimal}
+use Rattle.std.specs.Prelude.{ℕ, List, ◌++◌, codes, decimal, Result, Ok, Err}
 use Rattle.replay_run.specs.declared.status.Status.{Status}
 use Rattle.replay_run.specs.declared.status.Status.TheVariants.{Done, Usage, BadRecord, OpenFault}
 use Rattle.replay_run.specs.declared.status.Status.TheVariants.{ReadFault, WriteFault, KeepFault}
@@ -31,3 +31,8 @@ status_line KeepFault = codes "keep fault"
 status_line (BadArea length) = codes "bad area length " ++ decimal length
 status_line TooLong = codes "too long"
 status_line NoMemory = codes "no memory"
+
+-- the status that an answer stands for
+abbrev pub outcome_of : {A : Type 0} → Result A Status → Status
+outcome_of (Ok answer) = Done
+outcome_of (Err status) = status

@@ -6,12 +6,9 @@ abbrev pub WritesOn : Option (List ℕ) → Option (List ℕ) → List ℕ → T
 WritesOn old new bytes = (start : List ℕ) → old ≡ Some start → new ≡ Some (start ++ bytes)
 
 -- a proper front of the bytes was written
-pub record CutShort (start : List ℕ) (new : Option (List ℕ)) (bytes : List ℕ) : Type 0 where
+pub record WritesShort (old new : Option (List ℕ)) (bytes : List ℕ) : Type 0 where
   pub front : List ℕ
   pub rest : List ℕ
   pub whole : bytes ≡ front ++ rest
   pub wanting : rest ≢ []
-  pub written : new ≡ Some (start ++ front)
-
-abbrev pub WritesShort : Option (List ℕ) → Option (List ℕ) → List ℕ → Type 0
-WritesShort old new bytes = (start : List ℕ) → old ≡ Some start → CutShort start new bytes
+  pub written : WritesOn old new front

@@ -38,8 +38,9 @@ pub enum RecordItem {
     All,
     /// Take so many packets, 1 to 4,294,967,295, or all that are left.
     Packets(u32),
-    /// Hand in another input: a key, 1 to 3,600,000 milliseconds, a random word, or the wish to see
-    /// the display list.
+    /// Let so many milliseconds pass, 1 to 3,600,000.
+    Tick(u32),
+    /// Hand in another input: a key, a random word, or the wish to see the display list.
     Input(Input),
 }
 
@@ -345,7 +346,7 @@ fn value_by_number(name: &[u8], number: u32) -> Option<RecordItem>
     let tick: &[u8] = b"tick";
     let random: &[u8] = b"random";
     if name == tick {
-        (1 <= number && number <= TICK_LIMIT).then_some(RecordItem::Input(Input::Tick(number)))
+        (1 <= number && number <= TICK_LIMIT).then_some(RecordItem::Tick(number))
     } else if name == random {
         Some(RecordItem::Input(Input::Random(number)))
     } else {

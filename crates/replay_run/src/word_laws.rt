@@ -2,12 +2,12 @@
 //! and it does nothing when it runs.
 
 ghost use Rattle.std.specs.Prelude.{◌≡◌, ℕ, List, Some};
-ghost use Rattle.replay_run.specs.Words.{CommandWords, IsReplay, command};
+ghost use Rattle.replay_run.specs.Words.{Command, IsCommand, command};
 
-/// Words are the command of a replay exactly where they are written as one.
+/// Words are a command exactly where they are written as one.
 pub fn law_of_commands()
-    ensures written { (words : List (List ℕ)) (asked : CommandWords) → IsReplay words asked
+    ensures written { (words : List (List ℕ)) (asked : Command) → IsCommand words asked
         → command words ≡ Some asked }
-    ensures read { (words : List (List ℕ)) (asked : CommandWords) → command words ≡ Some asked
-        → IsReplay words asked }
+    ensures read { (words : List (List ℕ)) (asked : Command) → command words ≡ Some asked
+        → IsCommand words asked }
 {}

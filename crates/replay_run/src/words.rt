@@ -2,6 +2,7 @@
 
 ghost use Rattle.std.specs.Prelude.{◌≡◌, None, option_map, MatchOption};
 ghost use Rattle.replay_run.specs.Words.{command, data_pid, is_file_name as is_file_name_of};
+ghost use Rattle.replay_run.specs.Words.{generation_of as spec_generation_of, module_count};
 ghost use Rattle.replay_run.specs.Words.{selection_of as selected_by};
 ghost use Rattle.replay_run.specs.Words.{replay_of as replay_by, service};
 ghost use Rattle.bml_bytes.specs.Numerals.{decimal_field};
@@ -14,9 +15,19 @@ use psi_tables::Selection;
 // The most digits of a number.
 const MOST_DIGITS: usize = 10;
 
-/// What the words of the command line ask for: to replay a recorded stream.
+/// What the words of the command line ask for.
 #[derive(Drop)]
-pub struct Command<'a> {
+pub enum Command<'a> {
+    /// A recorded stream is replayed.
+    Replay(Replay<'a>),
+    /// The files that a seed gives, with 1 to 100 modules of random bytes, are written as a stream, which
+    /// is replayed.
+    Gen { seed: u32, count: u32 },
+}
+
+/// What is replayed.
+#[derive(Drop)]
+pub struct Replay<'a> {
     /// The service that is received, or the PID of the packets that carry the data.
     pub selection: Selection,
     /// The name of the stream's file.
@@ -31,7 +42,10 @@ pub fn read_command(words: &[Text]) -> Option<Command<'_>>
     ensures { option_map command_seen result ≡ command words.now }
 {
     match words {
-        [name, stream, notes] => replay_of(name, Some(Selection::First), stream, notes),
+        [name, first, second] => {
+            let replay = replay_of(name, Some(Selection::First), first, second);
+            replay.or(generation_of(name, first, second))
+        }
         [name, option, number, stream, notes] => {
             replay_of(name, selection_of(option, number), stream, notes)
         }
@@ -57,11 +71,26 @@ fn replay_of<'a>(
     if !is_file_name(notes) {
         return None;
     }
-    Some(Command {
+    Some(Command::Replay(Replay {
         selection: selection?,
         stream,
         notes,
-    })
+    }))
+}
+
+// The files of a seed and so many modules, where the first word says so.
+fn generation_of<'a>(name: &Text, seed: &Text, count: &Text) -> Option<Command<'a>>
+    ensures { option_map command_seen result
+        ≡ spec_generation_of name.now (decimal_field seed.now) (module_count count.now) }
+{
+    if !name.is_word("gen") {
+        return None;
+    }
+    let seed = read_number(seed)?;
+    match read_number(count)? {
+        count @ 1..=100 => Some(Command::Gen { seed, count }),
+        _ => None,
+    }
 }
 
 // What an option and its number ask for.

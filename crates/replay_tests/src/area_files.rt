@@ -1,4 +1,4 @@
-//! The file of the area, which no run asks for yet: what is stored in it is loaded again.
+//! The file of the area: what is stored in it is loaded again.
 
 use bml_ports::{AreaBytes, Keeper};
 use bml_ports_std::AreaFile;

@@ -6,17 +6,19 @@
 //! fail in the middle, a stream in pieces, a record without end. All have ample memory, and compare
 //! what was answered and written, so a layer that answers `NoMemory` fails here.
 //!
-//! `area_files` is of `bml_ports_std`: no run asks for the file of the area yet.
+//! `area_files` is of `bml_ports_std` alone.
 //!
 //! `Done` is reached in `pieces`, `BadRecord`, `OpenFault`, `ReadFault` and `WriteFault` in `faults`,
-//! `TooLong` in `long_records`, and `Usage` by rows of commands; `KeepFault` and `BadArea` are none
-//! yet, since nothing is kept.
+//! `KeepFault` and `BadArea` in `kept_areas`, `TooLong` in `long_records`, and `Usage` by rows of
+//! commands.
 #![tactic(auto)]
 
 #[cfg(test)]
 mod area_files;
 #[cfg(test)]
 mod faults;
+#[cfg(test)]
+mod kept_areas;
 #[cfg(test)]
 mod long_records;
 #[cfg(test)]

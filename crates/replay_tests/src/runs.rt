@@ -8,8 +8,9 @@ use bml_ports::{MemoryKeeper, MemorySink, MemorySource, MemoryWorld, NoMemory, T
 use replay_run::{Status, run};
 use std::alloc::Global;
 
-/// How the ports of a run behave: the most bytes of the stream that a read gives, the room for lines, and
-/// the numbers of the opening, of the reads of the stream and of the record, and of the write that fail, or 0.
+/// How the ports of a run behave: the most bytes of the stream that a read gives, the room for lines, the
+/// bytes that are kept, and the numbers of the opening, of the reads of the stream and of the record, of the
+/// write and of the call of the keeper that fail, or 0.
 #[derive(Clone, Copy)]
 pub struct Ports {
     pub piece: usize,
@@ -18,6 +19,8 @@ pub struct Ports {
     pub stream_read: u64,
     pub record_read: u64,
     pub write: u64,
+    pub kept: &'static [u8],
+    pub keeping: u64,
 }
 
 /// Nothing fails.
@@ -28,6 +31,8 @@ pub const SOUND: Ports = Ports {
     stream_read: 0,
     record_read: 0,
     write: 0,
+    kept: b"",
+    keeping: 0,
 };
 
 /// The replay of the data on PID 256.
@@ -55,7 +60,8 @@ pub fn replayed(
 ) -> Result<Ended, NoMemory> {
     let words = texts_of(alloc, words)?;
     let mut sink = MemorySink::new(alloc, ports.room, vec![in alloc; ports.write]?)?;
-    let mut keeper = MemoryKeeper::new(Vec::new(alloc), Vec::new(alloc));
+    let kept = Vec::from_slice(alloc, ports.kept)?;
+    let mut keeper = MemoryKeeper::new(kept, vec![in alloc; ports.keeping]?);
     let mut world = world_of(alloc, stream, record, ports)?;
     let status = run(alloc, words.as_slice(), &mut world, &mut keeper, &mut sink);
     Ok(Ended {

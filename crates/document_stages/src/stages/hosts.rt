@@ -1,6 +1,6 @@
 //! What scripts read, write and call of a document.
 
-ghost use Rattle.std.specs.Prelude.{◌≡◌, ◌↔◌, List, All, IfOk, IsTrue, OnOk, true};
+ghost use Rattle.std.specs.Prelude.{◌≡◌, ◌↔◌, List, All, IfOk, IsTrue, OnErr, OnOk, true};
 ghost use Rattle.dom_tree.specs.Items.{IsElement};
 ghost use Rattle.es_values.specs.Conversions.{text_of};
 ghost use Rattle.es_values.specs.Heaps.{IsLive};
@@ -153,12 +153,15 @@ impl Stage {
         &mut self,
         name: &Text,
         args: &[Value],
-        heap: &Heap,
+        heap: &mut Heap,
     ) -> Result<(Value, Effect), NoMemory>
-        requires { All (IsLive heap.now) args.now }
+        requires { All (IsLive heap.old) args.now }
         ensures answers { IfOk result (λ answer. Answers (call_of name.now self.old.acting.path
-            self.old.acting.now args.now heap.now self.old.acting.browser) answer
+            self.old.acting.now args.now heap.old self.old.acting.browser).called answer
             self.new.acting.browser) }
+        ensures objects { OnOk result (heap.new ≡ (call_of name.now self.old.acting.path
+            self.old.acting.now args.now heap.old self.old.acting.browser).heap) }
+        ensures unchanged { OnErr result (heap.new ≡ heap.old) }
         ensures acting { self.new.acting ≡ with_browser self.new.acting.browser self.old.acting }
     {
         call_browser(
@@ -172,20 +175,29 @@ impl Stage {
         )
     }
 
-    /// Tells a sound.
-    pub(crate) fn tell_sound(&mut self, sound: u32) -> Result<(), NoMemory>
+    /// Tells a sound, and answers with the value of its call.
+    pub(crate) fn tell_sound(&mut self, sound: u32, value: Value) -> Result<HostAnswer, NoMemory>
+        ensures answer { IfOk result (λ answer. answer ≡ Answer value) }
         ensures told { OnOk result
             (self.new.acting ≡ with_line (sound_line sound) self.old.acting) }
     {
-        push_sound_line(sound, &mut self.text)
+        push_sound_line(sound, &mut self.text)?;
+        Ok(HostAnswer::Value(value))
     }
 
-    /// Tells that bytes were kept in a slot of the persistent area.
-    pub(crate) fn tell_kept(&mut self, slot: u8, size: u8) -> Result<(), NoMemory>
+    /// Tells that bytes of a persistent array were kept, and answers with the value of their call.
+    pub(crate) fn tell_kept(
+        &mut self,
+        slot: u8,
+        size: u8,
+        value: Value,
+    ) -> Result<HostAnswer, NoMemory>
+        ensures answer { IfOk result (λ answer. answer ≡ Answer value) }
         ensures told { OnOk result
             (self.new.acting ≡ with_line (kept_line slot size) self.old.acting) }
     {
-        push_kept_line(slot, size, &mut self.text)
+        push_kept_line(slot, size, &mut self.text)?;
+        Ok(HostAnswer::Value(value))
     }
 
     /// A script launches the document at a path, which ends this one. The handler of `unload` can't.

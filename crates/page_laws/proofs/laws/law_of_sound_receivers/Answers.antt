@@ -1,4 +1,4 @@
-use Rattle.std.proofs.Common.{ℕ, List, [], arith}
+use Rattle.std.proofs.Common.{ℕ, ◌+◌, List, [], arith}
 use Rattle.es_reader.specs.Readers.{Reader}
 use Rattle.psi_tables.specs.declared.services.Selection.{Selection}
 use Rattle.module_locks.specs.Locks.{at_start, with_map, with_section}
@@ -6,27 +6,25 @@ use Rattle.psi_tables.specs.History.{map_of}
 use Rattle.page.specs.State as page
 use Rattle.receiver_core.specs.State.{opening}
 use Rattle.page_laws.specs.Soundness.{IsSound}
-use Rattle.page_laws.proofs.ReceiverLemmas.{SoundLaws, behind-sound}
+use Rattle.page_laws.proofs.ReceiverLemmas.{PageLaws, behind-kept}
 use Rattle.page_laws.proofs.laws.law_of_sound_receivers.Goals as goal
 
 pub returns : goal.returns
 returns c =
     let law = c.law_of_soundness.ensures in
     let few = c.law_of_few_locks.ensures in
-    let laws : SoundLaws = record {
-      steps = record {
-        turns = law.turn;
-        sections = λ component section p h.
-            law.modules (with_section component section p.modules) p h
-            (few.sections p.modules component section h.locks);
-        maps = λ components p h. law.modules (with_map components p.modules) p h h.locks;
-        changes = law.changes;
-        messages = law.messages;
-        keys = law.keys;
-        random = law.random;
-      };
-      due = law.due;
-      clock = law.clock;
+    let steps : PageLaws IsSound = record {
+      turns = law.turn;
+      sections = λ component section p h.
+          law.modules (with_section component section p.modules) p h
+          (few.sections p.modules component section h.locks);
+      maps = λ components p h. law.modules (with_map components p.modules) p h h.locks;
+      changes = law.changes;
+      messages = law.messages;
+      keys = law.keys;
+      random = law.random;
+      due = λ p h. law.due (p.clock + 1) p h;
+      clock = λ p h none. law.clock (p.clock + 1) p h;
     } in
     let first : (read : Reader) (selection : Selection) (area : List ℕ)
     → IsSound (opening read selection area).page =
@@ -34,5 +32,6 @@ returns c =
     (page.opening read area) (law.opening read area) (omega arith) in
     record {
       behind = λ read selection area inputs.
-          behind-sound laws inputs (opening read selection area) (first read selection area);
+          behind-kept IsSound steps inputs (opening read selection area)
+          (first read selection area);
     }

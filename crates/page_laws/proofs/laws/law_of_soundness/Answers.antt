@@ -17,9 +17,17 @@ returns c =
         places = c.law_of_passing_values.ensures.places;
         globals = c.law_of_passing_values.ensures.globals;
       };
-      few = record {
-        locks = c.law_of_few_locks.ensures.locks;
-        unlocks = c.law_of_few_locks.ensures.unlocks;
+      hosts = record {
+        few = record {
+          locks = c.law_of_few_locks.ensures.locks;
+          unlocks = c.law_of_few_locks.ensures.unlocks;
+        };
+        calls = record {
+          answers = c.law_of_call_outcomes.ensures.answer;
+          heaps = c.law_of_call_outcomes.ensures.heap;
+          objects = c.law_of_new_objects.ensures;
+          arrays = c.law_of_arrays.ensures.made;
+        };
       };
     } in
     record {

@@ -1,11 +1,12 @@
-use Rattle.std.proofs.Common.{◌≡◌, ◌≤◌, ℕ, List, length, Some, ◌++◌}
+use Rattle.std.proofs.Common.{◌≤◌, length}
+use Rattle.replay_run.proofs.WritingLaws.{IsWrittenTo}
 use Rattle.replay_run.proofs.output.write_piece.Given as goal
 
 -- what is written is the piece without the rest
 abbrev pub invariant-writes : goal.invariant-writes
 invariant-writes g l = record {
-  written : (start : List ℕ) → (g.S.Sink.told l.initial.out).written ≡ Some start
-      → (front : List ℕ) × (l.piece ≡ front ++ l.rest) × ((g.S.Sink.told l.out).written ≡ Some (start ++ front));
+  written : IsWrittenTo (g.S.Sink.told l.initial.out).written (g.S.Sink.told l.out).written
+      l.piece l.rest;
   later : (g.S.Sink.told l.initial.out).writes.faults ≤ (g.S.Sink.told l.out).writes.faults;
 }
 

@@ -1,22 +1,26 @@
-use Rattle.std.proofs.Common.{refl, [], ◌∷◌, ◌++◌, Ok, None, sym, ap, subst, IsTrue, arith}
+use Rattle.std.proofs.Common.{refl, [], ◌∷◌, ◌++◌, Ok, None, sym, ap, subst, IsTrue}
 use Rattle.std.proofs.lemmas.Result.{err_from_is_err_and}
 use Rattle.bml_ports.specs.Worlds.{PortState}
 use Rattle.es_reader.specs.Readers.{Reader}
-use Rattle.replay_run.specs.Meaning.{empty_area}
-use Rattle.replay_run.specs.Outside.{account, outside}
+use Rattle.replay_run.specs.Files.{file}
+use Rattle.replay_run.specs.Outside.{outside}
+use Rattle.replay_run.specs.Progress.{Replay}
 use Rattle.replay_run.proofs.ClockLaws.{early_later, early_room, early_start, few_lines}
-use Rattle.replay_run.proofs.CompletenessLaws.{reason_in_items, reason_in_line, reason_in_packets}
-use Rattle.replay_run.proofs.EndingLaws.{Course, ReceiverLaws, left_same, between_same, at_same}
+use Rattle.replay_run.proofs.CompletenessLaws.{tells_in_items, tells_in_line, tells_in_packets}
+use Rattle.replay_run.proofs.EndingLaws.{left_same, between_same, at_same, begun_now}
 use Rattle.replay_run.proofs.EndingLaws.{between_within, ends_in_items, ends_in_item}
 use Rattle.replay_run.proofs.EndingLaws.{ends_with_line, reads_none, reads_notes, reads_stream}
+use Rattle.replay_run.proofs.OutputLaws.{ReceiverLaws}
 use Rattle.replay_run.proofs.RecordProgressLaws.{at_front, at_within}
 use Rattle.replay_run.proofs.ProgressLaws.{between_push}
+use Rattle.replay_run.proofs.PuttingLaws.{later_more, later_none}
 use Rattle.replay_run.proofs.StoppingLaws.{stops_pushed}
 use Rattle.replay_run.proofs.replay.play_items.Goals as goal
 
 pub items-init : goal.items-init
 items-init g c = record {
   idle = c.requires.player.idle;
+  area = c.requires.player.keeps;
   early = early_start _ _ c.requires.player.clock;
   stream_within = c.requires.player.within;
   stream_readable = c.requires.player.readable (g.W.World.told c.args.world.now)
@@ -24,11 +28,12 @@ items-init g c = record {
   notes_within = c.requires.items.within;
   notes_readable = c.requires.items.readable (g.W.World.told c.args.world.now) c.requires.notes;
   reads = reads_none (g.W.World.told c.args.world.now);
-  later = omega arith;
-  goes = λ read stream notes l n. (
+  later = later_none _;
+  goes = λ read before begun stream notes l n. (
     [],
     c.requires.player.start
-        (outside (g.W.World.told c.args.world.now) (g.S.Sink.told c.args.out.now)) read stream l,
+        (outside (g.W.World.told c.args.world.now) (g.K.Keeper.told c.args.keeper.now)
+        (g.S.Sink.told c.args.out.now)) read stream notes before begun l,
     c.requires.items.start (g.W.World.told c.args.world.now) notes n,
   );
 }
@@ -43,24 +48,25 @@ returns-in_err-item-clause-ends g c =
       more = c.law_of_outputs.ensures.more;
       front = c.law_of_receivers.ensures.front;
       all = c.law_of_receivers.ensures.all;
+      split = c.law_of_ticks.ensures.split;
     } in
-    rw (p.1, p.2) (λ read right stream notes l n.
-    let run : Course = record {
+    rw (p.1, p.2) (λ read right before begun stream notes l n.
+    let replay : Replay = record {
       read = read;
-      right = right;
       selection = c.args.selection;
-      area = empty_area;
+      area = c.args.player.now.kept;
       stream = stream;
       notes = notes;
-      before = outside (g.W.World.told c.args.world.now) (g.S.Sink.told c.args.out.now);
+      before = before;
     } in
-    let before = c.items.invariant.goes read stream notes l n in
-    let b = between_same _ _ _ before.0 (left_same _ _ stopped.reads.other) before.1 in
-    ends_in_items laws _ run _
-    (outside (g.W.World.told c.next_item.new.world) (g.S.Sink.told c.items.out)) before.0
-    (at_front notes _ before.0 before.2) (record { left = refl; written = refl })
-    (between_within _ _ before.0 _ c.items.invariant.stream_within b) c.items.invariant.idle b
-    (stopped.stopped notes before.0 before.2))
+    let was = c.items.invariant.goes read before begun stream notes l n in
+    let b = between_same _ _ _ was.0 (left_same _ _ stopped.reads.other) was.1 in
+    ends_in_items laws _ replay _
+    (outside (g.W.World.told c.next_item.new.world) (g.K.Keeper.told c.items.keeper)
+    (g.S.Sink.told c.items.out)) was.0 right
+    (at_front notes _ was.0 was.2) (record { left = refl; outlets = refl })
+    (between_within _ _ was.0 _ c.items.invariant.stream_within b) c.items.invariant.idle b
+    (stopped.stopped notes was.0 was.2))
 
 pub items-preserved : goal.items-preserved
 items-preserved g c =
@@ -69,6 +75,7 @@ items-preserved g c =
     let done = c.in_ok-handle-in-Some.ensures in
     record {
       idle = done.idle;
+      area = done.area;
       early = early_later _ _ _ _ _ before.early done.clock
           (next.time c.in-Some.item (ap Ok c.in-Some.is))
           (next.further c.in-Some.item (ap Ok c.in-Some.is));
@@ -78,10 +85,10 @@ items-preserved g c =
       notes_readable = λ e. subst (λ (port : PortState). IsTrue port.readable)
           (sym done.reads.other) (next.readable e);
       reads = reads_stream _ _ _ (reads_notes _ _ _ before.reads next.reads) done.reads;
-      later = omega (arith, before.later, done.writes);
-      goes = λ read stream notes l n.
+      later = later_more _ _ _ before.later done.later;
+      goes = λ read first begun stream notes l n.
           let item = c.in-Some.item in
-          let was = before.goes read stream notes l n in
+          let was = before.goes read first begun stream notes l n in
           let b = between_same _ _ _ was.0 (left_same _ _ next.reads.other) was.1 in
           let a = next.item item (ap Ok c.in-Some.is) notes was.0 was.2 in (
             was.0 ++ item ∷ [],
@@ -101,51 +108,54 @@ returns-in_err-handle-in-Some-clause-ends g c =
       more = c.law_of_outputs.ensures.more;
       front = c.law_of_receivers.ensures.front;
       all = c.law_of_receivers.ensures.all;
+      split = c.law_of_ticks.ensures.split;
     } in
-    rw (p.1, p.2) (λ read right stream notes l n.
-    let run : Course = record {
+    rw (p.1, p.2) (λ read right before begun stream notes l n.
+    let replay : Replay = record {
       read = read;
-      right = right;
       selection = c.args.selection;
-      area = empty_area;
+      area = c.args.player.now.kept;
       stream = stream;
       notes = notes;
-      before = outside (g.W.World.told c.args.world.now) (g.S.Sink.told c.args.out.now);
+      before = before;
     } in
     let item = c.in-Some.item in
-    let was = c.items.invariant.goes read stream notes l n in
+    let was = c.items.invariant.goes read before begun stream notes l n in
     let b = between_same _ _ _ was.0 (left_same _ _ next.reads.other) was.1 in
     let after = at_same notes _ _ (was.0 ++ item ∷ []) (left_same _ _ stopped.reads.other)
     (next.item item (ap Ok c.in-Some.is) notes was.0 was.2) in
-    ends_in_item laws _ run _ (was.0 ++ item ∷ []) (at_front notes _ (was.0 ++ item ∷ []) after)
+    ends_in_item laws _ replay _ (was.0 ++ item ∷ []) right
+    (at_front notes _ (was.0 ++ item ∷ []) after)
     (at_within notes _ (was.0 ++ item ∷ []) _ next.within after)
     (stops_pushed _ _ _ was.0 item (stopped.stopped _ _ _ b)))
 
 pub returns-in-None-clause-ends : goal.returns-in-None-clause-ends
-returns-in-None-clause-ends g c = λ read right stream notes l n.
+returns-in-None-clause-ends g c = λ read right before begun stream notes l n.
     let next = c.in_ok-item.ensures in
     let laws : ReceiverLaws =
     record {
       more = c.law_of_outputs.ensures.more;
       front = c.law_of_receivers.ensures.front;
       all = c.law_of_receivers.ensures.all;
+      split = c.law_of_ticks.ensures.split;
     } in
-    let run : Course = record {
+    let replay : Replay = record {
       read = read;
-      right = right;
       selection = c.args.selection;
-      area = empty_area;
+      area = c.args.player.now.kept;
       stream = stream;
       notes = notes;
-      before = outside (g.W.World.told c.args.world.now) (g.S.Sink.told c.args.out.now);
+      before = before;
     } in
-    let was = c.items.invariant.goes read stream notes l n in
+    let was = c.items.invariant.goes read before begun stream notes l n in
     let b = between_same _ _ _ was.0 (left_same _ _ next.reads.other) was.1 in
     let whole = next.end (ap Ok c.in-None.is) notes was.0 was.2 in
-    ends_with_line laws c.write_end.result _ run _
-    (outside (g.W.World.told c.next_item.new.world) (g.S.Sink.told c.write_end.new.out)) was.0
+    ends_with_line laws c.write_end.result _ replay _
+    (outside (g.W.World.told c.next_item.new.world) (g.K.Keeper.told c.items.keeper)
+    (g.S.Sink.told c.write_end.new.out)) was.0 right
     c.packets.ensures c.write_end.ensures.whole c.write_end.ensures.stops whole
-    (between_within _ _ was.0 _ c.items.invariant.stream_within b) c.items.invariant.idle b
+    (between_within _ _ was.0 _ c.items.invariant.stream_within b) refl c.items.invariant.idle
+    c.items.invariant.area b
 
 pub returns-in_err-item-clause-reads : goal.returns-in_err-item-clause-reads
 returns-in_err-item-clause-reads g c =
@@ -166,37 +176,30 @@ returns-in-None-clause-reads g c =
 no_programs : Reader
 no_programs text = None
 
-pub returns-in_err-item-clause-reason : goal.returns-in_err-item-clause-reason
-returns-in_err-item-clause-reason g c =
+pub returns-in_err-item-clause-tells : goal.returns-in_err-item-clause-tells
+returns-in_err-item-clause-tells g c =
     let p = err_from_is_err_and c.from_residual.result
     c.from_residual.ensures.1 in
     rw (p.1, p.2) (λ stream notes l n.
-    let before = c.items.invariant.goes no_programs stream notes l n in
-    reason_in_items _
-    (account stream notes
-    (outside (g.W.World.told c.args.world.now) (g.S.Sink.told c.args.out.now))
-    (outside (g.W.World.told c.next_item.new.world) (g.S.Sink.told c.items.out)))
-    before.0 (c.in_err-item.ensures.stopped notes before.0 before.2))
+    let was = c.items.invariant.goes no_programs _ (begun_now _) stream notes l n in
+    tells_in_items _ (file stream (g.W.World.told c.next_item.new.world).stream.left) _
+    was.0 (c.in_err-item.ensures.stopped notes was.0 was.2))
 
-pub returns-in_err-handle-in-Some-clause-reason : goal.returns-in_err-handle-in-Some-clause-reason
-returns-in_err-handle-in-Some-clause-reason g c =
+pub returns-in_err-handle-in-Some-clause-tells : goal.returns-in_err-handle-in-Some-clause-tells
+returns-in_err-handle-in-Some-clause-tells g c =
     let p = err_from_is_err_and c.from_residual-in_err-handle-in-Some.result
     c.from_residual-in_err-handle-in-Some.ensures.1 in
     rw (p.1, p.2) (λ stream notes l n.
-    let was = c.items.invariant.goes no_programs stream notes l n in
+    let was = c.items.invariant.goes no_programs _ (begun_now _) stream notes l n in
     let b = between_same _ _ _ was.0 (left_same _ _ c.in_ok-item.ensures.reads.other) was.1 in
-    reason_in_packets _
-    (account stream notes
-    (outside (g.W.World.told c.args.world.now) (g.S.Sink.told c.args.out.now))
-    (outside (g.W.World.told c.handle.new.world) (g.S.Sink.told c.handle.new.out))) _ _ _
+    tells_in_packets _ _ _ (file notes (g.W.World.told c.handle.new.world).notes.left) _
     (c.in_err-handle-in-Some.ensures.stopped _ _ _ b).leaves)
 
-pub returns-in-None-clause-reason : goal.returns-in-None-clause-reason
-returns-in-None-clause-reason g c = λ stream notes l n.
-    reason_in_line c.write_end.result
-    (account stream notes
-    (outside (g.W.World.told c.args.world.now) (g.S.Sink.told c.args.out.now))
-    (outside (g.W.World.told c.next_item.new.world) (g.S.Sink.told c.write_end.new.out))) _ _
+pub returns-in-None-clause-tells : goal.returns-in-None-clause-tells
+returns-in-None-clause-tells g c = λ stream notes l n.
+    tells_in_line c.write_end.result
+    (file stream (g.W.World.told c.next_item.new.world).stream.left)
+    (file notes (g.W.World.told c.next_item.new.world).notes.left) _ _
     c.write_end.ensures.cause
 
 pub handle-requires-clause-clock : goal.handle-requires-clause-clock

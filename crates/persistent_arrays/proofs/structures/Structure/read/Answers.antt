@@ -1,4 +1,5 @@
-use Rattle.std.proofs.Common.{sym, arith}
+use Rattle.std.proofs.Common.{None, Some, sym, arith}
+use Rattle.persistent_arrays.proofs.SpelledLemmas.{read-worked_out}
 use Rattle.persistent_arrays.proofs.SpellingLemmas.{last-pushed, next-pushed, other-pushed, shorter-next, spells-none, structure-pushed}
 use Rattle.persistent_arrays.proofs.structures.Structure.read.Goals as goal
 
@@ -8,12 +9,16 @@ invariant_of-result c =
 
 pub returns-in_default-next_code : goal.returns-in_default-next_code
 returns-in_default-next_code c =
-    last-pushed c.args.text.now c.kinds.kinds.items c.push.new.self.items c.kinds.left.now c.in-Some.kind c.in-Some.behind.now c.kinds.invariant c.in-Some.ensures c.in_ok-push.ensures.items c.in_default-next_code.ensures
+    let spelled =
+    last-pushed c.args.text.now c.kinds.kinds.items c.push.new.self.items c.kinds.left.now c.in-Some.kind c.in-Some.behind.now c.kinds.invariant c.in-Some.ensures c.in_ok-push.ensures.items c.in_default-next_code.ensures in
+    record { spells = spelled; spelled = read-worked_out c.args.text.now (Some c.push.new.self.items) spelled }
 
 pub returns-then-comma-from : goal.returns-then-comma-from
 returns-then-comma-from c =
+    let none =
     other-pushed c.args.text.now c.kinds.kinds.items c.push.new.self.items c.kinds.left.now c.in-Some.kind c.in-Some.behind.now c.kinds.invariant c.in-Some.ensures c.in_ok-push.ensures.items
-    c.in-Some-next_code.comma c.in-Some-next_code.next.now c.in-Some-next_code.ensures (λ e. omega (arith, c.from.ensures))
+    c.in-Some-next_code.comma c.in-Some-next_code.next.now c.in-Some-next_code.ensures (λ e. omega (arith, c.from.ensures)) in
+    record { spells = none; spelled = read-worked_out c.args.text.now None none }
 
 pub kinds-smaller : goal.kinds-smaller
 kinds-smaller c = shorter-next c.kinds.left.now c.in-Some.kind c.in-Some.behind.now c.in-Some-next_code.comma c.in-Some-next_code.next.now c.in-Some.ensures c.in-Some-next_code.ensures
@@ -24,4 +29,6 @@ kinds-preserved c =
     c.in-Some-next_code.comma c.in-Some-next_code.next.now c.in-Some-next_code.ensures (omega (arith, c.from.ensures))
 
 pub returns : goal.returns
-returns c = spells-none c.args.text.now c.kinds.kinds.items c.kinds.left.now c.kinds.invariant (sym c.in_default.ensures)
+returns c =
+    let none = spells-none c.args.text.now c.kinds.kinds.items c.kinds.left.now c.kinds.invariant (sym c.in_default.ensures) in
+    record { spells = none; spelled = read-worked_out c.args.text.now None none }

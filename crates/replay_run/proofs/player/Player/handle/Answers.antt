@@ -1,6 +1,11 @@
 use Rattle.std.proofs.lemmas.Result.{MatchResult-weaker}
 use Rattle.replay_run.proofs.player.Player.handle.Goals as goal
 
+pub returns-in-Tick-clause-stopped : goal.returns-in-Tick-clause-stopped
+returns-in-Tick-clause-stopped g c =
+    rw c.in-Tick.is (MatchResult-weaker c.pass_time.result c.pass_time.ensures.stopped (λ x p. p)
+    (λ status stops. stops _))
+
 pub returns-in-Input-clause-stopped : goal.returns-in-Input-clause-stopped
 returns-in-Input-clause-stopped g c =
     rw c.in-Input.is (MatchResult-weaker c.play_input.result c.play_input.ensures.stopped (λ x p. p)

@@ -1,19 +1,22 @@
-use Rattle.std.proofs.Common.{arith, refl}
-use Rattle.replay_run.specs.Meaning.{empty_area}
+use Rattle.std.proofs.Common.{◌∙◌, arith, refl, subst, sym, []}
+use Rattle.receiver_core.specs.Receiving.{StandsFor}
 use Rattle.replay_run.proofs.ProgressLaws.{between_start}
 use Rattle.replay_run.proofs.player.Player.new.Goals as goal
 
-pub returns : goal.returns
-returns c = record {
-  start = λ told read stream left. between_start (record {
+pub returns-clause-starts : goal.returns-clause-starts
+returns-clause-starts c = record {
+  start = λ told read stream notes before begun left. between_start (record {
     read = read;
     selection = c.args.selection;
-    area = empty_area;
+    area = c.area.inside.bytes;
     stream = stream;
-    first = told.sink.written;
-  }) _ left refl c.new.ensures.held c.new.ensures.ended refl refl
-      _ c.zeros.ensures (c.in_ok-new.ensures.stands read);
+    notes = notes;
+    before = before;
+  }) _ told left refl begun refl c.new.ensures.held c.new.ensures.ended refl refl
+      (λ right. subst (λ area. StandsFor read c.args.selection area c.in_ok-new.field-0 [] [])
+      (sym c.area.view_is) (c.in_ok-new.ensures.stands read right));
   idle = c.in_ok-new.ensures.idle;
+  keeps = c.area.view_is ∙ sym c.in_ok-new.ensures.area;
   clock = c.in_ok-new.ensures.clock;
   within = omega arith;
   readable = λ world readable ended. readable;

@@ -1,21 +1,22 @@
 use Rattle.std.proofs.Common.{◌≡◌, ◌+◌, ◌++◌, ◌∙◌, sym, ap, refl, subst, length, take, arith}
 use Rattle.std.proofs.lemmas.List.{take_all}
 use Rattle.replay_run.specs.Outside.{outside}
-use Rattle.replay_run.specs.Progress.{Moment, IsMidway}
+use Rattle.replay_run.specs.Progress.{IsMidway}
+use Rattle.replay_run.specs.Putting.{outlets}
 use Rattle.replay_run.proofs.ProgressLaws.{midway_read}
 use Rattle.replay_run.proofs.StoppingLaws.{stops_unread, stops_long, consumed_some}
 use Rattle.replay_run.proofs.player.Player.read_stream.Goals as goal
 
 pub returns-then-self-gt-STREAM_LIMIT-clause-stops :
     goal.returns-then-self-gt-STREAM_LIMIT-clause-stops
-returns-then-self-gt-STREAM_LIMIT-clause-stops g c = λ sink replay inputs ahead m.
-    stops_long replay _ (outside (g.W.World.told c.read_port.new.self) sink) inputs ahead _
+returns-then-self-gt-STREAM_LIMIT-clause-stops g c = λ keeper sink replay inputs ahead m.
+    stops_long replay _ (outside (g.W.World.told c.read_port.new.self) keeper sink) inputs ahead _
     c.in-Ok.count
     (sym c.in-Ok.ensures.count.1) c.if-self-gt-STREAM_LIMIT.true c.in-Ok.ensures.bytes.0 refl m
 
 pub returns-in-Err-clause-stops : goal.returns-in-Err-clause-stops
-returns-in-Err-clause-stops g c = λ sink replay inputs ahead m.
-    stops_unread replay _ (outside (g.W.World.told c.read_port.new.self) sink) inputs ahead
+returns-in-Err-clause-stops g c = λ keeper sink replay inputs ahead m.
+    stops_unread replay _ (outside (g.W.World.told c.read_port.new.self) keeper sink) inputs ahead
     c.requires.within c.in-Err.ensures.bytes refl m
 
 pub returns-else-self-gt-STREAM_LIMIT-clause-goes :
@@ -28,14 +29,15 @@ returns-else-self-gt-STREAM_LIMIT-clause-goes g c =
     let held : c.feed.new.self.held ≡ c.args.self.now.cutter.held ++ bytes =
     c.feed.ensures.held ∙ ap (λ n. c.args.self.now.cutter.held ++ take n bytes) room
     ∙ ap (λ l. c.args.self.now.cutter.held ++ l) (take_all (length bytes) bytes (omega arith)) in
-    λ sink replay inputs ahead m.
+    λ keeper sink replay inputs ahead m.
     subst (λ n. IsMidway replay (record {
       cutter = c.feed.new.self;
       receiver = c.args.self.now.receiver;
+      kept = c.args.self.now.kept;
       bytes = c.args.self.now.bytes + n;
       packets = c.args.self.now.packets;
       left = (g.W.World.told c.read_port.new.self).stream.left;
-      written = sink.written;
+      outlets = outlets keeper sink;
     }) inputs ahead) size
     (midway_read replay _ inputs ahead _ _ bytes (consumed_some bytes _ _ c.in-Ok.ensures.bytes.0)
     c.requires.open_end held c.feed.ensures.ended m)

@@ -1,9 +1,13 @@
-use Rattle.std.proofs.Common.{◌+◌, ◌∙◌, sym, ap, arith, refl}
+use Rattle.std.proofs.Common.{◌≡◌, ◌+◌, ◌∙◌, sym, ap, arith, refl, subst, Some}
 use Rattle.std.proofs.lemmas.Result.{err_from_is_err_and}
 use Rattle.ts_packets.specs.Packets.{packets_of}
 use Rattle.receiver_core.specs.Receiving.{ReceiverState}
-use Rattle.replay_run.proofs.PlayLaws.{Allows, front_of_taken, told_apart, took_less}
+use Rattle.replay_run.specs.Midway.{Handles, item_of_count, moment}
+use Rattle.replay_run.specs.Outside.{outside}
+use Rattle.replay_run.proofs.PlayLaws.{Allows, front_of_taken, told_alike, told_apart, took_enough}
+use Rattle.replay_run.proofs.PlayLaws.{took_less}
 use Rattle.replay_run.proofs.ProgressLaws.{midway_seek, midway_none, midway_more, midway_over}
+use Rattle.replay_run.proofs.PuttingLaws.{later_more, later_none}
 use Rattle.replay_run.proofs.StoppingLaws.{only_reads_none, only_reads_more, no_packets}
 use Rattle.replay_run.proofs.StoppingLaws.{stops_further, stops_more}
 use Rattle.replay_run.proofs.player.Player.take.Goals as goal
@@ -12,10 +16,11 @@ pub packets-init : goal.packets-init
 packets-init g c = record {
   within = c.requires.within;
   idle = c.requires.idle;
+  area = c.requires.area;
   clock = refl;
   readable = c.requires.readable;
   reads = only_reads_none _ _;
-  later = omega arith;
+  later = later_none _;
   until = c.last_packet-last.ensures;
   taken = (
     0,
@@ -36,10 +41,11 @@ packets-preserved-in-Continue-1 g c =
     record {
       within = rw taken.bytes before.within;
       idle = taken.idle;
+      area = taken.area;
       clock = taken.clock ∙ before.clock;
       readable = λ e. before.readable (sym c.seek.ensures.drops.ended ∙ sym taken.ended ∙ e);
       reads = before.reads;
-      later = omega (arith, before.later, taken.writes);
+      later = later_more _ _ _ before.later taken.later;
       until = before.until;
       taken = (
         before.taken.0 + 1,
@@ -75,6 +81,7 @@ packets-preserved g c =
     record {
       within = read.within;
       idle = rw read.receiver before.idle;
+      area = read.kept ∙ before.area ∙ sym (ap (λ (receiver : ReceiverState). receiver.area) read.receiver);
       clock = ap (λ (receiver : ReceiverState). receiver.clock) read.receiver ∙ before.clock;
       readable = read.readable;
       reads = only_reads_more _ _ _ _ before.reads read.reads;
@@ -84,7 +91,8 @@ packets-preserved g c =
         before.taken.0,
         read.packets ∙ before.taken.1,
         before.taken.2,
-        λ replay inputs ahead m. read.goes (g.S.Sink.told c.packets.out) replay _ _
+        λ replay inputs ahead m. read.goes (g.K.Keeper.told c.packets.keeper)
+            (g.S.Sink.told c.packets.out) replay _ _
             (midway_seek replay _ _ _ _ c.seek.ensures.gives c.seek.ensures.drops.ended
             (before.taken.3 replay inputs ahead m)),
       );
@@ -99,7 +107,8 @@ returns-in_err-read_stream-in-NeedMore-clause-stopped g c =
     rw (p.1, p.2) (λ replay inputs ahead m.
     stops_further _ replay _ _ _
     (front_of_taken inputs c.args.most before.taken.0 ahead before.taken.2)
-    (c.in_err-read_stream-in-NeedMore.ensures.stops (g.S.Sink.told c.packets.out) replay _ _
+    (c.in_err-read_stream-in-NeedMore.ensures.stops (g.K.Keeper.told c.packets.keeper)
+    (g.S.Sink.told c.packets.out) replay _ _
     (midway_seek replay _ _ _ _ c.seek.ensures.gives c.seek.ensures.drops.ended
     (before.taken.3 replay inputs ahead m))))
 
@@ -117,3 +126,14 @@ pub returns-in_err-read_stream-in-NeedMore-clause-reads :
     goal.returns-in_err-read_stream-in-NeedMore-clause-reads
 returns-in_err-read_stream-in-NeedMore-clause-reads g c =
     only_reads_more _ _ _ _ c.packets.invariant.reads c.in_err-read_stream-in-NeedMore.ensures.reads
+
+pub returns-clause-handled : goal.returns-clause-handled
+returns-clause-handled g c =
+    let before = c.packets.invariant in
+    let same : Some before.taken.0 ≡ c.args.most = sym (took_enough c.args.most _ _ _ before.taken.0
+    before.until before.taken.1 (told_alike _ _ _ c.ne.ensures c.packets-test.false)) in
+    subst (λ most. Handles (item_of_count most) (moment c.args.self.now
+    (outside (g.W.World.told c.args.world.now) (g.K.Keeper.told c.args.keeper.now)
+    (g.S.Sink.told c.args.out.now)))
+    (moment c.packets.self (outside (g.W.World.told c.packets.world)
+    (g.K.Keeper.told c.packets.keeper) (g.S.Sink.told c.packets.out)))) same before.taken.3

@@ -1,0 +1,185 @@
+-- What calls give and leave is what hosts of scripts promise.
+use Rattle.std.proofs.Common.{◌≡◌, ℕ, ◌<◌, nat_le, Bool, true, false, cond, List, [], ◌∷◌, ◌++◌, length, map, Option, Some, None, ℤ, ◌⊎◌, inl, inr, refl, sym, subst, arith, length-append}
+use Rattle.std.specs.Prelude.{◌||◌, is_some}
+use Rattle.std.specs.List.{list_any}
+use Rattle.std.specs.Option.{option_map_or}
+use Rattle.multipart_entities.specs.declared.paths.Path.{Path}
+use Rattle.es_values.specs.declared.hosts.HostAnswer.TheVariants.{Value as Answered}
+use Rattle.es_values.specs.declared.values.Value.{Value}
+use Rattle.es_values.specs.declared.values.Value.TheVariants as values
+use Rattle.es_values.specs.Arrays.{array_of}
+use Rattle.es_values.specs.Heaps.{holds_function}
+use Rattle.es_values.specs.Hosts.{IsAnswer, KeepsHeap}
+use Rattle.es_values.specs.Objects.{ObjectState}
+use Rattle.es_values.specs.Values.{is_function, is_plain}
+use Rattle.persistent_arrays.specs.declared.fields.Field.{Field}
+use Rattle.persistent_arrays.specs.declared.fields.Field.TheVariants as fields
+use Rattle.persistent_arrays.specs.declared.kinds.FieldKind.{FieldKind}
+use Rattle.persistent_arrays.specs.Arrays.{array_in}
+use Rattle.persistent_arrays.specs.Names.{array_named}
+use Rattle.persistent_arrays.specs.Reading.{unpacked}
+use Rattle.persistent_arrays.specs.Structures.{structure_spelled}
+use Rattle.event_queue.specs.Timers.{has_place, timer_of}
+use Rattle.browser_objects.specs.declared.calls.BrowserCall.{BrowserCall}
+use Rattle.browser_objects.specs.declared.calls.BrowserCall.TheVariants as the
+use Rattle.browser_objects.specs.declared.effects.Effect.TheVariants.{Sound, Launch, Lock, Unlock}
+use Rattle.browser_objects.specs.ArrayCalls.{value_of_field, values_of_array, with_array_of}
+use Rattle.browser_objects.specs.Functions.{named_function}
+use Rattle.browser_objects.specs.Calls.{BrowserParts, Called, CallOutcome, argument, array_read, array_written, call_named, call_of, called_of, clear_timer, cleared, count_argument, drawn, gives, hands_on, interval_of, number, over, packed_values, path_argument, play_sound, random_called, refused, set_interval, sound_of, text_argument, timer_called, whole_argument, with_interval, with_named, with_path}
+
+-- ---- calls whose value is neither an object nor a function
+
+abbrev IsPlain : Called → Type 0
+IsPlain called = is_plain called.value ≡ true
+
+either : (test : Bool) (one other : Called) → IsPlain one → IsPlain other → IsPlain (cond test one other)
+either true one other p q = p
+either false one other p q = q
+
+mapped : {X : Type 0} (make : X → Called) (found : Option X) (other : Called) → ((x : X) → IsPlain (make x)) → IsPlain other
+    → IsPlain (option_map_or make found other)
+mapped make None other p q = q
+mapped make (Some x) other p q = p x
+
+with-interval : (now : ℕ) (function : List ℕ) (interval turns : ℕ) (s : BrowserParts)
+    → IsPlain (with_interval now function interval turns s)
+with-interval now function interval turns s = either (has_place s.timers) _ _ refl refl
+
+timer : (now : ℕ) (function : Option (List ℕ)) (interval : Option ℤ) (turns : Option ℕ) (s : BrowserParts)
+    → IsPlain (timer_called now function interval turns s)
+timer now None interval turns s = refl
+timer now (Some function) None turns s = refl
+timer now (Some function) (Some interval) None s = refl
+timer now (Some function) (Some interval) (Some turns) s = with-interval now function (interval_of interval) turns s
+
+written : (slot : ℕ) (bytes : Option (List ℕ)) (s : BrowserParts) → IsPlain (array_written slot bytes s)
+written slot None s = refl
+written slot (Some bytes) s = refl
+
+-- ---- what a call gives and leaves
+
+-- a value is one of a host, and what objects there are behind the call
+record IsGiven (heap : List ObjectState) (outcome : CallOutcome) : Type 0 where
+  answer : IsAnswer outcome.heap (Answered outcome.called.value)
+  objects : (outcome.heap ≡ heap) ⊎ ((values : List Field) × (outcome.heap ≡ with_array_of heap values))
+
+plain-answer : (heap : List ObjectState) (value : Value) → is_plain value ≡ true → IsAnswer heap (Answered value)
+plain-answer heap values.Undefined e = (refl, tt)
+plain-answer heap values.Null e = (refl, tt)
+plain-answer heap (values.Bool truth) e = (refl, tt)
+plain-answer heap (values.Number number) e = (refl, tt)
+plain-answer heap (values.Str text) e = (refl, tt)
+plain-answer heap (values.Object object) e = absurd cc
+plain-answer heap (values.Function function) e = absurd cc
+plain-answer heap (values.Host reference) e = (refl, tt)
+
+plain : (heap : List ObjectState) (called : Called) → IsPlain called → IsGiven heap (over heap called)
+plain heap called e = record { answer = plain-answer heap called.value e; objects = inl refl }
+
+named : (heap : List ObjectState) (call : ℕ → List FieldKind → CallOutcome) (slot : Option ℕ) (kinds : Option (List FieldKind)) (wrong : CallOutcome)
+    → ((slot : ℕ) (kinds : List FieldKind) → IsGiven heap (call slot kinds)) → IsGiven heap wrong → IsGiven heap (with_named call slot kinds wrong)
+named heap call None kinds wrong p q = q
+named heap call (Some slot) None wrong p q = q
+named heap call (Some slot) (Some kinds) wrong p q = p slot kinds
+
+one-more : (heap : List ObjectState) (object : ObjectState) → length heap < length (heap ++ object ∷ [])
+one-more heap object = let l = length-append heap (object ∷ []) in omega arith
+
+read : (found : Option (List Field)) (heap : List ObjectState) (s : BrowserParts) → IsGiven heap (array_read found heap s)
+read None heap s = plain heap (gives values.Null s) refl
+read (Some found) heap s = record { answer = (refl, one-more heap (array_of (map value_of_field found))); objects = inr (found, refl) }
+
+table : (call : BrowserCall) (base : Path) (now : ℕ) (arguments : List Value) (heap : List ObjectState) (s : BrowserParts)
+    → IsGiven heap (called_of call base now arguments heap s)
+table the.SetInterval base now arguments heap s =
+    plain heap (set_interval now arguments heap s)
+    (timer now (named_function (text_argument heap arguments 0)) (whole_argument heap arguments 1) (count_argument heap arguments 2) s)
+table the.ClearTimer base now arguments heap s =
+    plain heap (clear_timer arguments heap s)
+    (mapped (λ n. cleared n s) (count_argument heap arguments 0) (refused s)
+    (λ n. either (is_some (timer_of n s.timers)) _ _ refl refl) refl)
+table the.LaunchDocument base now arguments heap s =
+    plain heap (with_path (λ path. Launch path) (path_argument base arguments heap) s)
+    (mapped (λ path. hands_on (Launch path) s) (path_argument base arguments heap) (refused s) (λ path. refl) refl)
+table the.LockModuleOnMemory base now arguments heap s =
+    plain heap (with_path (λ path. Lock path) (path_argument base arguments heap) s)
+    (mapped (λ path. hands_on (Lock path) s) (path_argument base arguments heap) (refused s) (λ path. refl) refl)
+table the.UnlockModuleOnMemory base now arguments heap s =
+    plain heap (with_path (λ path. Unlock path) (path_argument base arguments heap) s)
+    (mapped (λ path. hands_on (Unlock path) s) (path_argument base arguments heap) (refused s) (λ path. refl) refl)
+table the.ReadPersistentArray base now arguments heap s =
+    named heap (λ slot kinds. array_read (unpacked kinds (array_in s.area slot)) heap s) (array_named (text_argument heap arguments 0))
+    (structure_spelled (text_argument heap arguments 1)) (over heap (refused s))
+    (λ slot kinds. read (unpacked kinds (array_in s.area slot)) heap s) (plain heap (refused s) refl)
+table the.WritePersistentArray base now arguments heap s =
+    named heap (λ slot kinds. over heap (array_written slot (packed_values heap kinds (values_of_array heap (argument arguments 2))) s))
+    (array_named (text_argument heap arguments 0)) (structure_spelled (text_argument heap arguments 1)) (over heap (refused s))
+    (λ slot kinds. plain heap (array_written slot (packed_values heap kinds (values_of_array heap (argument arguments 2))) s)
+    (written slot (packed_values heap kinds (values_of_array heap (argument arguments 2))) s))
+    (plain heap (refused s) refl)
+table the.Random base now arguments heap s =
+    plain heap (random_called arguments heap s)
+    (mapped (λ n. drawn n s) (count_argument heap arguments 0) (refused s) (λ n. either (nat_le 1 n) _ _ refl refl) refl)
+table the.PlayRomSound base now arguments heap s =
+    plain heap (play_sound arguments heap s)
+    (mapped (λ sound. record { value = number 1; effect = Sound sound; state = s })
+    (sound_of (text_argument heap arguments 0)) (refused s) (λ sound. refl) refl)
+
+given : (name : List ℕ) (base : Path) (now : ℕ) (arguments : List Value) (heap : List ObjectState) (s : BrowserParts)
+    → IsGiven heap (call_of name base now arguments heap s)
+given name base now arguments heap s = by (call_named name)
+  where
+    by : (call : Option BrowserCall) → IsGiven heap (option_map_or (λ call. called_of call base now arguments heap s) call (over heap (refused s)))
+    by None = plain heap (refused s) refl
+    by (Some call) = table call base now arguments heap s
+
+pub always-answer : (name : List ℕ) (base : Path) (now : ℕ) (arguments : List Value) (heap : List ObjectState) (s : BrowserParts)
+    → IsAnswer (call_of name base now arguments heap s).heap (Answered (call_of name base now arguments heap s).called.value)
+always-answer name base now arguments heap s = (given name base now arguments heap s).answer
+
+pub new-objects : (name : List ℕ) (base : Path) (now : ℕ) (arguments : List Value) (heap : List ObjectState) (s : BrowserParts)
+    → ((call_of name base now arguments heap s).heap ≡ heap) ⊎ ((values : List Field) × ((call_of name base now arguments heap s).heap ≡ with_array_of heap values))
+new-objects name base now arguments heap s = (given name base now arguments heap s).objects
+
+-- ---- functions
+
+-- what `law_of_array_functions` says of arrays that are made
+abbrev MadeArrays : Type 0
+MadeArrays = (heap : List ObjectState) (number : ℕ) (values : List Value) → holds_function number (heap ++ array_of values ∷ []) ≡ true
+    → (holds_function number heap || list_any (is_function number) values) ≡ true
+
+no-function : (number : ℕ) (found : List Field) → list_any (is_function number) (map value_of_field found) ≡ false
+no-function number [] = refl
+no-function number (fields.Bit bit ∷ found) = no-function number found
+no-function number (fields.Whole whole ∷ found) = no-function number found
+no-function number (fields.Words text ∷ found) = no-function number found
+
+held : (a b c : Bool) → b ≡ false → (a || b) ≡ true → (a || c) ≡ true
+held true b c e h = refl
+held false b c e h = absurd cc
+
+at-least : (a c : Bool) → a ≡ true → (a || c) ≡ true
+at-least true c e = refl
+at-least false c e = absurd cc
+
+kept : MadeArrays → (heap : List ObjectState) (arguments : List Value) (found : List Field) → KeepsHeap heap arguments (with_array_of heap found)
+kept made heap arguments found = record {
+  objects = (let more = one-more heap (array_of (map value_of_field found)) in omega arith);
+  functions = λ number h.
+      held (holds_function number heap) (list_any (is_function number) (map value_of_field found)) (list_any (is_function number) arguments)
+      (no-function number found) (made heap number (map value_of_field found) h);
+}
+
+same : (heap : List ObjectState) (arguments : List Value) → KeepsHeap heap arguments heap
+same heap arguments = record {
+  objects = omega arith;
+  functions = λ number h. at-least (holds_function number heap) (list_any (is_function number) arguments) h;
+}
+
+pub always-kept : MadeArrays → (name : List ℕ) (base : Path) (now : ℕ) (arguments : List Value) (heap : List ObjectState) (s : BrowserParts)
+    → KeepsHeap heap arguments (call_of name base now arguments heap s).heap
+always-kept made name base now arguments heap s = by (call_of name base now arguments heap s).heap (new-objects name base now arguments heap s)
+  where
+    by : (new : List ObjectState) → (new ≡ heap) ⊎ ((values : List Field) × (new ≡ with_array_of heap values)) → KeepsHeap heap arguments new
+    by new (inl e) = subst (KeepsHeap heap arguments) (sym e) (same heap arguments)
+    by new (inr array) = subst (KeepsHeap heap arguments) (sym array.1) (kept made heap arguments array.0)

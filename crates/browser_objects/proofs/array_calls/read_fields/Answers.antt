@@ -1,0 +1,8 @@
+use Rattle.std.proofs.lemmas.List.Elements.{All-same}
+use Rattle.es_values.specs.Heaps.{IsLive}
+use Rattle.browser_objects.proofs.ArrayLemmas.{fields-live}
+use Rattle.browser_objects.proofs.array_calls.read_fields.Goals as goal
+
+pub add_array-requires : goal.add_array-requires
+add_array-requires c =
+    All-same (IsLive c.args.heap.now) c.in_ok-values-in-Some.values.items _ c.in_ok-values-in-Some.ensures (fields-live c.args.heap.now c.in-Some.fields.items)

@@ -1,0 +1,168 @@
+-- Laws of pieces that are put out: their areas are stored, and their texts written.
+use Rattle.std.proofs.Common.{◌≡◌, ℕ, List, [], ◌∷◌, ◌++◌, sym, ap, ◌∙◌, subst, append-nil, arith}
+use Rattle.std.specs.Io.KnownBytes.{Appends}
+use Rattle.std.proofs.KnownBytes.{Appends-nil}
+use Rattle.receiver_core.specs.Fronts.{IsFront, front_of_front}
+use Rattle.receiver_core.specs.Outputs.{Piece}
+use Rattle.replay_run.specs.declared.status.Status.{Status}
+use Rattle.replay_run.specs.Ending.{BreaksOff, FailsToStore, WritesWhole}
+use Rattle.replay_run.specs.Kept.{stores}
+use Rattle.replay_run.specs.Meaning.{Meaning}
+use Rattle.replay_run.specs.Outside.{Account, Outside}
+use Rattle.replay_run.specs.Output.{bytes_of}
+use Rattle.replay_run.specs.Progress.{HasBegun}
+use Rattle.replay_run.specs.Putting.{CutsPiece, HasPut, IsLater, KeepsOn, LosesPiece, Outlets}
+use Rattle.replay_run.specs.Putting.{PutsPiece, change, outlets_of}
+use Rattle.replay_run.proofs.KeptLaws.{area_after-push, fails_piece, keeps_piece, keeps_still}
+use Rattle.replay_run.proofs.KeptLaws.{no_change}
+use Rattle.replay_run.proofs.WritingLaws.{appends_more, bytes-append}
+
+-- a replay began
+pub put_none : (area : List ℕ) (before now : Outside) (kept : List ℕ) → HasBegun before now
+    → kept ≡ area → HasPut area before kept (outlets_of now) []
+put_none area before now kept begun same = record {
+  wrote = subst (λ o. Appends before.sink.written o []) (sym begun.written)
+      (Appends-nil before.sink.written);
+  kept_is = same;
+  keeps = begun.keeps;
+}
+
+-- one piece more was put out
+pub put_more : (area : List ℕ) (before : Outside) (kept : List ℕ) (now after : Outlets)
+    (given : List Piece) (piece : Piece)
+    → HasPut area before kept now given → PutsPiece kept piece now after
+    → HasPut area before piece.area after (given ++ piece ∷ [])
+put_more area before kept now after given piece has puts =
+    let bytes : bytes_of given ++ piece.text ≡ bytes_of (given ++ piece ∷ []) =
+    ap (λ l. bytes_of given ++ l) (sym (append-nil piece.text))
+    ∙ sym (bytes-append given (piece ∷ [])) in
+    record {
+      wrote = subst (λ l. Appends before.sink.written after.sink.written l) bytes
+          (appends_more before.sink.written now.sink.written after.sink.written
+          (bytes_of given) piece.text has.wrote puts.writes);
+      kept_is = sym (area_after-push area given piece);
+      keeps = keeps_piece before.keeper now.keeper after.keeper area kept given piece has.keeps
+          has.kept_is puts.keeps;
+    }
+
+-- a call of the receiver that gave nothing changes nothing
+pub put_nothing : (area : List ℕ) (before : Outside) (kept : List ℕ) (now after : Outlets)
+    (given : List Piece) (piece : Piece)
+    → piece.text ≡ [] → piece.area ≡ kept
+    → HasPut area before kept now given → PutsPiece kept piece now after
+    → HasPut area before piece.area after given
+put_nothing area before kept now after given piece no_text same has puts =
+    let none : change kept piece.area ≡ [] = no_change kept piece.area same in
+    let P : List (List ℕ) → Type 0 = λ l. KeepsOn now.keeper after.keeper l in
+    record {
+      wrote = subst (λ l. Appends before.sink.written after.sink.written l)
+          (ap (λ l. bytes_of given ++ l) no_text ∙ append-nil (bytes_of given))
+          (appends_more before.sink.written now.sink.written after.sink.written
+          (bytes_of given) piece.text has.wrote puts.writes);
+      kept_is = same ∙ has.kept_is;
+      keeps = keeps_still before.keeper now.keeper after.keeper (stores area given) has.keeps
+          (subst P none puts.keeps);
+    }
+
+-- ---- counts of faults
+
+pub later_none : (told : Outlets) → IsLater told told
+later_none told = record { keeper = omega arith; sink = omega arith }
+
+pub later_more : (a b c : Outlets) → IsLater a b → IsLater b c → IsLater a c
+later_more a b c x y = record {
+  keeper = omega (arith, x.keeper, y.keeper);
+  sink = omega (arith, x.sink, y.sink);
+}
+
+-- ---- where it stops
+
+-- whole pieces were put out
+pub put_whole : (meaning : Meaning) (run : Account) (kept : List ℕ) (given : List Piece)
+    → HasPut meaning.area run.before kept (outlets_of run.behind) given
+    → IsFront given meaning.pieces → WritesWhole meaning run
+put_whole meaning run kept given has front =
+    record { whole = given; front = front; written = has.wrote; kept = has.keeps }
+
+-- and then the text of one more was cut short
+pub put_short : (meaning : Meaning) (run : Account) (kept : List ℕ) (now : Outlets)
+    (given : List Piece) (piece : Piece)
+    → HasPut meaning.area run.before kept now given
+    → CutsPiece kept piece now (outlets_of run.behind)
+    → IsFront (given ++ piece ∷ []) meaning.pieces → BreaksOff meaning run
+put_short meaning run kept now given piece has cuts front = record {
+  whole = given;
+  piece = piece;
+  front = front;
+  part = cuts.short.front;
+  wanting = cuts.short.rest;
+  text_is = cuts.short.whole;
+  wants = cuts.short.wanting;
+  written = appends_more run.before.sink.written now.sink.written run.behind.sink.written
+      (bytes_of given) cuts.short.front has.wrote cuts.short.written;
+  kept = keeps_piece run.before.keeper now.keeper run.behind.keeper meaning.area kept given piece
+      has.keeps has.kept_is cuts.keeps;
+}
+
+-- or its area couldn't be stored
+pub put_lost : (meaning : Meaning) (run : Account) (kept : List ℕ) (now : Outlets)
+    (given : List Piece) (piece : Piece)
+    → HasPut meaning.area run.before kept now given
+    → LosesPiece kept piece now (outlets_of run.behind)
+    → IsFront (given ++ piece ∷ []) meaning.pieces → FailsToStore meaning run
+put_lost meaning run kept now given piece has loses front =
+    let fails = fails_piece run.before.keeper now.keeper run.behind.keeper meaning.area kept given
+    piece has.keeps has.kept_is loses.fails in
+    record {
+      whole = given;
+      piece = piece;
+      front = front;
+      differs = fails.differs;
+      written = subst (λ o. Appends run.before.sink.written o (bytes_of given)) (sym loses.writes)
+          has.wrote;
+      kept = fails.kept;
+      calls = fails.calls;
+    }
+
+-- ---- the same of more pieces
+
+pub whole_further : (area : List ℕ) (some all : List Piece) (one other : Status) (run : Account)
+    → IsFront some all
+    → WritesWhole (record { area = area; pieces = some; status = one }) run
+    → WritesWhole (record { area = area; pieces = all; status = other }) run
+whole_further area some all one other run front w = record {
+  whole = w.whole;
+  front = front_of_front w.whole some all w.front front;
+  written = w.written;
+  kept = w.kept;
+}
+
+pub short_further : (area : List ℕ) (some all : List Piece) (one other : Status) (run : Account)
+    → IsFront some all
+    → BreaksOff (record { area = area; pieces = some; status = one }) run
+    → BreaksOff (record { area = area; pieces = all; status = other }) run
+short_further area some all one other run front b = record {
+  whole = b.whole;
+  piece = b.piece;
+  front = front_of_front (b.whole ++ b.piece ∷ []) some all b.front front;
+  part = b.part;
+  wanting = b.wanting;
+  text_is = b.text_is;
+  wants = b.wants;
+  written = b.written;
+  kept = b.kept;
+}
+
+pub lost_further : (area : List ℕ) (some all : List Piece) (one other : Status) (run : Account)
+    → IsFront some all
+    → FailsToStore (record { area = area; pieces = some; status = one }) run
+    → FailsToStore (record { area = area; pieces = all; status = other }) run
+lost_further area some all one other run front f = record {
+  whole = f.whole;
+  piece = f.piece;
+  front = front_of_front (f.whole ++ f.piece ∷ []) some all f.front front;
+  differs = f.differs;
+  written = f.written;
+  kept = f.kept;
+  calls = f.calls;
+}
