@@ -27,6 +27,7 @@ EXCEPTIONS = [
     ("acting_documents", r"ActingDocument::\w+", "the exception of documents that act: it is not used again"),
     ("es_expressions", r"read_expression", "the nodes read before keep their places (`grows`), and more may stand behind them; whoever reads a program drops them all"),
     ("dom_objects", r"get_node", "the tree isn't lent for writing; the styles may keep more values (`sources`, `right_still`)"),
+    ("replay_run", r"replay_files", "what `out` held stays at its beginning (`grows`); where the files are refused nothing is appended (`unchanged`)"),
     ("display_list", r"Shower::show|show\w*", "the styles may keep more values (`sources`, `right_still`); what `out` held stays at its beginning (`grows`)"),
 ]
 
@@ -64,15 +65,15 @@ MADE = {
     "es_eval": "rows of `script_tests`, `browser: two timers of one moment`",
     "document_load": "`entities: what it needs comes`, `scripts: found, and good`",
     "dom_objects": "rows of `nodes-and-focus`",
-    "browser_objects": "rows of `browser`",
+    "browser_objects": "rows of `browser` and `arrays`",
     "document_stages": "rows of `pages` and `browser`",
     "acting_documents": "rows of `pages` and `browser`",
     "page": "rows of `pages` and `browser`",
     "receiver_core": "each row",
-    "replay_run": "each row",
-    "persistent_arrays": "`array_tests`",
-    "carousel_writer": "`carousel_tests`",
-    "file_generator": "`carousel_tests`",
+    "replay_run": "each row; of `replay_files` the rows `generated-streams`",
+    "persistent_arrays": "`array_tests`; rows of `arrays`",
+    "carousel_writer": "`carousel_tests`; rows of `generated-streams`",
+    "file_generator": "`carousel_tests`; rows of `generated-streams`",
 }
 KEEPS = re.compile(r"^(err|same|kept|keeps|before|stays|spends|spent|full|refused|none|lost|fixed|old|nodes)$")
 

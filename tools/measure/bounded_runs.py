@@ -26,13 +26,13 @@ BOUNDS = {
 
 
 class BoundedRuns:
-    """The process that runs commands."""
+    """The process that runs commands in a folder."""
 
-    def __init__(self):
+    def __init__(self, folder):
         import subprocess
 
-        command = [sys.executable, "-S", "-E", "-B", __file__]
-        self.process = subprocess.Popen(command, stdin=subprocess.PIPE, stdout=subprocess.PIPE, text=True)
+        command = [sys.executable, "-S", "-E", "-B", os.path.abspath(__file__)]
+        self.process = subprocess.Popen(command, stdin=subprocess.PIPE, stdout=subprocess.PIPE, text=True, cwd=folder)
 
     def run(self, command, stdout, stderr):
         """Returns the status, the processor seconds and the greatest resident memory of a command."""

@@ -5,7 +5,7 @@ usage: refuse_allocations.py [--lines] PROGRAM [WORD..] < INPUT
 
 The program gets the words and the input each time. A library that refuses the allocation of a number, as the system may, is compiled by
 `cc` and loaded in front of the C library. What is printed is how often the program ended in which way: its status and its last words, on
-standard output or on standard error. Status: 0 where each run ended by itself within a minute, 1 where one was stopped by a signal or hung, or, with
+standard output or on standard error. The kept area, `nvram.bin`, is as it was before each run. Status: 0 where each run ended by itself within a minute, 1 where one was stopped by a signal or hung, or, with
 --lines, where what it wrote isn't the first lines, each to its end, of what the program writes with nothing refused.
 """
 
@@ -14,6 +14,7 @@ import os
 import subprocess
 import sys
 import tempfile
+from pathlib import Path
 
 LIBRARY = r"""
 #define _GNU_SOURCE
@@ -57,6 +58,13 @@ def are_first_lines(written, whole):
     return whole.startswith(written) and (not written or written.endswith(b"\n"))
 
 
+def put_back(path, content):
+    if content is None:
+        path.unlink(missing_ok=True)
+    else:
+        path.write_bytes(content)
+
+
 def main():
     by_lines = sys.argv[1:2] == ["--lines"]
     command = sys.argv[2:] if by_lines else sys.argv[1:]
@@ -64,6 +72,8 @@ def main():
         sys.exit(__doc__.split("\n\n")[1])
     given = sys.stdin.buffer.read()
     ends, well = collections.Counter(), True
+    area = Path("nvram.bin")
+    kept = area.read_bytes() if area.exists() else None
     with tempfile.TemporaryDirectory(prefix="refuse-") as room:
         with open(f"{room}/refuse.c", "w") as file:
             file.write(LIBRARY)
@@ -72,7 +82,10 @@ def main():
         def ran(number):
             told = {"LD_PRELOAD": f"{room}/refuse.so", "REFUSED_ALLOCATION": str(number), "ALLOCATIONS_MADE": f"{room}/made"}
             how = {"input": given, "stdout": subprocess.PIPE, "stderr": subprocess.PIPE, "check": False, "timeout": 60}
-            return subprocess.run(command, env={**os.environ, **told}, **how)
+            try:
+                return subprocess.run(command, env={**os.environ, **told}, **how)
+            finally:
+                put_back(area, kept)
 
         whole = ran(0).stdout
         with open(f"{room}/made") as file:

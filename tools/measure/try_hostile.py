@@ -5,8 +5,8 @@ usage: try_hostile.py PROGRAM [--seed N] [--minutes M] [--cases N] [--kind KIND.
 
 The kinds are `streams`, `entities`, `documents`, `styles`, `scripts` and `records`: those of the examples and rows, mutated; others that are
 made by their grammars; and some at the limits of docs/FORMATS.md. A case is worked out from the seed (1), its kind, its number, and the
-examples and rows as they are. Each kind has N cases (3,000), from --first (1) on; they take turns, and end after M minutes (10). Each run has at most 1 GiB of
-addresses and 60 seconds of the processor, and goes well if
+examples and rows as they are. Each kind has N cases (3,000), from --first (1) on; they take turns, and end after M minutes (10). Each run begins with nothing kept,
+has at most 1 GiB of addresses and 60 seconds of the processor, and goes well if
 
 - it ends by itself, with status 0, or with 2 where a line of its record is bad
 - it writes to standard error what belongs to this status, and nothing else
@@ -80,6 +80,7 @@ FORMS = {
     b"lost": rb"(?:load|unload|focus|blur|click|keydown|keyup|default|timer|%b)" % ITEM_EVENTS,
     b"launch": PATH,
     b"sound": PLUS,
+    b"kept": rb"nvram://~/(?:[0-9]|1[0-5]) (?:[1-9]|[1-5][0-9]|6[0-4])",
     b"show": PLUS,
     b"box": rb"%b %b %b %b" % (PLACE, PLUS, PLUS, PLUS),
     b"text": rb"%b %b %b %b" % (PLACE, PLUS, PLUS, BYTES),
@@ -180,7 +181,7 @@ class Trial:
         self.program = program
         self.asked = asked
         self.room = room
-        self.runs = BoundedRuns()
+        self.runs = BoundedRuns(room)
         self.ran = {kind: [] for kind in asked.kind}
         self.words = {kind: collections.Counter() for kind in asked.kind}
 
@@ -193,6 +194,7 @@ class Trial:
         stream, record, stdout, stderr = self.files(self.room)
         Path(stream).write_bytes(case.stream)
         Path(record).write_bytes(case.record)
+        Path(self.room, "nvram.bin").unlink(missing_ok=True)
         status, processor, memory = self.runs.run([self.program, "replay", *case.options, stream, record], stdout, stderr)
         written, error = Path(stdout).read_bytes(), Path(stderr).read_bytes()
         faults = list(faults_of(case, status, written, error))

@@ -249,6 +249,9 @@ SOURCES = [
     ("<bml><link href='x'>)</link><style src='y'>)</style><p>)</p></bml>", []),
     # a script has at most 64 levels
     (f"<bml><script>{65 * '{'}{65 * '}'}</script><script>{64 * '{'}{64 * '}'}</script></bml>", [1]),
+    # however deep it is, and whether or not it is closed; parentheses are no levels
+    (f"<bml><script>{100_000 * '{'}</script><script>{100_000 * '{'}{100_000 * '}'}</script></bml>", [1, 2]),
+    (f"<bml><script>{50_000 * '('}1{50_000 * ')'};</script><script>{50_000 * '('}1{49_999 * ')'};</script></bml>", [2]),
 ]
 
 

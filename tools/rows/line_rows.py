@@ -1,8 +1,9 @@
 """Lines of records and words of commands: which the program takes, and which it refuses.
 
 A row here is a line or a few words, so these stand in Python and not in a table. The lines come over a
-stream without a packet, and a command that is taken ends since there is no stream of its name. What has
-to come of each is from docs/FORMATS.md, "The record", and from the README's commands.
+stream without a packet, and a replay that is taken ends since there is no stream of its name. What has
+to come of each is from docs/FORMATS.md, "The record", and from the README's commands. What `gen` gives is
+in gen_rows.py.
 """
 
 from pathlib import Path
@@ -118,6 +119,7 @@ COMMANDS = [
     "replay|--data-pid|8190|s|r",
     "replay|--data-pid|0000000300|s|r",
     "replay|--data-pid|300|the stream|r-",
+    "replay|gen|1",
 ]
 NO_COMMANDS = [
     "replay|--service|0|s|r",
@@ -144,7 +146,26 @@ NO_COMMANDS = [
     "replay|-s|r",
     "replay|s|r|r",
     "Replay|s|r",
-    "gen|1|2",
+    "gen",
+    "gen|1",
+    "gen||1",
+    "gen|1|",
+    "gen|1|2|3",
+    "gen|x|1",
+    "gen|1|x",
+    "gen|-1|1",
+    "gen|0x1|1",
+    "gen|1|0",
+    "gen|1|101",
+    "gen|1|4294967297",
+    "gen|4294967296|1",
+    "gen|00000000001|1",
+    "gen|1|00000000001",
+    "Gen|1|1",
+    "1|gen|1",
+    "replay|gen|1|1",
+    "replay|gen|1|s|r",
+    "gen|--data-pid|300|s|r",
     "",
 ]
 

@@ -18,11 +18,15 @@ ALONE = re.compile(r"\$\{([^{}]*)\}")
 PIECE = re.compile(r"\$\{([^{}]*)\}|\\(x[0-9A-Fa-f]{2}|.?)|((?:[^\\$]|\$(?!\{))+)")
 ESCAPES = {"n": b"\n", "r": b"\r", "t": b"\t", "\\": b"\\"}
 # The fields that a row may do without.
-OPTIONAL = {"stderr": [], "status": ["0"]}
+OPTIONAL = {"stderr": [], "status": ["0"], "kept": [], "kept-after": ["${kept}"], "folder": []}
+AREA_SIZE = 1024  # bytes of the area that a run keeps
 
 
 class Run(NamedTuple):
-    """A run of the program, and what it has to write and to end with."""
+    """A run of the program, and what it has to write, to end with and to keep.
+
+    What is kept, before and after it, are the bytes of the file nvram.bin, or None where there is none.
+    """
 
     name: str
     arguments: list[str]
@@ -31,6 +35,10 @@ class Run(NamedTuple):
     stdout: bytes
     stderr: bytes
     status: int
+    kept: bytes | None = None
+    kept_after: bytes | None = None
+    folder: str = ""  # a folder beside the files, where it has a name
+    again: "Run | None" = None  # the next run in the same place
 
 
 class Row:
@@ -43,12 +51,15 @@ class Row:
         self.name = name
         self.own = own
         self.fields = ChainMap(own, *outer, OPTIONAL)
+        self.again = None  # the row of the next run in the same place
         self.used = set()
         self.open = []  # the fields that are being worked out, the outermost first
         self.packets = None  # those of the stream, once it is made
 
     def run(self):
-        """Returns the run that the row describes."""
+        """Returns the run that the row describes, with those that follow it in the same place."""
+        if self.again and self.again.own.keys() & {"kept", "folder"}:
+            raise Fault("what is there before a further run is what the one before it left")
         stream = RowStream(self)
         stream.describe(self.lines("stream").decode("ascii"))
         self.packets = stream.packets
@@ -60,11 +71,27 @@ class Row:
             self.lines("stdout"),
             self.lines("stderr"),
             make_stream.number(self.text("status").decode("ascii"), 8),
+            self.kept("kept"),
+            self.kept("kept-after"),
+            self.text("folder").decode("ascii"),
+            self.again and self.again.run(),
         )
         for name in self.own:
             if name not in self.used:
                 raise Fault(f"{name} is used by nothing")
         return run
+
+    def kept(self, name):
+        """Returns the bytes of nvram.bin that a field tells, or None where it is empty.
+
+        They are written as in descriptions of streams, and `..` behind them fills the area up.
+        """
+        words = make_stream.TOKEN.findall(self.text(name).decode("ascii"))
+        if not words:
+            return None
+        if words[-1] == "..":
+            return make_stream.bytes_of(words[:-1]).ljust(AREA_SIZE, b"\0")
+        return make_stream.bytes_of(words)
 
     def lines(self, name):
         """Returns the bytes of a field whose lines have their ends."""
@@ -176,6 +203,7 @@ class Table:
 
     def __init__(self):
         self.rows = []  # each with the number of its line
+        self.row = None  # the last run that was begun
         self.scopes = [{}]  # the fields of the table, of the group, and of the row
         self.group = None
         self.is_bare = False  # whether a row was begun, and no comment came behind it
@@ -201,21 +229,32 @@ class Table:
             raise Fault("a row's first line is followed by a comment that tells its rule")
 
     def begin(self, number, name, text):
-        """Begins a group, a row or a field."""
+        """Begins a group, a row, the next run of a row, or a field."""
         self.value = None
         if name == "group":
-            self.group, self.scopes = text, [self.scopes[0], {}]
+            self.group, self.scopes, self.row = text, [self.scopes[0], {}], None
         elif name == "row":
             self.scopes = [*self.scopes[: 1 if self.group is None else 2], {}]
             title = text if self.group is None else f"{self.group}: {text}"
             if not text or title in (row.name for _, row in self.rows):
                 raise Fault("a row has a name of its own")
-            self.rows.append((number, Row(title, *reversed(self.scopes))))
+            self.row = Row(title, *reversed(self.scopes))
+            self.rows.append((number, self.row))
             self.is_bare = True
+        elif name == "again":
+            self.begin_again(text)
         elif name in self.scopes[-1]:
             raise Fault(f"{name} stands twice")
         else:
             self.value = self.scopes[-1][name] = [text] if text else []
+
+    def begin_again(self, text):
+        """Begins the next run of a row: what it doesn't say is as in the run before it."""
+        if text or self.row is None:
+            raise Fault("`again:` stands alone, in a row")
+        self.scopes = [*self.scopes, {}]
+        self.row.again = Row(self.row.name, *reversed(self.scopes))
+        self.row = self.row.again
 
     def go_on(self, line):
         """Adds a line to the field that was begun last."""
@@ -228,10 +267,11 @@ class Table:
         """Ends the table, and takes the empty lines at the ends of fields away."""
         self.see_comment()
         for _, row in self.rows:
-            for fields in row.fields.maps:
-                for lines in fields.values():
+            while row:
+                for lines in (lines for fields in row.fields.maps for lines in fields.values()):
                     while lines and not lines[-1]:
                         lines.pop()
+                row = row.again
 
 
 def runs_of(path):

@@ -2,16 +2,17 @@
 """Runs the rows of tables against a built program: test_documents.py --program PROGRAM [TABLE ..]
 
 With no table named it runs all those of the folder tables/, whose README.md explains their format,
-the shuffled blocks of shuffled_blocks.py, and the rows of line_rows.py, document_rows.py,
-style_rows.py and node_rows.py. First it makes the streams of all rows. Then it runs
+the shuffled blocks of shuffled_blocks.py, and the rows of carousel_rows.py, line_rows.py,
+document_rows.py, style_rows.py, node_rows.py and gen_rows.py. First it makes the streams of all rows. Then it runs
 the program for each row, in a folder of its own and for at most 60 seconds, and compares standard
-output, standard error and status with what the row wants. It prints a line for each table, with
-what differs behind it, and a sum.
+output, standard error, status and what is kept with what the row wants. It prints a line for each
+table, with what differs behind it, and a sum.
 Status: 0 where all rows passed, 1 where one failed, 2 where nothing could be run.
 """
 
 import argparse
 import difflib
+import itertools
 import os
 import subprocess
 import sys
@@ -21,28 +22,34 @@ from pathlib import Path
 # (what makes streams is among the tools for users)
 sys.path.append(str(Path(__file__).resolve().parents[1] / "users"))
 
+import carousel_rows
 import document_rows
+import gen_rows
 import line_rows
 import node_rows
 import shuffled_blocks
 import style_rows
 from make_stream import Fault
-from tables import runs_of
+from tables import AREA_SIZE, runs_of
 
 TABLES = Path(__file__).resolve().parents[2] / "tables"
 LIMIT = 60  # seconds for each run
+KEPT = "nvram.bin"  # the file of what is kept
 
 
 def all_tables():
     """Returns what makes the runs of each table, by their names."""
     tables = {path.stem: lambda path=path: runs_of(path) for path in sorted(TABLES.glob("*.txt"))}
     made = {
+        "carousel-messages": carousel_rows.messages,
+        "carousel-blocks": carousel_rows.all_blocks,
         "shuffled-blocks": shuffled_blocks.runs,
         "record-lines": line_rows.record_lines,
         "command-words": line_rows.command_words,
         "document-texts": document_rows.runs,
         "style-texts": style_rows.runs,
         "nodes-and-focus": node_rows.runs,
+        "generated-streams": gen_rows.runs,
     }
     return {**tables, **made}
 
@@ -59,22 +66,60 @@ def differences(name, wanted, written):
     return list(difflib.unified_diff(shown(wanted), shown(written), f"wanted {name}", name, lineterm=""))
 
 
-def check(program, run):
-    """Runs the program, and returns the lines that tell what is wrong."""
-    with tempfile.TemporaryDirectory(prefix="row-") as room:
-        for name, data in (("stream.ts", run.stream), ("record.txt", run.record)):
-            with open(os.path.join(room, name), "wb") as file:
-                file.write(data)
-        command = [program, *run.arguments]
-        try:
-            ran = subprocess.run(command, cwd=room, stdin=subprocess.DEVNULL, capture_output=True, timeout=LIMIT, check=False)
-        except subprocess.TimeoutExpired:
-            return [f"it takes more than {LIMIT} seconds"]
-        except OSError as fault:
-            return [f"it can't be run: {fault}"]
+def written_kept(kept):
+    """Returns what is kept, as tables may write it."""
+    if kept is None:
+        return "no file"
+    front = kept.rstrip(b"\0") if len(kept) == AREA_SIZE else kept
+    runs = [(byte, len(list(run))) for byte, run in itertools.groupby(front)]
+    words = [f"{byte:02x}" if times == 1 else f"{byte:02x}*{times}" for byte, times in runs]
+    return " ".join([*words, ".."] if len(front) < len(kept) else words or ['""'])
+
+
+def kept_in(room):
+    """Returns the bytes that are kept in a folder, or None where there is no file of them."""
+    path = Path(room, KEPT)
+    return path.read_bytes() if path.is_file() else None
+
+
+def differing_files(room, run):
+    """Returns how what the program left in its folder differs from what the run wants."""
+    wanted, left = written_kept(run.kept_after), written_kept(kept_in(room))
+    others = set(os.listdir(room)) - {"stream.ts", "record.txt", KEPT, run.folder}
+    told = [f"the file {name} was left" for name in sorted(others)]
+    return told if left == wanted else [f"kept is {left}", f"and wanted {wanted}", *told]
+
+
+def check_run(program, run, room):
+    """Runs the program in a folder, and returns the lines that tell what is wrong."""
+    Path(room, "stream.ts").write_bytes(run.stream)
+    Path(room, "record.txt").write_bytes(run.record)
+    command = [program, *run.arguments]
+    try:
+        ran = subprocess.run(command, cwd=room, stdin=subprocess.DEVNULL, capture_output=True, timeout=LIMIT, check=False)
+    except subprocess.TimeoutExpired:
+        return [f"it takes more than {LIMIT} seconds"]
+    except OSError as fault:
+        return [f"it can't be run: {fault}"]
     told = differences("stdout", run.stdout, ran.stdout) + differences("stderr", run.stderr, ran.stderr)
     if ran.returncode != run.status:
         told.append(f"the status is {ran.returncode}, and {run.status} is wanted")
+    return told + differing_files(room, run)
+
+
+def check(program, run):
+    """Runs a row, with the runs that follow in the same place up to the first bad one, and returns the lines that tell what is wrong."""
+    told, number = [], 1
+    with tempfile.TemporaryDirectory(prefix="row-") as room:
+        if run.kept is not None:
+            Path(room, KEPT).write_bytes(run.kept)
+        if run.folder:
+            Path(room, run.folder).mkdir()
+        while run and not told:
+            told = check_run(program, run, room)
+            if told and number > 1:
+                told.insert(0, f"in run {number}:")
+            run, number = run.again, number + 1
     return told
 
 

@@ -5,8 +5,8 @@
 
 prints the address of the page, which a browser of this machine opens, and serves it until it is interrupted. The session begins
 with RECORD, or else with a record that takes all packets. Each press of a key adds its lines to the record, `key` and `release` and `show`, and each
-step of time a `tick`; then PROGRAM (build/bml_replay) replays STREAM from its start. So what is shown is what the program printed for that
-record. The page saves the record, which shows the same tomorrow, and takes the last press back. A replay that fails or takes over ten seconds is
+step of time a `tick`; then PROGRAM (build/bml_replay) replays STREAM from its start, in an empty folder, so that no replay finds what another one
+kept. So what is shown is what the program printed for that record. The page saves the record, which shows the same tomorrow, and takes the last press back. A replay that fails or takes over ten seconds is
 told there; its press stays in the record until it is taken back.
 
 Only the page drives the session. The server listens on the loopback address alone, its address has a word drawn at random, a request with the
@@ -95,15 +95,13 @@ def time_step(milliseconds):
 
 
 def replayed(command, record):
-    """Returns the lines that the program prints for a record."""
-    with tempfile.NamedTemporaryFile(prefix="record-", suffix=".txt") as file:
-        file.write(record)
-        file.flush()
+    """Returns the lines that the program prints for a record, in a folder where nothing is kept."""
+    with tempfile.TemporaryDirectory(prefix="replay-") as room:
+        Path(room, "record.txt").write_bytes(record)
+        files = {"stdin": subprocess.DEVNULL, "stdout": subprocess.PIPE, "stderr": subprocess.PIPE, "cwd": room}
         try:
             # (a session of its own, so that whatever it starts ends with it)
-            started = subprocess.Popen(
-                [*command, file.name], stdin=subprocess.DEVNULL, stdout=subprocess.PIPE, stderr=subprocess.PIPE, start_new_session=True
-            )
+            started = subprocess.Popen([*command, "record.txt"], start_new_session=True, **files)
         except OSError as fault:
             raise Failed(f"The program can't be run: {fault}") from fault
         try:

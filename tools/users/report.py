@@ -39,7 +39,7 @@ WARNINGS = {
     b"skip": "a module was skipped",
 }
 # The kinds of lines, as the filter offers them.
-KINDS = ["module", "gone", "skip", "load", "refuse", "badscript", "stop", "lost", "launch", "sound", "show", "box", "text", "picture", "focus", "end"]
+KINDS = ["module", "gone", "skip", "load", "refuse", "badscript", "stop", "lost", "launch", "sound", "kept", "show", "box", "text", "picture", "focus", "end"]
 KEYS = {1: "up", 2: "down", 3: "left", 4: "right", 18: "enter", 19: "back", 20: "data", 21: "blue", 22: "red", 23: "green", 24: "yellow"}
 KEYS |= {5 + digit: str(digit) for digit in range(10)}
 

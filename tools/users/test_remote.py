@@ -52,6 +52,11 @@ for line in open(sys.argv[-1]):
         print("show x")
 print("end 5")
 """
+# What a program begins with that keeps a file where it runs, and tells how long it is.
+KEEPING = """import sys, time
+with open("nvram.bin", "ab") as kept:
+    kept.write(b"x")
+    print(f"kept nvram://~/0 {kept.tell()}")"""
 
 
 class Served(unittest.TestCase):
@@ -220,6 +225,14 @@ class Answers(Served):
         self.assertIn("The program can't be run", state["fault"])
         self.assertEqual((state["drawing"], state["lines"], state["told"]), ("", [], "Presses: 0"))
         self.assertEqual(self.ask("/record.txt")[2], remote.FIRST_RECORD)
+
+    def test_no_replay_finds_what_another_one_kept(self):
+        Path(self.program).write_text(SCRIPT.replace("import sys, time", KEEPING), encoding="utf-8")
+        self.serve()
+        first = self.state()
+        self.assertEqual((first["fault"], first["lines"][0]), ("", ["kept", "kept nvram://~/0 1"]))
+        pressed = self.state("/press", {"key": 2})
+        self.assertEqual((pressed["fault"], pressed["lines"][0]), ("", ["stop", "stop Budget keydown"]))
 
     def test_lines_that_changed_are_told(self):
         self.serve()
