@@ -16,11 +16,11 @@ const NAME: &str = "nvram.bin";
 /// The name under which a new area is written, before it becomes the kept one.
 const NEW_NAME: &str = "nvram.bin.new";
 
-/// Keeps the area in the file `nvram.bin` of the current folder. A missing file is loaded as an area of
-/// length 0. A store writes the whole area to `nvram.bin.new`, has the system put it on the disk, and
-/// then gives it the other name. So a stop in the middle leaves the old area or the new one, where
-/// renaming a file is one step, as POSIX asks of a system that goes on. What a disk keeps of the
-/// renaming when the power fails is the file system's to say.
+/// Keeps the area in the file `nvram.bin` of the current folder. A missing file is loaded as an
+/// area of length 0. A store writes the whole area to `nvram.bin.new`, has the system put it on the
+/// disk, and then gives it the other name. So a stop in the middle leaves the old area or the new
+/// one, where renaming a file is one step, as POSIX asks of a system that goes on. What a disk
+/// keeps of the renaming when the power fails is the file system's to say.
 #[derive(Drop)]
 pub struct AreaFile {
     rt: HostRuntime,

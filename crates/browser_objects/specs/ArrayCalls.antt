@@ -1,6 +1,6 @@
--- How scripts read and write persistent arrays (after readPersistentArray and writePersistentArray of BML, ARIB
--- STD-B24 volume 2, in this project's own profile): how a value becomes that of a field, and how the values of fields
--- become a new array.
+-- How scripts read and write persistent arrays (after readPersistentArray and writePersistentArray
+-- of BML, ARIB STD-B24 volume 2, in this project's own profile): how a value becomes that of a
+-- field, and how the values of fields become a new array.
 use Rattle.std.specs.Prelude.{ℕ, nat_lt, if◌then◌else◌, List, [], ◌∷◌, ◌++◌, length, map, Option, Some, None, option_and_then, option_map}
 use Rattle.std.specs.List.{range_with_len}
 use Rattle.bml_bytes.specs.Numerals.{decimal_digits}
@@ -36,12 +36,13 @@ abbrev pub field_of_number : Num → Option Field
 field_of_number NotANumber = None
 field_of_number (Whole number) = Some (fields.Whole number)
 
--- A text is one of a field where it has fewer than 256 codes. A longer one fits no field: a field holds 255 bytes at
--- most, and each code has one byte at least.
+-- A text is one of a field where it has fewer than 256 codes. A longer one fits no field: a field
+-- holds 255 bytes at most, and each code has one byte at least.
 abbrev pub field_of_text : List ℕ → Option Field
 field_of_text text = if nat_lt (length text) 256 then Some (fields.Words text) else None
 
--- A value as that of a field: it is converted to a truth, a number or a text, by the kind of the field.
+-- A value as that of a field: it is converted to a truth, a number or a text, by the kind of the
+-- field.
 abbrev pub field_of : List ObjectState → FieldKind → Value → Option Field
 field_of heap Bit value = Some (fields.Bit (truth_of value))
 field_of heap (Unsigned size) value = field_of_number (number_of heap value)
@@ -49,7 +50,8 @@ field_of heap (Signed size) value = field_of_number (number_of heap value)
 field_of heap (Fixed size) value = field_of_text (text_of heap value)
 field_of heap Varying value = field_of_text (text_of heap value)
 
--- values as those of fields, one for each; none where one can't be, or there are more of one than of the other
+-- values as those of fields, one for each; none where one can't be, or there are more of one than
+-- of the other
 abbrev pub fields_of : List ObjectState → List FieldKind → List Value → Option (List Field)
 fields_of heap [] [] = Some []
 fields_of heap (kind ∷ kinds) (value ∷ values) =

@@ -1,6 +1,6 @@
--- What scripts call on the browser object (after ARIB STD-B24 volume 2, in this project's own profile): for each
--- call its value, what the page has to do beside, and what becomes of timers, random words, the persistent area and the
--- objects of scripts.
+-- What scripts call on the browser object (after ARIB STD-B24 volume 2, in this project's own
+-- profile): for each call its value, what the page has to do beside, and what becomes of timers,
+-- random words, the persistent area and the objects of scripts.
 use Rattle.std.specs.Prelude.{◌≡◌, ℕ, ◌+◌, ◌%◌, nat_le, ◌&&◌, if◌then◌else◌, pos, negsuc, ℤ, List, [], ◌∷◌, find, length, take, drop, Option, Some, None, unwrap_or, is_some, codes, option_and_then, slice_get}
 use Rattle.std.specs.Option.{option_map_or}
 use Rattle.bml_bytes.specs.Numerals.{decimal_field}
@@ -216,8 +216,8 @@ play_sound arguments heap s =
 abbrev pub over : List ObjectState → Called → CallOutcome
 over heap called = record { called = called; heap = heap }
 
--- What is done with the array and the fields that the first two arguments name. Where one of them names none, the
--- form is wrong.
+-- What is done with the array and the fields that the first two arguments name. Where one of them
+-- names none, the form is wrong.
 abbrev pub with_named : (ℕ → List FieldKind → CallOutcome) → Option ℕ → Option (List FieldKind)
     → CallOutcome → CallOutcome
 with_named call (Some slot) (Some kinds) wrong = call slot kinds
@@ -241,7 +241,8 @@ read_array arguments heap s =
     with_names (λ slot kinds. array_read (unpacked kinds (array_in s.area slot)) heap s) arguments
     heap s
 
--- The number of the bytes that are written, which the page tells; where none can be, the form is wrong.
+-- The number of the bytes that are written, which the page tells; where none can be, the form is
+-- wrong.
 abbrev pub array_written : ℕ → Option (List ℕ) → BrowserParts → Called
 array_written slot None s = refused s
 array_written slot (Some bytes) s = record {

@@ -10,7 +10,11 @@ ghost use Rattle.persistent_arrays.specs.Reading.{unpacked};
 ghost use Rattle.persistent_arrays.specs.Structures.{structure_spelled};
 ghost use Rattle.persistent_arrays.specs.declared.kinds.FieldKind.{FieldKind as Kind};
 ghost use Rattle.browser_objects.specs.ArrayCalls.{values_of_array};
-ghost use Rattle.browser_objects.specs.Calls.{Answers, BrowserParts, CallOutcome, argument, array_read, array_written, over, packed_values, read_array, refused, text_argument as spec_text_argument, with_names, write_array};
+ghost use Rattle.browser_objects.specs.Calls.{Answers, BrowserParts, CallOutcome, argument};
+ghost use Rattle.browser_objects.specs.Calls.{array_read, array_written, over, packed_values};
+ghost use Rattle.browser_objects.specs.Calls.{read_array, refused};
+ghost use Rattle.browser_objects.specs.Calls.{text_argument as spec_text_argument, with_names};
+ghost use Rattle.browser_objects.specs.Calls.{write_array};
 
 use crate::arguments::text_argument;
 use crate::array_fields::{fields_argument, values_of};
@@ -21,8 +25,8 @@ use es_values::{Heap, Value};
 use persistent_arrays::{Field, Structure, pack, slot_of, unpack};
 use std::alloc::Global;
 
-/// `readPersistentArray(name, structure)`: a new array of the values of the fields, and Null where one of them
-/// passes the end of the persistent array.
+/// `readPersistentArray(name, structure)`: a new array of the values of the fields, and Null where
+/// one of them passes the end of the persistent array.
 pub fn read_persistent_array(
     alloc: Global,
     state: &BrowserState,
@@ -66,7 +70,8 @@ fn read_fields(
     }
 }
 
-/// `writePersistentArray(name, structure, array)`: the number of the bytes written, which the page tells.
+/// `writePersistentArray(name, structure, array)`: the number of the bytes written, which the page
+/// tells.
 pub fn write_persistent_array(
     alloc: Global,
     state: &mut BrowserState,

@@ -1,11 +1,16 @@
 //! Values of scripts as those of fields of persistent arrays, and back.
 
-ghost use Rattle.std.specs.Prelude.{◌≡◌, ◌<◌, ◌^◌, true, All, IfOk, IfSome, MatchOption, Some, None, length, map, option_and_then, option_map};
+ghost use Rattle.std.specs.Prelude.{◌≡◌, ◌<◌, ◌^◌, true, All, IfOk, IfSome, MatchOption, Some};
+ghost use Rattle.std.specs.Prelude.{None, length, map, option_and_then, option_map};
 ghost use Rattle.bml_bytes.specs.Numerals.{decimal_digits};
 ghost use Rattle.es_values.specs.Conversions.{number_of, text_of};
 ghost use Rattle.es_values.specs.Heaps.{IsLive, object_at, value_in};
 ghost use Rattle.es_values.specs.declared.numbers.Num.TheVariants.{NotANumber};
-ghost use Rattle.browser_objects.specs.ArrayCalls.{field_of as spec_field_of, field_of_number as spec_field_of_number, field_of_text as spec_field_of_text, fields_of as spec_fields_of, value_of_field, values_at_places, values_of_array};
+ghost use Rattle.browser_objects.specs.ArrayCalls.{field_of as spec_field_of};
+ghost use Rattle.browser_objects.specs.ArrayCalls.{field_of_number as spec_field_of_number};
+ghost use Rattle.browser_objects.specs.ArrayCalls.{field_of_text as spec_field_of_text};
+ghost use Rattle.browser_objects.specs.ArrayCalls.{fields_of as spec_fields_of, value_of_field};
+ghost use Rattle.browser_objects.specs.ArrayCalls.{values_at_places, values_of_array};
 ghost use Rattle.browser_objects.specs.Calls.{argument};
 
 use bml_bytes::{NoMemory, Text};
@@ -16,8 +21,8 @@ use std::alloc::Global;
 // The most codes that the text of a field has.
 const MOST_CODES: usize = 255;
 
-// An array that takes more steps has a text of more than MOST_CODES codes: a step is for sixteen elements and codes, and
-// a comma stands between each two elements.
+// An array that takes more steps has a text of more than MOST_CODES codes: a step is for sixteen
+// elements and codes, and a comma stands between each two elements.
 const MOST_STEPS: u32 = 32;
 
 /// The values of fields as those of scripts.
@@ -41,8 +46,8 @@ fn value_of(field: Field) -> Value
     }
 }
 
-/// The values of the array that the third argument is, one for each field. None where it is no array, has more
-/// values or fewer, or one that is of no field.
+/// The values of the array that the third argument is, one for each field. None where it is no
+/// array, has more values or fewer, or one that is of no field.
 pub fn fields_argument(
     alloc: Global,
     kinds: &[FieldKind],
@@ -155,7 +160,8 @@ fn number_field(value: &Value, heap: &Heap) -> Result<Option<Field>, NoMemory>
     Ok(field_of_number(number))
 }
 
-// Whether a value is an array of two elements or more: its text has a comma in it, which no number has.
+// Whether a value is an array of two elements or more: its text has a comma in it, which no number
+// has.
 fn has_comma(value: &Value, heap: &Heap) -> bool
     requires { IsLive heap.now value.now }
     ensures { result ≡ true → number_of heap.now value.now ≡ NotANumber }
@@ -190,8 +196,8 @@ fn text_field(value: &Value, heap: &Heap) -> Result<Option<Field>, NoMemory>
     Ok(field_of_text(text))
 }
 
-// Whether a value is an array whose text is far too long for a field. The text of every other array has 512 codes at
-// most.
+// Whether a value is an array whose text is far too long for a field. The text of every other array
+// has 512 codes at most.
 fn is_long(value: &Value, heap: &Heap) -> bool
     requires { IsLive heap.now value.now }
     ensures { result ≡ true → spec_field_of_text (text_of heap.now value.now) ≡ None }

@@ -33,8 +33,8 @@ pub fn law_of_register_names()
     law_of_indices();
 }
 
-/// As hosts of scripts promise: what a call gives is no function, and an object that it gives is one of
-/// those behind the call. No object goes, and no function comes into one.
+/// As hosts of scripts promise: what a call gives is no function, and an object that it gives is
+/// one of those behind the call. No object goes, and no function comes into one.
 pub fn law_of_call_outcomes()
     ensures answer { (name : List ℕ) (base : Path) (now : ℕ) (arguments : List Value)
         (heap : List ObjectState) (s : BrowserParts)
@@ -47,8 +47,8 @@ pub fn law_of_call_outcomes()
     law_of_array_functions();
 }
 
-/// A call makes one object at most: a new array of truths, numbers and texts, which stands behind all
-/// others. All objects that there were stay as they are.
+/// A call makes one object at most: a new array of truths, numbers and texts, which stands behind
+/// all others. All objects that there were stay as they are.
 pub fn law_of_new_objects()
     ensures { (name : List ℕ) (base : Path) (now : ℕ) (arguments : List Value)
         (heap : List ObjectState) (s : BrowserParts)

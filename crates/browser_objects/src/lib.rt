@@ -1,12 +1,12 @@
 //! The browser object as scripts call it, and its registers (after ARIB STD-B24 volume 2, in this
 //! project's own profile).
 //!
-//! `specs/Calls.antt` is the table of the calls: what each gives, what the page has to do beside, and
-//! what it leaves of timers, random words, the persistent area and the objects of scripts.
-//! [`call_browser`] does just that. An [`Effect`] is handed to the page, which alone knows documents,
-//! modules and sounds. `specs/Registers.antt` has the texts
-//! of Ureg and Greg, and `specs/Functions.antt` how a text names the function of a timer.
-//! `specs/ArrayCalls.antt` says how values of scripts become those of persistent arrays, and back.
+//! `specs/Calls.antt` is the table of the calls: what each gives, what the page has to do beside,
+//! and what it leaves of timers, random words, the persistent area and the objects of scripts.
+//! [`call_browser`] does just that. An [`Effect`] is handed to the page, which alone knows
+//! documents, modules and sounds. `specs/Registers.antt` has the texts of Ureg and Greg, and
+//! `specs/Functions.antt` how a text names the function of a timer. `specs/ArrayCalls.antt` says
+//! how values of scripts become those of persistent arrays, and back.
 #![tactic(auto)]
 
 mod arguments;

@@ -85,8 +85,8 @@ impl ScriptHost {
         self.do_effect(effect, value, heap)
     }
 
-    // Does what is left to do for a call that would give this value: a line is printed, a document is
-    // launched, or a module is locked or unlocked.
+    // Does what is left to do for a call that would give this value: a line is printed, a document
+    // is launched, or a module is locked or unlocked.
     fn do_effect(
         &mut self,
         effect: Effect,

@@ -1,7 +1,8 @@
 //! What the definitions of this crate say together. A law's contract is what it is for, and it does nothing when it
 //! runs.
 
-ghost use Rattle.std.specs.Prelude.{◌≡◌, ◌≢◌, ◌↔◌, ◌<◌, ◌≤◌, ◌-◌, ◌*◌, ◌^◌, ◌++◌, ◌-ℤ◌, ℕ, ℤ, pos, Bool, false, List, Some, length, replicate};
+ghost use Rattle.std.specs.Prelude.{◌≡◌, ◌≢◌, ◌↔◌, ◌<◌, ◌≤◌, ◌-◌, ◌*◌, ◌^◌, ◌++◌, ◌-ℤ◌, ℕ, ℤ, pos};
+ghost use Rattle.std.specs.Prelude.{Bool, false, List, Some, length, replicate};
 ghost use Rattle.bml_bytes.specs.Codes.{bytes_of, codes};
 ghost use Rattle.persistent_arrays.specs.declared.fields.Field.{Field};
 ghost use Rattle.persistent_arrays.specs.declared.fields.Field.TheVariants.{Whole, Words};
@@ -46,8 +47,8 @@ pub fn law_of_kept_fields()
     law_of_big_numbers();
 }
 
-/// A number that its field has room for is kept as it is, and so is a text of varying size that its own bytes are read
-/// as.
+/// A number that its field has room for is kept as it is, and so is a text of varying size that its
+/// own bytes are read as.
 pub fn law_of_kept_values()
     ensures unsigned { (size number : ℕ) → IsKind (Unsigned size) →
         number < 256 ^ size → number < 2 ^ 31 →

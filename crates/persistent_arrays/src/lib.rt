@@ -1,9 +1,9 @@
 //! Persistent arrays: which fields an array has, and what the arrays are called.
 //!
-//! A [`Structure`] is the list of fields that a text spells, and [`slot_of`] gives the number of the array that a text
-//! names. [`pack`] writes values into an array of the area, and [`unpack`] reads them. Each says None exactly where
-//! there is nothing of the kind, or the values don't fit. What the definitions say together stands in the `law_of_..`
-//! functions.
+//! A [`Structure`] is the list of fields that a text spells, and [`slot_of`] gives the number of
+//! the array that a text names. [`pack`] writes values into an array of the area, and [`unpack`]
+//! reads them. Each says None exactly where there is nothing of the kind, or the values don't fit.
+//! What the definitions say together stands in the `law_of_..` functions.
 #![tactic(auto)]
 
 mod arrays;

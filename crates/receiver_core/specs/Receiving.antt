@@ -142,8 +142,8 @@ piece_for (handed.Random word) text area = []
 piece_for handed.Show text area = record { text = text; area = area } ∷ []
 
 -- An input gave its piece, whose text is printed: that of the state that the turns so far left.
--- Where no turn was still to come, the receiver took the input, and gave this piece for it. An input
--- without a piece leaves the area.
+-- Where no turn was still to come, the receiver took the input, and gave this piece for it. An
+-- input without a piece leaves the area.
 pub record Answers (input : HandedIn) (old new : ReceiverState) (before after : List ℕ)
     : Type 0 where
   pub text : List ℕ
@@ -159,8 +159,8 @@ pub record Answers (input : HandedIn) (old new : ReceiverState) (before after : 
 -- ---- time
 
 -- where time stops that passes for so many milliseconds: at the first moment when a timer is due,
--- and at its end if none is. No timer is overdue (`law_of_time` of the laws of pages); one that were
--- would be due a millisecond later.
+-- and at its end if none is. No timer is overdue (`law_of_time` of the laws of pages); one that
+-- were would be due a millisecond later.
 abbrev pub next_stop : ℕ → State → ℕ
 next_stop left s =
     option_map_or (λ due. min (max due (s.page.clock + 1)) (s.page.clock + left)) (due_next s.page)

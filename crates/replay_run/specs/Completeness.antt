@@ -15,8 +15,8 @@ use Rattle.replay_run.specs.Words.Command.{Generate, Replay}
 abbrev pub IsFaultless : Counter → Counter → Type 0
 IsFaultless before behind = ¬ (Rose before.faults behind.faults)
 
--- nothing stands in the way of a replay: the files are no longer than they may be, the record has no
--- bad line, the kept bytes are an area's, and no count of faults rises
+-- nothing stands in the way of a replay: the files are no longer than they may be, the record has
+-- no bad line, the kept bytes are an area's, and no count of faults rises
 pub record IsUnhindered (stream notes kept : List ℕ) (before behind : Outside) : Type 0 where
   pub stream_short : length stream ≤ stream_limit
   pub notes_short : length notes ≤ record_limit

@@ -1,5 +1,5 @@
--- How a replay may end: for each status, what was taken of the two files, what was written, and what is kept. This
--- project's own.
+-- How a replay may end: for each status, what was taken of the two files, what was written, and
+-- what is kept. This project's own.
 use Rattle.std.specs.Prelude.{◌≡◌, ◌≢◌, ◌⊎◌, ℕ, List, [], ◌∷◌, ◌++◌}
 use Rattle.bml_ports.specs.Counters.{counted}
 use Rattle.receiver_core.specs.Fronts.{IsFront}
@@ -56,7 +56,8 @@ pub record WritesWhole (meaning : Meaning) (run : Account) : Type 0 where
   pub written : WritesIn run (bytes_of whole)
   pub kept : KeepsFor meaning run whole
 
--- Writing a piece failed: behind whole pieces a proper front of its text was written. Its area is kept.
+-- Writing a piece failed: behind whole pieces a proper front of its text was written. Its area is
+-- kept.
 pub record BreaksOff (meaning : Meaning) (run : Account) : Type 0 where
   pub whole : List Piece
   pub piece : Piece
@@ -68,8 +69,8 @@ pub record BreaksOff (meaning : Meaning) (run : Account) : Type 0 where
   pub written : WritesIn run (bytes_of whole ++ part)
   pub kept : KeepsFor meaning run (whole ++ piece ∷ [])
 
--- Storing the area behind a piece failed, which differs from the one before it: the pieces before this one were written.
--- What is kept is the area before it, or its own.
+-- Storing the area behind a piece failed, which differs from the one before it: the pieces before
+-- this one were written. What is kept is the area before it, or its own.
 pub record FailsToStore (meaning : Meaning) (run : Account) : Type 0 where
   pub whole : List Piece
   pub piece : Piece
@@ -78,14 +79,16 @@ pub record FailsToStore (meaning : Meaning) (run : Account) : Type 0 where
   pub written : WritesIn run (bytes_of whole)
   pub kept : HasKept run.before.keeper run.behind.keeper (stores meaning.area whole)
       ⊎ HasKept run.before.keeper run.behind.keeper (stores meaning.area (whole ++ piece ∷ []))
-  pub calls : CallsFor run.before.keeper run.behind.keeper (stores meaning.area (whole ++ piece ∷ []))
+  pub calls : CallsFor run.before.keeper run.behind.keeper
+      (stores meaning.area (whole ++ piece ∷ []))
 
 -- a replay begins: the kept bytes are an area's
 abbrev pub Begins : Meaning → Type 0
 Begins meaning = (size : ℕ) → meaning.status ≢ BadArea size
 
--- Done and BadRecord are statuses of a meaning, of which all is written. At each other status that comes once a replay
--- began a front of the pieces was written, of whole pieces but for WriteFault. No other writes anything.
+-- Done and BadRecord are statuses of a meaning, of which all is written. At each other status that
+-- comes once a replay began a front of the pieces was written, of whole pieces but for WriteFault.
+-- No other writes anything.
 abbrev pub EndsAs : Meaning → Account → Status → Type 0
 EndsAs meaning run Done = Finishes meaning run Done
 EndsAs meaning run (BadRecord line) = Finishes meaning run (BadRecord line)

@@ -1,4 +1,5 @@
--- What a run writes of generated files: what their stream comes to when it is replayed. This project's own.
+-- What a run writes of generated files: what their stream comes to when it is replayed. This
+-- project's own.
 use Rattle.std.specs.Prelude.{◌≡◌, ◌≢◌, ◌==◌, ℕ, List, [], ◌++◌, codes, count_by, length, sum_by}
 use Rattle.bml_bytes.specs.Numerals.{decimal_digits}
 use Rattle.carousel_writer.specs.declared.files.Files.{Files}
@@ -20,7 +21,8 @@ number_line name number = name ++ codes " " ++ decimal_digits number ++ codes "\
 
 -- ---- what files come to
 
--- the record with which a stream of files is replayed: all of its packets, and then what is displayed
+-- the record with which a stream of files is replayed: all of its packets, and then what is
+-- displayed
 abbrev pub whole_record : List ℕ
 whole_record = codes "all\nshow\n"
 
@@ -55,7 +57,8 @@ pub record WritesGenerated (read : Reader) (seed count : ℕ) (before behind : O
   pub written : Writes before behind (generated_text read seed count files)
 
 -- a proper front of it was written
-pub record BreaksOffGenerated (read : Reader) (seed count : ℕ) (before behind : Outside) : Type 0 where
+pub record BreaksOffGenerated (read : Reader) (seed count : ℕ) (before behind : Outside) :
+    Type 0 where
   pub files : Files
   pub generated : IsGenerated files seed count
   pub part : List ℕ

@@ -1,4 +1,5 @@
--- What a run keeps: the area at its start, and the areas behind its pieces that it stores. This project's own.
+-- What a run keeps: the area at its start, and the areas behind its pieces that it stores. This
+-- project's own.
 use Rattle.std.specs.Prelude.{◌≡◌, ◌≤◌, ◌+◌, ◌==◌, ◌||◌, ℕ, Bool, if◌then◌else◌, List, [], ◌∷◌}
 use Rattle.std.specs.Prelude.{◌++◌, length, Some}
 use Rattle.bml_bytes.specs.Words.{is_same}
@@ -19,7 +20,8 @@ area_of_kept kept = filled area_length kept
 
 -- ---- what is stored
 
--- the areas that are stored for pieces, one behind the other: each that differs from the area before it
+-- the areas that are stored for pieces, one behind the other: each that differs from the area
+-- before it
 abbrev pub stores : List ℕ → List Piece → List (List ℕ)
 stores area [] = []
 stores area (piece ∷ pieces) =

@@ -51,7 +51,7 @@ abbrev pub status_behind : Option ℕ → Status
 status_behind None = Done
 status_behind (Some line) = BadRecord line
 
--- the meaning of a replay of the service or data that is asked for, from the area that kept bytes are
+-- the meaning of a replay of the service or data that is asked for, from this area
 abbrev pub area_meaning : Reader → Selection → List ℕ → List ℕ → List ℕ → Meaning
 area_meaning read selection area stream notes = record {
   area = area;
@@ -66,5 +66,6 @@ no_replay kept = record { area = area_of_kept kept; pieces = []; status = BadAre
 -- the meaning of a replay, with the bytes that are kept at its start
 abbrev pub replay_meaning : Reader → Selection → List ℕ → List ℕ → List ℕ → Meaning
 replay_meaning read selection kept stream notes =
-    if is_area_length (length kept) then area_meaning read selection (area_of_kept kept) stream notes
+    if is_area_length (length kept)
+    then area_meaning read selection (area_of_kept kept) stream notes
     else no_replay kept

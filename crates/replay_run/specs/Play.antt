@@ -5,7 +5,8 @@ use Rattle.receiver_core.specs.Outputs.Input.{Packet, Tick as Passing}
 use Rattle.replay_run.specs.declared.record.RecordItem.{RecordItem}
 use Rattle.replay_run.specs.declared.record.RecordItem.TheVariants.{All, Packets, Tick, Input as Other}
 
--- what an item hands over where these packets are left: the packets that it takes, time that passes, or one other input
+-- what an item hands over where these packets are left: the packets that it takes, time that
+-- passes, or one other input
 abbrev pub inputs_of_item : RecordItem → List (List ℕ) → List Input
 inputs_of_item All packets = map Packet packets
 inputs_of_item (Packets count) packets = map Packet (take count packets)

@@ -61,8 +61,8 @@ pub record LosesPiece (kept : List ℕ) (piece : Piece) (old new : Outlets) : Ty
   pub fails : FailsToKeep old.keeper new.keeper kept piece.area
   pub writes : new.sink.written ≡ old.sink.written
 
--- Since what was told before a replay with this area, these pieces were put out, and this area is the
--- one that was loaded or stored last.
+-- Since what was told before a replay with this area, these pieces were put out, and this area is
+-- the one that was loaded or stored last.
 pub record HasPut (area : List ℕ) (before : Outside) (kept : List ℕ) (now : Outlets)
     (given : List Piece) : Type 0 where
   pub wrote : Appends before.sink.written now.sink.written (bytes_of given)

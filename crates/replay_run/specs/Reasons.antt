@@ -1,4 +1,5 @@
--- What a status says of the two files and of the kept bytes. It hangs on no reader of programs. This project's own.
+-- What a status says of the two files and of the kept bytes. It hangs on no reader of programs.
+-- This project's own.
 use Rattle.std.specs.Prelude.{◌≡◌, ℕ, true, List, Option, Some, None, length}
 use Rattle.replay_run.specs.declared.status.Status.{Status}
 use Rattle.replay_run.specs.declared.status.Status.TheVariants.{Done, Usage, BadRecord, OpenFault}
@@ -16,8 +17,9 @@ use Rattle.replay_run.specs.Words.Command.{Generate, Replay}
 abbrev pub AreAnArea : List ℕ → Type 0
 AreAnArea kept = is_area_length (length kept) ≡ true
 
--- That line is the first bad one of the record, a file gave more bytes than a run takes, or that is the number of kept
--- bytes. Where a run came to its end or read and wrote in vain, the kept bytes are an area's.
+-- That line is the first bad one of the record, a file gave more bytes than a run takes, or that is
+-- the number of kept bytes. Where a run came to its end or read and wrote in vain, the kept bytes
+-- are an area's.
 abbrev pub HasReason : Account → List ℕ → Status → Type 0
 HasReason run kept (BadRecord line) = (first_bad run.notes.bytes ≡ Some line) × AreAnArea kept
 HasReason run kept TooLong = IsBeyond run × AreAnArea kept

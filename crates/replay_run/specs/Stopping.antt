@@ -23,8 +23,8 @@ pub record OnlyReads (port : Port) (old new : WorldState) : Type 0 where
   pub other : port_of new (other_port port) ≡ port_of old (other_port port)
   pub on : IsReadOn (port_of old port) (port_of new port)
 
--- Reading the stream stops for these causes: `reads` counts the reads, and `bytes` are those that the
--- stream gave.
+-- Reading the stream stops for these causes: `reads` counts the reads, and `bytes` are those that
+-- the stream gave.
 abbrev pub StopsReading : Status → Counter → Counter → ℕ → Type 0
 StopsReading ReadFault old new bytes = FaultedSince old new
 StopsReading TooLong old new bytes = stream_limit < bytes

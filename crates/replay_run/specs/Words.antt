@@ -103,8 +103,8 @@ generation_of name seed count =
     then option_and_then (λ seed. option_map (λ count. Generate seed count) count) seed
     else None
 
--- `replay STREAM RECORD`, with at most one option in front of the names, and `gen SEED COUNT` are commands, and no
--- other list of words is one
+-- `replay STREAM RECORD`, with at most one option in front of the names, and `gen SEED COUNT` are
+-- commands, and no other list of words is one
 abbrev pub command : List (List ℕ) → Option Command
 command (name ∷ first ∷ second ∷ []) =
     option_or (replay_of name (Some First) first second)

@@ -162,7 +162,8 @@ fn feed<'a>(cutter: &mut Cutter, bytes: &'a [u8]) -> &'a [u8]
     &bytes[count..]
 }
 
-// Hands in a packet, makes the turns of the sections that it completes, and appends what they print.
+// Hands in a packet, makes the turns of the sections that it completes, and appends what they
+// print.
 fn take_packet(receiver: &mut Receiver, packet: &Packet, text: &mut Vec<u8>) -> Result<(), NoMemory>
     requires idle { IsIdle receiver.old }
     ensures idle { OnOk result (IsIdle receiver.new) }

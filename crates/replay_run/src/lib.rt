@@ -5,8 +5,8 @@
 //! stores the persistent area after each turn that changed it. Its contract is the program's
 //! theorem: where the world tells its files, the keeper what it keeps and the sink what is written,
 //! however reads are cut, what is written and kept is what the definitions in `specs/Meaning` give
-//! for the words, the whole stream, the whole record and the kept bytes, and where something fails a
-//! front of that. Told or not, each fault was counted by the port that it came from.
+//! for the words, the whole stream, the whole record and the kept bytes, and where something fails
+//! a front of that. Told or not, each fault was counted by the port that it came from.
 //!
 //! Below it stand, each exact: the words ([`read_command`]), the lines of the record
 //! ([`RecordReader`]), the status with its number and line ([`Status`]), and the last line

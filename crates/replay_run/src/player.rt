@@ -79,8 +79,8 @@ impl Player {
     }
 
     /// Handles an item: takes the packets that it asks for, lets time pass, or hands the one other
-    /// input on. After each of their turns it stores the area where it changed, and then writes what
-    /// the turn prints; and it writes the display list.
+    /// input on. After each of their turns it stores the area where it changed, and then writes
+    /// what the turn prints; and it writes the display list.
     pub fn handle<W: World, K: Keeper, S: Sink>(
         &mut self,
         item: RecordItem,

@@ -59,9 +59,9 @@ pub fn run<W: World, K: Keeper, S: Sink>(
         (outside (W.told world.old) (K.told keeper.old) (S.told out.old))
         (outside (W.told world.new) (K.told keeper.new) (S.told out.new)) }
 
-    // The line of a bad record is the first bad one of the record, a file that is too long gave more
-    // bytes than a run takes, and a bad area has the number of bytes that are kept. This hangs on no
-    // reader of programs.
+    // The line of a bad record is the first bad one of the record, a file that is too long gave
+    // more bytes than a run takes, and a bad area has the number of bytes that are kept. This hangs
+    // on no reader of programs.
     ensures reason { RunHasItsReason (command words.now)
         (outside (W.told world.old) (K.told keeper.old) (S.told out.old))
         (outside (W.told world.new) (K.told keeper.new) (S.told out.new)) result }

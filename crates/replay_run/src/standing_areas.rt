@@ -1,7 +1,8 @@
 //! What stays where a receiver makes no turn.
 
 ghost use Rattle.std.specs.Prelude.{◌≡◌, List, ℕ};
-ghost use Rattle.receiver_core.specs.Receiving.{Answers, IsOver, IsSilent, PassesDamaged, PassesTime};
+ghost use Rattle.receiver_core.specs.Receiving.{Answers, IsOver, IsSilent, PassesDamaged};
+ghost use Rattle.receiver_core.specs.Receiving.{PassesTime};
 ghost use Rattle.receiver_core.specs.Receiving.{ReceiverState};
 ghost use Rattle.receiver_core.specs.declared.broadcast.Input.{Input as HandedIn};
 

@@ -20,8 +20,8 @@ const MOST_DIGITS: usize = 10;
 pub enum Command<'a> {
     /// A recorded stream is replayed.
     Replay(Replay<'a>),
-    /// The files that a seed gives, with 1 to 100 modules of random bytes, are written as a stream, which
-    /// is replayed.
+    /// The files that a seed gives, with 1 to 100 modules of random bytes, are written as a stream,
+    /// which is replayed.
     Gen { seed: u32, count: u32 },
 }
 

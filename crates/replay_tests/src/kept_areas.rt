@@ -13,8 +13,8 @@ const ANNOUNCED: Sent = Sent::Indication(1, 400, &[Entry(0, 1, 146, DOCUMENT)]);
 
 const LINES: &[u8] = b"module 40 0000 01 146\nload /40/0000\nkept nvram://~/0 1\nend 2\n";
 
-// The ports, the record, how the run ends, the lines that it has written by then, and the first byte of what is kept
-// then, or none.
+// The ports, the record, how the run ends, the lines that it has written by then, and the first
+// byte of what is kept then, or none.
 const ROWS: &[(Ports, &[u8], Status, &[u8], Option<u8>)] = &[
     (SOUND, b"all\n", Status::Done, LINES, Some(5)),
     (

@@ -8,9 +8,9 @@ use bml_ports::{MemoryKeeper, MemorySink, MemorySource, MemoryWorld, NoMemory, T
 use replay_run::{Status, run};
 use std::alloc::Global;
 
-/// How the ports of a run behave: the most bytes of the stream that a read gives, the room for lines, the
-/// bytes that are kept, and the numbers of the opening, of the reads of the stream and of the record, of the
-/// write and of the call of the keeper that fail, or 0.
+/// How the ports of a run behave: the most bytes of the stream that a read gives, the room for
+/// lines, the bytes that are kept, and the numbers of the opening, of the reads of the stream and
+/// of the record, of the write and of the call of the keeper that fail, or 0.
 #[derive(Clone, Copy)]
 pub struct Ports {
     pub piece: usize,

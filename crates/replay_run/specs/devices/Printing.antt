@@ -1,5 +1,5 @@
--- A device of the proofs: what a receiver prints for what comes to it, and how the bytes of a stream
--- come to a cutter.
+-- A device of the proofs: what a receiver prints for what comes to it, and how the bytes of a
+-- stream come to a cutter.
 use Rattle.std.specs.Prelude.{◌≡◌, ℕ, ◌+◌, ◌*◌, Bool, true, false, List, ◌++◌, length}
 use Rattle.es_reader.specs.Readers.{Reader}
 use Rattle.psi_tables.specs.declared.services.Selection.{Selection}
