@@ -1,8 +1,5 @@
 pub mod RepeatLaws
 pub mod Fits
-pub mod PacketFields
-pub mod ContentLaws
-pub mod StreamLaws
 pub mod SectionLaws
 pub mod MessageLaws
 pub mod StandingLaws
@@ -11,7 +8,6 @@ pub mod Whole
 pub mod Exact
 pub mod GoodFileLaws
 pub mod Fitting
-pub mod Pushing
 pub mod Sending
 pub mod BlockLoop
 pub mod RoundLoop

@@ -11,12 +11,13 @@ use Rattle.dsmcc_messages.specs.Ddb.{DataBlock, IsDdb}
 use Rattle.carousel_blocks.specs.Message.{Message, Indication, Data, CarriesMessage, message_of, messages_of}
 use Rattle.ts_sections.specs.Intact.{IsIntact}
 use Rattle.ts_sections.specs.Sending.{IsSection}
-use Rattle.carousel_writer.specs.Messages.{section_bytes, message_bytes, dii_payload, ddb_payload, message_section}
+use Rattle.section_writer.specs.Sections.{section_bytes}
+use Rattle.carousel_writer.specs.Messages.{head_of, message_bytes, dii_payload, ddb_payload, message_section}
 use Rattle.carousel_writer.proofs.Fits.{DiiFits, DdbFits, MessageFits}
 use Rattle.carousel_writer.specs.devices.LawsBelow.{Below, HaveCount}
-use Rattle.carousel_writer.proofs.SectionLaws.{IsIntact-written, IsSection-written, body-written, length-section}
+use Rattle.carousel_writer.proofs.SectionLaws.{body-written, length-section}
 
-Carries-written : (kind : MessageKind) (identifier : ℕ) (payload : List ℕ) → identifier < 2 ^ 32 → length payload < 2 ^ 16 → Carries kind (section_bytes kind.table_id (message_bytes kind identifier payload)) identifier payload
+Carries-written : (kind : MessageKind) (identifier : ℕ) (payload : List ℕ) → identifier < 2 ^ 32 → length payload < 2 ^ 16 → Carries kind (section_bytes (head_of kind.table_id) (message_bytes kind identifier payload)) identifier payload
 Carries-written kind identifier payload h fits = record {
   reserved = 0;
   adaptation = [];
@@ -24,7 +25,7 @@ Carries-written kind identifier payload h fits = record {
   identifier_fits = h;
   message_fits = fits;
   table = refl;
-  written = body-written kind.table_id (message_bytes kind identifier payload)
+  written = body-written (head_of kind.table_id) (message_bytes kind identifier payload)
       ∙ ap (λ x. x ++ payload) (sym (append-nil (kind_bytes kind ++ big_bytes 4 identifier ++ 0 ∷ 0 ∷ [] ++ big_bytes 2 (length payload))))
       ∙ sym (append-nil (kind_bytes kind ++ big_bytes 4 identifier ++ 0 ∷ 0 ∷ [] ++ big_bytes 2 (length payload) ++ [] ++ payload));
 }
@@ -74,15 +75,15 @@ length-message count kind identifier payload = omega (
 
 pub length-indication : HaveCount → (dii : Dii) → length (message_section (Indication dii)) ≡ length (dii_payload dii) + 24
 length-indication count dii =
-    omega (arith, length-section 0x3B (message_bytes indication dii.transaction (dii_payload dii)), length-message count indication dii.transaction (dii_payload dii))
+    omega (arith, length-section (head_of 0x3B) (message_bytes indication dii.transaction (dii_payload dii)), length-message count indication dii.transaction (dii_payload dii))
 
 pub intact : Below → (message : Message) → MessageFits message → IsIntact (message_section message)
-intact laws (Indication dii) h = IsIntact-written laws 0x3B (message_bytes indication dii.transaction (dii_payload dii)) (omega (arith, h.section, length-message laws.limits.count indication dii.transaction (dii_payload dii)))
-intact laws (Data ddb) h = IsIntact-written laws 0x3C (message_bytes data_block ddb.download (ddb_payload ddb)) (omega (arith, h.section, length-message laws.limits.count data_block ddb.download (ddb_payload ddb)))
+intact laws (Indication dii) h = laws.intact (head_of 0x3B) (message_bytes indication dii.transaction (dii_payload dii)) (omega (arith, h.section, length-message laws.limits.count indication dii.transaction (dii_payload dii)))
+intact laws (Data ddb) h = laws.intact (head_of 0x3C) (message_bytes data_block ddb.download (ddb_payload ddb)) (omega (arith, h.section, length-message laws.limits.count data_block ddb.download (ddb_payload ddb)))
 
 pub is_section : Below → (message : Message) → MessageFits message → IsSection (message_section message)
-is_section laws (Indication dii) h = IsSection-written 0x3B (message_bytes indication dii.transaction (dii_payload dii)) (omega arith) (omega (arith, h.section, length-message laws.limits.count indication dii.transaction (dii_payload dii)))
-is_section laws (Data ddb) h = IsSection-written 0x3C (message_bytes data_block ddb.download (ddb_payload ddb)) (omega arith) (omega (arith, h.section, length-message laws.limits.count data_block ddb.download (ddb_payload ddb)))
+is_section laws (Indication dii) h = laws.one (head_of 0x3B) (message_bytes indication dii.transaction (dii_payload dii)) (omega arith) (omega (arith, h.section, length-message laws.limits.count indication dii.transaction (dii_payload dii)))
+is_section laws (Data ddb) h = laws.one (head_of 0x3C) (message_bytes data_block ddb.download (ddb_payload ddb)) (omega arith) (omega (arith, h.section, length-message laws.limits.count data_block ddb.download (ddb_payload ddb)))
 
 pub messages-written : Below → (messages : List Message) → All MessageFits messages → messages_of (map message_section messages) ≡ messages
 messages-written laws [] h = refl

@@ -5,11 +5,12 @@ use Rattle.std.proofs.Math.Seq.{take-suc}
 use Rattle.std.proofs.lemmas.List.{take_all, map-append}
 use Rattle.std.proofs.lemmas.List.Concat.{flat_map-append}
 use Rattle.carousel_blocks.specs.Message.{Message, Indication, Data}
+use Rattle.section_writer.specs.Received.{IsStreamOf}
 use Rattle.carousel_writer.specs.declared.files.FileModule.{FileModule}
 use Rattle.carousel_writer.specs.declared.files.Files.{Files}
 use Rattle.carousel_writer.specs.Messages.{message_section}
 use Rattle.carousel_writer.specs.Streams.{dii_of, blocks_of, round_of, rounds_of}
-use Rattle.carousel_writer.specs.devices.Appending.{HoldsSections, AppendsSections}
+use Rattle.carousel_writer.specs.devices.Appending.{AppendsSections}
 use Rattle.carousel_writer.proofs.Sending.{sent-both}
 
 abbrev pub sections_of_round : Files → List FileModule → List (List ℕ)
@@ -40,9 +41,9 @@ rounds-end : (n : ℕ) (round : List Message) → rounds_of (suc n) round ≡ ro
 rounds-end zero round = append-nil round
 rounds-end (suc n) round = ap (λ x. round ++ x) (rounds-end n round) ∙ sym (append_assoc round (rounds_of n round) round)
 
-pub rounds-more : (files : Files) (old new : List ℕ) (counter next n : ℕ) → HoldsSections old files.pid counter (map message_section (rounds_of n (round_of files))) → AppendsSections old counter new next files.pid (map message_section (round_of files))
-    → HoldsSections new files.pid next (map message_section (rounds_of (n + 1) (round_of files)))
+pub rounds-more : (files : Files) (old new : List ℕ) (counter next n : ℕ) → IsStreamOf old files.pid counter (map message_section (rounds_of n (round_of files))) → AppendsSections old counter new next files.pid (map message_section (round_of files))
+    → IsStreamOf new files.pid next (map message_section (rounds_of (n + 1) (round_of files)))
 rounds-more files old new counter next n held sent =
     let e : n + 1 ≡ suc n = omega arith in
-    subst (HoldsSections new files.pid next) (sym (ap (λ k. map message_section (rounds_of k (round_of files))) e ∙ ap (map message_section) (rounds-end n (round_of files)) ∙ map-append message_section (rounds_of n (round_of files)) (round_of files)))
+    subst (IsStreamOf new files.pid next) (sym (ap (λ k. map message_section (rounds_of k (round_of files))) e ∙ ap (map message_section) (rounds-end n (round_of files)) ∙ map-append message_section (rounds_of n (round_of files)) (round_of files)))
     (sent (map message_section (rounds_of n (round_of files))) held)

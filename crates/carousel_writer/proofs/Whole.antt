@@ -2,44 +2,34 @@
 use Rattle.std.proofs.Common.{◌≡◌, ◌≢◌, ℕ, zero, suc, ◌+◌, ◌<◌, ◌==◌, Bool, true, false, cond, List, [], ◌∷◌, ◌++◌, refl, sym, ap, subst, ◌∙◌, arith, Some, None}
 use Rattle.std.specs.Prelude.{find, filter}
 use Rattle.std.specs.List.{All, flat_map}
-use Rattle.std.proofs.lemmas.Bool.{eq-eqb, eqb-true, eqb-false}
+use Rattle.std.proofs.lemmas.Bool.{eqb-true, eqb-false}
 use Rattle.std.proofs.lemmas.List.Elements.{All-nil, All-cons, All-head, All-tail, All-append}
 use Rattle.ts_packets.specs.Packets.{packets_of}
-use Rattle.ts_sections.specs.Sections.{sections}
 use Rattle.ts_sections.specs.Intact.{IsIntact, is_intact}
 use Rattle.carousel_blocks.specs.Message.{Message, messages_of}
 use Rattle.carousel_blocks.specs.Entries.{skip_in}
 use Rattle.carousel_blocks.specs.Held.{bytes_held}
+use Rattle.section_writer.specs.Packets.{stream_packets}
+use Rattle.section_writer.specs.Received.{sections_on}
 use Rattle.carousel_writer.specs.declared.files.FileModule.{FileModule}
 use Rattle.carousel_writer.specs.declared.files.Files.{Files}
-use Rattle.carousel_writer.specs.Packets.{PacketContent, packet_bytes, packets_from, section_contents, stream_packets}
 use Rattle.carousel_writer.proofs.Fits.{MessageFits, FilesFit}
 use Rattle.carousel_writer.specs.Streams.{dii_of, round_of, rounds_of, messages_sent, sections_sent, stream_of}
-use Rattle.carousel_writer.specs.Received.{packets_on, messages_on, file_of}
-use Rattle.carousel_writer.proofs.PacketFields.{pid-written}
-use Rattle.carousel_writer.proofs.StreamLaws.{stream-sections, stream-packets}
+use Rattle.carousel_writer.specs.Received.{messages_on, file_of}
 use Rattle.carousel_writer.specs.devices.LawsBelow.{Below}
 use Rattle.carousel_writer.proofs.MessageLaws.{messages-written, all-intact, all-sections}
 use Rattle.carousel_writer.proofs.StandingLaws.{DiffersFrom}
 use Rattle.carousel_writer.proofs.HeldLaws.{held-file}
 
 pub packets-whole : Below → (files : Files) → packets_of (stream_of files) ≡ stream_packets files.pid (sections_sent files)
-packets-whole laws files = laws.apart (stream_packets files.pid (sections_sent files)) (stream-packets files.pid (sections_sent files))
-
-all-on : (pid counter : ℕ) (contents : List PacketContent) → pid < 8192 → packets_on pid (packets_from pid counter contents) ≡ packets_from pid counter contents
-all-on pid counter [] h = refl
-all-on pid counter (content ∷ contents) h =
-    rw (eq-eqb _ pid (pid-written pid counter content h)) (ap (λ x. packet_bytes pid counter content ∷ x) (all-on pid (counter + 1) contents h))
+packets-whole laws files = laws.cut files.pid (sections_sent files)
 
 fits-rounds : (count : ℕ) (round : List Message) → All MessageFits round → All MessageFits (rounds_of count round)
 fits-rounds zero round h = All-nil MessageFits
 fits-rounds (suc more) round h = All-append MessageFits round (rounds_of more round) h (fits-rounds more round h)
 
-pub sections-whole : Below → (files : Files) → FilesFit files → sections (packets_on files.pid (packets_of (stream_of files))) ≡ sections_sent files
-sections-whole laws files h =
-    ap (λ x. sections (packets_on files.pid x)) (packets-whole laws files)
-    ∙ ap sections (all-on files.pid 0 (flat_map section_contents (sections_sent files)) h.pid)
-    ∙ stream-sections laws files.pid (sections_sent files) h.pid (all-sections laws (messages_sent files) (fits-rounds files.rounds (round_of files) h.fit))
+pub sections-whole : Below → (files : Files) → FilesFit files → sections_on files.pid (stream_of files) ≡ sections_sent files
+sections-whole laws files h = laws.read files.pid (sections_sent files) h.pid (all-sections laws (messages_sent files) (fits-rounds files.rounds (round_of files) h.fit))
 
 is_intact-from : (section : List ℕ) → IsIntact section → is_intact section ≡ true
 is_intact-from section h = grind (arith, h.long_form, h.indicator, h.whole, h.remainder)

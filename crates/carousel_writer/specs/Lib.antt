@@ -1,4 +1,3 @@
-pub mod Packets
 pub mod Messages
 pub mod Streams
 pub mod GoodFiles

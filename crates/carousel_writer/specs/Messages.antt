@@ -1,27 +1,16 @@
 -- The section that carries a message (ISO/IEC 13818-6, 7.2, 7.3 and 9.2; ISO/IEC 13818-1, 2.4.4). Fields that a message
 -- here doesn't tell are 0.
-use Rattle.std.specs.Prelude.{ℕ, ◌+◌, ◌/◌, ◌%◌, List, [], ◌∷◌, ◌++◌, length}
+use Rattle.std.specs.Prelude.{ℕ, false, List, [], ◌∷◌, ◌++◌, length}
 use Rattle.std.specs.List.{flat_map}
-use Rattle.std.specs.Int.{w32, to_be_bytes}
 use Rattle.bml_bytes.specs.Numbers.{big_bytes}
-use Rattle.ts_sections.specs.Crc.{remainder_of}
+use Rattle.section_writer.specs.declared.heads.SectionHead.{SectionHead}
+use Rattle.section_writer.specs.Sections.{section_bytes}
 use Rattle.dsmcc_messages.specs.declared.message.MessageKind.{MessageKind}
 use Rattle.dsmcc_messages.specs.declared.dii.Dii.{Dii}
 use Rattle.dsmcc_messages.specs.Message.{indication, data_block, kind_bytes}
 use Rattle.dsmcc_messages.specs.Dii.{entry_bytes}
 use Rattle.dsmcc_messages.specs.Ddb.{DataBlock}
 use Rattle.carousel_blocks.specs.Message.{Message, Indication, Data}
-
--- ---- a section
-
--- its header with section_syntax_indicator 1, the section_length, and 0 in every other field but table_id; and its body
-abbrev pub front_bytes : ℕ → List ℕ → List ℕ
-front_bytes table_id body =
-    table_id ∷ (0x80 + (length body + 9) / 256) ∷ (length body + 9) % 256 ∷ 0 ∷ 0 ∷ 0 ∷ 0 ∷ 0 ∷ body
-
--- and its CRC_32
-abbrev pub section_bytes : ℕ → List ℕ → List ℕ
-section_bytes table_id body = front_bytes table_id body ++ to_be_bytes w32 (remainder_of (front_bytes table_id body))
 
 -- ---- a message
 
@@ -45,6 +34,10 @@ dii_payload dii = dii_front dii ++ flat_map entry_bytes dii.entries ++ big_bytes
 abbrev pub ddb_payload : DataBlock → List ℕ
 ddb_payload ddb = big_bytes 2 ddb.module ++ ddb.version ∷ 0 ∷ [] ++ big_bytes 2 ddb.number ++ ddb.block
 
+-- the header of its section: 0 in every field but table_id
+abbrev pub head_of : ℕ → SectionHead
+head_of table_id = record { table_id = table_id; extension = 0; version = 0; is_current = false }
+
 abbrev pub message_section : Message → List ℕ
-message_section (Indication dii) = section_bytes 0x3B (message_bytes indication dii.transaction (dii_payload dii))
-message_section (Data ddb) = section_bytes 0x3C (message_bytes data_block ddb.download (ddb_payload ddb))
+message_section (Indication dii) = section_bytes (head_of 0x3B) (message_bytes indication dii.transaction (dii_payload dii))
+message_section (Data ddb) = section_bytes (head_of 0x3C) (message_bytes data_block ddb.download (ddb_payload ddb))

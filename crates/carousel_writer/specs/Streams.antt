@@ -8,10 +8,10 @@ use Rattle.dsmcc_messages.specs.declared.dii.Dii.{Dii}
 use Rattle.dsmcc_messages.specs.Ddb.{DataBlock}
 use Rattle.carousel_blocks.specs.Message.{Message, Indication, Data}
 use Rattle.carousel_blocks.specs.InForce.{block_count}
+use Rattle.section_writer.specs.Packets.{stream_bytes}
 use Rattle.carousel_writer.specs.declared.files.FileModule.{FileModule}
 use Rattle.carousel_writer.specs.declared.files.Files.{Files}
 use Rattle.carousel_writer.specs.Messages.{message_section}
-use Rattle.carousel_writer.specs.Packets.{stream_bytes}
 
 -- ---- the DII
 

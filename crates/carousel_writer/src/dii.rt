@@ -9,7 +9,7 @@ ghost use Rattle.carousel_writer.specs.Messages.{dii_front, dii_payload};
 ghost use Rattle.carousel_writer.specs.Streams.{dii_of, entry_of, info_of};
 
 use crate::files::{FileModule, Files};
-use crate::sections::{push_long, push_short};
+use crate::messages::{push_long, push_short};
 use bml_bytes::{NoMemory, Text};
 use std::alloc::Global;
 

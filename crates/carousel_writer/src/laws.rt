@@ -8,6 +8,8 @@ ghost use Rattle.ts_packets.specs.Packets.{packets_of};
 ghost use Rattle.ts_sections.specs.Intact.{IsIntact};
 ghost use Rattle.dsmcc_messages.specs.Reading.{descriptor_in};
 ghost use Rattle.multipart_entities.specs.Lines.{without_blanks};
+ghost use Rattle.section_writer.specs.Packets.{laid};
+ghost use Rattle.section_writer.specs.Received.{sections_on};
 ghost use Rattle.carousel_blocks.specs.Held.{bytes_held};
 ghost use Rattle.carousel_blocks.specs.Carousel.{entry_in_force};
 ghost use Rattle.carousel_writer.specs.declared.files.FilePart.{FilePart};
@@ -15,8 +17,7 @@ ghost use Rattle.carousel_writer.specs.declared.files.Files.{Files};
 ghost use Rattle.carousel_writer.specs.Entities.{entity_bytes, file_seen, media_read, parts_read};
 ghost use Rattle.carousel_writer.specs.GoodFiles.{AreSmall, HaveTypes, are_good_files, entry_size, has_short_dii, have_own_numbers, is_unskipped};
 ghost use Rattle.carousel_writer.specs.GoodParts.{are_good_parts};
-ghost use Rattle.carousel_writer.specs.Packets.{laid};
-ghost use Rattle.carousel_writer.specs.Received.{file_of, messages_on, sections_on};
+ghost use Rattle.carousel_writer.specs.Received.{file_of, messages_on};
 ghost use Rattle.carousel_writer.specs.Streams.{entry_of, messages_sent, sections_sent, stream_of, type_text};
 ghost use Rattle.carousel_writer.specs.devices.LawsBelow.{Below, EntityLaws};
 ghost use Rattle.carousel_writer.specs.devices.Laying.{CanBeLaid};
@@ -26,11 +27,8 @@ use carousel_blocks::{
     law_of_block_counts, law_of_entries, law_of_first_blocks, law_of_held_modules, law_of_messages,
 };
 use multipart_entities::{law_of_delimiters, law_of_ended_lines};
+use section_writer::{law_of_written_sections, law_of_written_streams};
 use table_fields::law_of_descriptors;
-use ts_packets::packets_laid_end_to_end;
-use ts_sections::{
-    crc_behind_its_message, packets_in_one_run, pieces_behind_their_marks, section_before_stuffing,
-};
 
 /// What is received of the stream of files that can be written: the packets are cut without rest, the sections are those
 /// sent and intact, the messages are those sent, and held are exactly the files, each with its entry and media type.
@@ -80,11 +78,8 @@ pub fn law_of_good_files()
 pub fn laws_below()
     ensures { Below }
 {
-    packets_laid_end_to_end();
-    packets_in_one_run();
-    pieces_behind_their_marks();
-    section_before_stuffing();
-    crc_behind_its_message();
+    law_of_written_sections();
+    law_of_written_streams();
     law_of_big_numbers();
     law_of_descriptors();
     law_of_messages();

@@ -15,9 +15,8 @@ mod files;
 mod good_files;
 mod good_parts;
 mod laws;
-mod packets;
+mod messages;
 mod refusals;
-mod sections;
 mod streams;
 mod write;
 

@@ -12,10 +12,10 @@ ghost use Rattle.carousel_writer.specs.devices.Appending.{AppendsSections};
 
 use crate::dii::dii_payload_of;
 use crate::files::{FileModule, Files};
-use crate::packets::push_section;
-use crate::sections::{message_of, push_short, section_of};
+use crate::messages::{message_of, message_section_of, push_short};
 use bml_bytes::NoMemory;
 use carousel_blocks::law_of_block_counts;
+use section_writer::push_section;
 use std::alloc::Global;
 
 /// The bytes of the stream.
@@ -52,7 +52,7 @@ fn indication_section(alloc: Global, files: &Files) -> Result<Vec<u8>, NoMemory>
 {
     let payload = dii_payload_of(alloc, files)?;
     let message = message_of(alloc, 0x1002, files.transaction, payload.as_slice())?;
-    section_of(alloc, 0x3B, message.as_slice())
+    message_section_of(alloc, 0x3B, message.as_slice())
 }
 
 /// Appends the packets of one round.
@@ -170,7 +170,7 @@ fn block_section(
 {
     let payload = ddb_payload_of(alloc, file, number, block)?;
     let message = message_of(alloc, 0x1003, files.download, payload.as_slice())?;
-    section_of(alloc, 0x3C, message.as_slice())
+    message_section_of(alloc, 0x3C, message.as_slice())
 }
 
 /// The payload of a module's block.

@@ -7,13 +7,14 @@ ghost use Rattle.ts_packets.specs.Packets.{packets_of};
 ghost use Rattle.ts_sections.specs.Intact.{IsIntact};
 ghost use Rattle.dsmcc_messages.specs.Reading.{descriptor_in};
 ghost use Rattle.multipart_entities.specs.Lines.{without_blanks};
+ghost use Rattle.section_writer.specs.Packets.{laid};
+ghost use Rattle.section_writer.specs.Received.{sections_on};
 ghost use Rattle.carousel_blocks.specs.Held.{bytes_held};
 ghost use Rattle.carousel_blocks.specs.Carousel.{entry_in_force};
 ghost use Rattle.carousel_writer.specs.Entities.{entity_bytes, file_seen, media_read, parts_read};
 ghost use Rattle.carousel_writer.specs.GoodFiles.{are_good_files as spec_are_good_files};
 ghost use Rattle.carousel_writer.specs.GoodParts.{are_good_parts as spec_are_good_parts, is_boundary as spec_is_boundary, is_good_list};
-ghost use Rattle.carousel_writer.specs.Packets.{laid};
-ghost use Rattle.carousel_writer.specs.Received.{file_of, messages_on, sections_on};
+ghost use Rattle.carousel_writer.specs.Received.{file_of, messages_on};
 ghost use Rattle.carousel_writer.specs.Streams.{entry_of, sections_sent, stream_of, type_text};
 
 use crate::entities::bytes_of_entity;

@@ -1,17 +1,18 @@
 -- A device of the proofs: the laws of the crates below on which they stand, as one record. (This project's own.)
-use Rattle.std.specs.Prelude.{◌≡◌, ◌≢◌, ◌↔◌, ◌+◌, ◌*◌, ◌<◌, ◌≤◌, ◌==◌, ℕ, true, false, List, [], ◌∷◌, ◌++◌, length, Some, None, filter, is_some, option_map, replicate, codes as ascii}
-use Rattle.std.specs.List.{All, flat_map, list_any}
-use Rattle.std.specs.Int.{w32, to_be_bytes}
+use Rattle.std.specs.Prelude.{◌≡◌, ◌≢◌, ◌↔◌, ◌+◌, ◌*◌, ◌<◌, ◌≤◌, ◌==◌, ℕ, true, false, List, [], ◌∷◌, ◌++◌, length, Some, None, filter, is_some, option_map, codes as ascii}
+use Rattle.std.specs.List.{All, list_any}
 use Rattle.bml_bytes.specs.Codes.{IsByteOrPair, bytes_of, codes}
 use Rattle.bml_bytes.specs.Numbers.{big_bytes}
 use Rattle.bml_bytes.specs.Words.{is_same}
 use Rattle.multipart_entities.specs.Boundaries.{delimiter_at, placed_delimiters}
 use Rattle.multipart_entities.specs.Lines.{behind_first, line_then, lines_of}
-use Rattle.ts_packets.specs.Packet.{IsPacket, is_readable}
 use Rattle.ts_packets.specs.Packets.{packets_of}
-use Rattle.ts_sections.specs.Crc.{remainder_of}
-use Rattle.ts_sections.specs.Sections.{pieces, pieces_of_run, sections, sections_of_piece}
-use Rattle.ts_sections.specs.Sending.{FollowEachOther, IsSection, marked_piece}
+use Rattle.ts_sections.specs.Intact.{IsIntact}
+use Rattle.ts_sections.specs.Sending.{IsSection}
+use Rattle.section_writer.specs.declared.heads.SectionHead.{SectionHead}
+use Rattle.section_writer.specs.Packets.{stream_bytes, stream_packets}
+use Rattle.section_writer.specs.Received.{sections_on}
+use Rattle.section_writer.specs.Sections.{section_bytes}
 use Rattle.table_fields.specs.Descriptors.{AreDescriptors, Descriptor, descriptors_in}
 use Rattle.dsmcc_messages.specs.declared.dii.Dii.{Dii}
 use Rattle.dsmcc_messages.specs.declared.entry.Entry.{Entry}
@@ -39,11 +40,10 @@ pub record Limits : Type 0 where
 -- and what is read of packets, sections and messages
 pub record Below : Type 0 where
   pub limits : Limits
-  pub apart : (packets : List (List ℕ)) → All IsPacket packets → packets_of (flat_map (λ packet. packet) packets) ≡ packets
-  pub one_run : (packets : List (List ℕ)) → All (λ packet. is_readable packet ≡ true) packets → FollowEachOther packets → sections packets ≡ flat_map sections_of_piece (pieces_of_run packets)
-  pub marks : (list : List (List ℕ)) → pieces (flat_map marked_piece list) ≡ list
-  pub stuffing : (section : List ℕ) (count : ℕ) → IsSection section → sections_of_piece (section ++ replicate count 0xFF) ≡ section ∷ []
-  pub crc : (bytes : List ℕ) → remainder_of (bytes ++ to_be_bytes w32 (remainder_of bytes)) ≡ 0
+  pub cut : (pid : ℕ) (sent : List (List ℕ)) → packets_of (stream_bytes pid sent) ≡ stream_packets pid sent
+  pub read : (pid : ℕ) (sent : List (List ℕ)) → pid < 8192 → All IsSection sent → sections_on pid (stream_bytes pid sent) ≡ sent
+  pub intact : (head : SectionHead) (body : List ℕ) → length body ≤ 4084 → IsIntact (section_bytes head body)
+  pub one : (head : SectionHead) (body : List ℕ) → head.table_id ≢ 0xFF → length body ≤ 4084 → IsSection (section_bytes head body)
   pub messages : (section : List ℕ) (message : Message) → CarriesMessage section message ↔ (message_of section ≡ Some message)
   pub entry : (dii : Dii) (place : ℕ) (entry : Entry) → CountsAsEntry dii place entry → option_map (λ standing. standing.entry) (standing_of (Some dii) entry.id) ≡ Some entry
   pub absent : (dii : Dii) (number : ℕ) → is_some (standing_of (Some dii) number) ≡ list_any (λ entry. entry.id == number) dii.entries

@@ -1,5 +1,5 @@
 use Rattle.std.proofs.Common.{ap}
-use Rattle.carousel_writer.specs.Packets.{laid}
+use Rattle.section_writer.specs.Packets.{laid}
 use Rattle.carousel_writer.proofs.Exact.{entries-exactly, held-exactly, media-exactly}
 use Rattle.carousel_writer.proofs.Fitting.{files-fit}
 use Rattle.carousel_writer.proofs.GoodFileLaws.{are-good}

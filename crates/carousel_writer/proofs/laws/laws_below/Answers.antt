@@ -10,11 +10,10 @@ returns c = record {
     compressed = c.law_of_entries.ensures.compressed;
     large = c.law_of_entries.ensures.large;
   };
-  apart = c.packets_laid_end_to_end.ensures;
-  one_run = c.packets_in_one_run.ensures;
-  marks = c.pieces_behind_their_marks.ensures;
-  stuffing = c.section_before_stuffing.ensures;
-  crc = c.crc_behind_its_message.ensures.own;
+  cut = c.law_of_written_streams.ensures.packets;
+  read = c.law_of_written_streams.ensures.sections;
+  intact = c.law_of_written_sections.ensures.intact;
+  one = c.law_of_written_sections.ensures.one;
   messages = c.law_of_messages.ensures;
   entry = c.law_of_entries.ensures.entry;
   absent = c.law_of_entries.ensures.absent;

@@ -3,7 +3,7 @@ use Rattle.carousel_writer.proofs.streams.push_round.Goals as goal
 
 pub modules-init : goal.modules-init
 modules-init c = record {
-  sent = round-begun c.args.files.now _ _ _ _ _ c.requires.indication c.in_ok-next.ensures.sent;
+  sent = round-begun c.args.files.now _ _ _ _ _ c.requires.indication c.in_ok-next.ensures.alone;
   small = c.in_ok-next.ensures.small;
 }
 

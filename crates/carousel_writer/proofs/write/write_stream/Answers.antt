@@ -7,8 +7,9 @@ use Rattle.dsmcc_messages.specs.Reading.{descriptor_in}
 use Rattle.carousel_blocks.specs.Held.{bytes_held}
 use Rattle.carousel_blocks.specs.Carousel.{entry_in_force}
 use Rattle.carousel_writer.specs.GoodFiles.{are_good_files}
-use Rattle.carousel_writer.specs.Packets.{laid}
-use Rattle.carousel_writer.specs.Received.{messages_on, sections_on}
+use Rattle.section_writer.specs.Packets.{laid}
+use Rattle.section_writer.specs.Received.{sections_on}
+use Rattle.carousel_writer.specs.Received.{messages_on}
 use Rattle.carousel_writer.proofs.write.write_stream.Goals as goal
 
 pub bytes_of_stream-requires-clause-pid : goal.bytes_of_stream-requires-clause-pid

@@ -1,8 +1,8 @@
 -- How the packets of payloads are appended one by one.
 use Rattle.std.proofs.Common.{◌≡◌, ℕ, zero, suc, ◌+◌, ◌/◌, ◌%◌, ◌<◌, ◌≤◌, Bool, true, false, List, [], ◌∷◌, ◌++◌, length, take, drop, refl, sym, ap, subst, ◌∙◌, arith, append_assoc, append-nil, length-drop, if◌then◌else◌}
-use Rattle.carousel_writer.specs.Packets.{PacketContent, packet_bytes, packets_from, cut_contents, packet_count, stuffed, section_contents, laid}
-use Rattle.carousel_writer.specs.devices.Appending.{Appends}
-use Rattle.carousel_writer.proofs.ContentLaws.{fill}
+use Rattle.section_writer.specs.Packets.{PacketContent, packet_bytes, packets_from, cut_contents, packet_count, stuffed, section_contents, laid}
+use Rattle.section_writer.specs.devices.Appending.{Appends}
+use Rattle.section_writer.proofs.ContentLaws.{fill}
 
 pub packets_from-same : (pid a b : ℕ) (contents : List PacketContent) → a % 16 ≡ b % 16 → packets_from pid a contents ≡ packets_from pid b contents
 packets_from-same pid a b [] h = refl
@@ -11,7 +11,7 @@ packets_from-same pid a b (content ∷ contents) h =
     ap (λ n. (0x47 ∷ ((if content.starts then 0x40 else 0) + pid / 256) ∷ pid % 256 ∷ (0x10 + n) ∷ content.payload) ∷ packets_from pid (a + 1) contents) h
     ∙ ap (λ x. packet_bytes pid b content ∷ x) (packets_from-same pid (a + 1) (b + 1) contents next)
 
-length-cut : (starts : Bool) (count : ℕ) (bytes : List ℕ) → length (cut_contents starts count bytes) ≡ count
+pub length-cut : (starts : Bool) (count : ℕ) (bytes : List ℕ) → length (cut_contents starts count bytes) ≡ count
 length-cut starts zero bytes = refl
 length-cut starts (suc more) bytes = ap suc (length-cut false more (drop 184 bytes))
 

@@ -5,11 +5,11 @@ use Rattle.std.proofs.lemmas.List.Elements.{All-nil, All-cons, All-head, All-tai
 use Rattle.std.specs.List.{flat_map, All}
 use Rattle.ts_packets.specs.Packet.{IsPacket, counter_of, is_readable}
 use Rattle.ts_sections.specs.Sections.{tokens_of_packet, pointer_passes, follows, pieces, sections_of_piece, sections}
-use Rattle.carousel_writer.specs.Packets.{PacketContent, packet_bytes, packets_from, section_contents, stream_packets}
+use Rattle.section_writer.specs.Packets.{PacketContent, packet_bytes, packets_from, section_contents, stream_packets}
 use Rattle.ts_sections.specs.Sending.{FollowEachOther, IsSection}
-use Rattle.carousel_writer.proofs.PacketFields.{IsPacket-written, counter-written, starts-written, payload-written, readable-written}
-use Rattle.carousel_writer.specs.devices.LawsBelow.{Below}
-use Rattle.carousel_writer.proofs.ContentLaws.{tokens_of_content, IsContent, contents-sound, sections-in_contents}
+use Rattle.section_writer.proofs.PacketFields.{IsPacket-written, counter-written, starts-written, payload-written, readable-written}
+use Rattle.section_writer.specs.devices.LawsBelow.{Below}
+use Rattle.section_writer.proofs.ContentLaws.{tokens_of_content, IsContent, contents-sound, sections-in_contents}
 
 packet-tokens : (pid counter : ℕ) (content : PacketContent) → pid < 8192 → tokens_of_packet (packet_bytes pid counter content) ≡ tokens_of_content content
 packet-tokens pid counter content h = rw (starts-written pid counter content h, payload-written pid counter content) refl
@@ -48,7 +48,7 @@ stream-sections laws pid sent h each =
     ∙ ap (λ x. flat_map sections_of_piece (pieces x)) (tokens-packets_from pid 0 (flat_map section_contents sent) h)
     ∙ sections-in_contents laws sent each
 
-packets_from-packets : (pid counter : ℕ) (contents : List PacketContent) → All IsContent contents → All IsPacket (packets_from pid counter contents)
+pub packets_from-packets : (pid counter : ℕ) (contents : List PacketContent) → All IsContent contents → All IsPacket (packets_from pid counter contents)
 packets_from-packets pid counter [] sound = All-nil IsPacket
 packets_from-packets pid counter (content ∷ contents) sound =
     let here = All-head IsContent content contents sound in

@@ -3,11 +3,12 @@
 ghost use Rattle.std.specs.Prelude.{◌≡◌, ◌≤◌, ◌<◌, ◌^◌, ◌++◌, ◌∷◌, [], ◌+◌, length, IfOk, OnOk};
 ghost use Rattle.bml_bytes.specs.Numbers.{big_bytes};
 ghost use Rattle.dsmcc_messages.specs.Message.{kind_bytes};
-ghost use Rattle.carousel_writer.specs.Messages.{front_bytes, message_bytes, section_bytes};
+ghost use Rattle.section_writer.specs.Sections.{section_bytes};
+ghost use Rattle.carousel_writer.specs.Messages.{head_of, message_bytes};
 
 use bml_bytes::{NoMemory, law_of_written_numbers};
+use section_writer::{SectionHead, section_of};
 use std::alloc::Global;
-use ts_sections::crc_of;
 
 /// Appends a number of two bytes.
 pub fn push_short(out: &mut Vec<u8>, number: u16) -> Result<(), NoMemory>
@@ -86,27 +87,19 @@ fn push_lengths(out: &mut Vec<u8>, payload_length: u16) -> Result<(), NoMemory>
     push_short(out, payload_length)
 }
 
-/// The section with this body: its header, the body and the CRC_32.
-pub fn section_of(alloc: Global, table_id: u8, body: &[u8]) -> Result<Vec<u8>, NoMemory>
-    requires short { length body.now ≤ 4084 }
-    ensures section { IfOk result (λ section. section.items ≡ section_bytes table_id body.now) }
-    ensures size { IfOk result (λ section. length section.items ≡ length body.now + 12) }
+/// The section that carries a message: 0 stands in every field of its header but table_id and section_length.
+pub fn message_section_of(alloc: Global, table_id: u8, message: &[u8]) -> Result<Vec<u8>, NoMemory>
+    requires short { length message.now ≤ 4084 }
+    ensures section { IfOk result
+        (λ section. section.items ≡ section_bytes (head_of table_id) message.now) }
+    ensures size { IfOk result (λ section. length section.items ≡ length message.now + 12) }
 {
-    let mut section = Vec::new(alloc);
-    push_front(&mut section, table_id, body)?;
-    let crc = crc_of(section.as_slice()).to_be_bytes();
-    section.extend_from_slice(&crc)?;
+    let head = SectionHead {
+        table_id,
+        extension: 0,
+        version: 0,
+        is_current: false,
+    };
+    let section = section_of(alloc, head, message)?;
     Ok(section)
-}
-
-/// Appends what stands before a section's CRC_32.
-fn push_front(out: &mut Vec<u8>, table_id: u8, body: &[u8]) -> Result<(), NoMemory>
-    requires short { length body.now ≤ 4084 }
-    ensures front { OnOk result (out.new.items ≡ out.old.items ++ front_bytes table_id body.now) }
-    ensures size { OnOk result (length out.new.items ≡ length out.old.items + length body.now + 8) }
-{
-    let [high, low] = ((body.len() + 9) as u16).to_be_bytes();
-    out.extend_from_slice(&[table_id, 0x80 + high, low, 0, 0, 0, 0, 0])?;
-    out.extend_from_slice(body)?;
-    Ok(())
 }

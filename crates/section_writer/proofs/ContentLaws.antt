@@ -6,9 +6,9 @@ use Rattle.std.proofs.lemmas.List.Concat.{flat_map-append}
 use Rattle.std.proofs.lemmas.List.Elements.{All-nil, All-cons, All-head, All-tail, All-append}
 use Rattle.std.specs.List.{flat_map, All}
 use Rattle.ts_sections.specs.Sections.{Token, Byte, Mark, marked, pieces, pointer_fits, sections_of_piece}
-use Rattle.carousel_writer.specs.Packets.{PacketContent, cut_contents, packet_count, stuffed, section_contents}
+use Rattle.section_writer.specs.Packets.{PacketContent, cut_contents, packet_count, stuffed, section_contents}
 use Rattle.ts_sections.specs.Sending.{IsSection, marked_piece}
-use Rattle.carousel_writer.specs.devices.LawsBelow.{Below}
+use Rattle.section_writer.specs.devices.LawsBelow.{Below}
 
 -- what it carries as tokens
 abbrev pub tokens_of_content : PacketContent → List Token
@@ -85,6 +85,9 @@ contents-starting zero bytes h = absurd (omega arith)
 contents-starting (suc more) bytes h =
     All-cons IsContent _ _ (record { size = length-take-le 184 (0 ∷ bytes) (omega arith); pointer = rw (le-leb 0 (length (take 183 bytes)) (omega arith)) refl }) (contents-going_on more (drop 183 bytes) (omega (arith, length-drop 183 bytes)))
 
+pub section-sound : (section : List ℕ) → All IsContent (section_contents section)
+section-sound section = contents-starting (packet_count section) (stuffed section) (fill section)
+
 pub contents-sound : (sections : List (List ℕ)) → All IsContent (flat_map section_contents sections)
 contents-sound [] = All-nil IsContent
-contents-sound (s ∷ ss) = All-append IsContent (section_contents s) (flat_map section_contents ss) (contents-starting (packet_count s) (stuffed s) (fill s)) (contents-sound ss)
+contents-sound (s ∷ ss) = All-append IsContent (section_contents s) (flat_map section_contents ss) (section-sound s) (contents-sound ss)

@@ -1,7 +1,7 @@
 -- The fields of a packet that is written.
 use Rattle.std.proofs.Common.{◌≡◌, ℕ, ◌+◌, ◌/◌, ◌%◌, ◌<◌, Bool, true, false, List, length, refl, arith, Some}
 use Rattle.ts_packets.specs.Packet.{IsPacket, pid_of, counter_of, payload_of, starts_unit, is_readable}
-use Rattle.carousel_writer.specs.Packets.{PacketContent, packet_bytes}
+use Rattle.section_writer.specs.Packets.{PacketContent, packet_bytes}
 
 pub IsPacket-written : (pid counter : ℕ) (content : PacketContent) → length content.payload ≡ 184 → IsPacket (packet_bytes pid counter content)
 IsPacket-written pid counter content size = record { size = omega (arith, size); sync = refl }

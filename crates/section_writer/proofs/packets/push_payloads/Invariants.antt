@@ -1,6 +1,6 @@
 use Rattle.std.proofs.Common.{length}
-use Rattle.carousel_writer.proofs.Pushing.{Pushing}
-use Rattle.carousel_writer.proofs.packets.push_payloads.Given as goal
+use Rattle.section_writer.proofs.Pushing.{Pushing}
+use Rattle.section_writer.proofs.packets.push_payloads.Given as goal
 
 abbrev pub invariant-payloads : goal.invariant-payloads
 invariant-payloads l = Pushing l.fn.out.items l.out.items l.pid l.counter l.next l.starts l.payloads l.rest

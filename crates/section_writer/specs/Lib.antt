@@ -1,0 +1,4 @@
+pub mod Sections
+pub mod Packets
+pub mod Received
+pub mod devices
