@@ -1,11 +1,11 @@
-//! Sections of tables and of messages, with their CRC_32.
+//! Sections of tables and of messages. Their header, their CRC_32 and their packets are those of `section_writer`.
 
-ghost use Rattle.std.specs.Prelude.{IfOk};
-ghost use Rattle.test_streams.specs.Checks.{HasCrc};
+ghost use Rattle.std.specs.Prelude.{◌≤◌, ◌<◌, length, IfOk};
+ghost use Rattle.ts_sections.specs.Intact.{IsIntact};
 
 use crate::unbuilt::Unbuilt;
+use section_writer::{SectionHead, section_of};
 use std::alloc::Global;
-use ts_sections::{crc_behind_its_message, crc_of};
 
 /// A module's number, version, size and info, as an entry of a DownloadInfoIndication has them.
 #[derive(Clone, Copy)]
@@ -13,6 +13,9 @@ pub struct Entry(pub u16, pub u8, pub u32, pub &'static [u8]);
 
 /// The info of a module that holds a document: a Type descriptor.
 pub const DOCUMENT: &[u8] = b"\x01\x0Ftext/X-arib-bml";
+
+/// A section's body has at most so many bytes.
+const LONGEST_BODY: usize = 4084;
 
 /// The PID of the data.
 pub const DATA_PID: u16 = 256;
@@ -39,53 +42,76 @@ pub enum Sent {
 
 impl Sent {
     /// The PID on which it comes.
-    pub fn pid(&self) -> u16 {
+    pub fn pid(&self) -> u16
+        ensures { result < 512 }
+    {
         match *self {
             Sent::Programs(_) => 0,
             Sent::Map(..) => MAP_PID,
             Sent::Indication(..) | Sent::Block(..) => DATA_PID,
         }
     }
-}
 
-/// The bytes of a section.
-pub fn section_of(alloc: Global, sent: &Sent) -> Result<Vec<u8>, Unbuilt> {
-    match *sent {
-        Sent::Programs(program) => programs_of(alloc, program),
-        Sent::Map(program, streams) => map_of(alloc, program, streams),
-        Sent::Indication(transaction, block_size, entries) => {
-            indication_of(alloc, transaction, block_size, entries)
-        }
-        Sent::Block(module, version, number, block) => {
-            block_of(alloc, module, version, number, block)
+    /// The bytes of the section, which is intact.
+    pub fn section(&self, alloc: Global) -> Result<Vec<u8>, Unbuilt>
+        ensures intact { IfOk result (λ section. IsIntact section.items) }
+        ensures size { IfOk result (λ section. length section.items ≤ 4096) }
+    {
+        match *self {
+            Sent::Programs(program) => programs_of(alloc, program),
+            Sent::Map(program, streams) => map_of(alloc, program, streams),
+            Sent::Indication(transaction, block_size, entries) => {
+                indication_of(alloc, transaction, block_size, entries)
+            }
+            Sent::Block(module, version, number, block) => {
+                block_of(alloc, module, version, number, block)
+            }
         }
     }
 }
 
-// A PAT in force: its header, one program, and the CRC_32.
+// A PAT in force: one program.
 fn programs_of(alloc: Global, program: u16) -> Result<Vec<u8>, Unbuilt>
-    ensures { IfOk result (λ section. HasCrc section.items) }
+    ensures intact { IfOk result (λ section. IsIntact section.items) }
+    ensures size { IfOk result (λ section. length section.items ≤ 4096) }
 {
-    let mut section = Vec::from_slice(alloc, &[0x00, 0x80, 13, 0, 0, 0x01, 0, 0])?;
-    section.extend_from_slice(&program.to_be_bytes())?;
-    section.extend_from_slice(&MAP_PID.to_be_bytes())?;
-    with_crc(section)
+    let mut body = Vec::new(alloc);
+    body.extend_from_slice(&program.to_be_bytes())?;
+    body.extend_from_slice(&MAP_PID.to_be_bytes())?;
+    table_section(alloc, 0x00, 0, body.as_slice())
 }
 
 // A PMT in force, whose program has no descriptors.
 fn map_of(alloc: Global, program: u16, streams: &[Announced]) -> Result<Vec<u8>, Unbuilt>
-    ensures { IfOk result (λ section. HasCrc section.items) }
+    ensures intact { IfOk result (λ section. IsIntact section.items) }
+    ensures size { IfOk result (λ section. length section.items ≤ 4096) }
 {
-    let length = byte_length(streams.len().saturating_mul(8).saturating_add(13))?;
-    let mut section = Vec::from_slice(alloc, &[0x02, 0x80, length])?;
-    section.extend_from_slice(&program.to_be_bytes())?;
-    section.extend_from_slice(&[0x01, 0, 0, 0, 0, 0, 0])?;
+    let mut body = Vec::from_slice(alloc, &[0, 0, 0, 0])?;
     for stream in streams {
-        section.push(stream.0)?;
-        section.extend_from_slice(&stream.1.to_be_bytes())?;
-        section.extend_from_slice(&[0, 3, 0x52, 1, stream.2])?;
+        body.push(stream.0)?;
+        body.extend_from_slice(&stream.1.to_be_bytes())?;
+        body.extend_from_slice(&[0, 3, 0x52, 1, stream.2])?;
     }
-    with_crc(section)
+    table_section(alloc, 0x02, program, body.as_slice())
+}
+
+// A table in force, with its table_id_extension.
+fn table_section(
+    alloc: Global,
+    table_id: u8,
+    extension: u16,
+    body: &[u8],
+) -> Result<Vec<u8>, Unbuilt>
+    ensures intact { IfOk result (λ section. IsIntact section.items) }
+    ensures size { IfOk result (λ section. length section.items ≤ 4096) }
+{
+    let head = SectionHead {
+        table_id,
+        extension,
+        version: 0,
+        is_current: true,
+    };
+    section_with(alloc, head, body)
 }
 
 // A DownloadInfoIndication: its transaction, the size of a block, and the modules.
@@ -95,7 +121,8 @@ fn indication_of(
     block_size: u16,
     entries: &[Entry],
 ) -> Result<Vec<u8>, Unbuilt>
-    ensures { IfOk result (λ section. HasCrc section.items) }
+    ensures intact { IfOk result (λ section. IsIntact section.items) }
+    ensures size { IfOk result (λ section. length section.items ≤ 4096) }
 {
     let mut payload = Vec::new(alloc);
     payload.extend_from_slice(&[0, 0, 0, 1])?;
@@ -120,7 +147,8 @@ fn block_of(
     number: u16,
     block: &[u8],
 ) -> Result<Vec<u8>, Unbuilt>
-    ensures { IfOk result (λ section. HasCrc section.items) }
+    ensures intact { IfOk result (λ section. IsIntact section.items) }
+    ensures size { IfOk result (λ section. length section.items ≤ 4096) }
 {
     let mut payload = Vec::new(alloc);
     payload.extend_from_slice(&module.to_be_bytes())?;
@@ -130,7 +158,7 @@ fn block_of(
     message_section(alloc, 0x3C, 0x1003, 1, payload.as_slice())
 }
 
-// The section around a message's payload: its header, the message's header and the CRC_32.
+// The section of a message with this payload.
 fn message_section(
     alloc: Global,
     table_id: u8,
@@ -138,19 +166,35 @@ fn message_section(
     identifier: u32,
     payload: &[u8],
 ) -> Result<Vec<u8>, Unbuilt>
-    ensures { IfOk result (λ section. HasCrc section.items) }
+    ensures intact { IfOk result (λ section. IsIntact section.items) }
+    ensures size { IfOk result (λ section. length section.items ≤ 4096) }
 {
-    let section_length = short_length(payload.len().saturating_add(21))?.to_be_bytes();
-    let mut section = Vec::new(alloc);
-    section.extend_from_slice(&[table_id, 0x80 | section_length[0], section_length[1]])?;
-    section.extend_from_slice(&[0; 5])?;
-    section.extend_from_slice(&[0x11, 0x03])?;
-    section.extend_from_slice(&message_id.to_be_bytes())?;
-    section.extend_from_slice(&identifier.to_be_bytes())?;
-    section.extend_from_slice(&[0, 0])?;
-    section.extend_from_slice(&short_length(payload.len())?.to_be_bytes())?;
-    section.extend_from_slice(payload)?;
-    with_crc(section)
+    let mut message = Vec::from_slice(alloc, &[0x11, 0x03])?;
+    message.extend_from_slice(&message_id.to_be_bytes())?;
+    message.extend_from_slice(&identifier.to_be_bytes())?;
+    message.extend_from_slice(&[0, 0])?;
+    message.extend_from_slice(&short_length(payload.len())?.to_be_bytes())?;
+    message.extend_from_slice(payload)?;
+    let head = SectionHead {
+        table_id,
+        extension: 0,
+        version: 0,
+        is_current: false,
+    };
+    section_with(alloc, head, message.as_slice())
+}
+
+// The section with this body, where that isn't too long.
+fn section_with(alloc: Global, head: SectionHead, body: &[u8]) -> Result<Vec<u8>, Unbuilt>
+    requires version { head.version < 32 }
+    ensures intact { IfOk result (λ section. IsIntact section.items) }
+    ensures size { IfOk result (λ section. length section.items ≤ 4096) }
+{
+    if body.len() > LONGEST_BODY {
+        return Err(Unbuilt::Length);
+    }
+    let section = section_of(alloc, head, body)?;
+    Ok(section)
 }
 
 // A length as a field of two bytes has it.
@@ -161,14 +205,4 @@ fn short_length(length: usize) -> Result<u16, Unbuilt> {
 // A length as a field of one byte has it.
 fn byte_length(length: usize) -> Result<u8, Unbuilt> {
     u8::try_from(length).map_err(|_| Unbuilt::Length)
-}
-
-// The section that these bytes are without their CRC_32.
-fn with_crc(mut section: Vec<u8>) -> Result<Vec<u8>, Unbuilt>
-    ensures { IfOk result (λ whole. HasCrc whole.items) }
-{
-    crc_behind_its_message();
-    let crc = crc_of(section.as_slice()).to_be_bytes();
-    section.extend_from_slice(&crc)?;
-    Ok(section)
 }

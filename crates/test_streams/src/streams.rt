@@ -1,19 +1,16 @@
-//! Packets with continuity counters.
+//! Streams of some PIDs, each with its continuity counter.
 
-ghost use Rattle.std.specs.Prelude.{◌≡◌, ◌+◌, ◌++◌, length, OnOk};
-ghost use Rattle.std.specs.Io.{StartsWith};
+ghost use Rattle.std.specs.Prelude.{◌<◌};
 
-use crate::sections::{DATA_PID, Entry, Sent, section_of};
+use crate::sections::{DATA_PID, Entry, Sent};
 use crate::unbuilt::Unbuilt;
-use bml_bytes::NoMemory;
+use section_writer::{push_packet, push_section};
 use std::alloc::Global;
 
-/// The bytes of a packet.
-const PACKET_LENGTH: usize = 188;
-
-/// The payload that a packet has room for: all but its header, and its pointer_field where a unit starts.
+/// The bytes of a packet's payload.
 const PAYLOAD_LENGTH: usize = 184;
 
+/// What of a section the packet holds in which it begins behind a pointer_field.
 const UNIT_LENGTH: usize = 183;
 
 /// Packets, and for each PID below 512 the continuity counter of its next one.
@@ -52,8 +49,8 @@ impl Stream {
     /// packet in which the first one's ends.
     pub fn with_pointer(alloc: Global) -> Result<Stream, Unbuilt> {
         let indication = Sent::Indication(1, 519, &[Entry(1, 1, 529, &[])]);
-        let first = section_of(alloc, &Sent::Block(1, 1, 0, &[0x47; 519]))?;
-        let second = section_of(alloc, &Sent::Block(1, 1, 1, &[0x47; 10]))?;
+        let first = Sent::Block(1, 1, 0, &[0x47; 519]).section(alloc)?;
+        let second = Sent::Block(1, 1, 1, &[0x47; 10]).section(alloc)?;
         let (one, rest) = split(first.as_slice(), UNIT_LENGTH)?;
         let (two, three) = split(rest, PAYLOAD_LENGTH)?;
         let (start, four) = split(second.as_slice(), 1)?;
@@ -61,60 +58,55 @@ impl Stream {
         last.extend_from_slice(start)?;
         let mut stream = Stream::new(alloc);
         stream.push_sent(&indication)?;
-        stream.push_packet(DATA_PID, Some(0), one)?;
-        stream.push_packet(DATA_PID, None, two)?;
-        stream.push_packet(DATA_PID, Some(182), last.as_slice())?;
-        stream.push_packet(DATA_PID, None, four)?;
+        stream.push_data(Some(0), one)?;
+        stream.push_data(None, two)?;
+        stream.push_data(Some(182), last.as_slice())?;
+        stream.push_data(None, four)?;
         Ok(stream)
     }
 
-    /// Appends a section on its PID.
+    /// Appends a section on its PID, in packets of its own.
     pub fn push_sent(&mut self, sent: &Sent) -> Result<(), Unbuilt> {
-        let section = section_of(self.alloc, sent)?;
-        self.push_section(sent.pid(), section.as_slice())
-    }
-
-    /// Appends a section on a PID, in packets of its own.
-    pub fn push_section(&mut self, pid: u16, section: &[u8]) -> Result<(), Unbuilt> {
-        let front = section.get(..UNIT_LENGTH).unwrap_or(section);
-        self.push_packet(pid, Some(0), front)?;
-        let back = section.get(UNIT_LENGTH..).unwrap_or(&[]);
-        for part in back.chunks(PAYLOAD_LENGTH) {
-            self.push_packet(pid, None, part)?;
-        }
+        let section = sent.section(self.alloc)?;
+        let pid = sent.pid();
+        let counter = self.counter_of(pid);
+        let next = push_section(self.alloc, &mut self.bytes, pid, counter, section.as_slice())?;
+        self.go_on(pid, next);
         Ok(())
     }
 
-    /// Appends a packet with this payload, and 0xFF behind it. With a pointer_field a unit starts in it.
-    pub fn push_packet(
-        &mut self,
-        pid: u16,
-        pointer: Option<u8>,
-        payload: &[u8],
-    ) -> Result<(), NoMemory> {
-        let start = if pointer.is_some() { 0x4000 } else { 0x0000 };
-        let end = self.bytes.len().saturating_add(PACKET_LENGTH);
-        let counter = self.next_counter(pid);
-        self.bytes.push(0x47)?;
-        self.bytes.extend_from_slice(&(start | pid).to_be_bytes())?;
-        self.bytes.push(0x10 | counter)?;
+    // Appends a packet of the data with these bytes, and 0xFF behind them. With a pointer_field a unit starts in it.
+    fn push_data(&mut self, pointer: Option<u8>, bytes: &[u8]) -> Result<(), Unbuilt> {
+        let mut payload = Vec::new(self.alloc);
         if let Some(place) = pointer {
-            self.bytes.push(place)?;
+            payload.push(place)?;
         }
-        self.bytes.extend_from_slice(payload)?;
-        self.bytes.resize(end, 0xFF)?;
+        payload.extend_from_slice(bytes)?;
+        if payload.len() > PAYLOAD_LENGTH {
+            return Err(Unbuilt::Length);
+        }
+        payload.resize(PAYLOAD_LENGTH, 0xFF)?;
+        let counter = self.counter_of(DATA_PID);
+        let starts = pointer.is_some();
+        push_packet(&mut self.bytes, DATA_PID, counter, starts, payload.as_slice())?;
+        self.go_on(DATA_PID, counter + 1);
         Ok(())
     }
 
-    // The continuity counter of the next packet on a PID below 512; on others it is always 0.
-    fn next_counter(&mut self, pid: u16) -> u8 {
-        match self.counters.get_mut(usize::from(pid)) {
+    // The continuity counter of the next packet on a PID below 512.
+    fn counter_of(&self, pid: u16) -> u8
+        ensures { result < 16 }
+    {
+        match self.counters.get(usize::from(pid)) {
             None => 0,
-            Some(counter) => {
-                let next = *counter & 0x0F;
-                *counter = next.wrapping_add(1);
-                next
-            }
+            Some(counter) => *counter & 0x0F,
+        }
+    }
+
+    // This is the continuity counter of the next packet on a PID below 512.
+    fn go_on(&mut self, pid: u16, next: u8) {
+        if let Some(counter) = self.counters.get_mut(usize::from(pid)) {
+            *counter = next;
         }
     }
 }
