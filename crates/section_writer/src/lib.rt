@@ -13,8 +13,6 @@ mod packets;
 mod sections;
 
 pub use crate::heads::SectionHead;
-pub use crate::laws::{
-    law_of_carried_sections, law_of_written_sections, law_of_written_streams,
-};
+pub use crate::laws::{law_of_carried_sections, law_of_written_sections, law_of_written_streams};
 pub use crate::packets::{push_packet, push_section};
 pub use crate::sections::section_of;

@@ -70,7 +70,13 @@ impl Stream {
         let section = sent.section(self.alloc)?;
         let pid = sent.pid();
         let counter = self.counter_of(pid);
-        let next = push_section(self.alloc, &mut self.bytes, pid, counter, section.as_slice())?;
+        let next = push_section(
+            self.alloc,
+            &mut self.bytes,
+            pid,
+            counter,
+            section.as_slice(),
+        )?;
         self.go_on(pid, next);
         Ok(())
     }
@@ -88,7 +94,13 @@ impl Stream {
         payload.resize(PAYLOAD_LENGTH, 0xFF)?;
         let counter = self.counter_of(DATA_PID);
         let starts = pointer.is_some();
-        push_packet(&mut self.bytes, DATA_PID, counter, starts, payload.as_slice())?;
+        push_packet(
+            &mut self.bytes,
+            DATA_PID,
+            counter,
+            starts,
+            payload.as_slice(),
+        )?;
         self.go_on(DATA_PID, counter + 1);
         Ok(())
     }
