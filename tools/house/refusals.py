@@ -72,6 +72,7 @@ MADE = {
     "receiver_core": "each row",
     "replay_run": "each row; of `replay_files` the rows `generated-streams`",
     "persistent_arrays": "`array_tests`; rows of `arrays`",
+    "section_writer": "`carousel_tests`; rows of `generated-streams`",
     "carousel_writer": "`carousel_tests`; rows of `generated-streams`",
     "file_generator": "`carousel_tests`; rows of `generated-streams`",
 }

@@ -8,7 +8,7 @@
 //! messages and entities take. These are rows of `tables/`, and runs in `replay_tests`.
 //!
 //! They stand here since a crate with tests is proved twice, and these libraries are proved once. A
-//! file has the tests of one library, but for `packets`, which has those of two.
+//! file has the tests of one library, but for `packets`, which has those of three.
 #![tactic(auto)]
 
 #[cfg(test)]

@@ -1,6 +1,7 @@
-//! Tests of `ts_packets` and `ts_sections`: a packet written out by hand, and a stream of which this
-//! page says which packets and sections it has.
+//! Tests of `ts_packets`, `ts_sections` and `section_writer`: a packet and a section written out by hand, and a
+//! stream of which this page says which packets and sections it has.
 
+use section_writer::{SectionHead, push_section, section_of};
 use std::alloc::{AllocError, Global};
 use std::test::Fail;
 use test_streams::Stream;
@@ -55,5 +56,31 @@ fn packets_and_their_sections(rt: HostRuntime) -> Result<(), Fail> {
     for section in sections.iter() {
         assert!(rt; is_intact(section.as_slice()));
     }
+    Ok(())
+}
+
+// A PAT of version 3, in force, with one program; its CRC_32 is from another program.
+const ASSOCIATION: [u8; 16] = [
+    0x00, 0x80, 0x0D, 0x12, 0x34, 0x07, 0x00, 0x00, 0x00, 0x01, 0xE1, 0xF0, 0xA7, 0xA8, 0x94, 0x60,
+];
+
+// The packet behind the one with counter 15 has counter 0.
+#[test]
+fn a_section_in_its_packet(rt: HostRuntime) -> Result<(), Fail> {
+    let alloc = rt.alloc();
+    let head = SectionHead {
+        table_id: 0,
+        extension: 0x1234,
+        version: 3,
+        is_current: true,
+    };
+    let section = section_of(alloc, head, &[0x00, 0x01, 0xE1, 0xF0])?;
+    assert!(rt; section.as_slice() == ASSOCIATION);
+    let mut packet = Vec::new(alloc);
+    let next = push_section(alloc, &mut packet, 0x1ABC, 15, section.as_slice())?;
+    assert!(rt; next == 0 && packet.len() == 188);
+    assert!(rt; packet.as_slice().get(..5) == Some([0x47, 0x5A, 0xBC, 0x1F, 0x00].as_slice()));
+    assert!(rt; packet.as_slice().get(5..21) == Some(ASSOCIATION.as_slice()));
+    assert!(rt; packet.as_slice().get(21) == Some(&0xFF));
     Ok(())
 }

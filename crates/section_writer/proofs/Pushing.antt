@@ -1,5 +1,7 @@
 -- How the packets of payloads are appended one by one.
 use Rattle.std.proofs.Common.{◌≡◌, ℕ, zero, suc, ◌+◌, ◌/◌, ◌%◌, ◌<◌, ◌≤◌, Bool, true, false, List, [], ◌∷◌, ◌++◌, length, take, drop, refl, sym, ap, subst, ◌∙◌, arith, append_assoc, append-nil, length-drop, if◌then◌else◌}
+use Rattle.std.specs.Io.{StartsWith}
+use Rattle.std.proofs.lemmas.List.{length-take, take-append-drop, take-append-le}
 use Rattle.section_writer.specs.Packets.{PacketContent, packet_bytes, packets_from, cut_contents, packet_count, stuffed, section_contents, laid}
 use Rattle.section_writer.specs.devices.Appending.{Appends}
 use Rattle.section_writer.proofs.ContentLaws.{fill}
@@ -64,3 +66,10 @@ Appends-section old new section payloads pid counter next e h =
     let count : length payloads / 184 ≡ packet_count section = omega (arith, ap length e, fill section) in
     let same : cut_contents true (length payloads / 184) payloads ≡ section_contents section = ap (λ n. cut_contents true n payloads) count ∙ ap (cut_contents true (packet_count section)) e in
     subst (λ l. Appends old new pid counter l next) same h
+
+-- what begins with a list that begins with another begins with this one
+pub begins : (old between new : List ℕ) → StartsWith between old → StartsWith new between → StartsWith new old
+begins old between new h k =
+    let short : length old ≤ length between = omega (arith, sym (ap (length {A = ℕ}) h), length-take (length old) between) in
+    let whole : between ++ drop (length between) new ≡ new = ap (λ (front : List ℕ). front ++ drop (length between) new) (sym k) ∙ take-append-drop (length between) new in
+    ap (take (length old)) (sym whole) ∙ take-append-le (length old) between (drop (length between) new) short ∙ h

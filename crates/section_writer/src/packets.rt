@@ -1,6 +1,7 @@
 //! Sections in packets of their own.
 
 ghost use Rattle.std.specs.Prelude.{◌≡◌, ◌≢◌, ◌<◌, ◌≤◌, ◌∷◌, ◌++◌, ◌+◌, ◌%◌, ◌/◌, ℕ, List, [], length, OnOk, IfOk, true};
+ghost use Rattle.std.specs.Io.{StartsWith};
 ghost use Rattle.ts_packets.specs.Packets.{packets_of};
 ghost use Rattle.section_writer.specs.Packets.{cut_contents, laid, packet_bytes, packet_count, packets_from, section_contents, stuffed};
 ghost use Rattle.section_writer.specs.Received.{Carries, IsCutWhole, IsStreamOf};
@@ -15,7 +16,8 @@ const PAYLOAD_LENGTH: usize = 184;
 
 /// Appends a section in packets of its own on a PID, and tells the counter with which this PID goes on (ISO/IEC 13818-1,
 /// 2.4.3.3 and 2.4.4.1). Bytes that are packets of these sections stay packets, of these sections and this one behind
-/// them; and other PIDs carry what they did.
+/// them; and other PIDs carry what they did. After `NoMemory` what `out` held may be followed by a beginning of the
+/// packets.
 pub fn push_section(
     alloc: Global,
     out: &mut Vec<u8>,
@@ -38,6 +40,7 @@ pub fn push_section(
         → Carries out.new.items pid next (sent ++ section.now ∷ [])) }
     ensures others { IfOk result (λ _. (other behind : ℕ) (sent : List (List ℕ)) → other ≢ pid
         → Carries out.old.items other behind sent → Carries out.new.items other behind sent) }
+    ensures grows { StartsWith out.new.items out.old.items }
 {
     laws_below();
     let next = push_contents(alloc, out, pid, counter, section)?;
@@ -55,8 +58,9 @@ fn push_contents(
     requires pid { pid < 8192 }
     requires counter { counter < 16 }
     requires short { length section.now ≤ 4096 }
-    ensures { IfOk result (λ next.
+    ensures appended { IfOk result (λ next.
         Appends out.old.items out.new.items pid counter (section_contents section.now) next) }
+    ensures grows { StartsWith out.new.items out.old.items }
 {
     let payloads = payloads_of(alloc, section)?;
     push_payloads(out, pid, counter, payloads.as_slice())
@@ -80,8 +84,9 @@ fn push_payloads(out: &mut Vec<u8>, pid: u16, counter: u8, payloads: &[u8]) -> R
     requires pid { pid < 8192 }
     requires counter { counter < 16 }
     requires whole { length payloads.now % 184 ≡ 0 }
-    ensures { IfOk result (λ next. Appends out.old.items out.new.items pid counter
+    ensures appended { IfOk result (λ next. Appends out.old.items out.new.items pid counter
         (cut_contents true (length payloads.now / 184) payloads.now) next) }
+    ensures grows { StartsWith out.new.items out.old.items }
 {
     let mut next = counter;
     let mut starts = true;
@@ -97,7 +102,7 @@ fn push_payloads(out: &mut Vec<u8>, pid: u16, counter: u8, payloads: &[u8]) -> R
 
 /// Appends a packet with this payload, in which a unit may start; then the payload begins with a pointer_field (ISO/IEC
 /// 13818-1, 2.4.3.2 and 2.4.4.1). It has no adaptation field and isn't scrambled. Behind packets without rest it is one
-/// more.
+/// more. After `NoMemory` what `out` held may be followed by a beginning of the packet.
 pub fn push_packet(
     out: &mut Vec<u8>,
     pid: u16,
@@ -113,6 +118,7 @@ pub fn push_packet(
     ensures cut { OnOk result (IsCutWhole out.old.items
         → packets_of out.new.items ≡ packets_of out.old.items
         ++ packet_bytes pid counter (record { starts = starts; payload = payload.now }) ∷ []) }
+    ensures grows { StartsWith out.new.items out.old.items }
 {
     laws_below();
     append_packet(out, pid, counter, starts, payload)?;
@@ -129,8 +135,9 @@ fn append_packet(
 ) -> Result<(), NoMemory>
     requires pid { pid < 8192 }
     requires counter { counter < 16 }
-    ensures { OnOk result (out.new.items ≡ out.old.items
+    ensures bytes { OnOk result (out.new.items ≡ out.old.items
         ++ packet_bytes pid counter (record { starts = starts; payload = payload.now })) }
+    ensures grows { StartsWith out.new.items out.old.items }
 {
     let start = if starts { 0x40 } else { 0x00 };
     let [high, low] = pid.to_be_bytes();
