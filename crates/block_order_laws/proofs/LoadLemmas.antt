@@ -1,7 +1,6 @@
 -- The next load of a page, as a function of what its modules offer. What isn't waited for stays, so a load that is there stays.
 use Rattle.std.proofs.Common.{◌≡◌, ℕ, Bool, true, false, ◌&&◌, List, [], ◌∷◌, map, refl, sym, ap, ap₂, ◌∙◌, subst, if◌then◌else◌}
 use Rattle.std.specs.Prelude.{◌≢◌, All, Option, Some, None, option_map, option_and_then, Result, Ok, Err}
-use Rattle.std.specs.List.{list_all}
 use Rattle.std.proofs.lemmas.Bool.{and_parts}
 use Rattle.std.proofs.lemmas.List.Elements.{All-cons, All-nil}
 use Rattle.dom_tree.specs.Items.{Item}

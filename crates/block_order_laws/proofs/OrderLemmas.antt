@@ -1,5 +1,5 @@
 -- Sections one after the other, up to the first whose turn makes a dispatch, and two lists of them.
-use Rattle.std.proofs.Common.{◌≡◌, ℕ, Bool, true, List, [], ◌∷◌, ◌++◌, ◌⊎◌, inl, inr, refl, sym, ap, ap₂, ◌∙◌, subst, if◌then◌else◌}
+use Rattle.std.proofs.Common.{◌≡◌, ℕ, Bool, List, [], ◌∷◌, ◌++◌, ◌⊎◌, inl, inr, refl, sym, ap, ap₂, ◌∙◌, subst, if◌then◌else◌}
 use Rattle.std.specs.Prelude.{◌≢◌, All, Option, Some, None}
 use Rattle.std.proofs.lemmas.List.Elements.{All-cons, All-nil, Contains-append_left, Contains-append_right}
 use Rattle.dsmcc_messages.specs.declared.dii.Dii.{Dii}
@@ -16,7 +16,7 @@ use Rattle.page.specs.State as page
 use Rattle.receiver_core.specs.Outputs.{Piece, piece_of, pieces_of_turns, state_behind_turns, texts_of}
 use Rattle.receiver_core.specs.State.{State, services}
 use Rattle.receiver_core.specs.Turns.{step_of_section, turn}
-use Rattle.block_order_laws.specs.FirstLoads.{Agree, AreQuiet, AwaitsDocument, ComeToSameLoad, ComesToLoad, ComeToTheSame, HasModuleLines, MakeNoDispatch, OfferTheSame, StayTheSame, page_amid_turn}
+use Rattle.block_order_laws.specs.FirstLoads.{Agree, AreQuiet, AwaitsDocument, ComesToLoad, ComeToTheSame, HasModuleLines, OfferTheSame, page_amid_turn}
 use Rattle.block_order_laws.specs.Loads.{IsNextLoad, Load}
 use Rattle.block_order_laws.proofs.LoadLemmas.{Settles, load_now, next_load_is, no_dispatch, no_load, now_stays, same_load}
 use Rattle.block_order_laws.proofs.SectionLemmas.{IsQuietStep, TableLaws, is_wanted, module_lines, steps, still_awaits, turns}
@@ -75,19 +75,19 @@ loads_stay laws dii tag wanted l (section ∷ sections) modules messages its is 
     (now_stays modules (with_section tag section modules) settles wanted l now)
 
 -- no section makes a dispatch, and this is what they leave; no document can be loaded still
-record AllQuiet (s : State) (pid tag : ℕ) (sections : List (List ℕ)) : Type 0 where
+pub record AllQuiet (s : State) (pid tag : ℕ) (sections : List (List ℕ)) : Type 0 where
   pub quiet : AreQuiet pid tag sections s
   pub page_is : (state_behind_turns pid sections s).page ≡ page.with_modules (modules_after s.page.modules tag sections) s.page
   pub services_are : services (state_behind_turns pid sections s) ≡ services s
   pub no_load : load_now s.page.wanted (modules_after s.page.modules tag sections) ≡ None
 
 -- one of them comes to the load that is there after all
-record OneLoads (s : State) (pid tag : ℕ) (sections : List (List ℕ)) : Type 0 where
+pub record OneLoads (s : State) (pid tag : ℕ) (sections : List (List ℕ)) : Type 0 where
   pub load : Load
   pub comes : ComesToLoad pid tag sections s load
   pub now : load_now s.page.wanted (modules_after s.page.modules tag sections) ≡ Some load
 
-abbrev Came : State → ℕ → ℕ → List (List ℕ) → Type 0
+abbrev pub Came : State → ℕ → ℕ → List (List ℕ) → Type 0
 Came s pid tag sections = OneLoads s pid tag sections ⊎ AllQuiet s pid tag sections
 
 module _ (tables : TableLaws) (laws : SettledLaws) (dii : Dii) (pid tag : ℕ) where

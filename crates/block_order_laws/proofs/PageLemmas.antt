@@ -1,5 +1,5 @@
 -- A page without a document: changes in modules print their lines alone, and event messages nothing.
-use Rattle.std.proofs.Common.{◌≡◌, ℕ, List, [], ◌∷◌, ◌++◌, map, refl, sym, ap, ◌∙◌, append-nil}
+use Rattle.std.proofs.Common.{◌≡◌, ℕ, List, [], ◌∷◌, map, refl, ap, ◌∙◌, append-nil}
 use Rattle.std.specs.Prelude.{Option, Some, None, option_and_then}
 use Rattle.std.specs.List.{flat_map}
 use Rattle.std.specs.Option.{option_or, option_map_or}
@@ -10,7 +10,7 @@ use Rattle.acting_documents.specs.Documents.{Document}
 use Rattle.acting_documents.specs.Handling.{change_effect, message_effect}
 use Rattle.acting_documents.specs.Runs.{Effect, Scene}
 use Rattle.page.specs.Dispatches.{dispatch, dispatches, event_in, most_dispatches, next_and, next_load, turn}
-use Rattle.page.specs.Inputs.{change_step, changes_step, document_step, each_step, message_step, messages_step}
+use Rattle.page.specs.Inputs.{change_step, changes_step, document_step, message_step, messages_step}
 use Rattle.page.specs.State.{State, Step, scene_in, step_behind, step_of, still}
 
 abbrev step_with : State → List ℕ → Step

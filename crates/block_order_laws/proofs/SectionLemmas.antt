@@ -1,6 +1,6 @@
 -- What one section of a component changes where no document is there, and its turn where this makes no dispatch.
-use Rattle.std.proofs.Common.{◌≡◌, ℕ, Bool, true, false, ◌||◌, List, [], ◌∷◌, ◌++◌, map, refl, sym, ap, ap₂, ◌∙◌, subst, append-nil, if◌then◌else◌}
-use Rattle.std.specs.Prelude.{◌≢◌, All, Option, Some, None, is_some}
+use Rattle.std.proofs.Common.{◌≡◌, ℕ, Bool, true, false, ◌||◌, List, [], ◌∷◌, ◌++◌, refl, sym, ap, ap₂, ◌∙◌, subst, append-nil, if◌then◌else◌}
+use Rattle.std.specs.Prelude.{All, Option, Some, None, is_some}
 use Rattle.std.specs.List.{flat_map}
 use Rattle.std.specs.Option.{option_map_or}
 use Rattle.std.proofs.lemmas.List.Elements.{All-head, All-tail}
@@ -10,22 +10,18 @@ use Rattle.psi_tables.specs.declared.services.Selection.{Selection}
 use Rattle.psi_tables.specs.Components.{tag_in}
 use Rattle.psi_tables.specs.History.{Handled, map_of, service_of}
 use Rattle.psi_tables.specs.Service.{ServicesState, reads_table}
-use Rattle.dsmcc_messages.specs.declared.dii.Dii.{Dii}
 use Rattle.carousel_blocks.specs.declared.changes.Change.{Change}
 use Rattle.carousel_blocks.specs.declared.changes.ChangeLine.{ChangeLine}
-use Rattle.carousel_blocks.specs.InForce.{in_force}
 use Rattle.carousel_blocks.specs.Message.{Message, messages_of}
 use Rattle.module_store.specs.Lines.{line_of_change, line_with}
 use Rattle.module_store.specs.Store.{messages_of_component}
-use Rattle.module_locks.specs.Locks.{Modules, changes_by, with_section}
-use Rattle.carousel_laws.specs.Freedom.{OnlyRepeat}
+use Rattle.module_locks.specs.Locks.{changes_by, with_section}
 use Rattle.carousel_laws.specs.Services.{IsDelivery}
 use Rattle.page.specs.Dispatches as dispatches
-use Rattle.page.specs.Inputs.{changes_step, messages_step}
 use Rattle.page.specs.State as page
 use Rattle.receiver_core.specs.State.{State, services, wants}
-use Rattle.receiver_core.specs.Turns.{Step, of_page, section_messages, step_of_component, step_of_modules, step_of_section, step_of_table, step_of_tag, turn, with_handled, with_messages, with_modules}
-use Rattle.block_order_laws.specs.FirstLoads.{AwaitsDocument, Delivery, HasModuleLines, module_line, page_amid_turn}
+use Rattle.receiver_core.specs.Turns.{Step, of_page, section_messages, step_of_component, step_of_section, step_of_table, step_of_tag, turn, with_handled, with_messages, with_modules}
+use Rattle.block_order_laws.specs.FirstLoads.{AwaitsDocument, Delivery, HasModuleLines, page_amid_turn}
 use Rattle.block_order_laws.proofs.PageLemmas as quiet
 
 -- the laws of services that are used

@@ -1,6 +1,6 @@
 -- Sections of a component that come to a receiver before a document is there, up to the first whose turn makes a
 -- dispatch. (This project's own, after ARIB STD-B24, volumes 2 and 3.)
-use Rattle.std.specs.Prelude.{◌≡◌, ◌×◌, ◌⊎◌, ℕ, false, List, [], ◌∷◌, ◌++◌, All, Some, None}
+use Rattle.std.specs.Prelude.{◌≡◌, ◌⊎◌, ℕ, false, List, [], ◌∷◌, ◌++◌, All, Some, None}
 use Rattle.std.specs.List.{flat_map}
 use Rattle.psi_tables.specs.Components.{tag_in}
 use Rattle.psi_tables.specs.Service.{reads_table}
@@ -15,7 +15,7 @@ use Rattle.page.specs.Dispatches.{dispatch}
 use Rattle.page.specs.State as page
 use Rattle.receiver_core.specs.Outputs.{pieces_of_turns, state_behind_turns, texts_of}
 use Rattle.receiver_core.specs.State.{State, services}
-use Rattle.receiver_core.specs.Turns.{Step, step_of_section, turn}
+use Rattle.receiver_core.specs.Turns.{step_of_section, turn}
 use Rattle.block_order_laws.specs.Loads.{IsNextLoad, Load}
 
 -- No document is there, and a turn makes no dispatch. The PID is that of a component, to which these messages came.
