@@ -26,7 +26,7 @@ OrderLaw = (messages first second : List Message) (dii : Dii) (number : ℕ)
 
 -- ---- what a list has
 
-first_there : {X : Type 0} (x : X) (xs : List X) → Contains (x ∷ xs) x
+pub first_there : {X : Type 0} (x : X) (xs : List X) → Contains (x ∷ xs) x
 first_there x xs = (0, omega arith, refl)
 
 further_there : {X : Type 0} (y : X) (xs : List X) (x : X) → Contains xs x → Contains (y ∷ xs) x
@@ -46,6 +46,18 @@ first_or_further {X = X} y xs x there = by (Contains-append_cases (y ∷ []) xs 
   by (inr more) = inr more
 
 -- ---- the DIIs
+
+one_there : {X : Type 0} (x : X) (xs : List X) (y : X) → Contains (x ∷ []) y → Contains (x ∷ xs) y
+one_there x xs y there = by (first_or_further x [] y there) where
+  by : (x ≡ y) ⊎ Contains [] y → Contains (x ∷ xs) y
+  by (inl same) = subst (λ z. Contains (x ∷ xs) z) same (first_there x xs)
+  by (inr none) = absurd (none_there y none)
+
+pub first_repeats : (transaction : ℕ) (section : List ℕ) (sections : List (List ℕ)) → OnlyRepeat transaction (section ∷ sections) → OnlyRepeat transaction (section ∷ [])
+first_repeats transaction section sections repeat = λ other dii there. repeat other dii (one_there section sections other there)
+
+pub others_repeat : (transaction : ℕ) (section : List ℕ) (sections : List (List ℕ)) → OnlyRepeat transaction (section ∷ sections) → OnlyRepeat transaction sections
+others_repeat transaction section sections repeat = λ other dii there. repeat other dii (further_there section sections other there)
 
 pub only_repeats : ReadingLaw → (transaction : ℕ) (sections : List (List ℕ)) → OnlyRepeat transaction sections → OnlyRepeats transaction (messages_of sections)
 only_repeats law transaction [] repeat = tt
@@ -129,7 +141,7 @@ same_blocks law first second same = λ block. (
 
 -- ---- one reading
 
-find_passes : {X : Type 0} (test : X → Bool) (xs : List X) (x : X) → find test xs ≡ Some x → test x ≡ true
+pub find_passes : {X : Type 0} (test : X → Bool) (xs : List X) (x : X) → find test xs ≡ Some x → test x ≡ true
 find_passes test [] x is = absurd cc
 find_passes test (y ∷ xs) x is = by (test y) refl (find_passes test xs x) is where
   by : (t : Bool) → test y ≡ t → (find test xs ≡ Some x → test x ≡ true) → cond t (Some y) (find test xs) ≡ Some x → test x ≡ true

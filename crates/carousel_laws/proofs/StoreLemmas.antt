@@ -8,7 +8,7 @@ use Rattle.carousel_blocks.specs.Message.{Message, message_of, messages_of}
 use Rattle.carousel_blocks.specs.InForce.{in_force, standing_of}
 use Rattle.carousel_blocks.specs.Held.{bytes_held}
 use Rattle.multipart_entities.specs.declared.paths.Path.{Path}
-use Rattle.module_store.specs.Resources.{look, look_by, look_behind, look_in, info_in_force, start_component, start_name, start_path}
+use Rattle.module_store.specs.Resources.{look, look_by, look_behind, look_in, info_in_force, presence, presence_at, presence_in, start_component, start_name, start_path}
 use Rattle.module_store.specs.Store.{Followed, Stored, component_in, followed_with, held_in, messages_of_component, with_section}
 use Rattle.carousel_laws.specs.Freedom.{Repeats}
 use Rattle.carousel_laws.specs.Stores.{stored_after}
@@ -17,11 +17,11 @@ use Rattle.carousel_laws.proofs.SectionLemmas.{ReadingLaw, OrderLaw, same_held, 
 -- ---- the messages of a component after sections
 
 -- the messages of these sections after those of the component, where they are its own
-abbrev with_messages : Bool → List (List ℕ) → Option (List Message) → Option (List Message)
+abbrev pub with_messages : Bool → List (List ℕ) → Option (List Message) → Option (List Message)
 with_messages true sections before = option_map (λ messages. messages ++ messages_of sections) before
 with_messages false sections before = before
 
-after_one : (tag other : ℕ) (section : List ℕ) (components : List Followed)
+pub after_one : (tag other : ℕ) (section : List ℕ) (components : List Followed)
     → option_map (λ (c : Followed). c.messages) (component_in (map (followed_with tag section) components) other)
     ≡ with_messages (other == tag) (section ∷ []) (option_map (λ (c : Followed). c.messages) (component_in components other))
 after_one tag other section [] = by (other == tag) where
@@ -50,6 +50,14 @@ after_one tag other section (c ∷ components) = by (c.tag == tag) refl (c.tag =
       ap (λ b. option_map (λ (d : Followed). d.messages) (cond b (Some c) rest)) found
       ∙ as_told false (ne_eqb other tag (λ q. eqb-false c.tag tag own (eqb-true c.tag other found ∙ q)))
   by false own false found again = ap (λ b. option_map (λ (d : Followed). d.messages) (cond b (Some c) rest)) found ∙ again
+
+-- those of the component itself
+pub after_its_own : (tag : ℕ) (section : List ℕ) (stored : Stored) (messages : List Message) → messages_of_component stored tag ≡ Some messages
+    → messages_of_component (with_section tag section stored) tag ≡ Some (messages ++ messages_of (section ∷ []))
+after_its_own tag section stored messages its =
+    after_one tag tag section stored.components
+    ∙ ap (λ t. with_messages t (section ∷ []) (messages_of_component stored tag)) (eq-eqb tag tag refl)
+    ∙ ap (with_messages true (section ∷ [])) its
 
 after_more : (t : Bool) (section : List ℕ) (sections : List (List ℕ)) (before : Option (List Message))
     → with_messages t sections (with_messages t (section ∷ []) before) ≡ with_messages t (section ∷ sections) before
@@ -121,7 +129,7 @@ pub looks_alike : ReadingLaw → OrderLaw → (stored : Stored) (tag : ℕ) (mes
 looks_alike law order stored tag messages dii first second path is r =
     same_of (λ x. look_in x path.module path.name) (look_alike path.module path.name) law order stored tag messages dii first second path.component is r
 
-abbrev path_with : Option (List ℕ) → Path
+abbrev pub path_with : Option (List ℕ) → Path
 path_with info = record { component = start_component; «module» = 0; name = start_name info }
 
 pub start_alike : ReadingLaw → OrderLaw → (stored : Stored) (tag : ℕ) (messages : List Message) (dii : Dii) (first second : List (List ℕ))
@@ -131,3 +139,11 @@ start_alike law order stored tag messages dii first second is r =
     same_of (λ x. path_with (option_and_then (λ messages. info_in_force messages 0) x))
     (λ one other a. ap (λ force. path_with (option_map (λ entry. entry.info) (option_map (λ s. s.entry) (standing_of force 0)))) a.force)
     law order stored tag messages dii first second start_component is r
+
+pub presence_alike : ReadingLaw → OrderLaw → (stored : Stored) (tag : ℕ) (messages : List Message) (dii : Dii) (first second : List (List ℕ)) (component number : ℕ)
+    → messages_of_component stored tag ≡ Some messages → Repeats messages dii first second
+    → presence (stored_after stored tag first) component number ≡ presence (stored_after stored tag second) component number
+presence_alike law order stored tag messages dii first second component number is r =
+    same_of (λ x. presence_in x number)
+    (λ one other a. ap (λ force. presence_at (standing_of force number) (bytes_held one number)) a.force ∙ ap (presence_at (standing_of (in_force other) number)) (a.held number))
+    law order stored tag messages dii first second component is r

@@ -1,2 +1,3 @@
 pub mod Freedom
 pub mod Stores
+pub mod Services

@@ -1,0 +1,4 @@
+pub mod PageLemmas
+pub mod LoadLemmas
+pub mod SectionLemmas
+pub mod OrderLemmas
