@@ -21,6 +21,8 @@ What a run has to come to:
 | a store of what is kept | 6 | whole pieces | as behind them, or behind the next one |
 | nothing, but the program is killed in a store | by the signal | whole pieces | the same |
 | an allocation | 9 | whole pieces | as behind them |
+| an allocation of a call that opens or stores a file | 3 or 6 | as where this call fails | the same |
+| an allocation that the program can do without | 0 | all | as behind all |
 
 Two packets whose sections end in one turn each are pieces of their own; a packet with several turns counts as one piece here. So a case has its sections
 in packets of their own. Printed are for each case its pieces, and how many runs of which kind went well; each that went wrong is named. Status: 0 where all
@@ -48,7 +50,7 @@ DEFAULT = ["example document", "items: repetitions: a repetition", "arrays: docu
 NEW = f"{KEPT}.new"
 MOST_SECONDS = 60  # for each run
 TOLD = {3: b"open fault\n", 4: b"read fault\n", 5: b"write fault\n", 6: b"keep fault\n", 9: b"no memory\n"}
-OPENED, READ, WRITTEN, LOADED, STORED, NO_MEMORY = 3, 4, 5, 6, 6, 9
+STATUSES = {"nothing": 0, "opening": 3, "read": 4, "write": 5, "load": 6, "store": 6, "refused": 9, "kill": -signal.SIGKILL}
 CALLS = "openat,open,creat,read,readv,pread64,write,writev,pwrite64,fsync,fdatasync,rename,renameat,renameat2,fstat,stat,statx,newfstatat,lseek,ftruncate"
 
 
@@ -154,18 +156,23 @@ def what_fails(name, path, store):
 
 def is_right(what, ended, pieces):
     """Whether a run in which this failed came to what it has to."""
-    status = {"opening": OPENED, "read": READ, "write": WRITTEN, "load": LOADED, "store": STORED, "allocation": NO_MEMORY, "kill": -signal.SIGKILL}[what]
-    if ended.status != status or ended.stderr != TOLD.get(status, b""):
+    if what == "allocation":
+        return any(is_right(other, ended, pieces) for other in ("refused", "opening", "load", "store", "nothing"))
+    if ended.status != STATUSES[what] or ended.stderr != TOLD.get(ended.status, b""):
         return False
     if what in ("opening", "load"):
         return ended.stdout == b"" and ended.kept == pieces[0][1]
-    pairs = list(zip(pieces, [*pieces[1:], (None, None)]))
+    if what in ("read", "refused"):
+        return (ended.stdout, ended.kept) in pieces
+    return any(is_between(what, ended, *pair) for pair in zip(pieces, pieces[1:])) or (what == "nothing" and (ended.stdout, ended.kept) == pieces[-1])
+
+
+def is_between(what, ended, piece, following):
+    """Whether a run ended with what was written and kept at a piece, and with what a failure on the way to the following one leaves."""
+    (text, kept), (next_text, next_kept) = piece, following
     if what == "write":
-        return any(text <= ended.stdout < next_text and next_text.startswith(ended.stdout) and ended.stdout.startswith(text) and ended.kept == kept
-                   for (text, _), (next_text, kept) in pairs[:-1])
-    if what in ("store", "kill"):
-        return any(ended.stdout == text and ended.kept in (kept, next_kept) for (text, kept), (_, next_kept) in pairs[:-1])
-    return (ended.stdout, ended.kept) in pieces
+        return ended.stdout.startswith(text) and next_text.startswith(ended.stdout) and ended.stdout != next_text and ended.kept == next_kept
+    return what in ("store", "kill") and ended.stdout == text and ended.kept in (kept, next_kept)
 
 
 def runs_of(room, library):
@@ -189,11 +196,12 @@ def try_case(room, library):
     well, wrong = collections.Counter(), 0
     for what, said, ended in runs_of(room, library):
         if is_right(what, ended, pieces):
-            well[what] += 1
+            well[f"{what} with status {ended.status}" if what == "allocation" else what] += 1
         else:
             wrong += 1
             print(f"WRONG   {room.case.name}: {what}, {said}: status {ended.status}, {ended.stderr!r}, {len(ended.stdout)} bytes")
-    print(f"{'FAILED' if wrong else 'ok':7} {room.case.name}: {len(pieces) - 1} pieces; {', '.join(f'{count} of {what}' for what, count in sorted(well.items()))}")
+    told = ", ".join(f"{count:,} of {what}" for what, count in sorted(well.items()))
+    print(f"{'FAILED' if wrong else 'ok':7} {room.case.name}: {len(pieces) - 1} pieces; {told}", flush=True)
     return wrong
 
 
