@@ -1,11 +1,12 @@
 #!/usr/bin/env python3
-"""Finds for each call that can refuse an example or a row of a table that makes it: find_calls.py PROGRAM > tools/house/calls_made.txt
+"""Finds for each call that can refuse an example or a row of a table that makes it: find_calls.py PROGRAM [--more [CASE..]] > FOUND
 
 The calls are those that `refusals.py` lists. PROGRAM is one whose functions have their names, as `tools/measure/checked_program.py` compiles it.
 It is run by `gdb` over the examples, and then over the rows of tables/, but for long streams, until each call was seen. A run counts where the program ends with the
 status that is wanted, 0, and writes what is wanted: want of memory would have ended it with status 9. Of each call the first such run is
-printed, in a line `CRATE CALL: example NAME` or `CRATE CALL: TABLE: ROW`. The calls that no run makes are named on standard error. It takes
-ten minutes. With `--more` behind PROGRAM the lines of calls_made.txt are taken over, and it looks for the other calls alone.
+printed, in a line `CRATE CALL: example NAME` or `CRATE CALL: TABLE: ROW`, as `calls_made.txt` beside this file has them. The calls that no run
+makes are named on standard error. It takes ten minutes. With `--more` the lines of calls_made.txt are taken over, and it looks for the other
+calls alone, in the examples and rows that are named behind it, or in all.
 """
 
 import re
@@ -87,13 +88,13 @@ def calls_of(program, case, places):
 
 
 def main():
-    if sys.argv[2:] not in ([], ["--more"]) or len(sys.argv) < 2:
+    if len(sys.argv) < 2 or sys.argv[2:3] not in ([], ["--more"]):
         sys.exit(__doc__.split("\n\n")[0])
     program = str(Path(sys.argv[1]).resolve())
     calls = [(crate, f"{owner}::{name}" if owner else name) for crate, owner, name, _ in refusals.public_calls()]
     made = refusals.made_by_runs() if sys.argv[2:] else {}
     places = {call: its for call, its in places_of(program, calls).items() if its and call not in made}
-    for case in short_cases():
+    for case in map(cases.case, sys.argv[3:]) if sys.argv[3:] else short_cases():
         if not places:
             break
         for crate, call in calls_of(program, case, places):

@@ -1,7 +1,7 @@
 #!/usr/bin/env python3
 """Runs a program over inputs that are as hostile as chance makes them, and tells what came of them.
 
-usage: try_hostile.py PROGRAM [--seed N] [--minutes M] [--cases N] [--kind KIND..] [--first N] [--keep FOLDER] [--keep-all]
+usage: try_hostile.py PROGRAM [--seed N] [--minutes M] [--cases N] [--kind KIND..] [--first N] [--keep FOLDER] [--keep-all] [--checked]
 
 The kinds are `streams`, `entities`, `documents`, `styles`, `scripts` and `records`: those of the examples and rows, mutated; others that are
 made by their grammars; and some at the limits of docs/FORMATS.md. A case is worked out from the seed (1), its kind, its number, and the
@@ -16,7 +16,8 @@ has at most 1 GiB of addresses and 60 seconds of the processor, and goes well if
 
 A case that goes wrong is left in FOLDER (hostile-cases): `stream.ts`, `record.txt`, `args`, what was written, and in `told` what is wrong. So is
 one that takes more than 2 seconds of the processor, or that ends with `no memory`; both are told, and go well. With --keep-all
-each case is left there. Printed are for each kind the cases, their statuses, the processor seconds, the greatest resident memory,
+each case is left there. With --checked the program is one that `checked_program.py` compiled, which stops where a check of its own fails: it has as
+many addresses as it asks for and 280 seconds, and more than 20 seconds are told. Printed are for each kind the cases, their statuses, the processor seconds, the greatest resident memory,
 and how many lines of each form were written. Status: 0 where all went well, 1 where one went wrong, 2 where nothing could be run.
 """
 
@@ -47,7 +48,7 @@ KINDS = {
     "scripts": script_case,
     "records": record_case,
 }
-TOLD_PROCESSOR = 2.0  # seconds; more is told
+TOLD_PROCESSOR, TOLD_CHECKED = 2.0, 20.0  # seconds; more is told
 NO_MEMORY = 9
 
 # What a record has
@@ -181,7 +182,8 @@ class Trial:
         self.program = program
         self.asked = asked
         self.room = room
-        self.runs = BoundedRuns(room)
+        self.runs = BoundedRuns(room, asked.checked)
+        self.most = TOLD_CHECKED if asked.checked else TOLD_PROCESSOR
         self.ran = {kind: [] for kind in asked.kind}
         self.words = {kind: collections.Counter() for kind in asked.kind}
 
@@ -200,7 +202,7 @@ class Trial:
         faults = list(faults_of(case, status, written, error))
         self.words[kind].update(line.split(b" ", 1)[0].decode("ascii", "replace") for line in written.split(b"\n")[:-1])
         ran = Ran(number, status, processor, memory, written, error, faults)
-        if faults or processor > TOLD_PROCESSOR or status == NO_MEMORY or self.asked.keep_all:
+        if faults or processor > self.most or status == NO_MEMORY or self.asked.keep_all:
             self.keep(kind, case, ran)
         self.ran[kind].append(ran._replace(stdout=b"", stderr=b""))
 
@@ -243,6 +245,7 @@ def asked_for():
     parser.add_argument("--first", type=int, default=1)
     parser.add_argument("--keep", default="hostile-cases")
     parser.add_argument("--keep-all", action="store_true")
+    parser.add_argument("--checked", action="store_true")
     return parser.parse_args()
 
 

@@ -27,8 +27,7 @@ def example(folder):
     """Returns the run of an example's folder."""
     files = {path.name: path.read_bytes() for path in folder.iterdir() if path.is_file()}
     words, status = (folder / "args").read_text().splitlines(), int((folder / "status").read_text())
-    inputs = {name: content for name, content in files.items() if name in ("stream.ts", "record.txt", KEPT)}
-    return Case(f"example {folder.name}", words, inputs, files["stdout"], status)
+    return Case(f"example {folder.name}", words, files, files["stdout"], status)
 
 
 def row(table, run):
