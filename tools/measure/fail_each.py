@@ -3,7 +3,7 @@
 
 usage: fail_each.py PROGRAM [CASE..]
 
-A case is `example NAME` or `TABLE: ROW` of tables/, with the row's group; without one the five of DEFAULT are run. Each begins in a folder of its own. Its
+A case is `example NAME` or `TABLE: ROW` of tables/, with the row's group; without one the six of DEFAULT are run. Each begins in a folder of its own. Its
 pieces are found by runs over the first packets and items of its record, one more each time: their lines, and what is kept behind them. Then
 
 - each opening, read, write, look at the length, sync and renaming of the case's files fails in a run of its own, as with an error of the disk (by `strace`)
@@ -46,7 +46,7 @@ from refuse_allocations import LIBRARY
 from cases import KEPT, case
 from transport import PACKET_SIZE
 
-DEFAULT = ["example document", "items: repetitions: a repetition", "arrays: documents and runs: two documents and two runs", "example kept-news", "example second-visit"]
+DEFAULT = ["example document", "items: repetitions: a repetition", "arrays: documents and runs: two documents and two runs", "example kept-news", "example second-visit", "example generated"]
 NEW = f"{KEPT}.new"
 MOST_SECONDS = 60  # for each run
 TOLD = {3: b"open fault\n", 4: b"read fault\n", 5: b"write fault\n", 6: b"keep fault\n", 9: b"no memory\n"}
@@ -105,9 +105,9 @@ class Room:
 
     def pieces(self):
         """What is written and kept behind each number of pieces, the last one with the line of the end."""
-        found, steps = [], list(self.steps())
+        found, steps = [], list(self.steps()) if "record.txt" in self.case.files else []
         for count in range(len(steps) + 1):
-            ended = self.run("".join(f"{step}\n" for step in steps[:count]).encode("ascii"))
+            ended = self.run("".join(f"{step}\n" for step in steps[:count]).encode("ascii")) if steps else Ended(0, b"", b"", None)
             text = re.sub(rb"end [0-9]+\n\Z", b"", ended.stdout)
             if not found or (text, ended.kept) != found[-1]:
                 found.append((text, ended.kept))
