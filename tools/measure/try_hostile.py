@@ -222,7 +222,8 @@ class Trial:
         """Leaves a case in the folder that was asked for, and tells of it."""
         folder = Path(self.asked.keep) / f"{kind}-{self.asked.seed}-{ran.number}"
         folder.mkdir(parents=True, exist_ok=True)
-        told = ran.faults or [f"{ran.processor:.2f} seconds of the processor, {ran.memory / 1024:.0f} MiB, status {ran.status}"]
+        stopped = ran.stdout.count(b"\nstop Budget ")
+        told = ran.faults or [f"{ran.processor:.2f} seconds of the processor, {ran.memory / 1024:.0f} MiB, status {ran.status}, {stopped:,} handlers took all their steps"]
         for path, data in zip([*self.files(folder), folder / KEPT], (case.stream, case.record, ran.stdout, ran.stderr, case.kept)):
             if data is not None:
                 Path(path).write_bytes(data)
