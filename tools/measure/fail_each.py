@@ -9,6 +9,7 @@ pieces are found by runs over the first packets and items of its record, one mor
 - each opening, read, write, look at the length, sync and renaming of the case's files fails in a run of its own, as with an error of the disk (by `strace`)
 - the program is killed at each of its calls that stores what is kept
 - each allocation is refused in a run of its own (by a library of `refuse_allocations.py`, which `cc` compiles)
+- in one run each read and each write takes one byte alone (by another library)
 
 What a run has to come to:
 
@@ -23,6 +24,7 @@ What a run has to come to:
 | an allocation | 9 | whole pieces | as behind them |
 | an allocation of a call that opens or stores a file | 3 or 6 | as where this call fails | the same |
 | an allocation that the program can do without | 0 | all | as behind all |
+| nothing, but each read and write takes a byte | 0 | all | as behind all |
 
 Two packets whose sections end in one turn each are pieces of their own; a packet with several turns counts as one piece here. So a case has its sections
 in packets of their own. Printed are for each case its pieces, and how many runs of which kind went well; each that went wrong is named. Status: 0 where all
@@ -46,12 +48,39 @@ from refuse_allocations import LIBRARY
 from cases import KEPT, case
 from transport import PACKET_SIZE
 
-DEFAULT = ["example document", "items: repetitions: a repetition", "arrays: documents and runs: two documents and two runs", "example kept-news", "example second-visit", "example generated"]
+DEFAULT = [
+    "example document",
+    "items: repetitions: a repetition",
+    "arrays: documents and runs: two documents and two runs",
+    "example kept-news",
+    "example second-visit",
+    "example generated",
+]
 NEW = f"{KEPT}.new"
 MOST_SECONDS = 60  # for each run
 TOLD = {3: b"open fault\n", 4: b"read fault\n", 5: b"write fault\n", 6: b"keep fault\n", 9: b"no memory\n"}
-STATUSES = {"nothing": 0, "opening": 3, "read": 4, "write": 5, "load": 6, "store": 6, "refused": 9, "kill": -signal.SIGKILL}
+STATUSES = {"nothing": 0, "bytes": 0, "opening": 3, "read": 4, "write": 5, "load": 6, "store": 6, "refused": 9, "kill": -signal.SIGKILL}
 CALLS = "openat,open,creat,read,readv,pread64,write,writev,pwrite64,fsync,fdatasync,rename,renameat,renameat2,fstat,stat,statx,newfstatat,lseek,ftruncate"
+
+
+# Reads and writes a byte at a time.
+BY_BYTES = r"""
+#define _GNU_SOURCE
+#include <dlfcn.h>
+#include <unistd.h>
+
+ssize_t read(int file, void *into, size_t count) {
+    static ssize_t (*real)(int, void *, size_t);
+    if (!real) real = dlsym(RTLD_NEXT, "read");
+    return real(file, into, count > 1 ? 1 : count);
+}
+
+ssize_t write(int file, const void *from, size_t count) {
+    static ssize_t (*real)(int, const void *, size_t);
+    if (!real) real = dlsym(RTLD_NEXT, "write");
+    return real(file, from, count > 1 ? 1 : count);
+}
+"""
 
 
 class Ended(NamedTuple):
@@ -164,7 +193,7 @@ def is_right(what, ended, pieces):
         return ended.stdout == b"" and ended.kept == pieces[0][1]
     if what in ("read", "refused"):
         return (ended.stdout, ended.kept) in pieces
-    return any(is_between(what, ended, *pair) for pair in zip(pieces, pieces[1:])) or (what == "nothing" and (ended.stdout, ended.kept) == pieces[-1])
+    return any(is_between(what, ended, *pair) for pair in zip(pieces, pieces[1:])) or (what in ("nothing", "bytes") and (ended.stdout, ended.kept) == pieces[-1])
 
 
 def is_between(what, ended, piece, following):
@@ -175,8 +204,10 @@ def is_between(what, ended, piece, following):
     return what in ("store", "kill") and ended.stdout == text and ended.kept in (kept, next_kept)
 
 
-def runs_of(room, library):
+def runs_of(room, libraries):
     """Yields each run in which something fails: what, how it is told, and how it ended."""
+    refuse, by_bytes = libraries
+    yield "bytes", "reads and writes of a byte", room.run(environment={"LD_PRELOAD": by_bytes})
     for call in calls_of(room):
         said = f"{call.name} {call.number}: {call.text}"
         words = ["strace", "-o", "/dev/null", "-e", f"trace={call.name}"]
@@ -184,17 +215,25 @@ def runs_of(room, library):
         if call.what == "store":
             yield "kill", said, room.run(before=[*words, "-e", f"inject={call.name}:signal=SIGKILL:when={call.number}"])
     made = room.folder.parent / "made"
-    told = {"LD_PRELOAD": library, "ALLOCATIONS_MADE": str(made)}
+    told = {"LD_PRELOAD": refuse, "ALLOCATIONS_MADE": str(made)}
     room.run(environment={**told, "REFUSED_ALLOCATION": "0"})
     for number in range(1, int(made.read_text()) + 1):
         yield "allocation", f"allocation {number}", room.run(environment={**told, "REFUSED_ALLOCATION": str(number)})
 
 
-def try_case(room, library):
+def compiled(folder, name, text):
+    """Returns the library that a text of C is compiled to."""
+    source, library = Path(folder, f"{name}.c"), f"{folder}/{name}.so"
+    source.write_text(text)
+    subprocess.run(["cc", "-shared", "-fPIC", "-O1", "-o", library, str(source), "-ldl"], check=True)
+    return library
+
+
+def try_case(room, libraries):
     """Runs a case, prints what came of it, and returns how many of its runs went wrong."""
     pieces = room.pieces()
     well, wrong = collections.Counter(), 0
-    for what, said, ended in runs_of(room, library):
+    for what, said, ended in runs_of(room, libraries):
         if is_right(what, ended, pieces):
             well[f"{what} with status {ended.status}" if what == "allocation" else what] += 1
         else:
@@ -214,10 +253,8 @@ def main():
         print("fail_each.py: it needs a program, strace and cc", file=sys.stderr)
         return 2
     with tempfile.TemporaryDirectory(prefix="fail-") as folder:
-        source, library = Path(folder, "refuse.c"), f"{folder}/refuse.so"
-        source.write_text(LIBRARY)
-        subprocess.run(["cc", "-shared", "-fPIC", "-O1", "-o", library, str(source), "-ldl"], check=True)
-        return 1 if sum([try_case(Room(program, case(name), folder), library) for name in sys.argv[2:] or DEFAULT]) else 0
+        libraries = compiled(folder, "refuse", LIBRARY), compiled(folder, "by_bytes", BY_BYTES)
+        return 1 if sum([try_case(Room(program, case(name), folder), libraries) for name in sys.argv[2:] or DEFAULT]) else 0
 
 
 if __name__ == "__main__":
