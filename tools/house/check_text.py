@@ -45,10 +45,21 @@ def head_without_source(path, lines):
         yield f"{path}:1: the head names no source of these definitions"
 
 
+def rows_of(path):
+    """The rows of a table by their names, each also with its group in front."""
+    found, group = set(), ""
+    for line in path.read_text(encoding="utf-8").splitlines():
+        field, _, name = line.rstrip().partition(": ")
+        if field == "group":
+            group = name
+        elif field == "row":
+            found |= {name, f"{group}: {name}"}
+    return found
+
+
 def missing_rows():
     """Rows and examples that documents name, and that aren't there."""
-    tables = {path.stem: path.read_text(encoding="utf-8") for path in (ROOT / "tables").glob("*.txt")}
-    rows = {name: set(re.findall(r"(?m)^row: (.*?)\s*$", text)) for name, text in tables.items()}
+    rows = {path.stem: rows_of(path) for path in (ROOT / "tables").glob("*.txt")}
     for path in [ROOT / "README.md", ROOT / "CONTRIBUTING.md", *sorted((ROOT / "docs").glob("*.md"))]:
         for number, line in enumerate(path.read_text(encoding="utf-8").splitlines(), 1):
             for table, row in re.findall(r"`([a-z]+): ([^`]+)`", line):

@@ -1,21 +1,32 @@
 #!/usr/bin/env python3
 """Lists each public call that can refuse: with want of memory, a fault or another error. For each it says which clause tells what stays as it
-was behind a refusal. Where the calls of a crate are made with enough memory is written here by hand, crate by crate, and nothing checks it.
+was behind a refusal, and which example, row or test makes the call with enough memory.
 
     tools/house/refusals.py                prints the list
     tools/house/refusals.py --check FILE   says whether FILE holds just that list, and ends with 1 if it doesn't
 
-A call is public where its crate's root file exports it, or the type that it belongs to. It ends with an error where a call has no clause and
-is no exception, or where nothing is known that makes it.
+A call is public where its crate's root file exports it, or the type that it belongs to. Which example or row makes a call was seen by
+`find_calls.py` and stands in `calls_made.txt`. This script sees that there is such an example or row, that it ends with status 0, and that
+functions call one another from the program's `main` to the call. A call that stands nowhere there has to be made by a test, or by
+what the test calls in the crates of tests; these are found in the sources. It ends with an error where a call has no clause and is no
+exception, where nothing makes it, and where a line of `calls_made.txt` is of no call, of no example and row, or of no chain of functions.
 """
 
 import argparse
 import re
 import sys
+from collections import defaultdict
+from functools import cached_property
 from pathlib import Path
+from typing import NamedTuple
+
+from call_chains import Calls
 
 ROOT = Path(__file__).resolve().parents[2]
 CRATES = ROOT / "crates"
+TABLES, EXAMPLES = ROOT / "tables", ROOT / "examples"
+MADE = Path(__file__).with_name("calls_made.txt")
+TESTS = re.compile(r".*_tests|test_streams")
 # Crates of tests and laws, and the program, which answers by its status.
 ASIDE = re.compile(r".*_tests|.*_laws|test_streams|bml_replay")
 
@@ -31,51 +42,6 @@ EXCEPTIONS = [
     ("display_list", r"Shower::show|show\w*", "the styles may keep more values (`sources`, `right_still`); what `out` held stays at its beginning (`grows`)"),
 ]
 
-# Where the calls of a crate are made with enough memory.
-MADE = {
-    "bml_bytes": "`carousel_tests`; each row",
-    "bml_ports": "`replay_tests`, `carousel_tests`",
-    "bml_ports_std": "`replay_tests`: an_area_is_kept_in_its_file; each example",
-    "ts_packets": "each row",
-    "ts_sections": "`carousel_tests`; each row",
-    "table_fields": "`services: two components side by side`",
-    "section_demultiplexer": "each row",
-    "psi_tables": "`services: two components side by side`",
-    "dsmcc_messages": "`modules: in order`",
-    "carousel_blocks": "`modules: in order`",
-    "multipart_entities": "`entities: found`",
-    "module_store": "`modules: in order`, `entities: found`, `locks: a new version`",
-    "module_locks": "`carousel_tests`: sixty_four_locks_stand; `locks: a new version`",
-    "event_messages": "`document_tests`: messages_are_noted",
-    "event_items": "`document_tests`: items_of_a_document",
-    "event_queue": "`pages: scripts, then load, then focus`",
-    "dom_tree": "`documents: not well formed`, `scripts: the value of an input`",
-    "bml_reader": "rows of `document-texts`",
-    "style_reader": "rows of `style-texts`",
-    "style_cascade": "rows of `style-texts`",
-    "focus_keys": "rows of `nodes-and-focus`",
-    "display_list": "example `styles`",
-    "es_lexer": "rows of `script_tests`",
-    "es_expressions": "rows of `script_tests`",
-    "es_reader": "rows of `script_tests`",
-    "es_values": "rows of `script_tests`",
-    "es_builtins": "rows of `script_tests`",
-    "es_frames": "rows of `script_tests`",
-    "es_shapes": "rows of `script_tests`",
-    "es_eval": "rows of `script_tests`, `browser: two timers of one moment`",
-    "document_load": "`entities: what it needs comes`, `scripts: found, and good`",
-    "dom_objects": "rows of `nodes-and-focus`",
-    "browser_objects": "rows of `browser` and `arrays`",
-    "document_stages": "rows of `pages` and `browser`",
-    "acting_documents": "rows of `pages` and `browser`",
-    "page": "rows of `pages` and `browser`",
-    "receiver_core": "each row",
-    "replay_run": "each row; of `replay_files` the rows `generated-streams`",
-    "persistent_arrays": "`array_tests`; rows of `arrays`",
-    "section_writer": "`carousel_tests`; rows of `generated-streams`",
-    "carousel_writer": "`carousel_tests`; rows of `generated-streams`",
-    "file_generator": "`carousel_tests`; rows of `generated-streams`",
-}
 KEEPS = re.compile(r"^(err|same|kept|keeps|before|stays|spends|spent|full|refused|none|lost|fixed|old|nodes)$")
 
 
@@ -83,7 +49,7 @@ def exported(crate):
     """The names that the root file of a crate exports."""
     text = (CRATES / crate / "src/lib.rt").read_text()
     names = set()
-    for found in re.finditer(r"pub use crate::[\w:]+::(?:\{([^}]*)\}|(\w+));", text):
+    for found in re.finditer(r"pub use (?:crate::)?[\w:]+::(?:\{([^}]*)\}|(\w+));", text):
         names |= {name.strip().split(" as ")[0] for name in (found[1] or found[2]).split(",") if name.strip()}
     for found in re.finditer(r"^pub (?:fn|struct|enum) (\w+)", text, re.M):
         names.add(found[1])
@@ -110,7 +76,7 @@ def functions(path):
 def clauses(head):
     """The clauses of a head: name or None, and text."""
     found, place = [], 0
-    while match := re.compile(r"\bensures (?:(\w+) )?\{").search(head, place):
+    while match := re.compile(r"\bensures\*? (?:(\w+) )?\{").search(head, place):
         depth, place = 1, match.end()
         while depth:
             depth += {"{": 1, "}": -1}.get(head[place], 0)
@@ -119,11 +85,27 @@ def clauses(head):
     return found
 
 
-def refusal(head):
-    """The error of what a call answers, None where it can't refuse."""
+def answer_of(head):
+    """The type of what a call answers, empty where it answers nothing."""
     answer = re.search(r"\)\s*->\s*((?:.|\n)*?)(?=\n\s*(?:requires|ensures|where)\b|$)", head)
-    found = answer and re.match(r"Result<(.*),\s*(\w+)>$", re.sub(r"\s+", " ", answer[1].strip()))
+    return re.sub(r"\s+", " ", answer[1].strip()) if answer else ""
+
+
+def refusal(head):
+    """The error of what a call answers, None where it can't refuse with one."""
+    found = re.match(r"Result<(.*),\s*(\w+)>$", answer_of(head))
     return found and found[2]
+
+
+def lent_for_writing(head):
+    """The parameters of a call that it may write to, each with its type."""
+    return re.findall(r"(\w+)?:? ?&(?:'\w+ )?mut \[?(\w+)", head[head.index("(") :].split("->")[0])
+
+
+def other_answer(head):
+    """The answer of a call that writes to something and may refuse without an error, as with None or false; None for any other call."""
+    answer = answer_of(head)
+    return answer if lent_for_writing(head) and re.match(r"Option<|bool$|Cut$|Ahead$|NextLine$|Status$", answer) else None
 
 
 def kept_by(crate, call, head):
@@ -132,8 +114,7 @@ def kept_by(crate, call, head):
     for of, calls, words in EXCEPTIONS:
         if of == crate and re.fullmatch(calls, call):
             return words
-    parameters = head[head.index("("):].split("->")[0]
-    lent = re.findall(r"(\w+)?:? ?&(?:'\w+ )?mut \[?(\w+)", parameters)
+    lent = lent_for_writing(head)
     spent = [name for name, text in names if name in ("spends", "spent") or "Spends" in text]
     if spent:
         return "it is spent (" + ", ".join(f"`{name}`" for name in spent) + ")" + (", and what `out` held stays at its beginning" if "out" in dict(lent) else "")
@@ -152,46 +133,164 @@ def kept_by(crate, call, head):
     return None
 
 
-def rows():
-    """The rows of the list by crate, and what is missing."""
-    missing, found = [], {}
+def made_by_runs():
+    """The examples and rows that were seen to make calls, by the crate and the call."""
+    lines = (line.split(": ", 1) for line in MADE.read_text().splitlines())
+    return {tuple(call.split(" ", 1)): name for call, name in lines}
+
+
+def crates_below():
+    """The crates that each crate names, in crates.txt, as those that it stands on."""
+    lines = (line.partition("#")[0].partition(":") for line in (ROOT / "crates.txt").read_text().splitlines())
+    return {name.split()[0]: set(below.split()) for name, _, below in lines if name.strip()}
+
+
+def all_below(below, crate):
+    """The crates that a crate stands on, those that these stand on, and so on."""
+    found, waiting = set(), [crate]
+    while waiting:
+        new = below.get(waiting.pop(), set()) - found
+        found |= new
+        waiting += new
+    return found
+
+
+def rows_of_tables():
+    """The rows of tables/ that end with status 0, each by the names of its table, its group and itself."""
+    found = set()
+    for path in TABLES.glob("*.txt"):
+        group, name = [], None
+        for line in path.read_text().splitlines():
+            field, _, rest = line.partition(": ")
+            if field == "group":
+                group, name = [rest], None
+            elif field == "row":
+                name = ": ".join([path.stem, *group, rest])
+                found.add(name)
+            elif field == "status" and rest != "0":
+                found.discard(name)
+    return found
+
+
+def examples():
+    """The examples that end with status 0."""
+    return {f"example {path.parent.name}" for path in EXAMPLES.glob("*/status") if path.read_text().strip() == "0"}
+
+
+class Makers:
+    """What makes the calls: runs of the program, and tests."""
+
+    def __init__(self):
+        self.runs = made_by_runs()
+        self.below = crates_below()
+        self.cases = examples() | rows_of_tables()
+
+    @cached_property
+    def of_main(self):
+        """The functions that may run where the program's `main` does, each by its crate, its type and its name."""
+        names = [name for name in self.below if not TESTS.fullmatch(name) and not name.endswith("_laws")]
+        calls = Calls(CRATES, names, {name: all_below(self.below, name) for name in names})
+        starts = [it for it in calls.all if it.crate == "bml_replay" and it.name == "main"]
+        return {(it.crate, it.owner, it.name) for it in calls.reached_from(starts)}
+
+    @cached_property
+    def of_tests(self):
+        """The tests that make each call, themselves or by functions of the crates of tests."""
+        tests = Calls(CRATES, [name for name in self.below if TESTS.fullmatch(name)], self.below)
+        whole = Calls(CRATES, self.below, self.below)
+        found = defaultdict(list)
+        for test in filter(lambda it: it.is_test, tests.all):
+            for caller in tests.reached_from([test]):
+                for called in whole.called_by(caller):
+                    found[called.crate, called.owner, called.name].append(f"`{test.crate}`: {test.name}")
+        return found
+
+    def maker_of(self, crate, owner, name):
+        """What makes a call, or None, and what is wrong with what is said of it."""
+        call = f"{owner}::{name}" if owner else name
+        run = self.runs.pop((crate, call), None)
+        if run is None:
+            tests = self.of_tests.get((crate, owner, name))
+            return (min(tests), None) if tests else (None, f"{crate}: {call}: nothing is known that makes it")
+        if run not in self.cases:
+            return run, f"{crate}: {call}: there is no example or row that ends well and is called {run}"
+        if (crate, owner, name) not in self.of_main:
+            return run, f"{crate}: {call}: no chain of functions leads there from `main`"
+        return f"example `{run.removeprefix('example ')}`" if run.startswith("example ") else f"`{run}`", None
+
+
+class Call(NamedTuple):
+    """A public call: its name, its error or its other answer, what stays behind a refusal, and what makes it."""
+
+    name: str
+    error: str | None
+    answer: str | None
+    kept: str | None
+    made: str | None
+
+
+def public_calls():
+    """Yields the public calls that can refuse: the crate, the type or None, the name and the head."""
     for folder in sorted(CRATES.iterdir()):
-        crate = folder.name
-        if ASIDE.fullmatch(crate) or not (folder / "src/lib.rt").is_file():
+        if ASIDE.fullmatch(folder.name) or not (folder / "src/lib.rt").is_file():
             continue
-        public = exported(crate)
+        public = exported(folder.name)
         for path in sorted(folder.glob("src/**/*.rt")):
             for owner, trait, name, head in functions(path):
-                if trait or (owner or name) not in public:
-                    continue
-                error = refusal(head)
-                if not error:
-                    continue
-                call = f"{owner}::{name}" if owner else name
-                kept = kept_by(crate, call, head)
-                if kept is None:
-                    missing.append(f"{crate}: {call}: no clause says what stays")
-                if crate not in MADE:
-                    missing.append(f"{crate}: nothing is known that makes its calls")
-                found.setdefault(crate, []).append((call, error, kept, MADE.get(crate)))
+                if not trait and (owner or name) in public and (refusal(head) or other_answer(head)):
+                    yield folder.name, owner, name, head
+
+
+def rows():
+    """The rows of the list by crate, and what is missing."""
+    missing, found, makers = [], {}, Makers()
+    for crate, owner, name, head in public_calls():
+        call, error = f"{owner}::{name}" if owner else name, refusal(head)
+        if error:
+            kept = kept_by(crate, call, head)
+        else:
+            kept = ", ".join(dict.fromkeys(f"`{clause}`" if clause else "its clause" for clause, _ in clauses(head)))
+        if not kept:
+            missing.append(f"{crate}: {call}: no clause says what stays")
+        made, wrong = makers.maker_of(crate, owner, name)
+        missing += [wrong] if wrong else []
+        found.setdefault(crate, []).append(Call(call, error, None if error else other_answer(head), kept, made))
+    missing += [f"calls_made.txt: {crate} has no public call {call} that can refuse" for crate, call in makers.runs]
     return found, missing
+
+
+HEAD = """# Refusals
+
+Each public call that can refuse, with what it refuses with, what stays as it was behind a refusal, and an example, a row or a test that makes the call with enough memory. `NoMemory` is
+want of memory. The list is made by `tools/house/refusals.py`, which ends with an error where a place would be empty. The calls, their answers and the names of the clauses are read
+from the sources. The exceptions are written by hand there, and nothing checks them.
+
+An example or a row is one in which `tools/house/find_calls.py` saw the function run; it ended with status 0 and what is wanted, so no call in it wanted memory.
+What was seen stands in `tools/house/calls_made.txt`. The gate runs all examples and rows. It also checks that those named here are there, and that functions still call one
+another, by their names, from the program's `main` to the call. A test is one whose code makes the call, itself or by functions of the crates of tests, as their sources show.
+
+{errors} calls in {crates} crates refuse with an error. {others} more take something to write to, and refuse by their answer, as with None or false; want of memory is none of these answers, but for
+`run`, whose answer is the program's status. Of these the clauses named say what each answer leaves.
+"""
+
+
+def tables_of(calls):
+    """The tables of a crate's calls, as lines of Markdown."""
+    errors = [f"| `{it.name}` | `{it.error}` | {it.kept} | {it.made} |" for it in sorted(calls) if it.error]
+    others = [f"| `{it.name}` | `{it.answer}` | {it.kept} | {it.made} |" for it in sorted(calls) if not it.error]
+    if errors:
+        yield from ["", "| call | refuses with | behind a refusal | made with enough memory in |", "|---|---|---|---|", *errors]
+    if others:
+        yield from ["", "| call | answers | clauses | made in |", "|---|---|---|---|", *others]
 
 
 def page(found):
     """The list as Markdown."""
-    count = sum(len(calls) for calls in found.values())
-    text = [
-        "# Refusals",
-        "",
-        "Each public call that can refuse, with what it refuses with, and what stays as it was behind a refusal. `NoMemory` is want of memory. The calls, their errors and the names of the clauses",
-        "are read from the sources by `tools/house/refusals.py`, which ends with an error where a call has no such clause and is no exception. Two things are written by hand there, and nothing checks them: the exceptions, and where the calls",
-        "of a crate are made with enough memory, which is said for the crate and not for each call.",
-        "",
-        f"There are {count} such calls in {len(found)} crates.",
-    ]
+    errors = {crate: sum(it.error is not None for it in calls) for crate, calls in found.items()}
+    others = sum(map(len, found.values())) - sum(errors.values())
+    text = [HEAD.format(errors=sum(errors.values()), crates=sum(map(bool, errors.values())), others=others).rstrip("\n")]
     for crate, calls in found.items():
-        text += ["", f"## `{crate}`", "", f"Made in {calls[0][3]}.", "", "| call | refuses with | behind a refusal |", "|---|---|---|"]
-        text += [f"| `{call}` | `{error}` | {kept} |" for call, error, kept, _ in sorted(calls)]
+        text += ["", f"## `{crate}`", *tables_of(calls)]
     return "\n".join(text) + "\n"
 
 

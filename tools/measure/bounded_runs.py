@@ -15,6 +15,7 @@ import sys
 MIB = 1 << 20
 MOST_MEMORY = 1024 * MIB  # of addresses
 MOST_PROCESSOR = 60  # seconds, after which a command is stopped by a signal
+CHECKED_PROCESSOR = 280  # the same of a program with checks
 MOST_SECONDS = 300  # by the clock
 MOST_WRITTEN = 256 * MIB  # in each file
 BOUNDS = {
@@ -26,12 +27,12 @@ BOUNDS = {
 
 
 class BoundedRuns:
-    """The process that runs commands in a folder."""
+    """The process that runs commands in a folder. A program with checks of its memory gets as many addresses as it asks for, and more time."""
 
-    def __init__(self, folder):
+    def __init__(self, folder, is_checked=False):
         import subprocess
 
-        command = [sys.executable, "-S", "-E", "-B", os.path.abspath(__file__)]
+        command = [sys.executable, "-S", "-E", "-B", os.path.abspath(__file__), *(["--checked"] if is_checked else [])]
         self.process = subprocess.Popen(command, stdin=subprocess.PIPE, stdout=subprocess.PIPE, text=True, cwd=folder)
 
     def run(self, command, stdout, stderr):
@@ -70,6 +71,9 @@ def ran(command, stdout, stderr):
 
 
 def main():
+    if sys.argv[1:] == ["--checked"]:
+        BOUNDS[resource.RLIMIT_AS] = resource.RLIM_INFINITY
+        BOUNDS[resource.RLIMIT_CPU] = CHECKED_PROCESSOR
     for line in sys.stdin:
         print(json.dumps(ran(*json.loads(line))), flush=True)
 

@@ -40,12 +40,13 @@ LOAD = b"load /40/0000"
 
 
 class Case(NamedTuple):
-    """The words behind `replay`, the two files, and a line that the run has to write, where one is known."""
+    """The words behind `replay`, the two files, a line that the run has to write, where one is known, and what is kept before it, where something is."""
 
     options: list[str]
     stream: bytes
     record: bytes
     due: bytes = b""
+    kept: bytes | None = None
 
 
 def case_of(modules, record, due=b"", behind=()):

@@ -1,22 +1,24 @@
 #!/usr/bin/env python3
 """Runs a program over inputs that are as hostile as chance makes them, and tells what came of them.
 
-usage: try_hostile.py PROGRAM [--seed N] [--minutes M] [--cases N] [--kind KIND..] [--first N] [--keep FOLDER] [--keep-all]
+usage: try_hostile.py PROGRAM [--seed N] [--minutes M] [--cases N] [--kind KIND..] [--first N] [--keep FOLDER] [--keep-all] [--checked]
 
-The kinds are `streams`, `entities`, `documents`, `styles`, `scripts` and `records`: those of the examples and rows, mutated; others that are
-made by their grammars; and some at the limits of docs/FORMATS.md. A case is worked out from the seed (1), its kind, its number, and the
-examples and rows as they are. Each kind has N cases (3,000), from --first (1) on; they take turns, and end after M minutes (10). Each run begins with nothing kept,
-has at most 1 GiB of addresses and 60 seconds of the processor, and goes well if
+The kinds are `streams`, `entities`, `documents`, `styles`, `scripts`, `records` and `areas`, which are kept: those of the examples and rows, mutated;
+others that are made by their grammars; and some at the limits of docs/FORMATS.md. A case is worked out from the seed (1), its kind, its number, and the
+examples and rows as they are. Each kind has N cases (3,000), from --first (1) on; they take turns, and end after M minutes (10). Each run begins with nothing kept, but for areas.
+It has at most 1 GiB of addresses and 60 seconds of the processor, and goes well if
 
-- it ends by itself, with status 0, or with 2 where a line of its record is bad
+- it ends by itself, with status 0, or with 2 where a line of its record is bad, or with 7 where what is kept has another length than an area
+- what is kept after it is an area, or is as it was before
 - it writes to standard error what belongs to this status, and nothing else
 - each line that it writes is whole, has a form that README.md tells, and stands where it may
 - at status 0 `end` is its last line, with as many packets as the record takes
 - it writes the line that is due, where the case is at a limit and has one
 
-A case that goes wrong is left in FOLDER (hostile-cases): `stream.ts`, `record.txt`, `args`, what was written, and in `told` what is wrong. So is
+A case that goes wrong is left in FOLDER (hostile-cases): `stream.ts`, `record.txt`, `args`, what is kept before it, what was written, and in `told` what is wrong. So is
 one that takes more than 2 seconds of the processor, or that ends with `no memory`; both are told, and go well. With --keep-all
-each case is left there. Printed are for each kind the cases, their statuses, the processor seconds, the greatest resident memory,
+each case is left there. With --checked the program is one that `checked_program.py` compiled, which stops where a check of its own fails: it has as
+many addresses as it asks for and 280 seconds, and more than 20 seconds are told. Printed are for each kind the cases, their statuses, the processor seconds, the greatest resident memory,
 and how many lines of each form were written. Status: 0 where all went well, 1 where one went wrong, 2 where nothing could be run.
 """
 
@@ -33,6 +35,7 @@ from pathlib import Path
 from typing import NamedTuple
 
 from bounded_runs import BoundedRuns
+from hostile_areas import AREA_SIZE, area_case
 from hostile_streams import stream_case
 from hostile_texts import document_case, entity_case, record_case, script_case, style_case
 
@@ -46,9 +49,11 @@ KINDS = {
     "styles": style_case,
     "scripts": script_case,
     "records": record_case,
+    "areas": area_case,
 }
-TOLD_PROCESSOR = 2.0  # seconds; more is told
-NO_MEMORY = 9
+TOLD_PROCESSOR, TOLD_CHECKED = 2.0, 20.0  # seconds; more is told
+NO_AREA, NO_MEMORY = 7, 9
+KEPT = "nvram.bin"
 
 # What a record has
 
@@ -156,11 +161,16 @@ def faults_of_lines(lines):
         before = name
 
 
-def faults_of(case, status, stdout, stderr):
-    """Yields what is wrong with a run."""
+def faults_of(case, status, stdout, stderr, kept):
+    """Yields what is wrong with a run, which left this kept."""
     taken, bad_line = read_record(case.record, len(cut(case.stream, PACKET_SIZE, True)[0]))
-    told = {0: b"", 2: b"bad record line %d\n" % (bad_line or 0), NO_MEMORY: b"no memory\n"}
-    if status not in (NO_MEMORY, 2 if bad_line else 0):
+    is_no_area = case.kept is not None and len(case.kept) not in (0, AREA_SIZE)
+    told = {0: b"", 2: b"bad record line %d\n" % (bad_line or 0), NO_AREA: b"bad area length %d\n" % len(case.kept or b""), NO_MEMORY: b"no memory\n"}
+    if kept != case.kept and (is_no_area or kept is None or len(kept) != AREA_SIZE):
+        yield f"{len(kept or b'')} bytes are kept"
+    if is_no_area and stdout:
+        yield "it writes lines, though what is kept is no area"
+    if status not in (NO_MEMORY, NO_AREA if is_no_area else 2 if bad_line else 0):
         yield f"the status is {status}" if status >= 0 else f"it was stopped by signal {-status}"
     if status in told and stderr != told[status]:
         yield f"standard error has {stderr[:100]!r}"
@@ -181,7 +191,8 @@ class Trial:
         self.program = program
         self.asked = asked
         self.room = room
-        self.runs = BoundedRuns(room)
+        self.runs = BoundedRuns(room, asked.checked)
+        self.most = TOLD_CHECKED if asked.checked else TOLD_PROCESSOR
         self.ran = {kind: [] for kind in asked.kind}
         self.words = {kind: collections.Counter() for kind in asked.kind}
 
@@ -194,13 +205,16 @@ class Trial:
         stream, record, stdout, stderr = self.files(self.room)
         Path(stream).write_bytes(case.stream)
         Path(record).write_bytes(case.record)
-        Path(self.room, "nvram.bin").unlink(missing_ok=True)
+        area = Path(self.room, KEPT)
+        area.unlink(missing_ok=True)
+        if case.kept is not None:
+            area.write_bytes(case.kept)
         status, processor, memory = self.runs.run([self.program, "replay", *case.options, stream, record], stdout, stderr)
         written, error = Path(stdout).read_bytes(), Path(stderr).read_bytes()
-        faults = list(faults_of(case, status, written, error))
+        faults = list(faults_of(case, status, written, error, area.read_bytes() if area.is_file() else None))
         self.words[kind].update(line.split(b" ", 1)[0].decode("ascii", "replace") for line in written.split(b"\n")[:-1])
         ran = Ran(number, status, processor, memory, written, error, faults)
-        if faults or processor > TOLD_PROCESSOR or status == NO_MEMORY or self.asked.keep_all:
+        if faults or processor > self.most or status == NO_MEMORY or self.asked.keep_all:
             self.keep(kind, case, ran)
         self.ran[kind].append(ran._replace(stdout=b"", stderr=b""))
 
@@ -208,9 +222,11 @@ class Trial:
         """Leaves a case in the folder that was asked for, and tells of it."""
         folder = Path(self.asked.keep) / f"{kind}-{self.asked.seed}-{ran.number}"
         folder.mkdir(parents=True, exist_ok=True)
-        told = ran.faults or [f"{ran.processor:.2f} seconds of the processor, {ran.memory / 1024:.0f} MiB, status {ran.status}"]
-        for path, data in zip(self.files(folder), (case.stream, case.record, ran.stdout, ran.stderr)):
-            Path(path).write_bytes(data)
+        stopped = ran.stdout.count(b"\nstop Budget ")
+        told = ran.faults or [f"{ran.processor:.2f} seconds of the processor, {ran.memory / 1024:.0f} MiB, status {ran.status}, {stopped:,} handlers took all their steps"]
+        for path, data in zip([*self.files(folder), folder / KEPT], (case.stream, case.record, ran.stdout, ran.stderr, case.kept)):
+            if data is not None:
+                Path(path).write_bytes(data)
         (folder / "args").write_text(" ".join(["replay", *case.options, "stream.ts", "record.txt"]) + "\n")
         (folder / "told").write_text("\n".join([*told, ""]))
         if not self.asked.keep_all or ran.faults:
@@ -243,6 +259,7 @@ def asked_for():
     parser.add_argument("--first", type=int, default=1)
     parser.add_argument("--keep", default="hostile-cases")
     parser.add_argument("--keep-all", action="store_true")
+    parser.add_argument("--checked", action="store_true")
     return parser.parse_args()
 
 

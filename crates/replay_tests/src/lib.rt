@@ -6,7 +6,7 @@
 //! fail in the middle, a stream in pieces, a record without end. All have ample memory, and compare
 //! what was answered and written, so a layer that answers `NoMemory` fails here.
 //!
-//! `area_files` is of `bml_ports_std` alone.
+//! `area_files` is of `bml_ports_std` alone, and `receivers` of `receiver_core`.
 //!
 //! `Done` is reached in `pieces`, `BadRecord`, `OpenFault`, `ReadFault` and `WriteFault` in `faults`,
 //! `KeepFault` and `BadArea` in `kept_areas`, `TooLong` in `long_records`, and `Usage` by rows of
@@ -25,5 +25,7 @@ mod long_records;
 mod messages;
 #[cfg(test)]
 mod pieces;
+#[cfg(test)]
+mod receivers;
 #[cfg(test)]
 mod runs;
