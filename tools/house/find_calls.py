@@ -61,9 +61,11 @@ def places_of(program, calls):
         place, kind, name = line.split(maxsplit=2) if line[:1].isalnum() else ("0", "U", "")
         if kind in "tT":
             functions.setdefault(re.sub(r"::<.*", "", name), []).append(int(place, 16))
-    found = {}
+    found, traits = {}, refusals.traits()
     for crate, call in calls:
-        named = re.compile(rf"{crate}::(?:\w+::)*?{call}")
+        # (a trait's call is named by the type that has it, then the trait, without a mark between them)
+        is_of_trait = traits.get(call.split("::")[0]) == crate
+        named = re.compile(rf"\w+::(?:\w+::)*?\w+{call}" if is_of_trait else rf"{crate}::(?:\w+::)*?{call}")
         found[crate, call] = [place for name, places in functions.items() if named.fullmatch(name) for place in places]
     return found
 

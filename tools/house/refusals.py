@@ -38,6 +38,11 @@ EXCEPTIONS = [
     ("acting_documents", r"ActingDocument::\w+", "the exception of documents that act: it is not used again"),
     ("es_expressions", r"read_expression", "the nodes read before keep their places (`grows`), and more may stand behind them; whoever reads a program drops them all"),
     ("dom_objects", r"get_node", "the tree isn't lent for writing; the styles may keep more values (`sources`, `right_still`)"),
+    ("es_values", r"Host::\w+", "the exception of runs: the host's state and the heap may be changed in part, and aren't used again"),
+    ("bml_ports", r"Sink::\w+", "a failed write appends nothing (`bytes`), and is counted (`counted`)"),
+    ("bml_ports", r"Keeper::load", "what is kept stays (`kept`); the failure is counted (`counted`)"),
+    ("bml_ports", r"Keeper::store", "what is kept is what was, or the area (`stored`); the failure is counted (`counted`)"),
+    ("bml_ports", r"World::\w+", "no byte is taken (`bytes`), the other port and the files stay (`other`, `files`), and the failure is counted (`counted`)"),
     ("replay_run", r"replay_files", "what `out` held stays at its beginning (`grows`); where the files are refused nothing is appended (`unchanged`)"),
     ("display_list", r"Shower::show|show\w*", "the styles may keep more values (`sources`, `right_still`); what `out` held stays at its beginning (`grows`)"),
 ]
@@ -51,14 +56,24 @@ def exported(crate):
     names = set()
     for found in re.finditer(r"pub use (?:crate::)?[\w:]+::(?:\{([^}]*)\}|(\w+));", text):
         names |= {name.strip().split(" as ")[0] for name in (found[1] or found[2]).split(",") if name.strip()}
-    for found in re.finditer(r"^pub (?:fn|struct|enum) (\w+)", text, re.M):
+    for found in re.finditer(r"^pub (?:fn|struct|enum|trait) (\w+)", text, re.M):
         names.add(found[1])
     return names
 
 
+def trait_functions(text):
+    """The functions that the traits of a file ask for: the trait, the name and the head of each."""
+    for found in re.finditer(r"^pub trait (\w+)[^{\n]*\{\n", text, re.M):
+        inside = text[found.end() : text.index("\n}", found.end())]
+        for function in re.finditer(r"^    fn (\w+)[^;]*;", inside, re.M):
+            yield found[1], function[1], function[0]
+
+
 def functions(path):
-    """The functions of a file: the type that each belongs to or None, its name, and its head with the clauses."""
+    """The functions of a file: the type or trait that each belongs to or None, the trait that it is of or None, its name, and its head with the clauses."""
     text = path.read_text()
+    for trait, name, head in trait_functions(text):
+        yield trait, None, name, head
     owner_at = []
     for found in re.finditer(r"^impl(?:<[^>]*>)? (?:(\w+)(?:<[^{]*>)? for )?(\w+)[^{\n]*\{", text, re.M):
         end = text.index("\n}", found.end())
@@ -139,6 +154,11 @@ def made_by_runs():
     return {tuple(call.split(" ", 1)): name for call, name in lines}
 
 
+def traits():
+    """The traits of all crates, each with its crate."""
+    return {name: path.parents[1].name for path in CRATES.glob("*/src/*.rt") for name in re.findall(r"^pub trait (\w+)", path.read_text(), re.M)}
+
+
 def crates_below():
     """The crates that each crate names, in crates.txt, as those that it stands on."""
     lines = (line.partition("#")[0].partition(":") for line in (ROOT / "crates.txt").read_text().splitlines())
@@ -153,6 +173,12 @@ def all_below(below, crate):
         found |= new
         waiting += new
     return found
+
+
+def unknown_clauses(head, words):
+    """The clauses that words name and that a head doesn't have. (`out` is a parameter.)"""
+    names = {name for name, _ in clauses(head)} | {"out"}
+    return [name for name in re.findall(r"`(\w+)`", words) if name not in names]
 
 
 def rows_of_tables():
@@ -184,6 +210,7 @@ class Makers:
         self.runs = made_by_runs()
         self.below = crates_below()
         self.cases = examples() | rows_of_tables()
+        self.traits = traits()
 
     @cached_property
     def of_main(self):
@@ -191,7 +218,9 @@ class Makers:
         names = [name for name in self.below if not TESTS.fullmatch(name) and not name.endswith("_laws")]
         calls = Calls(CRATES, names, {name: all_below(self.below, name) for name in names})
         starts = [it for it in calls.all if it.crate == "bml_replay" and it.name == "main"]
-        return {(it.crate, it.owner, it.name) for it in calls.reached_from(starts)}
+        reached = calls.reached_from(starts)
+        # (a trait's call is that of the types that have it, of whatever crate)
+        return {(it.crate, it.owner, it.name) for it in reached} | {(self.traits.get(it.trait), it.trait, it.name) for it in reached}
 
     @cached_property
     def of_tests(self):
@@ -252,6 +281,7 @@ def rows():
             kept = ", ".join(dict.fromkeys(f"`{clause}`" if clause else "its clause" for clause, _ in clauses(head)))
         if not kept:
             missing.append(f"{crate}: {call}: no clause says what stays")
+        missing += [f"{crate}: {call} has no clause {name}" for name in unknown_clauses(head, kept or "")]
         made, wrong = makers.maker_of(crate, owner, name)
         missing += [wrong] if wrong else []
         found.setdefault(crate, []).append(Call(call, error, None if error else other_answer(head), kept, made))
@@ -263,7 +293,7 @@ HEAD = """# Refusals
 
 Each public call that can refuse, with what it refuses with, what stays as it was behind a refusal, and an example, a row or a test that makes the call with enough memory. `NoMemory` is
 want of memory. The list is made by `tools/house/refusals.py`, which ends with an error where a place would be empty. The calls, their answers and the names of the clauses are read
-from the sources. The exceptions are written by hand there, and nothing checks them.
+from the sources. The words of the exceptions are written by hand there; that the clauses that they name are there is checked.
 
 An example or a row is one in which `tools/house/find_calls.py` saw the function run; it ended with status 0 and what is wanted, so no call in it wanted memory.
 What was seen stands in `tools/house/calls_made.txt`. The gate runs all examples and rows. It also checks that those named here are there, and that functions still call one

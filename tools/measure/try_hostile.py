@@ -9,6 +9,7 @@ examples and rows as they are. Each kind has N cases (3,000), from --first (1) o
 It has at most 1 GiB of addresses and 60 seconds of the processor, and goes well if
 
 - it ends by itself, with status 0, or with 2 where a line of its record is bad, or with 7 where what is kept has another length than an area
+- or it is stopped at its bound of time, and handlers that took all their steps have used up this time: half a second at most for each that a line tells of
 - what is kept after it is an area, or is as it was before
 - it writes to standard error what belongs to this status, and nothing else
 - each line that it writes is whole, has a form that README.md tells, and stands where it may
@@ -27,6 +28,7 @@ import collections
 import os
 import random
 import re
+import signal
 import statistics
 import sys
 import tempfile
@@ -52,6 +54,7 @@ KINDS = {
     "areas": area_case,
 }
 TOLD_PROCESSOR, TOLD_CHECKED = 2.0, 20.0  # seconds; more is told
+HANDLER, CHECKED_HANDLER = 0.5, 10  # seconds, at most, of a handler that takes all its steps
 NO_AREA, NO_MEMORY = 7, 9
 KEPT = "nvram.bin"
 
@@ -113,6 +116,15 @@ class Ran(NamedTuple):
     stdout: bytes
     stderr: bytes
     faults: list[str]
+
+    def stopped(self):
+        """How many handlers took all their steps, as its lines tell."""
+        return self.stdout.count(b"\nstop Budget ")
+
+    def is_paid(self, is_checked):
+        """Whether it was stopped at its bound of time, and its handlers have used up this time; in a build with checks each takes longer."""
+        most = CHECKED_HANDLER if is_checked else HANDLER
+        return self.status in (-signal.SIGKILL, -signal.SIGXCPU) and self.processor <= most * self.stopped()
 
 
 def item_of(line):
@@ -214,7 +226,8 @@ class Trial:
         faults = list(faults_of(case, status, written, error, area.read_bytes() if area.is_file() else None))
         self.words[kind].update(line.split(b" ", 1)[0].decode("ascii", "replace") for line in written.split(b"\n")[:-1])
         ran = Ran(number, status, processor, memory, written, error, faults)
-        if faults or processor > self.most or status == NO_MEMORY or self.asked.keep_all:
+        ran = ran._replace(faults=[]) if ran.is_paid(self.asked.checked) else ran
+        if ran.faults or processor > self.most or status == NO_MEMORY or self.asked.keep_all:
             self.keep(kind, case, ran)
         self.ran[kind].append(ran._replace(stdout=b"", stderr=b""))
 
@@ -222,8 +235,8 @@ class Trial:
         """Leaves a case in the folder that was asked for, and tells of it."""
         folder = Path(self.asked.keep) / f"{kind}-{self.asked.seed}-{ran.number}"
         folder.mkdir(parents=True, exist_ok=True)
-        stopped = ran.stdout.count(b"\nstop Budget ")
-        told = ran.faults or [f"{ran.processor:.2f} seconds of the processor, {ran.memory / 1024:.0f} MiB, status {ran.status}, {stopped:,} handlers took all their steps"]
+        cost = f"{ran.processor:.2f} seconds of the processor, {ran.memory / 1024:.0f} MiB"
+        told = ran.faults or [f"{cost}, status {ran.status}, {ran.stopped():,} handlers took all their steps"]
         for path, data in zip([*self.files(folder), folder / KEPT], (case.stream, case.record, ran.stdout, ran.stderr, case.kept)):
             if data is not None:
                 Path(path).write_bytes(data)
