@@ -26,3 +26,10 @@ pub mod DueLemmas
 pub mod LaterPageLemmas
 pub mod TickLemmas
 pub mod RepeatLemmas
+pub mod NodeActingLemmas
+pub mod NodeRunLemmas
+pub mod MomentLemmas
+pub mod LastWriteLemmas
+pub mod NodeReadLemmas
+pub mod ReachedLemmas
+pub mod MomentListLemmas

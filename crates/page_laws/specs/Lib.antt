@@ -1,3 +1,6 @@
 pub mod Soundness
 pub mod Turns
 pub mod Times
+pub mod Reached
+pub mod Nodes
+pub mod Moments

@@ -8,11 +8,18 @@
 //! [`law_of_clocks`] that it leaves the clock, and of the modules changes the locks alone.
 //! [`law_of_repeated_messages`] says that a message that is repeated fires no item again.
 //! [`law_of_time`] says that no timer is overdue (`specs/Times.antt`).
+//!
+//! All that a script, a handler or an event has of a node is its number in the one tree of the
+//! document ([`law_of_reached_nodes`], `specs/Reached.antt`). What is written through one reference is
+//! what is read through each other, also by handlers that run later ([`law_of_written_nodes`],
+//! `specs/Nodes.antt`, `specs/Moments.antt`).
 #![tactic(auto)]
 
 mod laws;
+mod nodes;
 
 pub use crate::laws::{
     law_of_clocks, law_of_repeated_messages, law_of_sound_receivers, law_of_soundness, law_of_time,
     law_of_turns,
 };
+pub use crate::nodes::{law_of_moments, law_of_reached_nodes, law_of_written_nodes};
