@@ -5,18 +5,15 @@ use Rattle.std.proofs.lemmas.List.Folds.{list_any-append}
 use Rattle.std.proofs.lemmas.Option.{slice_get_read}
 use Rattle.std.specs.Prelude.{◌&&◌, Contains, OnOk, slice_get}
 use Rattle.std.specs.HashMap.{HashMap, get}
-use Rattle.std.specs.List.{list_any}
 use Rattle.std.specs.Option.{option_eq}
 use denote.Enum.Bare.{sameb, same_true}
 use Rattle.style_reader.specs.declared.declarations.Declaration.{Declaration}
 use Rattle.style_reader.specs.declared.properties.Property.{Property}
-use Rattle.style_reader.specs.declared.rules.Rule.{Rule}
 use Rattle.style_reader.specs.declared.selectors.Selector.{Selector}
 use Rattle.style_cascade.specs.contracts.keys.When.{the_type as the_whens}
 use Rattle.style_cascade.specs.devices.Chains.{AreSeen, GivesIn, GivesSome, HasSeen, IsGiving, IsNoted, IsSeen, KeepsChains, Notes, chain_at, rules_in}
-use Rattle.style_cascade.specs.devices.Keys.{HasKey, IsKeyOf, is_among, same_key}
+use Rattle.style_cascade.specs.devices.Keys.{is_among, same_key}
 use Rattle.style_cascade.specs.declared.chains.Chain.{Chain}
-use Rattle.style_cascade.specs.declared.keys.Asked.{Asked}
 use Rattle.style_cascade.specs.declared.keys.Key.{Key}
 use Rattle.style_cascade.specs.declared.keys.When.{When}
 use Rattle.style_cascade.specs.declared.keys.When.TheVariants as whens

@@ -1,8 +1,8 @@
 -- Numbers of names, and the keys of selectors.
-use Rattle.std.proofs.Common.{◌≡◌, ℕ, ◌+◌, ◌*◌, ◌<◌, Bool, true, false, ◌||◌, nat_eq, List, [], ◌∷◌, Option, Some, None, ◌⊎◌, inl, inr, cond, get_or, refl, sym, ◌∙◌, ap, subst, arith}
-use Rattle.std.proofs.lemmas.Bool.{and_from, cases_Bool, eqb-true, or_cases, or_left}
+use Rattle.std.proofs.Common.{◌≡◌, ℕ, ◌+◌, ◌*◌, Bool, true, false, ◌||◌, nat_eq, List, [], ◌∷◌, Option, Some, None, ◌⊎◌, inl, inr, cond, get_or, refl, sym, ◌∙◌, ap, subst, arith}
+use Rattle.std.proofs.lemmas.Bool.{and_from, eqb-true, or_cases, or_left}
 use Rattle.std.proofs.lemmas.List.Quantifiers.{position-Some}
-use Rattle.std.specs.Prelude.{◌&&◌, option_map, position}
+use Rattle.std.specs.Prelude.{◌&&◌, option_map}
 use Rattle.std.specs.List.{list_any}
 use Rattle.std.specs.Option.{option_map_or}
 use Rattle.std.specs.Cmp.Lexicographic.{bytes_decides}
@@ -14,11 +14,9 @@ use Rattle.style_reader.specs.declared.selectors.PseudoClass.{PseudoClass}
 use Rattle.style_reader.specs.declared.selectors.PseudoClass.TheVariants as pseudo_classes
 use Rattle.style_reader.specs.declared.selectors.Selector.{Selector}
 use Rattle.style_cascade.specs.Matching.{has_mark, has_tag, is_for_state, matches}
-use Rattle.style_cascade.specs.devices.Keys.{AreClasses, AreKnown, IsAsked, IsCounted, IsFor, IsForTag, IsKeyOf, IsKnown, KnowsMore, asked_with, class_in, id_in, is_among, is_for_when, is_known, key_specificity, number_in, number_of, when_of, when_weight}
-use Rattle.style_cascade.specs.declared.keys.Asked.{Asked}
+use Rattle.style_cascade.specs.devices.Keys.{AreClasses, AreKnown, IsCounted, IsFor, IsForTag, IsKeyOf, IsKnown, KnowsMore, asked_with, class_in, id_in, is_among, is_for_when, key_specificity, number_in, number_of, when_of, when_weight}
 use Rattle.style_cascade.specs.declared.keys.Key.{Key}
 use Rattle.style_cascade.specs.declared.keys.When.{When}
-use Rattle.style_cascade.specs.declared.keys.When.TheVariants as whens
 use Rattle.style_cascade.specs.declared.states.State.{State}
 use Rattle.style_cascade.specs.declared.states.State.TheVariants as states
 use Rattle.style_cascade.specs.declared.subjects.Subject.{Subject}

@@ -1,5 +1,5 @@
 -- The search of chains finds the best of what rules give.
-use Rattle.std.proofs.Common.{◌≡◌, ◌≢◌, ℕ, zero, suc, ◌+◌, ◌<◌, ◌≤◌, Bool, true, false, ◌||◌, nat_eq, List, [], ◌∷◌, Option, Some, None, ◌⊎◌, inl, inr, length, refl, sym, ◌∙◌, ap, subst, arith}
+use Rattle.std.proofs.Common.{◌≡◌, ◌≢◌, ℕ, zero, suc, ◌<◌, ◌≤◌, Bool, true, false, ◌||◌, nat_eq, List, [], ◌∷◌, Option, Some, None, ◌⊎◌, inl, inr, length, refl, sym, ◌∙◌, ap, subst, arith}
 use Rattle.std.proofs.lemmas.Bool.{and_parts, cases_Bool, eqb-true, or_cases, or_left}
 use Rattle.std.proofs.lemmas.Bool.Decides.{nat_tests}
 use Rattle.std.specs.Prelude.{Contains, if◌then◌else◌, ◌&&◌, nat_le, IfSome, IsSomeAnd, IsTrue, is_some, option_and_then, option_map, slice_get, slice_index_or}
@@ -19,15 +19,14 @@ use Rattle.style_reader.specs.declared.selectors.Mark.TheVariants.{Class, Id}
 use Rattle.style_reader.specs.declared.selectors.Selector.{Selector}
 use Rattle.style_cascade.specs.Candidates.{declared_value, last_value}
 use Rattle.style_cascade.specs.Matching.{has_mark, has_tag, is_for_state, matches}
-use Rattle.style_cascade.specs.devices.Chains.{AreNoted, GivesSome, HasRule, IsGiving, IsNoted, chain_at, given_value, rules_in, value_in}
-use Rattle.style_cascade.specs.devices.Indexing.{Covers, IsFrom, IsGiven, IsNotAbove, IsSound, Question, better_of, found_value, is_weaker, offer_of, question, rule_offer, with_offer}
-use Rattle.style_cascade.specs.devices.Keys.{AreClasses, IsAsked, IsFor, IsForTag, IsKeyOf, asked_with, class_in, id_in, is_among, is_for_when, key_specificity, key_with, number_in, number_of}
+use Rattle.style_cascade.specs.devices.Chains.{AreNoted, GivesSome, HasRule, IsGiving, IsNoted, chain_at, given_value}
+use Rattle.style_cascade.specs.devices.Indexing.{Covers, IsFrom, IsGiven, IsNotAbove, IsSound, Question, found_value, is_weaker, offer_of, question, rule_offer, with_offer}
+use Rattle.style_cascade.specs.devices.Keys.{AreClasses, IsFor, IsForTag, IsKeyOf, asked_with, class_in, id_in, is_among, is_for_when, key_specificity, key_with, number_in, number_of}
 use Rattle.style_cascade.specs.devices.Rows.{AreSound, Changes, CoversAsked, CoversKey, CoversRules, KeepsEach, found_in, value_at}
 use Rattle.style_cascade.specs.devices.Searching.{best_of_rules, best_with_both, greater_of, greatest_of, greatest_with}
 use Rattle.style_cascade.specs.declared.chains.Chain.{Chain}
 use Rattle.style_cascade.specs.declared.keys.Asked.{Asked}
 use Rattle.style_cascade.specs.declared.keys.Key.{Key}
-use Rattle.style_cascade.specs.declared.keys.When.{When}
 use Rattle.style_cascade.specs.declared.rows.Found.{Found}
 use Rattle.style_cascade.specs.declared.search.Candidate.{Candidate}
 use Rattle.style_cascade.specs.declared.states.State.{State}
@@ -35,7 +34,7 @@ use Rattle.style_cascade.specs.declared.states.State.TheVariants as states
 use Rattle.style_cascade.specs.declared.subjects.Subject.{Subject}
 use Rattle.style_cascade.proofs.FittingLemmas.{rules-fit, value-fits}
 use Rattle.style_cascade.proofs.IndexLemmas.{best-declared, offer-kept, own-by}
-use Rattle.style_cascade.proofs.KeyLemmas.{for-class, for-id, for-none, for-tag, for-unmarked, key-matching, key-specific, key-state, numbered, unnumbered}
+use Rattle.style_cascade.proofs.KeyLemmas.{for-class, for-id, for-tag, key-matching, key-specific, key-state}
 use Rattle.style_cascade.proofs.SearchLemmas.{declared-found}
 
 -- ---- along the rules of a chain

@@ -6,7 +6,6 @@ use Rattle.std.specs.Option.{option_eq}
 use denote.Enum.Bare.{sameb}
 use Rattle.bml_bytes.specs.Words.{is_same}
 use Rattle.style_reader.specs.Selectors.{one_if_some}
-use Rattle.style_reader.specs.declared.rules.Rule.{Rule}
 use Rattle.style_reader.specs.declared.selectors.Mark.{Mark}
 use Rattle.style_reader.specs.declared.selectors.Mark.TheVariants.{Class, Id}
 use Rattle.style_reader.specs.declared.selectors.PseudoClass.{PseudoClass}

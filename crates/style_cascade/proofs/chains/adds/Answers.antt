@@ -1,4 +1,4 @@
-use Rattle.std.proofs.Common.{◌≡◌, true, List, inl, inr, refl, sym, subst, ap, ◌∙◌}
+use Rattle.std.proofs.Common.{◌≡◌, true, List, inl, inr, refl, subst, ap, ◌∙◌}
 use Rattle.std.specs.Prelude.{is_some}
 use Rattle.style_reader.specs.declared.declarations.Declaration.{Declaration}
 use Rattle.style_reader.specs.declared.properties.Property.{Property}

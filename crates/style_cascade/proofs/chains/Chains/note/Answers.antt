@@ -1,5 +1,4 @@
 use Rattle.std.proofs.Common.{refl}
-use Rattle.style_cascade.specs.devices.Chains.{HasSeen}
 use Rattle.style_cascade.proofs.ChainLemmas.{changed-by, changed-kept, changed-noted, changed-only, changed-seen, seen-noted}
 use Rattle.style_cascade.proofs.chains.Chains.note.Goals as goal
 

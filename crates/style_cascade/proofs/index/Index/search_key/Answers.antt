@@ -1,8 +1,7 @@
-use Rattle.std.proofs.Common.{◌≡◌, ℕ, List, Option, sym, subst, ap, ◌∙◌}
+use Rattle.std.proofs.Common.{◌≡◌, ℕ, List, subst, ap, ◌∙◌}
 use Rattle.style_cascade.specs.devices.Chains.{chain_at, rules_in}
 use Rattle.style_cascade.specs.devices.Keys.{key_specificity}
 use Rattle.style_cascade.specs.devices.Rows.{Changes}
-use Rattle.style_cascade.specs.declared.chains.Chain.{Chain}
 use Rattle.style_cascade.proofs.LookupLemmas.{key-sound}
 use Rattle.style_cascade.proofs.index.Index.search_key.Goals as goal
 

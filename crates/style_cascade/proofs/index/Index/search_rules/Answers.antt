@@ -1,7 +1,7 @@
-use Rattle.std.proofs.Common.{List, ℕ, sym, ap, ◌∙◌}
+use Rattle.std.proofs.Common.{List, ap, ◌∙◌}
 use Rattle.style_reader.specs.declared.declarations.Declaration.{Declaration}
 use Rattle.style_cascade.specs.devices.Chains.{given_value}
-use Rattle.style_cascade.proofs.LookupLemmas.{offered-by, walk-end, walk-more, walk-start}
+use Rattle.style_cascade.proofs.LookupLemmas.{offered-by, walk-more, walk-start}
 use Rattle.style_cascade.proofs.index.Index.search_rules.Goals as goal
 
 pub numbers-init : goal.numbers-init

@@ -1,4 +1,4 @@
-use Rattle.std.proofs.Common.{◌≡◌, Some, None, Option, ℕ, sym, ◌∙◌}
+use Rattle.std.proofs.Common.{◌≡◌, Some, None, sym, ◌∙◌}
 use Rattle.style_cascade.proofs.KeyLemmas.{for-none}
 use Rattle.style_cascade.proofs.LookupLemmas.{both-covered, covers-kept, for-tag_number}
 use Rattle.style_cascade.proofs.index.Index.search_tags.Goals as goal

@@ -1,5 +1,5 @@
 use Rattle.std.proofs.Common.{refl}
-use Rattle.style_cascade.proofs.KeyLemmas.{listed-end, listed-more, listed-start}
+use Rattle.style_cascade.proofs.KeyLemmas.{listed-more, listed-start}
 use Rattle.style_cascade.proofs.numbers.Numbers.classes.Goals as goal
 
 pub classes-init : goal.classes-init

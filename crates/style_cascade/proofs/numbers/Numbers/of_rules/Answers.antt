@@ -2,7 +2,6 @@ use Rattle.std.proofs.Common.{◌≡◌, Some, length, refl, sym, subst, ap, ◌
 use Rattle.std.proofs.lemmas.Option.{slice_get_read}
 use Rattle.std.specs.Prelude.{Contains, slice_get}
 use Rattle.style_reader.specs.declared.rules.Rule.{Rule}
-use Rattle.style_reader.specs.declared.selectors.Selector.{Selector}
 use Rattle.style_cascade.specs.devices.Keys.{AreKnown}
 use Rattle.style_cascade.proofs.ChainLemmas.{below-or_at, each-contained}
 use Rattle.style_cascade.proofs.KeyLemmas.{known-more}
