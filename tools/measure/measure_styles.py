@@ -22,7 +22,13 @@ MOST_BYTES = 1 << 20  # of a module
 MOST_NODES = 16_384
 PLAIN_BOX = "box 0 0 0 0 8 0 7\n"
 MOVED_BOX = "box 1 0 0 0 8 0 7\n"
+TWICE_MOVED_BOX = "box 2 0 0 0 8 0 7\n"
 DOCUMENT, SHEET = 0, 1
+# one of each property, the first of which moves a box
+DECLARATIONS = (
+    "left:1px top:0 width:0 height:0 visibility:visible z-index:0 nav-index:none nav-up:none nav-down:none nav-left:none nav-right:none "
+    "used-key-list:none color-index:7 background-color-index:8 border-width:0 border-color-index:7 font-size:24px"
+).split()
 
 
 class Styled(NamedTuple):
@@ -59,6 +65,13 @@ def texts():
     yield one_paragraph("a declaration of 1 MB", "p{left:" + "0" * (MOST_BYTES - 20) + "1px}", PLAIN_BOX + MOVED_BOX)
 
 
+def long_chains():
+    """Rules of which each gives something that the later ones don't, for all selectors that match a `p` of the classes a and b."""
+    marked = [name + state for name in ["*", "p", ".a", ".b", "p.a", "p.b"] for state in ["", ":focus", ":active"]]
+    counts = range(len(DECLARATIONS), 0, -1)
+    return "".join(f"{','.join(marked)}{{{';'.join(DECLARATIONS[:count])}}}" for count in counts)
+
+
 def nodes():
     rest = MOST_NODES - 4  # beside bml, head, link and body
     plain = "<p/>" * rest
@@ -72,6 +85,17 @@ def nodes():
     yield Styled("each rule matches each node", repeated("p{left:1px}"), plain, boxes)
     sets = "".join(f"p{{{name}}}" for name in ["top:0", "color-index:7", "left:1px", "z-index:0", "*:focus"])
     yield Styled("each rule matches each node, in turns", repeated(sets), plain, boxes)
+    yield Styled("one list of 524,280 selectors that all match", "p," * (MOST_BYTES // 2 - 8) + "p{left:1px}", plain, boxes)
+    yield Styled("174,700 declarations in one rule", "p{" + "top:0;" * 174_700 + "left:1px}", plain, boxes)
+    selectors = ",".join(f"t{number:x}" for number in range(140_000))
+    yield Styled("140,000 selectors, of which the last matches", selectors + ",p{" + ";".join(DECLARATIONS) + "}", plain, boxes)
+    yield Styled("17 rules in each of 18 chains", long_chains(), '<p class="a b"/>' * rest, MOVED_BOX + TWICE_MOVED_BOX * rest)
+    again = f'<p class="{"a b " * 250_000}"/>'
+    yield Styled("17 rules in each of 18 chains, a class 250,000 times", long_chains(), again, MOVED_BOX + TWICE_MOVED_BOX)
+    tag = "t" * 300_000
+    tagged = "".join(f"{tag if number == 0 else 'p'}.c{number:x}{{top:0}}" for number in range(50_000))
+    named = " ".join(f"c{number:x}" for number in range(100_000))
+    yield Styled("a tag of 300,000 letters and 100,000 classes", tagged, f'<{tag} class="{named}"/>', PLAIN_BOX * 2)
     many = " ".join(f"c{number:x}" for number in range(100_000))
     around = f'<p class="{many}">{"<p/>" * (rest - 1)}</p>'
     yield Styled("a node of 100,000 classes round all others", numbered(100_000, ".c{0:x}{{top:0}}")[: MOST_BYTES // 12 * 12], around, PLAIN_BOX * (rest + 1))

@@ -51,7 +51,7 @@ better-own : (t : Bool) (best : Found) (number : ℕ) (offered : Candidate) → 
 better-own true best number offered e = inr (refl, omega arith)
 better-own false best number offered e = stronger-not_above offered.specificity number best.candidate.specificity best.rule e
 
-offer-kept : (best : Option Found) (number : ℕ) (offered : Option Candidate) (other : ℕ) (c : Candidate) → IsSomeAnd best (IsNotAbove other c) → IsSomeAnd (with_offer best number offered) (IsNotAbove other c)
+pub offer-kept : (best : Option Found) (number : ℕ) (offered : Option Candidate) (other : ℕ) (c : Candidate) → IsSomeAnd best (IsNotAbove other c) → IsSomeAnd (with_offer best number offered) (IsNotAbove other c)
 offer-kept best number None other c h = h
 offer-kept None number (Some offered) other c h = absurd h
 offer-kept (Some best) number (Some offered) other c h = better-kept (is_weaker best number offered) best number offered refl other c h
@@ -64,7 +64,7 @@ pub covers-more : (asked : Question) (best : Option Found) (number other : ℕ) 
 unfolding Covers
 covers-more asked best number other h = covers-by (offer_of asked other) best (with_offer best number (offer_of asked number)) other (λ c k. offer-kept best number (offer_of asked number) other c k) h
 
-own-by : (best : Option Found) (number : ℕ) (offered : Option Candidate) → IfSome offered (λ c. IsSomeAnd (with_offer best number offered) (IsNotAbove number c))
+pub own-by : (best : Option Found) (number : ℕ) (offered : Option Candidate) → IfSome offered (λ c. IsSomeAnd (with_offer best number offered) (IsNotAbove number c))
 own-by best number None = tt
 own-by None number (Some offered) = inr (refl, omega arith)
 own-by (Some best) number (Some offered) = better-own (is_weaker best number offered) best number offered refl

@@ -3,6 +3,8 @@ pub mod WriteLemmas
 pub mod SearchLemmas
 pub mod RuleLemmas
 pub mod IndexLemmas
+pub mod GivenLemmas
+pub mod KeyLemmas
 pub mod ChainLemmas
 pub mod RowLemmas
 pub mod LookupLemmas

@@ -1,5 +1,7 @@
 -- Devices of the proofs, which nobody has to believe.
 pub mod Tables
+pub mod Chains
+pub mod Keys
 pub mod Kept
 pub mod Indexing
 pub mod Rows

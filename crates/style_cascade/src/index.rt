@@ -1,154 +1,68 @@
-//! Rules by the names that their selectors ask for.
+//! Rules by their selectors.
 
-ghost use Rattle.std.specs.Prelude.{◌≡◌, ℕ, List, [], Option, Some, None, Contains, option_copied, if◌then◌else◌, IfOk, IsTrue, OnOk};
-ghost use Rattle.indexmap.specs.IndexMap.{get};
-ghost use Rattle.bml_bytes.specs.Words.{is_same};
-ghost use Rattle.style_cascade.specs.devices.Indexing.{AreBackward, AreInside, AreNoted, KeepsChains, Reaches, head_of, name_of as spec_name_of, same_name};
+ghost use Rattle.std.specs.Prelude.{◌≡◌, ℕ, true, Contains, IfOk, Some, slice_get};
+ghost use Rattle.style_reader.specs.declared.rules.Rule.{Rule};
 ghost use Rattle.style_reader.specs.declared.selectors.Selector.{Selector};
+ghost use Rattle.style_cascade.specs.devices.Chains.{AreNoted, HasRule, IsNoted, chain_at};
+ghost use Rattle.style_cascade.specs.devices.Keys.{AreKnown, is_among};
+ghost use Rattle.style_cascade.specs.declared.keys.Key.{Key};
 
-use bml_bytes::{NoMemory, Text};
+use crate::chains::Chains;
+use crate::given::given_by;
+use crate::numbers::Numbers;
+use bml_bytes::{NoMemory, Sequence};
 use indexmap::IndexMap;
 use std::alloc::Global;
-use style_reader::{Mark, Rule, Selector};
+use style_reader::{Declaration, Rule};
 
-/// The number of a rule with a selector that asks for a name, and where an earlier one stands.
-#[derive(Clone, Copy)]
-pub struct Link {
-    pub rule: usize,
-    pub next: Option<usize>,
-}
-
-/// The rules by the names that their selectors ask for: one chain of links for each name, and one
-/// for the selectors that ask for none.
+/// The rules by their selectors: the numbers of the names that these ask for, what each rule gives,
+/// and the chain of each selector.
 #[derive(Drop)]
 pub struct Index {
-    pub heads: IndexMap<Text, usize>,
-    pub unnamed: Option<usize>,
-    pub links: Vec<Link>,
-}
-
-// The class or the id that a selector asks for, or else the tag.
-fn name_of(selector: &Selector) -> Option<&Text>
-    ensures { option_copied result ≡ spec_name_of selector.now }
-{
-    match &selector.mark {
-        Some(Mark::Class(name)) => Some(name),
-        Some(Mark::Id(name)) => Some(name),
-        None => match &selector.tag {
-            Some(tag) => Some(tag),
-            None => None,
-        },
-    }
+    pub numbers: Numbers,
+    pub given: Vec<Sequence<Declaration>>,
+    pub chains: Chains,
 }
 
 impl Index {
-    fn new(alloc: Global) -> Index
-        ensures heads { (name : List ℕ) → get is_same result.heads name ≡ None }
-        ensures unnamed { result.unnamed ≡ None }
-        ensures links { result.links.items ≡ [] }
-    {
-        Index {
-            heads: IndexMap::new(alloc),
-            unnamed: None,
-            links: Vec::new(alloc),
-        }
-    }
-
-    /// The rules in the chains of all names that their selectors ask for.
+    /// The rules by their selectors. The time grows with the number of these.
     pub fn of_rules(alloc: Global, rules: &[Rule]) -> Result<Index, NoMemory>
-        ensures { IfOk result
-            (λ index. AreNoted rules.now index.heads index.unnamed index.links.items) }
+        ensures { IfOk result (λ index. AreNoted rules.now
+            index.numbers.names.keys index.given.items index.chains.chains) }
     {
-        let mut index = Index::new(alloc);
-        'rules: for number in 0..rules.len() {
-            index.note_rule(&rules[number], number)?;
-        }
-        Ok(index)
+        let numbers = Numbers::of_rules(alloc, rules)?;
+        let given = given_by(alloc, rules)?;
+        let chains = chains_of(alloc, &numbers, given.as_slice(), rules)?;
+        Ok(Index {
+            numbers,
+            given,
+            chains,
+        })
     }
+}
 
-    // Notes a rule for each of its selectors.
-    fn note_rule(&mut self, rule: &Rule, number: usize) -> Result<(), NoMemory>
-        requires back { AreBackward self.old.links.items }
-        requires inside { AreInside self.old.heads self.old.unnamed self.old.links.items }
-        ensures back { OnOk result (AreBackward self.new.links.items) }
-        ensures inside { OnOk result
-            (AreInside self.new.heads self.new.unnamed self.new.links.items) }
-        ensures kept { OnOk result
-            (KeepsChains self.old.heads self.old.unnamed self.old.links.items
-            self.new.heads self.new.unnamed self.new.links.items) }
-        ensures noted { OnOk result
-            ((selector : Selector) → Contains rule.now.selectors selector →
-            Reaches self.new.links.items
-            (head_of self.new.heads self.new.unnamed (spec_name_of selector)) number) }
-    {
-        let selectors = rule.selectors.as_slice();
-        'selectors: for place in 0..selectors.len() {
-            self.note(name_of(&selectors[place]), number)?;
-        }
-        Ok(())
+// The chains of all selectors of the rules. The rules are noted from the last one on.
+fn chains_of(
+    alloc: Global,
+    numbers: &Numbers,
+    given: &[Sequence<Declaration>],
+    rules: &[Rule],
+) -> Result<Chains, NoMemory>
+    ensures only { IfOk result (λ made. (key : Key) (number : ℕ) →
+        is_among number (chain_at made.chains key) ≡ true →
+        HasRule numbers.now.names.keys rules.now key number) }
+    ensures noted { IfOk result (λ made. (number : ℕ) (rule : Rule) (selector : Selector) →
+        slice_get rules.now number ≡ Some rule → Contains rule.selectors selector →
+        AreKnown numbers.now.names.keys selector →
+        IsNoted numbers.now.names.keys given.now number made.chains selector) }
+{
+    let mut chains = Chains {
+        chains: IndexMap::new(alloc),
+    };
+    let mut number = rules.len();
+    'rules: while number > 0 {
+        number -= 1;
+        chains.note_rule(alloc, numbers, given, &rules[number], number)?;
     }
-
-    // Notes a rule for a name.
-    fn note(&mut self, name: Option<&Text>, number: usize) -> Result<(), NoMemory>
-        requires back { AreBackward self.old.links.items }
-        requires inside { AreInside self.old.heads self.old.unnamed self.old.links.items }
-        ensures back { OnOk result (AreBackward self.new.links.items) }
-        ensures inside { OnOk result
-            (AreInside self.new.heads self.new.unnamed self.new.links.items) }
-        ensures kept { OnOk result
-            (KeepsChains self.old.heads self.old.unnamed self.old.links.items
-            self.new.heads self.new.unnamed self.new.links.items) }
-        ensures noted { OnOk result
-            (Reaches self.new.links.items
-            (head_of self.new.heads self.new.unnamed (option_copied name.entry)) number) }
-    {
-        let next = self.head(name);
-        if self.is_at(next, number) {
-            return Ok(());
-        }
-        let place = self.links.len();
-        self.links.push(Link { rule: number, next })?;
-        self.put_head(name, place)
-    }
-
-    // Whether the chain begins with the rule.
-    fn is_at(&self, head: Option<usize>, number: usize) -> bool
-        ensures { IsTrue result → Reaches self.now.links.items head number }
-    {
-        match head {
-            Some(place) => match self.links.get(place) {
-                Some(link) => link.rule == number,
-                None => false,
-            },
-            None => false,
-        }
-    }
-
-    // Where the chain of a name begins.
-    pub fn head(&self, name: Option<&Text>) -> Option<usize>
-        ensures { result ≡ head_of self.now.heads self.now.unnamed (option_copied name.entry) }
-    {
-        match name {
-            Some(name) => self.heads.get(name).copied(),
-            None => self.unnamed,
-        }
-    }
-
-    // Lets the chain of a name begin at that place.
-    fn put_head(&mut self, name: Option<&Text>, place: usize) -> Result<(), NoMemory>
-        ensures links { self.new.links.items ≡ self.old.links.items }
-        ensures heads { OnOk result ((other : Option (List ℕ)) →
-            head_of self.new.heads self.new.unnamed other
-            ≡ (if same_name (option_copied name.entry) other then Some place
-            else head_of self.old.heads self.old.unnamed other)) }
-    {
-        match name {
-            Some(name) => {
-                let name = name.share()?;
-                self.heads.insert(name, place)?;
-            }
-            None => self.unnamed = Some(place),
-        }
-        Ok(())
-    }
+    Ok(chains)
 }

@@ -9,9 +9,13 @@
 //! an element changed. The `law_of_..` functions say what the definitions mean.
 #![tactic(auto)]
 
+mod chains;
+mod given;
 mod index;
+mod keys;
 mod laws;
 mod lookup;
+mod numbers;
 mod rows;
 mod said;
 mod search;

@@ -133,7 +133,7 @@ impl Row {
     }
 
     // Offers declarations of a rule. Of those of one property the last one counts.
-    fn offer_each(
+    pub fn offer_each(
         &mut self,
         state: State,
         specificity: u8,

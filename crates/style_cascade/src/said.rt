@@ -27,7 +27,7 @@ pub struct Said {
 }
 
 /// What is said of each node of a tree: of an element what the rules and its inline text say, and
-/// nothing of a text. For each element each rule that asks for a name of it is looked at once.
+/// nothing of a text. For each element the chains of those selectors are searched that may match it.
 pub fn said_table(alloc: Global, tree: &Tree, sheet: &Sheet) -> Result<Table, NoMemory>
     ensures length { IfOk result (λ table. length table ≡ 51 * length tree.now) }
     ensures said { IfOk result (λ table. (node : ℕ) (state : State) (property : Property) →

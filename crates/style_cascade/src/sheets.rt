@@ -15,7 +15,7 @@ use std::alloc::Global;
 use std::marker::Model;
 use style_reader::Rules;
 
-/// The rules of a document's style texts, with the names that they ask for. Contracts see the list
+/// The rules of a document's style texts, with the chains of their selectors. Contracts see the list
 /// of them.
 #[derive(Drop)]
 pub struct Sheet {
@@ -29,12 +29,13 @@ impl Model for Sheet {
 
     ghost Value = { List Rule };
 
-    ghost use Rattle.style_cascade.specs.devices.Indexing.{AreNoted};
+    ghost use Rattle.style_reader.specs.Rules.{AreFitting};
+    ghost use Rattle.style_cascade.specs.devices.Chains.{AreNoted};
 
     ghost view = { λ sheet. sheet.rules };
 
-    ghost invariant = { λ sheet. AreNoted sheet.rules
-        sheet.index.heads sheet.index.unnamed sheet.index.links.items };
+    ghost invariant = { λ sheet. AreFitting sheet.rules × AreNoted sheet.rules
+        sheet.index.numbers.names.keys sheet.index.given.items sheet.index.chains.chains };
 }
 
 impl Sheet {
@@ -46,8 +47,8 @@ impl Sheet {
         Ok(Sheet { rules, index })
     }
 
-    /// The best of what the rules give an element. Only those are searched that ask for a name of
-    /// the element, or for none.
+    /// The best of what the rules give an element. Only those chains are searched whose selectors
+    /// may match it: they ask for its tag or for none, and for its id, a class of it or neither.
     pub fn best(&self, alloc: Global, subject: &Subject) -> Result<Row, NoMemory>
         ensures best { IfOk result (λ row. (state : State) (property : Property) →
             value_at row state property ≡ declared_value self.now subject.now state property) }
@@ -55,7 +56,7 @@ impl Sheet {
             IfSome (value_at row state property) (λ value. IsTrue (fits property value))) }
     {
         let mut row = Row::new(alloc)?;
-        self.index.search(self.rules.as_slice(), subject, &mut row);
+        self.index.search(alloc, subject, &mut row)?;
         Ok(row)
     }
 

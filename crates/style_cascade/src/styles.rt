@@ -88,8 +88,8 @@ impl Styles {
     ghost use Rattle.style_cascade.specs.devices.Kept.{kept_value};
 
     /// The styles of a document with these rules. Nothing is written yet. What rules and inline
-    /// texts say is worked out here: for each element each rule that asks for a name of it is
-    /// looked at once.
+    /// texts say is worked out here, in a time that grows with the number of selectors and
+    /// declarations, and with the number of elements and of their different classes.
     pub fn new(alloc: Global, tree: &Tree, rules: Rules) -> Result<Styles, NoMemory>
         ensures sources { IfOk result (λ styles. styles.sources ≡ unwritten rules) }
         ensures rules { IfOk result (λ styles. styles.sources.rules ≡ rules) }

@@ -1,76 +1,20 @@
--- A device of the proofs: the rules by the names that their selectors ask for, and the best of the
--- rules that are found so.
-use Rattle.std.specs.Prelude.{◌≡◌, ℕ, ◌<◌, ◌≤◌, ◌⊎◌, ◌==◌, nat_lt, nat_le, Bool, true, false, ◌&&◌, ◌||◌, List, length, Option, Some, None, Contains, IfSome, IsSomeAnd, option_and_then, slice_get, if◌then◌else◌}
-use Rattle.std.specs.HashMap.{HashMap, get}
-use Rattle.bml_bytes.specs.Words.{is_same}
+-- A device of the proofs: the best of some rules, which are offered in any order.
+use Rattle.std.specs.Prelude.{◌≡◌, ℕ, ◌<◌, ◌≤◌, ◌⊎◌, ◌==◌, nat_lt, nat_le, Bool, true, ◌&&◌, ◌||◌, List, Option, Some, None, Contains, IfSome, IsSomeAnd, option_and_then, slice_get, if◌then◌else◌}
+use Rattle.style_reader.specs.Selectors.{specificity}
+use Rattle.style_reader.specs.declared.declarations.Declaration.{Declaration}
 use Rattle.style_reader.specs.declared.properties.Property.{Property}
 use Rattle.style_reader.specs.declared.properties.StyleValue.{StyleValue}
 use Rattle.style_reader.specs.declared.rules.Rule.{Rule}
-use Rattle.style_reader.specs.declared.selectors.Mark.{Mark}
-use Rattle.style_reader.specs.declared.selectors.Mark.TheVariants.{Class, Id}
 use Rattle.style_reader.specs.declared.selectors.Selector.{Selector}
 use Rattle.style_cascade.specs.Candidates.{last_value}
+use Rattle.style_cascade.specs.Matching.{matches}
+use Rattle.style_cascade.specs.devices.Chains.{given_value}
+use Rattle.style_cascade.specs.devices.Keys.{is_among}
 use Rattle.style_cascade.specs.devices.Searching.{best_with_both, greatest_of}
 use Rattle.style_cascade.specs.declared.rows.Found.{Found}
-use Rattle.style_cascade.specs.declared.index.Link.{Link}
 use Rattle.style_cascade.specs.declared.search.Candidate.{Candidate}
 use Rattle.style_cascade.specs.declared.states.State.{State}
 use Rattle.style_cascade.specs.declared.subjects.Subject.{Subject}
-
--- ---- names
-
--- the name that a selector asks for: its class or id, or else its tag
-abbrev pub name_with : Option Mark → Option (List ℕ) → Option (List ℕ)
-name_with None tag = tag
-name_with (Some (Class name)) tag = Some name
-name_with (Some (Id name)) tag = Some name
-
-abbrev pub name_of : Selector → Option (List ℕ)
-name_of selector = name_with selector.mark selector.tag
-
--- ---- chains of rule numbers
-
--- the number stands in the chain that begins at the link of this place
-pub data Reaches (links : List Link) : Option ℕ → ℕ → Type 0 where
-  Here : (place : ℕ) (link : Link) → slice_get links place ≡ Some link
-      → Reaches links (Some place) link.rule
-  Later : (place : ℕ) (link : Link) (number : ℕ) → slice_get links place ≡ Some link
-      → Reaches links link.next number → Reaches links (Some place) number
-
--- each link leads to an earlier one
-pub record AreBackward (links : List Link) : Type 0 where
-  pub back : (place : ℕ) (link : Link) → slice_get links place ≡ Some link →
-      IfSome link.next (λ next. next < place)
-
--- where the chain of a name begins
-abbrev pub head_of : {S : Type 0} → HashMap (List ℕ) ℕ S → Option ℕ → Option (List ℕ) → Option ℕ
-head_of heads unnamed None = unnamed
-head_of heads unnamed (Some name) = get is_same heads name
-
--- each chain begins at a link
-pub record AreInside {S : Type 0} (heads : HashMap (List ℕ) ℕ S) (unnamed : Option ℕ) (links : List Link) : Type 0 where
-  pub inside : (name : Option (List ℕ)) → IfSome (head_of heads unnamed name) (λ head. head < length links)
-
--- the two names are one, or both are none
-abbrev pub same_name : Option (List ℕ) → Option (List ℕ) → Bool
-same_name None None = true
-same_name None (Some name) = false
-same_name (Some name) None = false
-same_name (Some name) (Some other) = is_same name other
-
--- the old chains are still there
-abbrev pub KeepsChains : {S T : Type 0} → HashMap (List ℕ) ℕ S → Option ℕ → List Link → HashMap (List ℕ) ℕ T → Option ℕ → List Link → Type 0
-KeepsChains heads unnamed links new_heads new_unnamed new_links =
-    (name : Option (List ℕ)) (number : ℕ) → Reaches links (head_of heads unnamed name) number
-    → Reaches new_links (head_of new_heads new_unnamed name) number
-
--- the rules are in the chains of what their selectors ask for
-pub record AreNoted {S : Type 0} (rules : List Rule) (heads : HashMap (List ℕ) ℕ S) (unnamed : Option ℕ) (links : List Link) : Type 0 where
-  pub back : AreBackward links
-  pub inside : AreInside heads unnamed links
-  pub noted : (number : ℕ) (rule : Rule) (selector : Selector) →
-      slice_get rules number ≡ Some rule → Contains rule.selectors selector →
-      Reaches links (head_of heads unnamed (name_of selector)) number
 
 -- ---- the best of some rules
 
@@ -126,16 +70,24 @@ abbrev pub with_offer : Option Found → ℕ → Option Candidate → Option Fou
 with_offer best number None = best
 with_offer best number (Some offered) = Some (better_of best number offered)
 
--- what was covered is covered still
-pub record Improves (asked : Question) (before after : Option Found) : Type 0 where
-  pub sound : IsSound asked before → IsSound asked after
-  pub kept : (number : ℕ) → Covers asked before number → Covers asked after number
-
--- each rule of the chain is covered
-abbrev pub CoversChain : Question → Option Found → List Link → Option ℕ → Type 0
-CoversChain asked best links head =
-    (number : ℕ) → Reaches links head number → Covers asked best number
-
 abbrev pub found_value : Option Found → Option StyleValue
 found_value None = None
 found_value (Some best) = Some best.candidate.value
+
+-- ---- the best of what some selectors are given
+
+-- the best is what its rule gives to one of its selectors that match
+pub record IsGiven (asked : Question) (best : Found) : Type 0 where
+  pub rule : Rule
+  pub found : slice_get asked.rules best.rule ≡ Some rule
+  pub selector : Selector
+  pub among : Contains rule.selectors selector
+  pub matching : matches selector asked.subject asked.state ≡ true
+  pub specificity_is : specificity selector ≡ best.candidate.specificity
+  pub value_is : last_value asked.property rule.declarations ≡ Some best.candidate.value
+
+-- the best is what one of the rules gives to a selector as specific as this
+pub record IsFrom (given : List (List Declaration)) (rules : List ℕ) (specificity : ℕ) (property : Property) (best : Found) : Type 0 where
+  pub among : is_among best.rule rules ≡ true
+  pub specificity_is : best.candidate.specificity ≡ specificity
+  pub value_is : given_value given best.rule property ≡ Some best.candidate.value

@@ -1,9 +1,10 @@
-use Rattle.style_cascade.specs.devices.Indexing.{question}
-use Rattle.style_cascade.specs.devices.Rows.{found_in}
-use Rattle.style_cascade.proofs.LookupLemmas.{list-more}
+use Rattle.style_cascade.proofs.LookupLemmas.{list-more, list-start}
 use Rattle.style_cascade.proofs.index.Index.search_classes.Goals as goal
 
+pub classes-init : goal.classes-init
+classes-init c = list-start c.args.self.now.numbers.names.keys c.args.self.now.given.items c.args.self.now.chains.chains c.args.tag c.args.classes.now c.args.row.now
+
 pub classes-preserved : goal.classes-preserved
-classes-preserved c = λ state property.
-    list-more (question c.args.rules.now c.args.subject.now state property) (found_in c.args.row.now state property) (found_in c.classes.row state property) (found_in c.search_name.new.row state property) c.args.self.now.links.items c.args.self.now.heads c.args.self.now.unnamed c.args.subject.now.classes c.classes.rest.now c.in-Some.more.now c.in-Some.first.now
-    (c.in-Some.ensures {u = tt}).cases.0 (c.search_name.ensures.improves state property) (c.search_name.ensures.covers state property) (c.classes.invariant state property)
+classes-preserved c = list-more c.args.self.now.numbers.names.keys c.args.self.now.given.items c.args.self.now.chains.chains c.args.tag c.args.classes.now c.classes.rest.now c.in-Some.more.now c.in-Some.first.now c.args.row.now c.classes.row c.search_asked.new.row (c.in-Some.ensures {u = tt}).cases.0
+    (record { keeps = c.search_asked.ensures.keeps; sound = c.search_asked.ensures.sound; covers = c.search_asked.ensures.covers })
+    c.classes.invariant
