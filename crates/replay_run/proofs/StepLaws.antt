@@ -1,7 +1,7 @@
 -- One call of a receiver, and the piece that it gave, over plain values.
 use Rattle.std.proofs.Common.{◌≡◌, ℕ, ◌+◌, ◌-◌, ◌≤◌, List, [], ◌∷◌, ◌++◌, refl, sym, ap, ◌∙◌}
 use Rattle.std.proofs.Common.{Result, Ok, Err, OnOk}
-use Rattle.std.proofs.Common.{subst, append-nil, ◌⊎◌, inl, inr, arith, false}
+use Rattle.std.proofs.Common.{subst, append-nil, length, ◌⊎◌, inl, inr, arith, false}
 use Rattle.es_reader.specs.Readers.{IsReader}
 use Rattle.receiver_core.specs.Fronts.{front_of_self}
 use Rattle.receiver_core.specs.Outputs.{Input, Piece, input_of}
@@ -232,6 +232,14 @@ midway_step replay now after inputs more ahead receiver text step same count put
       counted = behind.bytes ∙ m.counted;
       ended = λ e. m.ended (sym (ap (λ (c : CutterState). c.ended) behind.cutter) ∙ e);
       ahead_is = ap (λ (c : CutterState). packets_of (c.held ++ m.rest)) behind.cutter ∙ m.ahead_is;
+      done = m.done;
+      number = m.number ∙ sym behind.packets;
+      before = m.before;
+      taken_is = m.taken_is ∙ ap (λ (c : CutterState). m.before ++ c.held) (sym behind.cutter);
+      cut = λ more may.
+          m.cut more (λ e. may (ap (λ (c : CutterState). c.ended) behind.cutter ∙ e))
+          ∙ ap (λ (c : CutterState). m.done ++ packets_of (c.held ++ more)) (sym behind.cutter);
+      few = omega (arith, ap (λ (c : CutterState). length c.held) behind.cutter, m.few);
       packets = behind.packets ∙ m.packets ∙ sym count;
       stands = λ right. subst
           (λ r. StandsFor replay.read replay.selection replay.area r more p.given)

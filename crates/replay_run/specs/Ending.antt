@@ -109,12 +109,17 @@ pub record FailsToRead (meaning : Meaning) (run : Account) : Type 0 where
       ⊎ (ReadsNotes run given [] × (run.behind.world.notes.reads.last_failed ≡ true))
   pub writes : WritesDecided meaning given run
 
+-- with these bytes a file passes what it may give
+pub record Passes (limit : ℕ) (part : Part) (last : List ℕ) : Type 0 where
+  pub before : length part.bytes ≤ limit
+  pub behind : limit < length (part.bytes ++ last)
+
 -- with the last read a file gave more than it may
 pub record ReadsTooMuch (meaning : Meaning) (run : Account) : Type 0 where
   pub given : Given
   pub last : List ℕ
-  pub read : (ReadsStream run given last × (stream_limit < length (given.stream.bytes ++ last)))
-      ⊎ (ReadsNotes run given last × (record_limit < length (given.notes.bytes ++ last)))
+  pub read : (ReadsStream run given last × Passes stream_limit given.stream last)
+      ⊎ (ReadsNotes run given last × Passes record_limit given.notes last)
   pub writes : WritesDecided meaning given run
 
 -- ---- where putting a piece out stops

@@ -21,6 +21,7 @@ steps-init g c = record {
   idle = c.requires.idle;
   area = c.requires.area;
   bytes = refl;
+  packets = refl;
   cutter = refl;
   clock = refl;
   later = later_none _;
@@ -67,6 +68,7 @@ steps-preserved g c =
       idle = rw put.receiver step.idle;
       area = put.area;
       bytes = put.bytes ∙ before.bytes;
+      packets = put.packets ∙ before.packets;
       cutter = put.cutter ∙ before.cutter;
       clock = omega (
         arith,
