@@ -156,7 +156,7 @@ at_packet replay old items item notes behind last r b just n =
     }
 
 -- what was given of the two files
-given_of : List ℕ → Bool → List ℕ → Bool → Given
+abbrev given_of : List ℕ → Bool → List ℕ → Bool → Given
 given_of stream ended notes over = record {
   stream = record { bytes = stream; ended = ended };
   notes = record { bytes = notes; ended = over };

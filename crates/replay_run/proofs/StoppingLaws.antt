@@ -267,11 +267,7 @@ no_packets = refl
 
 -- it isn't told of a port that may be read
 pub told_open : (port : PortState) → IsTrue port.readable → end_told port ≡ false
-told_open port readable = ap (λ b. not b && not port.reads.last_failed) (is_true port.readable readable)
-  where
-    is_true : (b : Bool) → IsTrue b → b ≡ true
-    is_true true h = refl
-    is_true false h = absurd h
+told_open port readable = ap (λ b. not b && not port.reads.last_failed) readable
 
 -- ---- a read that ends a run
 

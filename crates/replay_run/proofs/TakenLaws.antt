@@ -87,6 +87,19 @@ none_left (Packets count ∷ items) =
 none_left (Tick count ∷ items) = none_left items
 none_left (Other input ∷ items) = none_left items
 
+took_some : (items : List RecordItem) (packets more : List (List ℕ)) (count : ℕ)
+    → length (packets_left (drop count (packets ++ more)) items) ≤ length more
+    → (length packets < count) ⊎ (count ≤ length packets)
+    → (length (packets_left (drop count packets ++ more) items) ≤ length more
+    → packets_left (drop count packets) items ≡ [])
+    → packets_left (drop count packets) items ≡ []
+took_some items packets more count few (inl long) others =
+    let none : drop count packets ≡ [] = drop_of_length-le packets (omega (arith, long)) in
+    ap (λ l. packets_left l items) none ∙ none_left items
+took_some items packets more count few (inr fits) others =
+    others (subst (λ l. length (packets_left l items) ≤ length more)
+    (drop-append-le count packets more fits) few)
+
 took_within : (items : List RecordItem) (packets more : List (List ℕ))
     → length (packets_left (packets ++ more) items) ≤ length more
     → packets_left packets items ≡ []
@@ -95,19 +108,8 @@ took_within [] packets more few =
     no_length packets (omega (arith, few, length-append packets more))
 took_within (All ∷ items) packets more few = none_left items
 took_within (Packets count ∷ items) packets more few =
-    by_size items packets more count few (cases_lt (length packets) count)
-  where
-    by_size : (items : List RecordItem) (packets more : List (List ℕ)) (count : ℕ)
-        → length (packets_left (drop count (packets ++ more)) items) ≤ length more
-        → (length packets < count) ⊎ (count ≤ length packets)
-        → packets_left (drop count packets) items ≡ []
-    by_size items packets more count few (inl long) =
-        let none : drop count packets ≡ [] = drop_of_length-le packets (omega arith) in
-        ap (λ l. packets_left l items) none ∙ none_left items
-    by_size items packets more count few (inr fits) =
-        took_within items (drop count packets) more
-        (subst (λ l. length (packets_left l items) ≤ length more)
-        (drop-append-le count packets more fits) few)
+    took_some items packets more count few (cases_lt (length packets) count)
+    (took_within items (drop count packets) more)
 took_within (Tick count ∷ items) packets more few = took_within items packets more few
 took_within (Other input ∷ items) packets more few = took_within items packets more few
 
@@ -237,18 +239,18 @@ no_packet_first (Other handed.Show ∷ items) packet rest e =
 front_of_both : (some common one other : List Input) (packet : List ℕ) → NoPacketFirst one
     → IsFront some (common ++ one) → IsFront some (common ++ Packet packet ∷ other)
     → IsFront some common
-front_of_both [] common one other packet no a b = record { rest = common; joined = refl }
-front_of_both (x ∷ some) [] one other packet no a b =
+front_of_both [] common one other packet never a b = record { rest = common; joined = refl }
+front_of_both (x ∷ some) [] one other packet never a b =
     let e : Packet packet ∷ other ≡ x ∷ (some ++ b.rest) = b.joined in
     let same : x ≡ Packet packet = cc in
-    absurd (no packet (some ++ a.rest) (a.joined ∙ ap (λ y. y ∷ (some ++ a.rest)) same))
-front_of_both (x ∷ some) (y ∷ common) one other packet no a b =
+    absurd (never packet (some ++ a.rest) (a.joined ∙ ap (λ y. y ∷ (some ++ a.rest)) same))
+front_of_both (x ∷ some) (y ∷ common) one other packet never a b =
     let e : y ∷ (common ++ one) ≡ x ∷ (some ++ a.rest) = a.joined in
     let f : y ∷ (common ++ Packet packet ∷ other) ≡ x ∷ (some ++ b.rest) = b.joined in
     let same : y ≡ x = cc in
     let one_tail : common ++ one ≡ some ++ a.rest = cc in
     let other_tail : common ++ Packet packet ∷ other ≡ some ++ b.rest = cc in
-    let front = front_of_both some common one other packet no
+    let front = front_of_both some common one other packet never
     (record { rest = a.rest; joined = one_tail }) (record { rest = b.rest; joined = other_tail }) in
     record { rest = front.rest; joined = ap₂ (λ z l. z ∷ l) same front.joined }
 

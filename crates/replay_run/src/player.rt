@@ -120,7 +120,7 @@ impl Player {
             (moment self.old (outside (W.told world.old) (K.told keeper.old) (S.told out.old)))
             (outside (W.told world.new) (K.told keeper.new) (S.told out.new))) }
 
-        ensures open { OnOk result
+        ensures was_open { OnOk result
             (self.new.cutter.ended ≡ false → self.old.cutter.ended ≡ false) }
         ensures takes { OnOk result (self.new.cutter.ended ≡ false
             → TakesJust item self.old.packets self.new.packets) }
@@ -174,7 +174,7 @@ impl Player {
             (moment self.old (outside (W.told world.old) (K.told keeper.old) (S.told out.old)))
             (outside (W.told world.new) (K.told keeper.new) (S.told out.new))) }
 
-        ensures open { OnOk result
+        ensures was_open { OnOk result
             (self.new.cutter.ended ≡ false → self.old.cutter.ended ≡ false) }
         ensures takes { OnOk result (self.new.cutter.ended ≡ false
             → TakesJust (item_of_count most) self.old.packets self.new.packets) }

@@ -105,7 +105,7 @@ items-preserved g c =
             was.0 ++ item ∷ [],
             between_push _ _ was.0 item (done.handled _ _ _ b),
             at_same notes _ _ (was.0 ++ item ∷ []) (left_same _ _ done.reads.other) a.at,
-            λ e. just_push was.0 item _ _ (was.3 (done.open e)) (done.takes e),
+            λ e. just_push was.0 item _ _ (was.3 (done.was_open e)) (done.takes e),
           );
     }
 

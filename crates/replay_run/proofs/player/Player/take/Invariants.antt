@@ -20,7 +20,7 @@ invariant-packets g l = record {
   clock : l.self.receiver.clock ≡ l.initial.self.receiver.clock;
   readable : IsReadable l.self.cutter (g.W.World.told l.world);
   told : end_told (g.W.World.told l.world).stream ≡ l.self.cutter.ended;
-  open : l.self.cutter.ended ≡ false → l.initial.self.cutter.ended ≡ false;
+  was_open : l.self.cutter.ended ≡ false → l.initial.self.cutter.ended ≡ false;
   reads : OnlyReads Stream (g.W.World.told l.initial.world) (g.W.World.told l.world);
   later : IsLater (outlets (g.K.Keeper.told l.initial.keeper) (g.S.Sink.told l.initial.out))
       (outlets (g.K.Keeper.told l.keeper) (g.S.Sink.told l.out));

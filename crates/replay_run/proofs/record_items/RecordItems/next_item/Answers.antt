@@ -3,7 +3,7 @@ use Rattle.std.proofs.lemmas.Result.{err_from_is_err_and}
 use Rattle.replay_run.specs.declared.record.Line.TheVariants.{Item as Read, Nothing}
 use Rattle.replay_run.specs.Play.{milliseconds_of}
 use Rattle.replay_run.specs.Record.{tick_limit}
-use Rattle.replay_run.specs.RecordProgress.{IsAtItem, record_state}
+use Rattle.replay_run.specs.RecordProgress.{IsAt, IsAtItem, record_state}
 use Rattle.replay_run.proofs.RecordProgressLaws.{at_item, at_nothing, at_bad, at_whole, time_within}
 use Rattle.replay_run.proofs.StoppingLaws.{only_reads_more, record_stops}
 use Rattle.replay_run.proofs.record_items.RecordItems.next_item.Goals as goal
@@ -65,6 +65,7 @@ lines-preserved g c =
       within = read.within;
       further = omega (arith, before.further, read.lines);
       readable = read.readable;
+      told = read.told;
       reads = only_reads_more _ _ _ _ before.reads read.reads;
       goes = λ notes items a. read.goes notes items (subst (λ reader. IsAt notes (record {
         reader = reader;
