@@ -1,10 +1,6 @@
 -- When a replay reads a file on: what it needs of it, and how few bytes it has ahead. This
 -- project's own.
--- (NOTE OF THE ENGINEER IN CHARGE, 14:38, to be removed: a blind reader found holes, so these were
--- strengthened: NeedsPacket says `none`, `short` (from the cutter's NeedMore) and that the item's
--- line is the last one (`lines_are`); NeedsLine says `close`; ReadsTooMuch has the limit for what
--- was given before. Do `close` last, and leave it out if it costs too much: tell me then.)
-use Rattle.std.specs.Prelude.{◌≡◌, ◌≢◌, ◌⊎◌, ℕ, ◌<◌, ◌≤◌, false, All, List, [], ◌∷◌, ◌++◌, length}
+use Rattle.std.specs.Prelude.{◌≡◌, ◌≢◌, ℕ, ◌<◌, ◌≤◌, false, All, List, [], ◌∷◌, ◌++◌, length}
 use Rattle.std.specs.List.{filter_map}
 use Rattle.ts_packets.specs.Cutter.{IsWaiting}
 use Rattle.replay_run.specs.declared.record.Line.{Line}
@@ -39,13 +35,6 @@ pub record NeedsPacket (given : Given) : Type 0 where
       → packets_left (packets ++ next ∷ []) (filter_map item_in (earlier ++ Read item ∷ [])) ≡ []
   pub leave : (next : List ℕ)
       → packets_left (packets ++ next ∷ []) (filter_map item_in earlier) ≢ []
-
--- the bytes before those ahead end with the last packet that was cut; without one there are none
-abbrev pub EndsBehind : List ℕ → List (List ℕ) → Type 0
-EndsBehind before packets =
-    ((packets ≡ []) × (before ≡ []))
-    ⊎ ((others : List (List ℕ)) × (packet : List ℕ) × (skipped : List ℕ)
-    × (packets ≡ others ++ packet ∷ []) × (before ≡ skipped ++ packet))
 
 -- The record is read on. The items that were read took all packets that were cut, and where the
 -- stream may go on they leave the next one. Of the lines that were read none is bad. The end of the

@@ -43,9 +43,11 @@ returns-clause-order g c = inr (inr (
   inr (inr (
     g.W.World.told c.open-2.new.world,
     c.in_ok-open-2.ensures.opened,
-    c.play_record.ensures.reads,
-    play_opened c.play_record.result _ _ c.play_record.ensures.cause,
-    c.play_record.ensures.unread,
+    (
+      c.play_record.ensures.reads,
+      play_opened c.play_record.result _ _ c.play_record.ensures.cause,
+      c.play_record.ensures.unread,
+    ),
   )),
 ))
 
