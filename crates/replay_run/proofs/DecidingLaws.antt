@@ -24,7 +24,7 @@ use Rattle.replay_run.specs.Files.{packet_length, record_limit, stream_limit}
 use Rattle.replay_run.specs.Given.{AreDecided, Given}
 use Rattle.replay_run.specs.Meaning.{replay_inputs}
 use Rattle.replay_run.specs.Midway.{IsReadForPacket, StopsInStream, TakeJust, TakesMore}
-use Rattle.replay_run.specs.Needs.{NeedsLine, NeedsPacket}
+use Rattle.replay_run.specs.Needs.{EndsBehind, NeedsLine, NeedsPacket}
 use Rattle.replay_run.specs.Outside.{Outside}
 use Rattle.replay_run.specs.Play.{inputs_of, inputs_of_item, packets_behind, packets_left}
 use Rattle.replay_run.specs.Progress.{IsBetween, IsMidway, Moment, Replay}
@@ -240,7 +240,7 @@ needs_packet replay items item now inputs ahead notes waiting short p =
             ∙ ap (λ l. l ++ lines_of (notes.reader.held ++ more)) p.n.lines_are;
       };
       cut = record {
-        before = p.m.before;
+        before = p.m.before ++ p.m.skipped;
         bytes_are = p.m.taken_is;
         packets_are = λ more may. p.m.cut more may;
       };
@@ -372,10 +372,10 @@ ends_in_record : ReceiverLaws → (replay : Replay) (now : Moment) (behind : Out
     (items : List RecordItem) (old : RecordState) (last : List ℕ)
     → IsReader replay.read → (r : IsReadForLine old behind.world.notes last)
     → IsBetween replay now items → IsTold now behind → IsIdle now.receiver
-    → (now.cutter.ended ≡ false → TakeJust items now.packets) → IsAt replay.notes old items
-    → end_told behind.world.stream ≡ now.cutter.ended
+    → (now.cutter.ended ≡ false → TakeJust items now.packets) → now.loose ≡ false
+    → IsAt replay.notes old items → end_told behind.world.stream ≡ now.cutter.ended
     → EndsInRecord replay behind r.now last
-ends_in_record laws replay now behind items old last right r b outside_is idle just at told =
+ends_in_record laws replay now behind items old last right r b outside_is idle just tight at told =
     let a = r.goes replay.notes items at in
     let given = given_of b.taken now.cutter.ended a.taken r.now.reader.ended in
     let split = consumed_some last r.now.left behind.world.notes.left r.consumed a.rest
@@ -397,7 +397,7 @@ ends_in_record laws replay now behind items old last right r b outside_is idle j
             lines_are = λ more may. a.ahead more may;
           };
           cut = record {
-            before = b.before;
+            before = b.before ++ b.skipped;
             bytes_are = b.taken_is;
             packets_are = λ more may. b.cut more may;
           };
@@ -407,6 +407,11 @@ ends_in_record laws replay now behind items old last right r b outside_is idle j
           short = r.unfinished.short;
           few = b.few;
           took = ap (packets_left b.done) a.items_are ∙ took;
+          close = λ open_end.
+              subst (λ l. EndsBehind l b.done)
+              (sym (append-nil b.before)
+              ∙ ap (λ l. b.before ++ l) (sym (b.close tight open_end)))
+              b.behind;
           leave = λ open_end next.
               ap (packets_left (b.done ++ next ∷ [])) a.items_are
               ∙ (just_taken items b.done (next ∷ [])
@@ -436,20 +441,20 @@ pub faulty_record : ReceiverLaws → (status : Status) (replay : Replay) (now : 
     (behind : Outside) (items : List RecordItem) (old : RecordState)
     → IsReader replay.read → StopsInRecord status old behind.world.notes
     → IsBetween replay now items → IsTold now behind → IsIdle now.receiver
-    → (now.cutter.ended ≡ false → TakeJust items now.packets) → IsAt replay.notes old items
-    → end_told behind.world.stream ≡ now.cutter.ended
+    → (now.cutter.ended ≡ false → TakeJust items now.packets) → now.loose ≡ false
+    → IsAt replay.notes old items → end_told behind.world.stream ≡ now.cutter.ended
     → FaultyReads status replay behind
-faulty_record laws status replay now behind items old right s b outside_is idle just at told =
+faulty_record laws status replay now behind items old right s b outside_is idle just tight at told =
     record {
       failed = λ e.
           let f = s.failed e in
           let ends = ends_in_record laws replay now behind items old [] right f.0 b outside_is idle
-          just at told in
+          just tight at told in
           record { given = ends.given; read = inr (ends.reads, f.1); writes = ends.writes };
       long = λ e.
           let f = s.long e in
           let ends = ends_in_record laws replay now behind items old f.0 right f.1 b outside_is idle
-          just at told in
+          just tight at told in
           record {
             given = ends.given;
             last = f.0;

@@ -1,6 +1,6 @@
 -- The steps of a replay, over plain values.
 use Rattle.std.proofs.Common.{◌≡◌, ℕ, ◌+◌, ◌-◌, ◌≤◌, true, false, List, [], ◌∷◌, ◌++◌, take, drop, refl}
-use Rattle.std.proofs.Common.{sym, ap, arith, take-append-drop, length-drop}
+use Rattle.std.proofs.Common.{sym, ap, arith, inl, inr, take-append-drop, length-drop}
 use Rattle.std.proofs.Common.{◌∙◌, subst, append_assoc, append-nil, length, Option, Some}
 use Rattle.std.proofs.Common.{length-append, drop-drop}
 use Rattle.ts_packets.specs.Cutter.{CutterState, DropsFront, Gives}
@@ -10,7 +10,7 @@ use Rattle.receiver_core.specs.Outputs.{Input, Piece}
 use Rattle.receiver_core.specs.Receiving.{ReceiverState, StandsFor}
 use Rattle.receiver_core.specs.Outputs.Input.{Packet, Tick}
 use Rattle.replay_run.specs.declared.record.RecordItem.{RecordItem}
-use Rattle.replay_run.specs.Midway.{item_of_count}
+use Rattle.replay_run.specs.Midway.{item_of_count, loosely}
 use Rattle.replay_run.specs.Needs.{most_ahead}
 use Rattle.replay_run.specs.Play.{inputs_of_item, packets_behind, inputs_of, packets_left}
 use Rattle.replay_run.specs.Play.{packet_count}
@@ -35,7 +35,7 @@ pub midway_seek : (replay : Replay) (now : Moment) (inputs : List Input) (ahead 
     (cutter : CutterState)
     → Gives now.cutter [] cutter → DropsFront now.cutter cutter
     → IsMidway replay now inputs ahead
-    → IsMidway replay (record now { cutter = cutter }) inputs ahead
+    → IsMidway replay (record now { cutter = cutter; loose = true }) inputs ahead
 midway_seek replay now inputs ahead cutter gives drops m = record {
   taken = m.taken;
   rest = m.rest;
@@ -47,9 +47,14 @@ midway_seek replay now inputs ahead cutter gives drops m = record {
   ahead_is = sym (gives m.rest m.ended) ∙ m.ahead_is;
   done = m.done;
   number = m.number;
-  before = m.before ++ take (length now.cutter.held - length cutter.held) now.cutter.held;
-  taken_is = skipped_front m.taken m.before now.cutter.held cutter.held
-      (length now.cutter.held - length cutter.held) drops.held m.taken_is;
+  before = m.before;
+  skipped = m.skipped ++ take (length now.cutter.held - length cutter.held) now.cutter.held;
+  taken_is = skipped_front m.taken (m.before ++ m.skipped) now.cutter.held cutter.held
+      (length now.cutter.held - length cutter.held) drops.held m.taken_is
+      ∙ ap (λ l. l ++ cutter.held) (append_assoc m.before m.skipped
+      (take (length now.cutter.held - length cutter.held) now.cutter.held));
+  behind = m.behind;
+  close = λ e. let clash : true ≡ false = e in cc;
   cut = λ more may.
       m.cut more (λ e. may (drops.ended ∙ e))
       ∙ ap (λ l. m.done ++ l) (gives more (λ e. may (drops.ended ∙ e)));
@@ -62,20 +67,20 @@ midway_seek replay now inputs ahead cutter gives drops m = record {
 -- what a cut packet leaves of a moment
 abbrev pub behind_packet : Moment → CutterState → ReceiverState → Moment
 behind_packet now cutter receiver =
-    record now { cutter = cutter; receiver = receiver; packets = now.packets + 1 }
+    record now { cutter = cutter; loose = false; receiver = receiver; packets = now.packets + 1 }
 
 -- a packet was cut, and the receiver stands for one more
 pub midway_packet : (replay : Replay) (now : Moment) (inputs : List Input) (ahead : List (List ℕ))
     (cutter : CutterState) (receiver : ReceiverState) (packet : List ℕ)
     → Gives now.cutter (packet ∷ []) cutter → cutter.ended ≡ now.cutter.ended
-    → cutter.held ≡ drop 188 now.cutter.held
+    → cutter.held ≡ drop 188 now.cutter.held → packet ≡ take 188 now.cutter.held
     → ((inputs : List Input) (given : List Piece)
     → StandsFor replay.read replay.selection replay.area now.receiver inputs given
     → StandsFor replay.read replay.selection replay.area receiver (inputs ++ Packet packet ∷ []) given)
     → IsMidway replay now inputs ahead
     → IsMidway replay (behind_packet now cutter receiver) (with_packets inputs 1 ahead)
     (drop 1 ahead)
-midway_packet replay now inputs ahead cutter receiver packet gives ended held pushed m =
+midway_packet replay now inputs ahead cutter receiver packet gives ended held front pushed m =
     let behind = packets_of (cutter.held ++ m.rest) in
     let are : packet ∷ behind ≡ ahead = sym (gives m.rest m.ended) ∙ m.ahead_is in
     let after : Moment = behind_packet now cutter receiver in
@@ -92,8 +97,14 @@ midway_packet replay now inputs ahead cutter receiver packet gives ended held pu
       ahead_is = refl;
       done = m.done ++ packet ∷ [];
       number = length-append m.done (packet ∷ []) ∙ ap (λ n. n + 1) m.number;
-      before = m.before ++ take 188 now.cutter.held;
-      taken_is = skipped_front m.taken m.before now.cutter.held cutter.held 188 held m.taken_is;
+      before = (m.before ++ m.skipped) ++ packet;
+      skipped = [];
+      taken_is = skipped_front m.taken (m.before ++ m.skipped) now.cutter.held cutter.held 188 held
+          m.taken_is
+          ∙ ap (λ l. ((m.before ++ m.skipped) ++ l) ++ cutter.held) (sym front)
+          ∙ ap (λ l. l ++ cutter.held) (sym (append-nil ((m.before ++ m.skipped) ++ packet)));
+      behind = inr (m.done, packet, m.before ++ m.skipped, refl, refl);
+      close = λ e open_end. refl;
       cut = λ more may.
           m.cut more (λ e. may (ended ∙ e))
           ∙ ap (λ l. m.done ++ l) (gives more (λ e. may (ended ∙ e)))
@@ -125,7 +136,10 @@ midway_quiet replay now inputs more ahead receiver stays count m = record {
   done = m.done;
   number = m.number;
   before = m.before;
+  skipped = m.skipped;
   taken_is = m.taken_is;
+  behind = m.behind;
+  close = m.close;
   cut = m.cut;
   few = m.few;
   packets = m.packets ∙ sym count;
@@ -173,8 +187,12 @@ midway_read replay now inputs ahead cutter left bytes gave open_end held ended f
       done = m.done;
       number = m.number;
       before = m.before;
-      taken_is = ap (λ l. l ++ bytes) m.taken_is ∙ append_assoc m.before now.cutter.held bytes
-          ∙ ap (λ l. m.before ++ l) (sym held);
+      skipped = m.skipped;
+      taken_is = ap (λ l. l ++ bytes) m.taken_is
+          ∙ append_assoc (m.before ++ m.skipped) now.cutter.held bytes
+          ∙ ap (λ l. (m.before ++ m.skipped) ++ l) (sym held);
+      behind = m.behind;
+      close = λ e told. m.close e open_end;
       cut = λ more may.
           ap packets_of (append_assoc m.taken bytes more)
           ∙ m.cut (bytes ++ more) (λ e. let clash : true ≡ false = sym e ∙ open_end in cc)
@@ -208,7 +226,10 @@ midway_end replay now inputs ahead cutter left gave held told m =
       done = m.done;
       number = m.number;
       before = m.before;
-      taken_is = m.taken_is ∙ ap (λ l. m.before ++ l) (sym held);
+      skipped = m.skipped;
+      taken_is = m.taken_is ∙ ap (λ l. (m.before ++ m.skipped) ++ l) (sym held);
+      behind = m.behind;
+      close = λ e open_end. let clash : true ≡ false = sym told ∙ open_end in cc;
       cut = λ more may.
           m.cut more (λ e. may told)
           ∙ ap (λ l. m.done ++ packets_of (l ++ more)) (sym held);
@@ -217,6 +238,60 @@ midway_end replay now inputs ahead cutter left gave held told m =
       stands = m.stands;
       put = m.put;
     }
+
+-- bytes may have been left out
+pub midway_loosely : (replay : Replay) (now : Moment) (inputs : List Input)
+    (ahead : List (List ℕ)) → IsMidway replay now inputs ahead
+    → IsMidway replay (loosely now) inputs ahead
+midway_loosely replay now inputs ahead m = record {
+  taken = m.taken;
+  rest = m.rest;
+  given = m.given;
+  left_is = m.left_is;
+  whole = m.whole;
+  counted = m.counted;
+  ended = m.ended;
+  ahead_is = m.ahead_is;
+  done = m.done;
+  number = m.number;
+  before = m.before;
+  skipped = m.skipped;
+  taken_is = m.taken_is;
+  behind = m.behind;
+  close = λ e. let clash : true ≡ false = e in cc;
+  cut = m.cut;
+  few = m.few;
+  packets = m.packets;
+  stands = m.stands;
+  put = m.put;
+}
+
+-- which is nothing once the end was told
+pub midway_ended : (replay : Replay) (now : Moment) (inputs : List Input)
+    (ahead : List (List ℕ)) → now.cutter.ended ≡ true
+    → IsMidway replay (loosely now) inputs ahead → IsMidway replay now inputs ahead
+midway_ended replay now inputs ahead told m = record {
+  taken = m.taken;
+  rest = m.rest;
+  given = m.given;
+  left_is = m.left_is;
+  whole = m.whole;
+  counted = m.counted;
+  ended = m.ended;
+  ahead_is = m.ahead_is;
+  done = m.done;
+  number = m.number;
+  before = m.before;
+  skipped = m.skipped;
+  taken_is = m.taken_is;
+  behind = m.behind;
+  close = λ e open_end. let clash : true ≡ false = sym told ∙ open_end in cc;
+  cut = m.cut;
+  few = m.few;
+  packets = m.packets;
+  stands = m.stands;
+  put = m.put;
+}
 
 -- a replay begins
 pub between_start : (replay : Replay) (now : Moment) (told : Outside)
@@ -242,7 +317,10 @@ between_start replay now told l same begun kept held open_end bytes packets stan
       done = [];
       number = sym packets;
       before = [];
+      skipped = [];
       taken_is = sym held;
+      behind = inl (refl, refl);
+      close = λ e open_end. refl;
       cut = λ more may. ap (λ l. packets_of (l ++ more)) (sym held);
       few = omega (arith, ap length held);
       packets = packets;

@@ -178,6 +178,7 @@ on_ok_two (Err status) p q both = tt
 -- what putting it out leaves of a moment at which the receiver is this one
 pub record IsBehind (now : Moment) (receiver : ReceiverState) (after : Moment) : Type 0 where
   pub cutter : after.cutter ≡ now.cutter
+  pub loose : after.loose ≡ now.loose
   pub receiver_is : after.receiver ≡ receiver
   pub kept : after.kept ≡ after.receiver.area
   pub bytes : after.bytes ≡ now.bytes
@@ -235,7 +236,12 @@ midway_step replay now after inputs more ahead receiver text step same count put
       done = m.done;
       number = m.number ∙ sym behind.packets;
       before = m.before;
-      taken_is = m.taken_is ∙ ap (λ (c : CutterState). m.before ++ c.held) (sym behind.cutter);
+      skipped = m.skipped;
+      taken_is = m.taken_is
+          ∙ ap (λ (c : CutterState). (m.before ++ m.skipped) ++ c.held) (sym behind.cutter);
+      behind = m.behind;
+      close = λ e open_end. m.close (sym behind.loose ∙ e)
+          (ap (λ (c : CutterState). c.ended) (sym behind.cutter) ∙ open_end);
       cut = λ more may.
           m.cut more (λ e. may (ap (λ (c : CutterState). c.ended) behind.cutter ∙ e))
           ∙ ap (λ (c : CutterState). m.done ++ packets_of (c.held ++ more)) (sym behind.cutter);

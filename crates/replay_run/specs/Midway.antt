@@ -30,6 +30,7 @@ use Rattle.replay_run.specs.Stopping.{LeavesPackets}
 abbrev pub moment : Player → Outside → Moment
 moment player told = record {
   cutter = player.cutter;
+  loose = false;
   receiver = player.receiver;
   kept = player.kept;
   bytes = player.bytes;
@@ -37,6 +38,10 @@ moment player told = record {
   left = told.world.stream.left;
   outlets = outlets_of told;
 }
+
+-- the same where bytes in front of a packet may have been left out
+abbrev pub loosely : Moment → Moment
+loosely now = record now { loose = true }
 
 -- the area that is kept is the receiver's
 abbrev pub KeepsArea : Player → Type 0

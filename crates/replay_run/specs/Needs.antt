@@ -1,6 +1,6 @@
 -- When a replay reads a file on: what it needs of it, and how few bytes it has ahead. This
 -- project's own.
-use Rattle.std.specs.Prelude.{◌≡◌, ◌≢◌, ℕ, ◌<◌, ◌≤◌, false, All, List, [], ◌∷◌, ◌++◌, length}
+use Rattle.std.specs.Prelude.{◌≡◌, ◌≢◌, ◌⊎◌, ℕ, ◌<◌, ◌≤◌, false, All, List, [], ◌∷◌, ◌++◌, length}
 use Rattle.std.specs.List.{filter_map}
 use Rattle.ts_packets.specs.Cutter.{IsWaiting}
 use Rattle.replay_run.specs.declared.record.Line.{Line}
@@ -36,6 +36,13 @@ pub record NeedsPacket (given : Given) : Type 0 where
   pub leave : (next : List ℕ)
       → packets_left (packets ++ next ∷ []) (filter_map item_in earlier) ≢ []
 
+-- the bytes before those ahead end with the last packet that was cut; without one there are none
+abbrev pub EndsBehind : List ℕ → List (List ℕ) → Type 0
+EndsBehind before packets =
+    ((packets ≡ []) × (before ≡ []))
+    ⊎ ((others : List (List ℕ)) × (packet : List ℕ) × (skipped : List ℕ)
+    × (packets ≡ others ++ packet ∷ []) × (before ≡ skipped ++ packet))
+
 -- The record is read on. The items that were read took all packets that were cut, and where the
 -- stream may go on they leave the next one. Of the lines that were read none is bad. The end of the
 -- next line isn't there, and what is there of it is shorter than the longest good line.
@@ -54,3 +61,4 @@ pub record NeedsLine (given : Given) : Type 0 where
   pub took : packets_left packets (filter_map item_in lines) ≡ []
   pub leave : given.stream.ended ≡ false → (next : List ℕ)
       → packets_left (packets ++ next ∷ []) (filter_map item_in lines) ≡ next ∷ []
+  pub close : given.stream.ended ≡ false → EndsBehind cut.before packets

@@ -49,7 +49,8 @@ impl Player {
     ghost use Rattle.replay_run.specs.Midway.{moment, item_of_count, Goes, Stops, Handles};
     ghost use Rattle.replay_run.specs.Midway.{KeepsArea, StopsHandling, IsReadable, StartsPlayer};
     ghost use Rattle.replay_run.specs.Ending.{end_told};
-    ghost use Rattle.replay_run.specs.Midway.{StopsInRead, StopsInStream, TakesJust, work_left};
+    ghost use Rattle.replay_run.specs.Midway.{StopsInRead, StopsInStream, TakesJust, loosely};
+    ghost use Rattle.replay_run.specs.Midway.{work_left};
     ghost use Rattle.replay_run.specs.Outside.{outside};
     ghost use Rattle.receiver_core.specs.Outputs.{Piece};
     ghost use Rattle.receiver_core.specs.Receiving.{IsIdle};
@@ -304,11 +305,11 @@ impl Player {
             (outlets (K.told keeper.old) (S.told out.old))
             (outlets (K.told keeper.new) (S.told out.new))) }
         ensures handled { OnOk result ((world : WorldState) → Handles (RecordItem.Packets 1)
-            (moment self.old (outside world (K.told keeper.old) (S.told out.old)))
+            (loosely (moment self.old (outside world (K.told keeper.old) (S.told out.old))))
             (moment self.new (outside world (K.told keeper.new) (S.told out.new)))) }
         ensures stopped { IfErr result
             (λ status. (world : WorldState) → StopsHandling (RecordItem.Packets 1) status
-            (moment self.old (outside world (K.told keeper.old) (S.told out.old)))
+            (loosely (moment self.old (outside world (K.told keeper.old) (S.told out.old))))
             (outside world (K.told keeper.new) (S.told out.new))) }
     {
         self.packets += 1;
@@ -430,11 +431,11 @@ impl Player {
         ensures ahead { OnOk result
             (work_left self.new.cutter self.new.bytes < work_left self.old.cutter self.old.bytes) }
         ensures goes { OnOk result ((keeper : KeeperState) (sink : SinkState) → Goes
-            (moment self.old (outside (W.told world.old) keeper sink))
-            (moment self.new (outside (W.told world.new) keeper sink))) }
+            (loosely (moment self.old (outside (W.told world.old) keeper sink)))
+            (loosely (moment self.new (outside (W.told world.new) keeper sink)))) }
         ensures stops { IfErr result
             (λ status. (keeper : KeeperState) (sink : SinkState) → Stops status
-            (moment self.old (outside (W.told world.old) keeper sink))
+            (loosely (moment self.old (outside (W.told world.old) keeper sink)))
             (outside (W.told world.new) keeper sink)) }
     {
         let mut buffer = [0; READ_LENGTH];

@@ -73,7 +73,7 @@ returns-in_err-item-clause-ends g c =
     ends_in_items laws _ replay _ behind was.0 right (record { left = refl; outlets = refl })
     (between_within _ _ was.0 _ c.items.invariant.stream_within b)
     (faulty_record laws _ replay _ behind was.0 _ right stopped.reading b
-    (record { left = refl; outlets = refl }) c.items.invariant.idle was.3 was.2
+    (record { left = refl; outlets = refl }) c.items.invariant.idle was.3 refl was.2
     (ap end_told stopped.reads.other ∙ c.items.invariant.stream_told))
     c.items.invariant.idle b (stopped.stopped notes was.0 was.2))
 

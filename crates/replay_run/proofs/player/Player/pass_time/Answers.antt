@@ -57,6 +57,7 @@ steps-preserved g c =
             before.area (same_count inputs before.passed.0 time) put.puts
             (record {
               cutter = put.cutter;
+              loose = refl;
               receiver_is = put.receiver;
               kept = put.area;
               bytes = put.bytes;

@@ -1,5 +1,5 @@
 use Rattle.std.proofs.Common.{◌≡◌, ◌≤◌, ◌+◌, ◌++◌, ◌∙◌, sym, ap, refl, subst, length, take, arith, []}
-use Rattle.std.proofs.Common.{length-append}
+use Rattle.std.proofs.Common.{length-append, true}
 use Rattle.std.proofs.KnownBytes.{Consumes-kept, Consumes-nil}
 use Rattle.std.proofs.lemmas.List.{take_all}
 use Rattle.replay_run.specs.Needs.{most_ahead}
@@ -38,6 +38,7 @@ returns-else-self-gt-STREAM_LIMIT-clause-goes g c =
     λ keeper sink replay inputs ahead m.
     subst (λ n. IsMidway replay (record {
       cutter = c.feed.new.self;
+      loose = true;
       receiver = c.args.self.now.receiver;
       kept = c.args.self.now.kept;
       bytes = c.args.self.now.bytes + n;

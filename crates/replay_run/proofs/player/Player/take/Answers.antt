@@ -1,4 +1,4 @@
-use Rattle.std.proofs.Common.{◌≡◌, ◌+◌, ◌∙◌, sym, ap, arith, refl, subst, Some, true≢false}
+use Rattle.std.proofs.Common.{◌≡◌, ◌+◌, ◌∙◌, sym, ap, arith, refl, subst, Some, true, true≢false}
 use Rattle.std.proofs.lemmas.Result.{err_from_is_err_and}
 use Rattle.ts_packets.specs.Packets.{packets_of}
 use Rattle.receiver_core.specs.Receiving.{ReceiverState}
@@ -8,7 +8,8 @@ use Rattle.replay_run.proofs.BlankLaws.{waiting_behind}
 use Rattle.replay_run.proofs.PlayLaws.{Allows, allows_more, front_of_taken, told_alike, told_apart}
 use Rattle.replay_run.proofs.PlayLaws.{took_enough}
 use Rattle.replay_run.proofs.PlayLaws.{took_less}
-use Rattle.replay_run.proofs.ProgressLaws.{midway_seek, midway_none, midway_more, midway_over}
+use Rattle.replay_run.proofs.ProgressLaws.{midway_ended, midway_loosely, midway_seek, midway_none}
+use Rattle.replay_run.proofs.ProgressLaws.{midway_more, midway_over}
 use Rattle.replay_run.proofs.PuttingLaws.{later_more, later_none}
 use Rattle.replay_run.proofs.StoppingLaws.{only_reads_none, only_reads_more, no_packets}
 use Rattle.replay_run.proofs.StoppingLaws.{stops_further, stops_more, stream_stops, turns_unread}
@@ -31,7 +32,8 @@ packets-init g c = record {
     omega arith,
     record { bound = λ n e. omega arith },
     λ replay inputs ahead m.
-        midway_none replay _ inputs ahead m,
+        midway_loosely replay _ _ _ (midway_none replay _ inputs ahead m),
+    λ e replay inputs ahead m. midway_none replay _ inputs ahead m,
   );
 }
 
@@ -57,7 +59,12 @@ packets-preserved-in-Continue-1 g c =
         before.taken.0 + 1,
         omega (arith, taken.packets, before.taken.1),
         fewer,
-        λ replay inputs ahead m. midway_more replay _ inputs ahead before.taken.0
+        λ replay inputs ahead m. midway_loosely replay _ _ _
+            (midway_more replay _ inputs ahead before.taken.0
+            (taken.handled (g.W.World.told c.packets.world) replay _ _
+            (midway_seek replay _ _ _ _ c.seek.ensures.gives c.seek.ensures.drops
+            (before.taken.3 replay inputs ahead m)))),
+        λ e replay inputs ahead m. midway_more replay _ inputs ahead before.taken.0
             (taken.handled (g.W.World.told c.packets.world) replay _ _
             (midway_seek replay _ _ _ _ c.seek.ensures.gives c.seek.ensures.drops
             (before.taken.3 replay inputs ahead m))),
@@ -103,6 +110,8 @@ packets-preserved g c =
             (g.S.Sink.told c.packets.out) replay _ _
             (midway_seek replay _ _ _ _ c.seek.ensures.gives c.seek.ensures.drops
             (before.taken.3 replay inputs ahead m)),
+        λ e. absurd (told_apart _ _ _ c.ne.ensures c.packets-test.true
+            (e ∙ ap Some read.packets)),
       );
     }
 
@@ -124,11 +133,12 @@ pub returns-in-End-clause-handled : goal.returns-in-End-clause-handled
 returns-in-End-clause-handled g c = λ replay inputs ahead m.
     let before = c.packets.invariant in
     let over = c.seek.ensures.end.0 c.in-End.is in
-    midway_over replay _ inputs ahead c.args.most before.taken.0
+    midway_ended replay _ _ _ (c.seek.ensures.drops.ended ∙ over.ended)
+    (midway_over replay _ inputs ahead c.args.most before.taken.0
     (c.seek.ensures.drops.ended ∙ over.ended)
     (ap packets_of (c.seek.ensures.empty c.in-End.is) ∙ no_packets) before.taken.2
     (midway_seek replay _ _ _ _ c.seek.ensures.gives c.seek.ensures.drops
-    (before.taken.3 replay inputs ahead m))
+    (before.taken.3 replay inputs ahead m)))
 
 pub returns-in_err-read_stream-in-NeedMore-clause-reads :
     goal.returns-in_err-read_stream-in-NeedMore-clause-reads
@@ -144,7 +154,8 @@ returns-clause-handled g c =
     (outside (g.W.World.told c.args.world.now) (g.K.Keeper.told c.args.keeper.now)
     (g.S.Sink.told c.args.out.now)))
     (moment c.packets.self (outside (g.W.World.told c.packets.world)
-    (g.K.Keeper.told c.packets.keeper) (g.S.Sink.told c.packets.out)))) same before.taken.3
+    (g.K.Keeper.told c.packets.keeper) (g.S.Sink.told c.packets.out)))) same
+    (before.taken.4 (told_alike _ _ _ c.ne.ensures c.packets-test.false))
 
 pub returns-in-End-clause-takes : goal.returns-in-End-clause-takes
 returns-in-End-clause-takes g c = λ e.
@@ -181,6 +192,7 @@ returns-in_err-read_stream-in-NeedMore-clause-reading g c =
         now = record (moment c.packets.self (outside (g.W.World.told c.packets.world)
             (g.K.Keeper.told c.packets.keeper) (g.S.Sink.told c.packets.out))) {
               cutter = c.seek.new.self;
+              loose = true;
             };
         count = before.taken.0;
         takes = allows_more c.args.most before.taken.0 fewer;

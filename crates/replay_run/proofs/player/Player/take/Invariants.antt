@@ -1,10 +1,10 @@
-use Rattle.std.proofs.Common.{◌≡◌, ◌≤◌, ◌+◌, ℕ, option_map, false}
+use Rattle.std.proofs.Common.{◌≡◌, ◌≤◌, ◌+◌, ℕ, option_map, false, Some}
 use Rattle.bml_ports.specs.declared.outside.Port.TheVariants.{Stream}
 use Rattle.receiver_core.specs.Receiving.{IsIdle}
 use Rattle.replay_run.specs.declared.record.RecordItem.TheVariants.{Packets}
 use Rattle.replay_run.specs.Ending.{end_told}
 use Rattle.replay_run.specs.Files.{stream_limit}
-use Rattle.replay_run.specs.Midway.{moment, Handles, IsReadable, KeepsArea, work_left}
+use Rattle.replay_run.specs.Midway.{moment, Handles, IsReadable, KeepsArea, loosely, work_left}
 use Rattle.replay_run.specs.Outside.{outside}
 use Rattle.replay_run.specs.Putting.{IsLater, outlets}
 use Rattle.replay_run.specs.Stopping.{OnlyReads}
@@ -29,8 +29,13 @@ invariant-packets g l = record {
       × Handles (Packets count)
       (moment l.initial.self (outside (g.W.World.told l.initial.world)
       (g.K.Keeper.told l.initial.keeper) (g.S.Sink.told l.initial.out)))
+      (loosely (moment l.self (outside (g.W.World.told l.world) (g.K.Keeper.told l.keeper)
+      (g.S.Sink.told l.out))))
+      × (l.last ≡ Some l.self.packets → Handles (Packets count)
+      (moment l.initial.self (outside (g.W.World.told l.initial.world)
+      (g.K.Keeper.told l.initial.keeper) (g.S.Sink.told l.initial.out)))
       (moment l.self (outside (g.W.World.told l.world) (g.K.Keeper.told l.keeper)
-      (g.S.Sink.told l.out)));
+      (g.S.Sink.told l.out))));
 }
 
 abbrev pub decreases-packets : goal.decreases-packets
