@@ -5,7 +5,7 @@ use Rattle.std.proofs.Common.{true, arith, append-nil, length-append, slice_get,
 use Rattle.std.proofs.lemmas.Bool.{cases_lt}
 use Rattle.std.proofs.lemmas.List.{get_or_append_left, get_or_at, get_or-drop}
 use Rattle.std.proofs.lemmas.List.Elements.{All-append, All-weaker}
-use Rattle.ts_packets.specs.Cutter.{CutterState, DropsFront, IsCertainAt, IsWaiting}
+use Rattle.ts_packets.specs.Cutter.{CutterState, DropsFront, IsWaiting}
 use Rattle.ts_packets.specs.Packets.{ArePackets, StandsAt, packets_of}
 use Rattle.replay_run.specs.declared.record.Line.TheVariants.{Bad}
 use Rattle.replay_run.specs.Record.{lines_of}

@@ -1,10 +1,9 @@
 -- What was given before a last read decides, over plain values.
-use Rattle.std.proofs.Common.{◌≡◌, ◌≢◌, ℕ, ◌+◌, ◌<◌, ◌≤◌, true, false, List, [], ◌∷◌, ◌++◌, length}
+use Rattle.std.proofs.Common.{◌≡◌, ◌≢◌, ℕ, ◌+◌, ◌≤◌, true, false, List, [], ◌∷◌, ◌++◌, length}
 use Rattle.std.proofs.Common.{take, drop, refl, sym, ap, ap₂, ◌∙◌, subst, append_assoc, append-nil}
 use Rattle.std.proofs.Common.{take-append-drop, length-drop, length-append, length-take-le, arith}
 use Rattle.std.proofs.Common.{Bool, inl, inr}
 use Rattle.std.specs.List.{filter_map}
-use Rattle.std.specs.Io.KnownBytes.{Consumes}
 use Rattle.std.proofs.lemmas.List.{take_at}
 use Rattle.std.proofs.lemmas.List.Elements.{filter_map-append}
 use Rattle.ts_packets.specs.Cutter.{IsWaiting}
@@ -15,18 +14,16 @@ use Rattle.receiver_core.specs.Outputs.{Input, Piece, outputs}
 use Rattle.receiver_core.specs.Receiving.{IsIdle}
 use Rattle.replay_run.specs.declared.record.Line.TheVariants.{Bad, Item as Read}
 use Rattle.replay_run.specs.declared.record.RecordItem.{RecordItem}
-use Rattle.replay_run.specs.declared.record.RecordItem.TheVariants.{Packets}
 use Rattle.replay_run.specs.declared.status.Status.{Status}
-use Rattle.replay_run.specs.declared.status.Status.TheVariants.{ReadFault, TooLong}
-use Rattle.replay_run.specs.Ending.{FailsToRead, ReadsNotes, ReadsStream, ReadsTooMuch}
+use Rattle.replay_run.specs.Ending.{ReadsNotes, ReadsStream}
 use Rattle.replay_run.specs.Ending.{WritesDecided, end_told}
-use Rattle.replay_run.specs.Files.{packet_length, record_limit, stream_limit}
+use Rattle.replay_run.specs.Files.{packet_length}
 use Rattle.replay_run.specs.Given.{AreDecided, Given}
 use Rattle.replay_run.specs.Meaning.{replay_inputs}
 use Rattle.replay_run.specs.Midway.{IsReadForPacket, StopsInStream, TakeJust, TakesMore}
-use Rattle.replay_run.specs.Needs.{EndsBehind, NeedsLine, NeedsPacket}
+use Rattle.replay_run.specs.Needs.{EndsBehind, NeedsPacket}
 use Rattle.replay_run.specs.Outside.{Outside}
-use Rattle.replay_run.specs.Play.{inputs_of, inputs_of_item, packets_behind, packets_left}
+use Rattle.replay_run.specs.Play.{inputs_of, packets_behind, packets_left}
 use Rattle.replay_run.specs.Progress.{IsBetween, IsMidway, Moment, Replay}
 use Rattle.replay_run.specs.Putting.{HasPut, outlets_of}
 use Rattle.replay_run.specs.Record.{item_in, items_before_bad, lines_of}

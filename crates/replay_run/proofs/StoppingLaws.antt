@@ -1,7 +1,7 @@
 -- What is written where a replay stops in the middle of an item, over plain values.
 use Rattle.std.proofs.Common.{◌≡◌, ℕ, ◌+◌, ◌-◌, ◌<◌, ◌≤◌, List, [], ◌∷◌, ◌++◌, take, drop, refl}
 use Rattle.std.proofs.Common.{sym, ap, ◌∙◌, subst, append_assoc, length, Option, Some, None, Result}
-use Rattle.std.proofs.Common.{Ok, Err, inl, inr, arith, length-append, Bool, true, false, not, IsTrue}
+use Rattle.std.proofs.Common.{Ok, Err, inl, inr, arith, length-append, false, not, IsTrue}
 use Rattle.std.specs.Prelude.{◌&&◌}
 use Rattle.std.specs.Io.KnownBytes.{Consumes, IsAtEnd, Keeps, ReadConsumes}
 use Rattle.std.proofs.KnownBytes.{Consumes-nil, Consumes-trans, Consumes-kept}

@@ -1,12 +1,12 @@
 -- Laws of the packets that items take, and of those that they would take besides.
 use Rattle.std.proofs.Common.{◌≡◌, ◌≢◌, ℕ, suc, ◌+◌, ◌-◌, ◌<◌, ◌≤◌, List, [], ◌∷◌, ◌++◌, map, length}
 use Rattle.std.proofs.Common.{take, drop, refl, sym, ap, ap₂, ◌∙◌, subst, append_assoc, append-nil}
-use Rattle.std.proofs.Common.{take_all, take-append-drop, drop_of_length-le, length-drop}
-use Rattle.std.proofs.Common.{length-append, length-take-le, arith, ◌⊎◌, inl, inr}
+use Rattle.std.proofs.Common.{take_all, drop_of_length-le, length-drop}
+use Rattle.std.proofs.Common.{length-append, arith, ◌⊎◌, inl, inr}
 use Rattle.std.proofs.Math.Seq.{take-append-add}
 use Rattle.std.proofs.lemmas.Bool.{cases_lt}
-use Rattle.std.proofs.lemmas.List.{drop-append-le, map-append, take-append-le, take_at}
-use Rattle.receiver_core.specs.Fronts.{IsFront, front_under}
+use Rattle.std.proofs.lemmas.List.{drop-append-le, map-append, take-append-le}
+use Rattle.receiver_core.specs.Fronts.{IsFront}
 use Rattle.receiver_core.specs.Outputs.{Input, input_of}
 use Rattle.receiver_core.specs.Outputs.Input.{Packet, Tick as Passing}
 use Rattle.receiver_core.specs.declared.broadcast.Input.TheVariants as handed

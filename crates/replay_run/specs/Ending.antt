@@ -1,7 +1,7 @@
 -- How a replay may end: for each status, what was taken of the two files, what was written, and
 -- what is kept. This project's own.
 use Rattle.std.specs.Prelude.{◌≡◌, ◌≢◌, ◌⊎◌, ℕ, ◌<◌, ◌≤◌, Bool, true, not, ◌&&◌, List, [], ◌∷◌}
-use Rattle.std.specs.Prelude.{◌++◌, length, Option, Some}
+use Rattle.std.specs.Prelude.{◌++◌, length, Some}
 use Rattle.bml_ports.specs.Counters.{counted}
 use Rattle.bml_ports.specs.Worlds.{PortState}
 use Rattle.receiver_core.specs.Fronts.{IsFront}

@@ -8,12 +8,13 @@ use bml_ports::{MemoryKeeper, MemorySink, MemorySource, MemoryWorld, NoMemory, T
 use replay_run::{Status, run};
 use std::alloc::Global;
 
-/// How the ports of a run behave: the most bytes of the stream that a read gives, the room for
-/// lines, the bytes that are kept, and the numbers of the opening, of the reads of the stream and
-/// of the record, of the write and of the call of the keeper that fail, or 0.
+/// How the ports of a run behave: the most bytes of the stream and of the record that a read gives,
+/// the room for lines, the bytes that are kept, and the numbers of the opening, of the reads of the
+/// stream and of the record, of the write and of the call of the keeper that fail, or 0.
 #[derive(Clone, Copy)]
 pub struct Ports {
     pub piece: usize,
+    pub record_piece: usize,
     pub room: usize,
     pub opening: u64,
     pub stream_read: u64,
@@ -26,6 +27,7 @@ pub struct Ports {
 /// Nothing fails.
 pub const SOUND: Ports = Ports {
     piece: 4096,
+    record_piece: 4096,
     room: 4096,
     opening: 0,
     stream_read: 0,
@@ -85,7 +87,8 @@ fn world_of(
     let stream = MemorySource::new(Vec::from_slice(alloc, stream)?, ports.piece.max(1), reads);
     world.add(Text::of_bytes(alloc, b"s")?, stream)?;
     let reads = vec![in alloc; ports.record_read]?;
-    let record = MemorySource::new(Vec::from_slice(alloc, record)?, 4096, reads);
+    let piece = ports.record_piece.max(1);
+    let record = MemorySource::new(Vec::from_slice(alloc, record)?, piece, reads);
     world.add(Text::of_bytes(alloc, b"r")?, record)?;
     Ok(world)
 }
