@@ -136,10 +136,11 @@ const CHANGES: &[Sent] = &[
     Sent::Block(4, 1, 0, b"abcd"),
 ];
 
-// Each read gives a byte.
+// Each read gives a byte, and each write takes one.
 const BYTES: Ports = Ports {
     piece: 1,
     record_piece: 1,
+    write_piece: 1,
     ..SOUND
 };
 
@@ -178,7 +179,8 @@ const CHANGE_ROWS: &[(Ports, Status, &[u8])] = &[
         WITH_GONE,
     ),
     (Ports { write: 2, ..SOUND }, Status::WriteFault, FIRST_LINE),
-    (Ports { write: 2, ..BYTES }, Status::WriteFault, FIRST_LINE),
+    (Ports { write: 21, ..BYTES }, Status::WriteFault, FIRST_LINE),
+    (Ports { write: 2, ..BYTES }, Status::WriteFault, b"m"),
     (
         Ports {
             opening: 2,

@@ -48,6 +48,7 @@ const ROWS: &[(Ports, &[u8], Status, &[u8], Option<u8>)] = &[
         Ports {
             piece: 1,
             record_piece: 1,
+            write_piece: 1,
             keeping: 2,
             ..SOUND
         },
@@ -60,6 +61,7 @@ const ROWS: &[(Ports, &[u8], Status, &[u8], Option<u8>)] = &[
         Ports {
             piece: 1,
             record_piece: 1,
+            write_piece: 1,
             write: 1,
             ..SOUND
         },
@@ -92,6 +94,7 @@ const ROWS: &[(Ports, &[u8], Status, &[u8], Option<u8>)] = &[
         Ports {
             piece: 1,
             record_piece: 1,
+            write_piece: 1,
             stream_read: 1,
             ..SOUND
         },

@@ -4,17 +4,19 @@ ghost use Rattle.std.specs.Prelude.{IfOk};
 ghost use Rattle.bml_ports.specs.MemoryWorlds.{told_by_world};
 ghost use Rattle.replay_run.specs.Opening.{IsUnasked};
 
+use crate::piece_sinks::PieceSink;
 use bml_ports::{MemoryKeeper, MemorySink, MemorySource, MemoryWorld, NoMemory, Text};
 use replay_run::{Status, run};
 use std::alloc::Global;
 
-/// How the ports of a run behave: the most bytes of the stream and of the record that a read gives,
-/// the room for lines, the bytes that are kept, and the numbers of the opening, of the reads of the
+/// How the ports of a run behave: the most bytes of the stream and of the record that a read gives
+/// and that a write takes, the room for lines, the bytes that are kept, and the numbers of the opening, of the reads of the
 /// stream and of the record, of the write and of the call of the keeper that fail, or 0.
 #[derive(Clone, Copy)]
 pub struct Ports {
     pub piece: usize,
     pub record_piece: usize,
+    pub write_piece: usize,
     pub room: usize,
     pub opening: u64,
     pub stream_read: u64,
@@ -28,6 +30,7 @@ pub struct Ports {
 pub const SOUND: Ports = Ports {
     piece: 4096,
     record_piece: 4096,
+    write_piece: 4096,
     room: 4096,
     opening: 0,
     stream_read: 0,
@@ -49,7 +52,7 @@ pub struct Ended {
     pub status: Status,
     pub world: MemoryWorld,
     pub keeper: MemoryKeeper,
-    pub sink: MemorySink,
+    pub sink: PieceSink,
 }
 
 /// Runs words over the files `s` and `r`.
@@ -61,7 +64,8 @@ pub fn replayed(
     ports: Ports,
 ) -> Result<Ended, NoMemory> {
     let words = texts_of(alloc, words)?;
-    let mut sink = MemorySink::new(alloc, ports.room, vec![in alloc; ports.write]?)?;
+    let sink = MemorySink::new(alloc, ports.room, vec![in alloc; ports.write]?)?;
+    let mut sink = PieceSink::new(sink, ports.write_piece);
     let kept = Vec::from_slice(alloc, ports.kept)?;
     let mut keeper = MemoryKeeper::new(kept, vec![in alloc; ports.keeping]?);
     let mut world = world_of(alloc, stream, record, ports)?;

@@ -33,8 +33,14 @@ returns-else-self-gt-STREAM_LIMIT-clause-goes g c =
     c.feed.ensures.held ∙ ap (λ n. c.args.self.now.cutter.held ++ take n bytes) room
     ∙ ap (λ l. c.args.self.now.cutter.held ++ l) (take_all (length bytes) bytes (omega arith)) in
     let few : length c.feed.new.self.held ≤ most_ahead =
-    omega (arith, ap length held, length-append c.args.self.now.cutter.held bytes,
-    c.requires.waiting, size, c.in-Ok.ensures.count.0) in
+    omega (
+      arith,
+      ap length held,
+      length-append c.args.self.now.cutter.held bytes,
+      c.requires.waiting,
+      size,
+      c.in-Ok.ensures.count.0,
+    ) in
     λ keeper sink replay inputs ahead m.
     subst (λ n. IsMidway replay (record {
       cutter = c.feed.new.self;

@@ -32,8 +32,14 @@ returns-else-self-gt-RECORD_LIMIT-clause-goes g c =
     c.feed.ensures.held ∙ ap (λ n. c.args.self.now.reader.held ++ take n bytes) room
     ∙ ap (λ l. c.args.self.now.reader.held ++ l) (take_all (length bytes) bytes (omega arith)) in
     let few : length c.feed.new.self.held ≤ most_ahead =
-    omega (arith, ap length held, length-append c.args.self.now.reader.held bytes,
-    c.requires.waiting, size, c.in-Ok.ensures.count.0) in
+    omega (
+      arith,
+      ap length held,
+      length-append c.args.self.now.reader.held bytes,
+      c.requires.waiting,
+      size,
+      c.in-Ok.ensures.count.0,
+    ) in
     λ notes items a.
     subst (λ n. IsAt notes (record {
       reader = c.feed.new.self;
