@@ -125,7 +125,7 @@ pub tells_in_packets : (status : Status) (replay : Replay) (told : Outside) (not
     (given : List Piece)
     → LeavesPackets status replay told given
     → TellsOfFiles status (file replay.stream told.world.stream.left) notes
-tells_in_packets TooLong replay told notes given l = inl l.0
+tells_in_packets TooLong replay told notes given l = inl l
 tells_in_packets (BadRecord line) replay told notes given l = absurd l
 tells_in_packets ReadFault replay told notes given l = tt
 tells_in_packets Done replay told notes given l = absurd l

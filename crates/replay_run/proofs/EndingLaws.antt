@@ -15,7 +15,7 @@ use Rattle.replay_run.specs.declared.status.Status.{Status}
 use Rattle.replay_run.specs.declared.status.Status.TheVariants.{Done, Usage, BadRecord, OpenFault}
 use Rattle.replay_run.specs.declared.status.Status.TheVariants.{ReadFault, WriteFault, KeepFault}
 use Rattle.replay_run.specs.declared.status.Status.TheVariants.{BadArea, TooLong, NoMemory}
-use Rattle.replay_run.specs.Ending.{Begins, EndsAs, WritesWhole}
+use Rattle.replay_run.specs.Ending.{Begins, EndsAs, FailsToRead, ReadsTooMuch}
 use Rattle.replay_run.specs.Files.{file, GaveAtMost, record_limit}
 use Rattle.replay_run.specs.Lines.{end_line}
 use Rattle.replay_run.specs.Meaning.{Meaning, area_meaning, end_piece, last_pieces, replay_inputs}
@@ -32,7 +32,7 @@ use Rattle.replay_run.specs.Record.{items_before_bad, first_bad}
 use Rattle.replay_run.specs.RecordProgress.{RecordState, IsAt, IsBadBehind, IsWhole, LeavesItems}
 use Rattle.replay_run.specs.Replaying.{StopsLine}
 use Rattle.replay_run.specs.Status.{outcome_of}
-use Rattle.replay_run.specs.Stopping.{LeavesPackets, OnlyReads, StreamWithin, run_of}
+use Rattle.replay_run.specs.Stopping.{LeavesPackets, OnlyReads, StreamWithin, meaning_of, run_of}
 use Rattle.replay_run.specs.Writing.{WritesOn}
 use Rattle.replay_run.proofs.KeptLaws.{keeps_none}
 use Rattle.replay_run.proofs.OutputLaws.{ReceiverLaws, first_outputs, idle_area}
@@ -54,6 +54,11 @@ Ends replay behind status = EndsAs (means replay) (run_of replay behind) status
 abbrev pub RecordWithin : Replay → Outside → Type 0
 RecordWithin replay behind = GaveAtMost record_limit (run_of replay behind).notes
 
+-- where a read ended it, what was given before it decides was written
+pub record FaultyReads (status : Status) (replay : Replay) (behind : Outside) : Type 0 where
+  pub failed : status ≡ ReadFault → FailsToRead (means replay) (run_of replay behind)
+  pub long : status ≡ TooLong → ReadsTooMuch (means replay) (run_of replay behind)
+
 -- a replay has begun
 begins_by : (bad : Option ℕ) (size : ℕ) → status_behind bad ≢ BadArea size
 begins_by None size e = let clash : Done ≡ BadArea size = e in cc
@@ -63,7 +68,7 @@ begins : (replay : Replay) → Begins (means replay)
 begins replay = begins_by (first_bad replay.notes)
 
 -- what the first items hand over stands in front of all
-front_of_items : (stream notes : List ℕ) (items : List RecordItem)
+pub front_of_items : (stream notes : List ℕ) (items : List RecordItem)
     → IsFront items (items_before_bad notes)
     → IsFront (inputs_of (packets_of stream) items) (replay_inputs stream notes)
 front_of_items stream notes items front =
@@ -71,7 +76,7 @@ front_of_items stream notes items front =
     (sym front.joined) (front_of_inputs (packets_of stream) items front.rest)
 
 -- what some inputs print stands in front of all pieces
-front_of_prints : ReceiverLaws → (replay : Replay) (some : List Input)
+pub front_of_prints : ReceiverLaws → (replay : Replay) (some : List Input)
     → IsFront some (replay_inputs replay.stream replay.notes)
     → IsFront (outputs replay.read replay.selection replay.area some) (means replay).pieces
 unfolding replay_pieces
@@ -105,47 +110,40 @@ front_of_stop laws status replay behind items right front s =
 
 leaves_in_front : (status : Status) (replay : Replay) (behind : Outside) (given : List Piece)
     → IsFront given (means replay).pieces → RecordWithin replay behind
+    → FaultyReads status replay behind
     → LeavesPackets status replay behind given → Ends replay behind status
-leaves_in_front ReadFault replay behind given front within l = (
+leaves_in_front ReadFault replay behind given front within reads l = (
   begins replay,
+  record { stream = l; notes = within },
+  reads.failed refl,
+)
+leaves_in_front NoMemory replay behind given front within reads l =
+    whole_further (meaning_of replay given) (means replay) (run_of replay behind) refl front l.1
+leaves_in_front TooLong replay behind given front within reads l =
+    (begins replay, inl l, reads.long refl)
+leaves_in_front WriteFault replay behind given front within reads l = (
   record { stream = l.0; notes = within },
-  whole_further replay.area given (means replay).pieces Done (means replay).status
-      (run_of replay behind) front l.1,
+  short_further (meaning_of replay given) (means replay) (run_of replay behind) refl front l.1,
 )
-leaves_in_front NoMemory replay behind given front within l =
-    whole_further replay.area given (means replay).pieces Done (means replay).status
-    (run_of replay behind) front l.1
-leaves_in_front TooLong replay behind given front within l = (
-  begins replay,
-  inl l.0,
-  whole_further replay.area given (means replay).pieces Done (means replay).status
-      (run_of replay behind) front l.1,
-)
-leaves_in_front WriteFault replay behind given front within l = (
+leaves_in_front KeepFault replay behind given front within reads l = inr (
   record { stream = l.0; notes = within },
-  short_further replay.area given (means replay).pieces Done (means replay).status
-      (run_of replay behind) front l.1,
+  lost_further (meaning_of replay given) (means replay) (run_of replay behind) refl front l.1,
 )
-leaves_in_front KeepFault replay behind given front within l = inr (
-  record { stream = l.0; notes = within },
-  lost_further replay.area given (means replay).pieces Done (means replay).status
-      (run_of replay behind) front l.1,
-)
-leaves_in_front Done replay behind given front within l = absurd l
-leaves_in_front Usage replay behind given front within l = absurd l
-leaves_in_front (BadRecord line) replay behind given front within l = absurd l
-leaves_in_front OpenFault replay behind given front within l = absurd l
-leaves_in_front (BadArea size) replay behind given front within l = absurd l
+leaves_in_front Done replay behind given front within reads l = absurd l
+leaves_in_front Usage replay behind given front within reads l = absurd l
+leaves_in_front (BadRecord line) replay behind given front within reads l = absurd l
+leaves_in_front OpenFault replay behind given front within reads l = absurd l
+leaves_in_front (BadArea size) replay behind given front within reads l = absurd l
 
 pub ends_in_item : ReceiverLaws → (status : Status) (replay : Replay) (behind : Outside)
     (items : List RecordItem)
     → IsReader replay.read → IsFront items (items_before_bad replay.notes)
-    → RecordWithin replay behind
+    → RecordWithin replay behind → FaultyReads status replay behind
     → StopsIn status replay behind (inputs_of (packets_of replay.stream) items)
     → Ends replay behind status
-ends_in_item laws status replay behind items right front within s =
+ends_in_item laws status replay behind items right front within reads s =
     leaves_in_front status replay behind s.given
-    (front_of_stop laws status replay behind items right front s) within s.leaves
+    (front_of_stop laws status replay behind items right front s) within reads s.leaves
 
 -- ---- the record stops the replay
 
@@ -167,20 +165,6 @@ put_told : (replay : Replay) (now : Moment) (behind : Outside) (given : List Pie
     → HasPut replay.area replay.before now.kept (outlets_of behind) given
 put_told replay now behind given told put =
     subst (λ o. HasPut replay.area replay.before now.kept o given) told.outlets put
-
--- whole pieces between two items
-between_whole : ReceiverLaws → (replay : Replay) (now : Moment) (behind : Outside)
-    (items : List RecordItem)
-    → IsReader replay.read → IsFront items (items_before_bad replay.notes) → IsTold now behind
-    → IsBetween replay now items → WritesWhole (means replay) (run_of replay behind)
-between_whole laws replay now behind items right front told b =
-    let some = inputs_of (packets_of replay.stream) items in
-    put_whole (means replay) (run_of replay behind) now.kept b.given
-    (put_told replay now behind b.given told b.put)
-    (front_of_front b.given (outputs replay.read replay.selection replay.area some)
-    (means replay).pieces
-    (laws.front replay.read replay.selection replay.area now.receiver some b.given (b.stands right))
-    (front_of_prints laws replay some (front_of_items replay.stream replay.notes items front)))
 
 -- a bad line behind these items
 ends_bad : ReceiverLaws → (line : ℕ) (replay : Replay) (now : Moment) (behind : Outside)
@@ -215,31 +199,28 @@ ends_bad laws line replay now behind items right bad told within idle b =
 
 pub ends_in_items : ReceiverLaws → (status : Status) (replay : Replay) (now : Moment)
     (behind : Outside) (items : List RecordItem)
-    → IsReader replay.read → IsFront items (items_before_bad replay.notes) → IsTold now behind
-    → StreamWithin replay behind
+    → IsReader replay.read → IsTold now behind
+    → StreamWithin replay behind → FaultyReads status replay behind
     → IsIdle now.receiver → IsBetween replay now items
     → LeavesItems status (file replay.notes behind.world.notes.left) items
     → Ends replay behind status
-ends_in_items laws ReadFault replay now behind items right front told within idle b l = (
+ends_in_items laws ReadFault replay now behind items right told within reads idle b l = (
   begins replay,
   record { stream = within; notes = l },
-  between_whole laws replay now behind items right front told b,
+  reads.failed refl,
 )
-ends_in_items laws TooLong replay now behind items right front told within idle b l = (
-  begins replay,
-  inr l,
-  between_whole laws replay now behind items right front told b,
-)
-ends_in_items laws (BadRecord line) replay now behind items right front told within idle b l =
+ends_in_items laws TooLong replay now behind items right told within reads idle b l =
+    (begins replay, inr l, reads.long refl)
+ends_in_items laws (BadRecord line) replay now behind items right told within reads idle b l =
     ends_bad laws line replay now behind items right l told within idle b
-ends_in_items laws Done replay now behind items right front told within idle b l = absurd l
-ends_in_items laws Usage replay now behind items right front told within idle b l = absurd l
-ends_in_items laws OpenFault replay now behind items right front told within idle b l = absurd l
-ends_in_items laws WriteFault replay now behind items right front told within idle b l = absurd l
-ends_in_items laws KeepFault replay now behind items right front told within idle b l = absurd l
-ends_in_items laws (BadArea size) replay now behind items right front told within idle b l =
+ends_in_items laws Done replay now behind items right told within reads idle b l = absurd l
+ends_in_items laws Usage replay now behind items right told within reads idle b l = absurd l
+ends_in_items laws OpenFault replay now behind items right told within reads idle b l = absurd l
+ends_in_items laws WriteFault replay now behind items right told within reads idle b l = absurd l
+ends_in_items laws KeepFault replay now behind items right told within reads idle b l = absurd l
+ends_in_items laws (BadArea size) replay now behind items right told within reads idle b l =
     absurd l
-ends_in_items laws NoMemory replay now behind items right front told within idle b l = absurd l
+ends_in_items laws NoMemory replay now behind items right told within reads idle b l = absurd l
 
 -- ---- the last line
 

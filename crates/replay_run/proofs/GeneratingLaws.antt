@@ -1,5 +1,5 @@
 -- How a run ends that generates files.
-use Rattle.std.proofs.Common.{◌≡◌, ◌≢◌, ℕ, List, [], ◌∷◌, ◌++◌, append_assoc, codes, Option, Some, None, Result, Ok, Err, refl, sym, ap, ◌∙◌, subst}
+use Rattle.std.proofs.Common.{◌≡◌, ℕ, List, [], ◌++◌, codes, Result, Ok, Err, sym, ap, ◌∙◌, subst}
 use Rattle.std.proofs.KnownBytes.{Appends-nil}
 use Rattle.std.specs.Io.KnownBytes.{Appends}
 use Rattle.std.specs.Prelude.{IfErr, OnErr, OnOk}
@@ -14,7 +14,7 @@ use Rattle.replay_run.specs.Generating.{generated_text, lines_of_files}
 use Rattle.replay_run.specs.Outside.{Outside}
 use Rattle.replay_run.specs.Status.{outcome_of}
 use Rattle.replay_run.specs.Writing.{WritesOn, WritesShort}
-use Rattle.replay_run.proofs.WritingLaws.{appends_from, appends_more}
+use Rattle.replay_run.proofs.WritingLaws.{appends_more}
 
 -- the text of generated files
 pub record PrintsGenerated (seed count : ℕ) (text : List ℕ) : Type 0 where

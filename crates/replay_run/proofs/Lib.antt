@@ -1,6 +1,8 @@
+pub mod BlankLaws
 pub mod ClockLaws
 pub mod CompletenessLaws
 pub mod CutLaws
+pub mod DecidingLaws
 pub mod EndingLaws
 pub mod FieldLaws
 pub mod FirstPlaces
@@ -17,6 +19,7 @@ pub mod RecordLaws
 pub mod RunLaws
 pub mod StepLaws
 pub mod StoppingLaws
+pub mod TakenLaws
 pub mod WordLaws
 pub mod WritingLaws
 pub mod CommandLaws

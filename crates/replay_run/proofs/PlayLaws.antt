@@ -12,7 +12,7 @@ use Rattle.receiver_core.specs.Fronts.{IsFront}
 use Rattle.receiver_core.specs.Outputs.{Input}
 use Rattle.receiver_core.specs.Outputs.Input.{Packet, Tick}
 use Rattle.replay_run.specs.declared.record.RecordItem.{RecordItem}
-use Rattle.replay_run.specs.Midway.{item_of_count}
+use Rattle.replay_run.specs.Midway.{TakesMore, item_of_count}
 use Rattle.replay_run.specs.Play.{inputs_of_item, packets_behind, inputs_of, packets_left}
 use Rattle.replay_run.specs.Play.{is_packet, packet_count}
 
@@ -183,3 +183,9 @@ took_all inputs (Some n) count ahead allows none =
       ap (λ l. inputs ++ map Packet l) (take_all count ahead few ∙ sym (take_all n ahead more)),
       none ∙ sym (drop_of_length-le ahead more),
     )
+
+-- it would take one more
+pub allows_more : (most : Option ℕ) (count : ℕ) → Allows most (count + 1)
+    → TakesMore (item_of_count most) count
+allows_more None count allows = tt
+allows_more (Some n) count allows = omega (arith, allows.bound n refl)

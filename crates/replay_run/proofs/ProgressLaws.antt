@@ -1,15 +1,17 @@
 -- The steps of a replay, over plain values.
-use Rattle.std.proofs.Common.{◌≡◌, ℕ, ◌+◌, true, false, List, [], ◌∷◌, ◌++◌, drop, refl, sym, ap}
+use Rattle.std.proofs.Common.{◌≡◌, ℕ, ◌+◌, ◌-◌, ◌≤◌, true, false, List, [], ◌∷◌, ◌++◌, take, drop, refl}
+use Rattle.std.proofs.Common.{sym, ap, arith, inl, inr, take-append-drop, length-drop}
 use Rattle.std.proofs.Common.{◌∙◌, subst, append_assoc, append-nil, length, Option, Some}
 use Rattle.std.proofs.Common.{length-append, drop-drop}
-use Rattle.ts_packets.specs.Cutter.{CutterState, Gives}
+use Rattle.ts_packets.specs.Cutter.{CutterState, DropsFront, Gives}
 use Rattle.ts_packets.specs.Packets.{packets_of}
 use Rattle.es_reader.specs.Readers.{IsReader}
 use Rattle.receiver_core.specs.Outputs.{Input, Piece}
 use Rattle.receiver_core.specs.Receiving.{ReceiverState, StandsFor}
 use Rattle.receiver_core.specs.Outputs.Input.{Packet, Tick}
 use Rattle.replay_run.specs.declared.record.RecordItem.{RecordItem}
-use Rattle.replay_run.specs.Midway.{item_of_count}
+use Rattle.replay_run.specs.Midway.{item_of_count, loosely}
+use Rattle.replay_run.specs.Needs.{most_ahead}
 use Rattle.replay_run.specs.Play.{inputs_of_item, packets_behind, inputs_of, packets_left}
 use Rattle.replay_run.specs.Play.{packet_count}
 use Rattle.replay_run.specs.Outside.{Outside}
@@ -20,21 +22,43 @@ use Rattle.replay_run.proofs.PlayLaws.{packet_count-packet, with_packets, with_n
 use Rattle.replay_run.proofs.PlayLaws.{Allows, packet_count-other, took_all}
 use Rattle.replay_run.proofs.PuttingLaws.{put_none}
 
+-- bytes left out at the front of those held are among the others
+pub skipped_front : (taken before held rest : List ℕ) (n : ℕ) → rest ≡ drop n held
+    → taken ≡ before ++ held → taken ≡ (before ++ take n held) ++ rest
+skipped_front taken before held rest n same whole =
+    whole ∙ ap (λ l. before ++ l) (sym (take-append-drop n held))
+    ∙ sym (append_assoc before (take n held) (drop n held))
+    ∙ ap (λ l. (before ++ take n held) ++ l) (sym same)
+
 -- the cutter left bytes out in front of the next packet
 pub midway_seek : (replay : Replay) (now : Moment) (inputs : List Input) (ahead : List (List ℕ))
     (cutter : CutterState)
-    → Gives now.cutter [] cutter → cutter.ended ≡ now.cutter.ended
+    → Gives now.cutter [] cutter → DropsFront now.cutter cutter
     → IsMidway replay now inputs ahead
-    → IsMidway replay (record now { cutter = cutter }) inputs ahead
-midway_seek replay now inputs ahead cutter gives ended m = record {
+    → IsMidway replay (record now { cutter = cutter; loose = true }) inputs ahead
+midway_seek replay now inputs ahead cutter gives drops m = record {
   taken = m.taken;
   rest = m.rest;
   given = m.given;
   left_is = m.left_is;
   whole = m.whole;
   counted = m.counted;
-  ended = λ e. m.ended (sym ended ∙ e);
+  ended = λ e. m.ended (sym drops.ended ∙ e);
   ahead_is = sym (gives m.rest m.ended) ∙ m.ahead_is;
+  done = m.done;
+  number = m.number;
+  before = m.before;
+  skipped = m.skipped ++ take (length now.cutter.held - length cutter.held) now.cutter.held;
+  taken_is = skipped_front m.taken (m.before ++ m.skipped) now.cutter.held cutter.held
+      (length now.cutter.held - length cutter.held) drops.held m.taken_is
+      ∙ ap (λ l. l ++ cutter.held) (append_assoc m.before m.skipped
+      (take (length now.cutter.held - length cutter.held) now.cutter.held));
+  behind = m.behind;
+  close = λ e. let clash : true ≡ false = e in cc;
+  cut = λ more may.
+      m.cut more (λ e. may (drops.ended ∙ e))
+      ∙ ap (λ l. m.done ++ l) (gives more (λ e. may (drops.ended ∙ e)));
+  few = omega (arith, drops.shorter, m.few);
   packets = m.packets;
   stands = m.stands;
   put = m.put;
@@ -43,19 +67,20 @@ midway_seek replay now inputs ahead cutter gives ended m = record {
 -- what a cut packet leaves of a moment
 abbrev pub behind_packet : Moment → CutterState → ReceiverState → Moment
 behind_packet now cutter receiver =
-    record now { cutter = cutter; receiver = receiver; packets = now.packets + 1 }
+    record now { cutter = cutter; loose = false; receiver = receiver; packets = now.packets + 1 }
 
 -- a packet was cut, and the receiver stands for one more
 pub midway_packet : (replay : Replay) (now : Moment) (inputs : List Input) (ahead : List (List ℕ))
     (cutter : CutterState) (receiver : ReceiverState) (packet : List ℕ)
     → Gives now.cutter (packet ∷ []) cutter → cutter.ended ≡ now.cutter.ended
+    → cutter.held ≡ drop 188 now.cutter.held → packet ≡ take 188 now.cutter.held
     → ((inputs : List Input) (given : List Piece)
     → StandsFor replay.read replay.selection replay.area now.receiver inputs given
     → StandsFor replay.read replay.selection replay.area receiver (inputs ++ Packet packet ∷ []) given)
     → IsMidway replay now inputs ahead
     → IsMidway replay (behind_packet now cutter receiver) (with_packets inputs 1 ahead)
     (drop 1 ahead)
-midway_packet replay now inputs ahead cutter receiver packet gives ended pushed m =
+midway_packet replay now inputs ahead cutter receiver packet gives ended held front pushed m =
     let behind = packets_of (cutter.held ++ m.rest) in
     let are : packet ∷ behind ≡ ahead = sym (gives m.rest m.ended) ∙ m.ahead_is in
     let after : Moment = behind_packet now cutter receiver in
@@ -70,6 +95,21 @@ midway_packet replay now inputs ahead cutter receiver packet gives ended pushed 
       counted = m.counted;
       ended = λ e. m.ended (sym ended ∙ e);
       ahead_is = refl;
+      done = m.done ++ packet ∷ [];
+      number = length-append m.done (packet ∷ []) ∙ ap (λ n. n + 1) m.number;
+      before = (m.before ++ m.skipped) ++ packet;
+      skipped = [];
+      taken_is = skipped_front m.taken (m.before ++ m.skipped) now.cutter.held cutter.held 188 held
+          m.taken_is
+          ∙ ap (λ l. ((m.before ++ m.skipped) ++ l) ++ cutter.held) (sym front)
+          ∙ ap (λ l. l ++ cutter.held) (sym (append-nil ((m.before ++ m.skipped) ++ packet)));
+      behind = inr (m.done, packet, m.before ++ m.skipped, refl, refl);
+      close = λ e open_end. refl;
+      cut = λ more may.
+          m.cut more (λ e. may (ended ∙ e))
+          ∙ ap (λ l. m.done ++ l) (gives more (λ e. may (ended ∙ e)))
+          ∙ sym (append_assoc m.done (packet ∷ []) (packets_of (cutter.held ++ more)));
+      few = omega (arith, ap length held, length-drop 188 now.cutter.held, m.few);
       packets = ap (λ n. n + 1) m.packets ∙ sym (packet_count-packet inputs packet);
       stands = λ right. pushed inputs m.given (m.stands right);
       put = m.put;
@@ -93,6 +133,15 @@ midway_quiet replay now inputs more ahead receiver stays count m = record {
   counted = m.counted;
   ended = m.ended;
   ahead_is = m.ahead_is;
+  done = m.done;
+  number = m.number;
+  before = m.before;
+  skipped = m.skipped;
+  taken_is = m.taken_is;
+  behind = m.behind;
+  close = m.close;
+  cut = m.cut;
+  few = m.few;
   packets = m.packets ∙ sym count;
   stands = λ right. stays m.given (m.stands right);
   put = m.put;
@@ -114,14 +163,14 @@ pub midway_read : (replay : Replay) (now : Moment) (inputs : List Input) (ahead 
     → ((rest : List ℕ) → now.left ≡ Some rest → (more : List ℕ) × (left ≡ Some more)
     × (rest ≡ bytes ++ more))
     → now.cutter.ended ≡ false → cutter.held ≡ now.cutter.held ++ bytes → cutter.ended
-    ≡ now.cutter.ended
+    ≡ now.cutter.ended → length cutter.held ≤ most_ahead
     → IsMidway replay now inputs ahead
     → IsMidway replay (record now {
       cutter = cutter;
       bytes = now.bytes + length bytes;
       left = left;
     }) inputs ahead
-midway_read replay now inputs ahead cutter left bytes gave open_end held ended m =
+midway_read replay now inputs ahead cutter left bytes gave open_end held ended few m =
     let g = gave m.rest m.left_is in
     let same : cutter.held ++ g.0 ≡ now.cutter.held ++ m.rest =
     ap (λ l. l ++ g.0) held ∙ append_assoc now.cutter.held bytes g.0
@@ -135,6 +184,21 @@ midway_read replay now inputs ahead cutter left bytes gave open_end held ended m
       counted = ap (λ n. n + length bytes) m.counted ∙ sym (length-append m.taken bytes);
       ended = λ e. let clash : true ≡ false = sym e ∙ ended ∙ open_end in cc;
       ahead_is = ap packets_of same ∙ m.ahead_is;
+      done = m.done;
+      number = m.number;
+      before = m.before;
+      skipped = m.skipped;
+      taken_is = ap (λ l. l ++ bytes) m.taken_is
+          ∙ append_assoc (m.before ++ m.skipped) now.cutter.held bytes
+          ∙ ap (λ l. (m.before ++ m.skipped) ++ l) (sym held);
+      behind = m.behind;
+      close = λ e told. m.close e open_end;
+      cut = λ more may.
+          ap packets_of (append_assoc m.taken bytes more)
+          ∙ m.cut (bytes ++ more) (λ e. let clash : true ≡ false = sym e ∙ open_end in cc)
+          ∙ ap (λ l. m.done ++ packets_of l)
+          (sym (append_assoc now.cutter.held bytes more) ∙ ap (λ l. l ++ more) (sym held));
+      few = few;
       packets = m.packets;
       stands = m.stands;
       put = m.put;
@@ -144,10 +208,10 @@ midway_read replay now inputs ahead cutter left bytes gave open_end held ended m
 pub midway_end : (replay : Replay) (now : Moment) (inputs : List Input) (ahead : List (List ℕ))
     (cutter : CutterState) (left : Option (List ℕ))
     → ((rest : List ℕ) → now.left ≡ Some rest → (rest ≡ []) × (left ≡ Some []))
-    → cutter.held ≡ now.cutter.held
+    → cutter.held ≡ now.cutter.held → cutter.ended ≡ true
     → IsMidway replay now inputs ahead
     → IsMidway replay (record now { cutter = cutter; left = left }) inputs ahead
-midway_end replay now inputs ahead cutter left gave held m =
+midway_end replay now inputs ahead cutter left gave held told m =
     let g = gave m.rest m.left_is in
     record {
       taken = m.taken;
@@ -159,10 +223,75 @@ midway_end replay now inputs ahead cutter left gave held m =
       ended = λ e. refl;
       ahead_is = ap packets_of (ap (λ l. l ++ []) held ∙ ap (λ l. now.cutter.held ++ l) (sym g.0))
           ∙ m.ahead_is;
+      done = m.done;
+      number = m.number;
+      before = m.before;
+      skipped = m.skipped;
+      taken_is = m.taken_is ∙ ap (λ l. (m.before ++ m.skipped) ++ l) (sym held);
+      behind = m.behind;
+      close = λ e open_end. let clash : true ≡ false = sym told ∙ open_end in cc;
+      cut = λ more may.
+          m.cut more (λ e. may told)
+          ∙ ap (λ l. m.done ++ packets_of (l ++ more)) (sym held);
+      few = omega (arith, ap length held, m.few);
       packets = m.packets;
       stands = m.stands;
       put = m.put;
     }
+
+-- bytes may have been left out
+pub midway_loosely : (replay : Replay) (now : Moment) (inputs : List Input)
+    (ahead : List (List ℕ)) → IsMidway replay now inputs ahead
+    → IsMidway replay (loosely now) inputs ahead
+midway_loosely replay now inputs ahead m = record {
+  taken = m.taken;
+  rest = m.rest;
+  given = m.given;
+  left_is = m.left_is;
+  whole = m.whole;
+  counted = m.counted;
+  ended = m.ended;
+  ahead_is = m.ahead_is;
+  done = m.done;
+  number = m.number;
+  before = m.before;
+  skipped = m.skipped;
+  taken_is = m.taken_is;
+  behind = m.behind;
+  close = λ e. let clash : true ≡ false = e in cc;
+  cut = m.cut;
+  few = m.few;
+  packets = m.packets;
+  stands = m.stands;
+  put = m.put;
+}
+
+-- which is nothing once the end was told
+pub midway_ended : (replay : Replay) (now : Moment) (inputs : List Input)
+    (ahead : List (List ℕ)) → now.cutter.ended ≡ true
+    → IsMidway replay (loosely now) inputs ahead → IsMidway replay now inputs ahead
+midway_ended replay now inputs ahead told m = record {
+  taken = m.taken;
+  rest = m.rest;
+  given = m.given;
+  left_is = m.left_is;
+  whole = m.whole;
+  counted = m.counted;
+  ended = m.ended;
+  ahead_is = m.ahead_is;
+  done = m.done;
+  number = m.number;
+  before = m.before;
+  skipped = m.skipped;
+  taken_is = m.taken_is;
+  behind = m.behind;
+  close = λ e open_end. let clash : true ≡ false = sym told ∙ open_end in cc;
+  cut = m.cut;
+  few = m.few;
+  packets = m.packets;
+  stands = m.stands;
+  put = m.put;
+}
 
 -- a replay begins
 pub between_start : (replay : Replay) (now : Moment) (told : Outside)
@@ -185,6 +314,15 @@ between_start replay now told l same begun kept held open_end bytes packets stan
       counted = bytes;
       ended = λ e. let clash : true ≡ false = sym e ∙ open_end in cc;
       ahead_is = ap (λ l. packets_of (l ++ replay.stream)) held ∙ sym none.1;
+      done = [];
+      number = sym packets;
+      before = [];
+      skipped = [];
+      taken_is = sym held;
+      behind = inl (refl, refl);
+      close = λ e open_end. refl;
+      cut = λ more may. ap (λ l. packets_of (l ++ more)) (sym held);
+      few = omega (arith, ap length held);
       packets = packets;
       stands = stands;
       put = subst (λ o. HasPut replay.area replay.before now.kept o []) (sym same)

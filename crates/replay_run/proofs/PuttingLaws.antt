@@ -1,12 +1,11 @@
 -- Laws of pieces that are put out: their areas are stored, and their texts written.
-use Rattle.std.proofs.Common.{◌≡◌, ℕ, List, [], ◌∷◌, ◌++◌, sym, ap, ◌∙◌, subst, append-nil, arith}
+use Rattle.std.proofs.Common.{◌≡◌, ◌≢◌, ◌⊎◌, ℕ, List, [], ◌∷◌, ◌++◌, sym, ap, ◌∙◌, subst, append-nil, arith}
 use Rattle.std.specs.Io.KnownBytes.{Appends}
 use Rattle.std.proofs.KnownBytes.{Appends-nil}
 use Rattle.receiver_core.specs.Fronts.{IsFront, front_of_front}
 use Rattle.receiver_core.specs.Outputs.{Piece}
-use Rattle.replay_run.specs.declared.status.Status.{Status}
 use Rattle.replay_run.specs.Ending.{BreaksOff, FailsToStore, WritesWhole}
-use Rattle.replay_run.specs.Kept.{stores}
+use Rattle.replay_run.specs.Kept.{CallsFor, HasKept, Keeps, area_after, stores}
 use Rattle.replay_run.specs.Meaning.{Meaning}
 use Rattle.replay_run.specs.Outside.{Account, Outside}
 use Rattle.replay_run.specs.Output.{bytes_of}
@@ -126,43 +125,45 @@ put_lost meaning run kept now given piece has loses front =
 
 -- ---- the same of more pieces
 
-pub whole_further : (area : List ℕ) (some all : List Piece) (one other : Status) (run : Account)
-    → IsFront some all
-    → WritesWhole (record { area = area; pieces = some; status = one }) run
-    → WritesWhole (record { area = area; pieces = all; status = other }) run
-whole_further area some all one other run front w = record {
+pub whole_further : (one other : Meaning) (run : Account) → one.area ≡ other.area
+    → IsFront one.pieces other.pieces → WritesWhole one run → WritesWhole other run
+whole_further one other run same front w = record {
   whole = w.whole;
-  front = front_of_front w.whole some all w.front front;
+  front = front_of_front w.whole one.pieces other.pieces w.front front;
   written = w.written;
-  kept = w.kept;
+  kept = subst (λ a. Keeps run.before.keeper run.behind.keeper (stores a w.whole)) same w.kept;
 }
 
-pub short_further : (area : List ℕ) (some all : List Piece) (one other : Status) (run : Account)
-    → IsFront some all
-    → BreaksOff (record { area = area; pieces = some; status = one }) run
-    → BreaksOff (record { area = area; pieces = all; status = other }) run
-short_further area some all one other run front b = record {
+pub short_further : (one other : Meaning) (run : Account) → one.area ≡ other.area
+    → IsFront one.pieces other.pieces → BreaksOff one run → BreaksOff other run
+short_further one other run same front b = record {
   whole = b.whole;
   piece = b.piece;
-  front = front_of_front (b.whole ++ b.piece ∷ []) some all b.front front;
+  front = front_of_front (b.whole ++ b.piece ∷ []) one.pieces other.pieces b.front front;
   part = b.part;
   wanting = b.wanting;
   text_is = b.text_is;
   wants = b.wants;
   written = b.written;
-  kept = b.kept;
+  kept = subst
+      (λ a. Keeps run.before.keeper run.behind.keeper (stores a (b.whole ++ b.piece ∷ []))) same
+      b.kept;
 }
 
-pub lost_further : (area : List ℕ) (some all : List Piece) (one other : Status) (run : Account)
-    → IsFront some all
-    → FailsToStore (record { area = area; pieces = some; status = one }) run
-    → FailsToStore (record { area = area; pieces = all; status = other }) run
-lost_further area some all one other run front f = record {
-  whole = f.whole;
-  piece = f.piece;
-  front = front_of_front (f.whole ++ f.piece ∷ []) some all f.front front;
-  differs = f.differs;
-  written = f.written;
-  kept = f.kept;
-  calls = f.calls;
-}
+pub lost_further : (one other : Meaning) (run : Account) → one.area ≡ other.area
+    → IsFront one.pieces other.pieces → FailsToStore one run → FailsToStore other run
+lost_further one other run same front f =
+    let P : List ℕ → Type 0 = λ a.
+    HasKept run.before.keeper run.behind.keeper (stores a f.whole)
+    ⊎ HasKept run.before.keeper run.behind.keeper (stores a (f.whole ++ f.piece ∷ [])) in
+    record {
+      whole = f.whole;
+      piece = f.piece;
+      front = front_of_front (f.whole ++ f.piece ∷ []) one.pieces other.pieces f.front front;
+      differs = subst (λ a. f.piece.area ≢ area_after a f.whole) same f.differs;
+      written = f.written;
+      kept = subst P same f.kept;
+      calls = subst
+          (λ a. CallsFor run.before.keeper run.behind.keeper (stores a (f.whole ++ f.piece ∷ [])))
+          same f.calls;
+    }

@@ -1,7 +1,7 @@
 -- The steps of reading a record, over plain values.
-use Rattle.std.proofs.Common.{◌≡◌, ◌≢◌, ℕ, ◌+◌, ◌<◌, ◌≤◌, true, false, List, [], ◌∷◌, ◌++◌, All}
+use Rattle.std.proofs.Common.{◌≡◌, ◌≢◌, ℕ, ◌+◌, ◌-◌, ◌<◌, ◌≤◌, true, false, List, [], ◌∷◌, ◌++◌, All}
 use Rattle.std.proofs.Common.{refl, sym, ap, ◌∙◌, subst, append_assoc, append-nil, length, Option}
-use Rattle.std.proofs.Common.{Some, None, arith, length-append, slice_get, map}
+use Rattle.std.proofs.Common.{Some, None, arith, length-append, slice_get, map, take}
 use Rattle.std.specs.Str.Lines.{lines}
 use Rattle.std.specs.List.{filter_map}
 use Rattle.std.proofs.lemmas.List.Elements.{All-push, filter_map-append}
@@ -10,18 +10,20 @@ use Rattle.replay_run.specs.declared.record.RecordItem.{RecordItem}
 use Rattle.replay_run.specs.declared.record.RecordItem.TheVariants.{All as Every, Packets, Tick, Input}
 use Rattle.replay_run.specs.declared.record.Line.{Line}
 use Rattle.replay_run.specs.declared.record.Line.TheVariants.{Item as Read, Nothing, Bad}
-use Rattle.replay_run.specs.RecordProgress.{RecordState, IsAt, IsWhole, IsBadBehind}
+use Rattle.replay_run.specs.RecordProgress.{RecordState, IsAt, IsAtItem, IsWhole, IsBadBehind}
 use Rattle.replay_run.specs.Play.{milliseconds_of}
 use Rattle.replay_run.specs.Record.{line_of, tick_limit, IsWritten}
 use Rattle.replay_run.specs.Record.{lines_of, item_in, items_until_bad, items_before_bad, first_bad}
-use Rattle.replay_run.specs.RecordReader.{ReaderState, Gives, BeginsBad}
+use Rattle.replay_run.specs.RecordReader.{ReaderState, Gives, BeginsBad, DropsFront}
+use Rattle.replay_run.specs.Needs.{most_ahead}
 use Rattle.replay_run.specs.Files.{file, GaveMore, GaveAtMost, record_limit}
 use Rattle.replay_run.proofs.ItemLaws.{read_item}
+use Rattle.replay_run.proofs.ProgressLaws.{skipped_front}
 use Rattle.replay_run.proofs.RecordLaws.{AreGood, items-good, whole_items, whole_bad, bad_items}
 use Rattle.replay_run.proofs.RecordLaws.{bad_number}
 
 -- a list whose first element is known
-first_known : (lines : List Line) (line : Line) → slice_get lines 0 ≡ Some line
+pub first_known : (lines : List Line) (line : Line) → slice_get lines 0 ≡ Some line
     → (more : List Line) × (lines ≡ line ∷ more)
 first_known [] line e = let clash : None ≡ Some line = e in cc
 first_known (x ∷ more) line e = let same : x ≡ line = cc in (more, ap (λ l. l ∷ more) same)
@@ -46,7 +48,10 @@ at_start notes now l held open_end bytes lines = record {
   whole = refl;
   counted = bytes;
   ended = λ e. let clash : true ≡ false = sym e ∙ open_end in cc;
-  ahead = ap (λ l. lines_of (l ++ notes)) (sym held);
+  before = [];
+  taken_is = sym held;
+  ahead = λ more may. ap (λ l. lines_of (l ++ more)) (sym held);
+  few = omega (arith, ap length held);
   good = no_lines;
   items_are = refl;
   numbered = lines;
@@ -59,19 +64,25 @@ behind_line now reader = record now { reader = reader; lines = now.lines + 1 }
 -- one more line was read that isn't bad
 at_line : (notes : List ℕ) (now : RecordState) (items : List RecordItem) (reader : ReaderState)
     (line : Line)
-    → line ≢ Bad → Gives now.reader line reader → reader.ended ≡ now.reader.ended
+    → line ≢ Bad → Gives now.reader line reader → DropsFront now.reader reader
     → IsAt notes now items
     → IsAt notes (behind_line now reader) (items ++ filter_map item_in (line ∷ []))
-at_line notes now items reader line is_good gives ended a = record {
+at_line notes now items reader line is_good gives drops a = record {
   taken = a.taken;
   rest = a.rest;
   lines = a.lines ++ line ∷ [];
   left_is = a.left_is;
   whole = a.whole;
   counted = a.counted;
-  ended = λ e. a.ended (sym ended ∙ e);
-  ahead = a.ahead ∙ ap (λ l. a.lines ++ l) (gives a.rest a.ended)
-      ∙ sym (append_assoc a.lines (line ∷ []) (lines_of (reader.held ++ a.rest)));
+  ended = λ e. a.ended (sym drops.ended ∙ e);
+  before = a.before ++ take (length now.reader.held - length reader.held) now.reader.held;
+  taken_is = skipped_front a.taken a.before now.reader.held reader.held
+      (length now.reader.held - length reader.held) drops.held a.taken_is;
+  ahead = λ more may.
+      a.ahead more (λ e. may (drops.ended ∙ e))
+      ∙ ap (λ l. a.lines ++ l) (gives more (λ e. may (drops.ended ∙ e)))
+      ∙ sym (append_assoc a.lines (line ∷ []) (lines_of (reader.held ++ more)));
+  few = omega (arith, drops.shorter, a.few);
   good = All-push (λ l. l ≢ Bad) a.lines line a.good is_good;
   items_are = filter_map-append item_in a.lines (line ∷ [])
       ∙ ap (λ l. l ++ filter_map item_in (line ∷ [])) a.items_are;
@@ -80,20 +91,26 @@ at_line notes now items reader line is_good gives ended a = record {
 
 pub at_item : (notes : List ℕ) (now : RecordState) (items : List RecordItem) (reader : ReaderState)
     (item : RecordItem)
-    → Gives now.reader (Read item) reader → reader.ended ≡ now.reader.ended
+    → Gives now.reader (Read item) reader → DropsFront now.reader reader
     → IsAt notes now items
-    → IsAt notes (behind_line now reader) (items ++ item ∷ [])
-at_item notes now items reader item gives ended a = at_line notes now items reader (Read item)
-    (λ e. cc) gives ended a
+    → IsAtItem notes (behind_line now reader) items item
+unfolding at_line
+at_item notes now items reader item gives drops a = record {
+  at = at_line notes now items reader (Read item) (λ e. cc) gives drops a;
+  earlier = a.lines;
+  lines_are = refl;
+  good = a.good;
+  items_are = a.items_are;
+}
 
 pub at_nothing : (notes : List ℕ) (now : RecordState) (items : List RecordItem)
     (reader : ReaderState)
-    → Gives now.reader Nothing reader → reader.ended ≡ now.reader.ended
+    → Gives now.reader Nothing reader → DropsFront now.reader reader
     → IsAt notes now items
     → IsAt notes (behind_line now reader) items
-at_nothing notes now items reader gives ended a =
+at_nothing notes now items reader gives drops a =
     subst (λ l. IsAt notes (behind_line now reader) l) (append-nil items)
-    (at_line notes now items reader Nothing (λ e. cc) gives ended a)
+    (at_line notes now items reader Nothing (λ e. cc) gives drops a)
 
 -- the record gave bytes, and the reader took them
 pub at_read : (notes : List ℕ) (now : RecordState) (items : List RecordItem) (reader : ReaderState)
@@ -101,15 +118,12 @@ pub at_read : (notes : List ℕ) (now : RecordState) (items : List RecordItem) (
     → ((rest : List ℕ) → now.left ≡ Some rest → (more : List ℕ) × (left ≡ Some more)
     × (rest ≡ bytes ++ more))
     → now.reader.ended ≡ false → reader.held ≡ now.reader.held ++ bytes → reader.ended
-    ≡ now.reader.ended
+    ≡ now.reader.ended → length reader.held ≤ most_ahead
     → IsAt notes now items
     → IsAt notes (record now { reader = reader; bytes = now.bytes + length bytes; left = left })
     items
-at_read notes now items reader left bytes gave open_end held ended a =
+at_read notes now items reader left bytes gave open_end held ended few a =
     let g = gave a.rest a.left_is in
-    let same : reader.held ++ g.0 ≡ now.reader.held ++ a.rest =
-    ap (λ l. l ++ g.0) held ∙ append_assoc now.reader.held bytes g.0
-    ∙ ap (λ l. now.reader.held ++ l) (sym g.2) in
     record {
       taken = a.taken ++ bytes;
       rest = g.0;
@@ -118,7 +132,15 @@ at_read notes now items reader left bytes gave open_end held ended a =
       whole = a.whole ∙ ap (λ l. a.taken ++ l) g.2 ∙ sym (append_assoc a.taken bytes g.0);
       counted = ap (λ n. n + length bytes) a.counted ∙ sym (length-append a.taken bytes);
       ended = λ e. let clash : true ≡ false = sym e ∙ ended ∙ open_end in cc;
-      ahead = a.ahead ∙ ap (λ l. a.lines ++ lines_of l) (sym same);
+      before = a.before;
+      taken_is = ap (λ l. l ++ bytes) a.taken_is ∙ append_assoc a.before now.reader.held bytes
+          ∙ ap (λ l. a.before ++ l) (sym held);
+      ahead = λ more may.
+          ap lines_of (append_assoc a.taken bytes more)
+          ∙ a.ahead (bytes ++ more) (λ e. let clash : true ≡ false = sym e ∙ open_end in cc)
+          ∙ ap (λ l. a.lines ++ lines_of l)
+          (sym (append_assoc now.reader.held bytes more) ∙ ap (λ l. l ++ more) (sym held));
+      few = few;
       good = a.good;
       items_are = a.items_are;
       numbered = a.numbered;
@@ -128,10 +150,10 @@ at_read notes now items reader left bytes gave open_end held ended a =
 pub at_end : (notes : List ℕ) (now : RecordState) (items : List RecordItem) (reader : ReaderState)
     (left : Option (List ℕ))
     → ((rest : List ℕ) → now.left ≡ Some rest → (rest ≡ []) × (left ≡ Some []))
-    → reader.held ≡ now.reader.held
+    → reader.held ≡ now.reader.held → reader.ended ≡ true
     → IsAt notes now items
     → IsAt notes (record now { reader = reader; left = left }) items
-at_end notes now items reader left gave held a =
+at_end notes now items reader left gave held told a =
     let g = gave a.rest a.left_is in
     record {
       taken = a.taken;
@@ -141,9 +163,12 @@ at_end notes now items reader left gave held a =
       whole = a.whole ∙ ap (λ l. a.taken ++ l) g.0;
       counted = a.counted;
       ended = λ e. refl;
-      ahead = a.ahead
-          ∙ ap (λ l. a.lines ++ lines_of l)
-          (ap (λ l. now.reader.held ++ l) g.0 ∙ ap (λ l. l ++ []) (sym held));
+      before = a.before;
+      taken_is = a.taken_is ∙ ap (λ l. a.before ++ l) (sym held);
+      ahead = λ more may.
+          a.ahead more (λ e. may told)
+          ∙ ap (λ l. a.lines ++ lines_of (l ++ more)) (sym held);
+      few = omega (arith, ap length held, a.few);
       good = a.good;
       items_are = a.items_are;
       numbered = a.numbered;
@@ -177,6 +202,12 @@ at_within notes now items limit within a = record {
   most = omega (arith, a.counted);
 }
 
+-- the lines of the whole record
+lines_ahead : (notes : List ℕ) (now : RecordState) (items : List RecordItem)
+    → (a : IsAt notes now items)
+    → lines_of notes ≡ a.lines ++ lines_of (now.reader.held ++ a.rest)
+lines_ahead notes now items a = ap lines_of a.whole ∙ a.ahead a.rest a.ended
+
 -- no line is left
 pub at_whole : (notes : List ℕ) (now : RecordState) (items : List RecordItem)
     → now.reader.ended ≡ true → now.reader.held ≡ [] → now.bytes ≤ record_limit
@@ -184,7 +215,7 @@ pub at_whole : (notes : List ℕ) (now : RecordState) (items : List RecordItem)
 at_whole notes now items ended none within a =
     let nothing : now.reader.held ++ a.rest ≡ [] = ap (λ l. l ++ a.rest) none ∙ a.ended ended in
     let all : lines_of notes ≡ a.lines =
-    a.ahead ∙ ap (λ l. a.lines ++ lines_of l) nothing ∙ ap (λ l. a.lines ++ l) no_lines_of
+    lines_ahead notes now items a ∙ ap (λ l. a.lines ++ lines_of l) nothing ∙ ap (λ l. a.lines ++ l) no_lines_of
     ∙ append-nil a.lines in
     record {
       within = at_within notes now items record_limit within a;
@@ -198,7 +229,8 @@ pub at_bad : (notes : List ℕ) (now : RecordState) (items : List RecordItem)
     → IsBadBehind (now.lines + 1) (file notes now.left) items
 at_bad notes now items bad within a =
     let f = first_known (lines_of (now.reader.held ++ a.rest)) Bad (bad a.rest a.ended) in
-    let lines : lines_of notes ≡ a.lines ++ Bad ∷ f.0 = a.ahead ∙ ap (λ l. a.lines ++ l) f.1 in
+    let lines : lines_of notes ≡ a.lines ++ Bad ∷ f.0 =
+    lines_ahead notes now items a ∙ ap (λ l. a.lines ++ l) f.1 in
     let good : AreGood a.lines = record { each = a.good } in
     record {
       within = at_within notes now items record_limit within a;
@@ -223,7 +255,7 @@ at_front notes now items a =
     let behind = lines_of (now.reader.held ++ a.rest) in
     record {
       rest = items_until_bad behind;
-      joined = ap items_until_bad a.ahead ∙ items-good a.lines behind (record { each = a.good })
+      joined = ap items_until_bad (lines_ahead notes now items a) ∙ items-good a.lines behind (record { each = a.good })
           ∙ ap (λ l. l ++ items_until_bad behind) a.items_are;
     }
 

@@ -111,13 +111,17 @@ means_none read selection kept stream notes size bad same =
 
 loads_alone : (kept : List ℕ) (run : Account) → run.behind.sink ≡ run.before.sink
     → run.before.keeper.kept ≡ Some kept → Keeps run.before.keeper run.behind.keeper []
-    → run.behind.keeper.calls ≡ counted run.before.keeper.calls → LoadsAlone run
-loads_alone kept run sink told keeps once = record {
+    → run.behind.keeper.calls ≡ counted run.before.keeper.calls
+    → run.stream.left ≡ Some run.stream.bytes → run.notes.left ≡ Some run.notes.bytes
+    → LoadsAlone run
+loads_alone kept run sink told keeps once stream notes = record {
   leaves = record {
     written = ap (λ s. s.written) sink;
     kept = keeps.kept kept told ∙ sym told;
   };
   calls = once;
+  stream = stream;
+  notes = notes;
 }
 
 pub ends_unloaded : (status : Status) (read : Reader) (selection : Selection)
@@ -125,22 +129,23 @@ pub ends_unloaded : (status : Status) (read : Reader) (selection : Selection)
     → run.behind.sink ≡ run.before.sink → run.before.keeper.kept ≡ Some kept
     → Keeps run.before.keeper run.behind.keeper []
     → run.behind.keeper.calls ≡ counted run.before.keeper.calls
+    → run.stream.left ≡ Some run.stream.bytes → run.notes.left ≡ Some run.notes.bytes
     → StopsLoading status run.before.keeper run.behind.keeper
     → EndsAs (replay_meaning read selection kept stream notes) run status
-ends_unloaded KeepFault read selection kept stream notes run sink told keeps once s =
-    inl (loads_alone kept run sink told keeps once)
-ends_unloaded (BadArea size) read selection kept stream notes run sink told keeps once s = (
+ends_unloaded KeepFault read selection kept stream notes run sink told keeps once l n s =
+    inl (loads_alone kept run sink told keeps once l n)
+ends_unloaded (BadArea size) read selection kept stream notes run sink told keeps once l n s = (
   means_none read selection kept stream notes size s.bad (s.same kept told),
-  loads_alone kept run sink told keeps once,
+  loads_alone kept run sink told keeps once l n,
 )
-ends_unloaded Done read selection kept stream notes run sink told keeps once s = absurd s
-ends_unloaded Usage read selection kept stream notes run sink told keeps once s = absurd s
-ends_unloaded (BadRecord line) read selection kept stream notes run sink told keeps once s = absurd s
-ends_unloaded OpenFault read selection kept stream notes run sink told keeps once s = absurd s
-ends_unloaded ReadFault read selection kept stream notes run sink told keeps once s = absurd s
-ends_unloaded WriteFault read selection kept stream notes run sink told keeps once s = absurd s
-ends_unloaded TooLong read selection kept stream notes run sink told keeps once s = absurd s
-ends_unloaded NoMemory read selection kept stream notes run sink told keeps once s = absurd s
+ends_unloaded Done read selection kept stream notes run sink told keeps once l n s = absurd s
+ends_unloaded Usage read selection kept stream notes run sink told keeps once l n s = absurd s
+ends_unloaded (BadRecord line) read selection kept stream notes run sink told keeps once l n s = absurd s
+ends_unloaded OpenFault read selection kept stream notes run sink told keeps once l n s = absurd s
+ends_unloaded ReadFault read selection kept stream notes run sink told keeps once l n s = absurd s
+ends_unloaded WriteFault read selection kept stream notes run sink told keeps once l n s = absurd s
+ends_unloaded TooLong read selection kept stream notes run sink told keeps once l n s = absurd s
+ends_unloaded NoMemory read selection kept stream notes run sink told keeps once l n s = absurd s
 
 -- a replay has begun once the area is loaded
 pub begun_loaded : (before : Outside) (world : WorldState) (old new : KeeperState) (sink : SinkState)

@@ -1,7 +1,7 @@
 -- One call of a receiver, and the piece that it gave, over plain values.
 use Rattle.std.proofs.Common.{◌≡◌, ℕ, ◌+◌, ◌-◌, ◌≤◌, List, [], ◌∷◌, ◌++◌, refl, sym, ap, ◌∙◌}
 use Rattle.std.proofs.Common.{Result, Ok, Err, OnOk}
-use Rattle.std.proofs.Common.{subst, append-nil, ◌⊎◌, inl, inr, arith, false}
+use Rattle.std.proofs.Common.{subst, append-nil, length, ◌⊎◌, inl, inr, arith, false}
 use Rattle.es_reader.specs.Readers.{IsReader}
 use Rattle.receiver_core.specs.Fronts.{front_of_self}
 use Rattle.receiver_core.specs.Outputs.{Input, Piece, input_of}
@@ -178,6 +178,7 @@ on_ok_two (Err status) p q both = tt
 -- what putting it out leaves of a moment at which the receiver is this one
 pub record IsBehind (now : Moment) (receiver : ReceiverState) (after : Moment) : Type 0 where
   pub cutter : after.cutter ≡ now.cutter
+  pub loose : after.loose ≡ now.loose
   pub receiver_is : after.receiver ≡ receiver
   pub kept : after.kept ≡ after.receiver.area
   pub bytes : after.bytes ≡ now.bytes
@@ -232,6 +233,19 @@ midway_step replay now after inputs more ahead receiver text step same count put
       counted = behind.bytes ∙ m.counted;
       ended = λ e. m.ended (sym (ap (λ (c : CutterState). c.ended) behind.cutter) ∙ e);
       ahead_is = ap (λ (c : CutterState). packets_of (c.held ++ m.rest)) behind.cutter ∙ m.ahead_is;
+      done = m.done;
+      number = m.number ∙ sym behind.packets;
+      before = m.before;
+      skipped = m.skipped;
+      taken_is = m.taken_is
+          ∙ ap (λ (c : CutterState). (m.before ++ m.skipped) ++ c.held) (sym behind.cutter);
+      behind = m.behind;
+      close = λ e open_end. m.close (sym behind.loose ∙ e)
+          (ap (λ (c : CutterState). c.ended) (sym behind.cutter) ∙ open_end);
+      cut = λ more may.
+          m.cut more (λ e. may (ap (λ (c : CutterState). c.ended) behind.cutter ∙ e))
+          ∙ ap (λ (c : CutterState). m.done ++ packets_of (c.held ++ more)) (sym behind.cutter);
+      few = omega (arith, ap (λ (c : CutterState). length c.held) behind.cutter, m.few);
       packets = behind.packets ∙ m.packets ∙ sym count;
       stands = λ right. subst
           (λ r. StandsFor replay.read replay.selection replay.area r more p.given)

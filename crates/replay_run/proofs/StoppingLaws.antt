@@ -1,7 +1,8 @@
 -- What is written where a replay stops in the middle of an item, over plain values.
 use Rattle.std.proofs.Common.{◌≡◌, ℕ, ◌+◌, ◌-◌, ◌<◌, ◌≤◌, List, [], ◌∷◌, ◌++◌, take, drop, refl}
 use Rattle.std.proofs.Common.{sym, ap, ◌∙◌, subst, append_assoc, length, Option, Some, None, Result}
-use Rattle.std.proofs.Common.{Ok, Err, inl, inr, arith, length-append}
+use Rattle.std.proofs.Common.{Ok, Err, inl, inr, arith, length-append, false, not, IsTrue}
+use Rattle.std.specs.Prelude.{◌&&◌}
 use Rattle.std.specs.Io.KnownBytes.{Consumes, IsAtEnd, Keeps, ReadConsumes}
 use Rattle.std.proofs.KnownBytes.{Consumes-nil, Consumes-trans, Consumes-kept}
 use Rattle.bml_ports.specs.declared.outside.Port.{Port}
@@ -14,14 +15,15 @@ use Rattle.receiver_core.specs.Outputs.Input.{Tick}
 use Rattle.replay_run.specs.declared.record.RecordItem.{RecordItem}
 use Rattle.replay_run.specs.declared.status.Status.{Status}
 use Rattle.replay_run.specs.declared.status.Status.TheVariants.{NoMemory, ReadFault, TooLong}
-use Rattle.replay_run.specs.Ending.{WritesWhole}
-use Rattle.replay_run.specs.Midway.{AreFirst, StopsIn}
+use Rattle.replay_run.specs.Ending.{WritesWhole, end_told}
+use Rattle.replay_run.specs.Midway.{AreFirst, IsReadForPacket, StopsIn, StopsInRead, StopsInStream}
 use Rattle.replay_run.specs.Play.{inputs_of_item, inputs_of, packets_left}
 use Rattle.replay_run.specs.Outside.{Outside}
 use Rattle.replay_run.specs.Progress.{Replay, Moment, IsMidway}
-use Rattle.replay_run.specs.Files.{file, GaveAtMost, stream_limit}
+use Rattle.replay_run.specs.Files.{file, GaveAtMost, read_length, record_limit, stream_limit}
+use Rattle.replay_run.specs.RecordProgress.{IsReadForLine, RecordState, StopsInRecord}
 use Rattle.replay_run.specs.Order.{IsReadOn}
-use Rattle.replay_run.specs.Putting.{HasPut, outlets_of}
+use Rattle.replay_run.specs.Putting.{HasPut, Outlets, StopsTurns, outlets_of}
 use Rattle.replay_run.specs.Stopping.{OnlyReads, StreamWithin, meaning_of, run_of}
 use Rattle.replay_run.proofs.PlayLaws.{inputs_of-push, with_packets, with_more}
 use Rattle.replay_run.proofs.PuttingLaws.{put_whole}
@@ -173,19 +175,16 @@ within_kept limit bytes (Some x) (Some y) kept g = record {
 pub stops_unread : (replay : Replay) (now : Moment) (told : Outside) (inputs : List Input)
     (ahead : List (List ℕ))
     → now.bytes ≤ stream_limit → Keeps now.left told.world.stream.left
-    → now.outlets ≡ outlets_of told → IsMidway replay now inputs ahead
+    → IsMidway replay now inputs ahead
     → StopsIn ReadFault replay told inputs
-stops_unread replay now told inputs ahead within kept same m = record {
+stops_unread replay now told inputs ahead within kept m = record {
   inputs = inputs;
   first = first_all inputs;
   receiver = now.receiver;
   given = m.given;
   stands = m.stands;
-  leaves = (
-    within_kept stream_limit replay.stream now.left told.world.stream.left kept
-        (midway_within replay now inputs ahead stream_limit within m),
-    midway_whole replay now told inputs ahead same m,
-  );
+  leaves = within_kept stream_limit replay.stream now.left told.world.stream.left kept
+      (midway_within replay now inputs ahead stream_limit within m);
 }
 
 -- the stream gave too much
@@ -193,10 +192,10 @@ pub stops_long : (replay : Replay) (now : Moment) (told : Outside) (inputs : Lis
     (ahead : List (List ℕ))
     (bytes : List ℕ) (count : ℕ)
     → length bytes ≡ count → stream_limit < now.bytes + count
-    → Consumes now.left told.world.stream.left bytes → now.outlets ≡ outlets_of told
+    → Consumes now.left told.world.stream.left bytes
     → IsMidway replay now inputs ahead
     → StopsIn TooLong replay told inputs
-stops_long replay now told inputs ahead bytes count size above consumed same m =
+stops_long replay now told inputs ahead bytes count size above consumed m =
     let g = consumed_some bytes now.left told.world.stream.left consumed m.rest m.left_is in
     record {
       inputs = inputs;
@@ -204,18 +203,15 @@ stops_long replay now told inputs ahead bytes count size above consumed same m =
       receiver = now.receiver;
       given = m.given;
       stands = m.stands;
-      leaves = (
-        record {
-          gave = record {
-            given = m.taken ++ bytes;
-            rest = g.0;
-            left_is = g.1;
-            whole = m.whole ∙ ap (λ l. m.taken ++ l) g.2 ∙ sym (append_assoc m.taken bytes g.0);
-          };
-          more = omega (arith, length-append m.taken bytes, m.counted, size);
-        },
-        midway_whole replay now told inputs ahead same m,
-      );
+      leaves = record {
+        gave = record {
+          given = m.taken ++ bytes;
+          rest = g.0;
+          left_is = g.1;
+          whole = m.whole ∙ ap (λ l. m.taken ++ l) g.2 ∙ sym (append_assoc m.taken bytes g.0);
+        };
+        more = omega (arith, length-append m.taken bytes, m.counted, size);
+      };
     }
 
 -- ---- reads one after the other
@@ -266,3 +262,52 @@ only_reads_none port a =
 pub no_packets : packets_of [] ≡ []
 unfolding packets_of packets_after
 no_packets = refl
+
+-- ---- the end of a file
+
+-- it isn't told of a port that may be read
+pub told_open : (port : PortState) → IsTrue port.readable → end_told port ≡ false
+told_open port readable = ap (λ b. not b && not port.reads.last_failed) readable
+
+-- ---- a read that ends a run
+
+-- turns don't stop in one
+pub turns_unread : (status : Status) (item : RecordItem) (old : Moment) (told : Outside)
+    (before behind : Outlets)
+    → StopsTurns status before behind → StopsInStream status item old told
+turns_unread status item old told before behind s =
+    let P : Status → Type 0 = λ status. StopsTurns status before behind in
+    record { failed = λ e. absurd (subst P e s); long = λ e. absurd (subst P e s) }
+
+pub stream_stops : (status : Status) (item : RecordItem) (old : Moment) (told : Outside)
+    (port : PortState) (bytes : ℕ)
+    → ((last : List ℕ) → Consumes port.left told.world.stream.left last
+    → length last ≤ read_length
+    → (read : IsReadForPacket item old told last) × (read.now.bytes ≡ bytes))
+    → StopsInRead status stream_limit bytes port told.world.stream
+    → StopsInStream status item old told
+stream_stops status item old told port bytes is_read s = record {
+  failed = λ e.
+      let f = s.failed e in
+      let consumed : Consumes port.left told.world.stream.left [] =
+      subst (λ l. Consumes port.left told.world.stream.left l) f.0 s.consumed in
+      ((is_read [] consumed (omega arith)).0, f.1);
+  long = λ e.
+      let read = is_read s.last s.consumed s.most in
+      (s.last, read.0, omega (arith, s.long e, read.1));
+}
+
+pub record_stops : (status : Status) (old : RecordState) (before behind : PortState) (bytes : ℕ)
+    → ((last : List ℕ) → Consumes before.left behind.left last → length last ≤ read_length
+    → (read : IsReadForLine old behind last) × (read.now.bytes ≡ bytes))
+    → StopsInRead status record_limit bytes before behind → StopsInRecord status old behind
+record_stops status old before behind bytes is_read s = record {
+  failed = λ e.
+      let f = s.failed e in
+      let consumed : Consumes before.left behind.left [] =
+      subst (λ l. Consumes before.left behind.left l) f.0 s.consumed in
+      ((is_read [] consumed (omega arith)).0, f.1);
+  long = λ e.
+      let read = is_read s.last s.consumed s.most in
+      (s.last, read.0, omega (arith, s.long e, read.1));
+}

@@ -1,11 +1,10 @@
 -- How the packets of a stream in memory are taken one by one.
-use Rattle.std.proofs.Common.{◌≡◌, ℕ, ◌+◌, ◌≤◌, true, List, [], ◌∷◌, ◌++◌, map, length, refl, sym, ap, ◌∙◌, subst}
+use Rattle.std.proofs.Common.{◌≡◌, ℕ, ◌+◌, List, [], ◌∷◌, ◌++◌, map, length, sym, ap, ◌∙◌, subst}
 use Rattle.std.proofs.Common.{append_assoc, append-nil, arith, length-append}
 use Rattle.std.proofs.lemmas.List.{map-append}
-use Rattle.receiver_core.specs.Outputs.{Input}
 use Rattle.receiver_core.specs.Outputs.Input.{Packet}
 use Rattle.receiver_core.specs.Receiving.{ReceiverState}
-use Rattle.ts_packets.specs.Cutter.{CutterState, Gives, MayFollow}
+use Rattle.ts_packets.specs.Cutter.{CutterState}
 use Rattle.ts_packets.specs.Packets.{packets_of}
 use Rattle.replay_run.specs.devices.Printing.{Prints}
 use Rattle.replay_run.proofs.PrintingLaws.{prints_more, prints_nothing}

@@ -1,16 +1,15 @@
 -- A replay of a whole stream with a record of `all` and `show`.
-use Rattle.std.proofs.Common.{◌≡◌, ℕ, ◌+◌, List, [], ◌∷◌, ◌++◌, map, length, replicate, Some, None, refl, sym, ap, ap₂, ◌∙◌}
+use Rattle.std.proofs.Common.{◌≡◌, ℕ, ◌+◌, List, [], ◌∷◌, ◌++◌, map, length, replicate, None, refl, sym, ap, ap₂, ◌∙◌}
 use Rattle.std.proofs.Common.{subst, append_assoc, append-nil, arith, cond, one-add}
 use Rattle.std.specs.Prelude.{Err, Ok, OnOk, Result}
 use Rattle.std.proofs.lemmas.List.Sums.{sum_by-append, sum_by-cons}
-use Rattle.es_reader.specs.Readers.{Reader, IsReader}
+use Rattle.es_reader.specs.Readers.{Reader}
 use Rattle.psi_tables.specs.declared.services.Selection.{Selection}
 use Rattle.receiver_core.specs.Outputs.{Input, Piece, outputs}
 use Rattle.receiver_core.specs.Outputs.Input.{Packet, Show}
 use Rattle.receiver_core.specs.Receiving.{IsIdle, ReceiverState, StandsFor}
 use Rattle.receiver_core.specs.declared.broadcast.Input.TheVariants as handed
 use Rattle.ts_packets.specs.Packets.{packets_of}
-use Rattle.replay_run.specs.declared.record.RecordItem.{RecordItem}
 use Rattle.replay_run.specs.declared.record.RecordItem.TheVariants.{All, Input as Other}
 use Rattle.replay_run.specs.Generating.{whole_record}
 use Rattle.replay_run.specs.Kept.{area_of_kept}

@@ -1,6 +1,6 @@
 -- Laws of the digits of numbers.
 use Rattle.std.proofs.Common.{◌≡◌, ℕ, ◌<◌, ◌&&◌, Bool, true, false, cond, List, length, get_or}
-use Rattle.std.proofs.Common.{Some, None, nat_le, refl, sym, ap, arith, ext_get_or}
+use Rattle.std.proofs.Common.{Some, None, nat_le, refl, ap, arith}
 use Rattle.std.specs.List.{list_all}
 use Rattle.std.proofs.lemmas.List.Folds.{list_all_at}
 use Rattle.std.proofs.lemmas.Bool.Decides.{nat_tests}

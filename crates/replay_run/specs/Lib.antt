@@ -4,11 +4,13 @@ pub mod Completeness
 pub mod Ending
 pub mod Files
 pub mod Generating
+pub mod Given
 pub mod Headline
 pub mod Kept
 pub mod Lines
 pub mod Meaning
 pub mod Midway
+pub mod Needs
 pub mod Opening
 pub mod Order
 pub mod Output

@@ -15,11 +15,13 @@ use Rattle.replay_run.specs.Lines.{end_line}
 use Rattle.replay_run.specs.Play.{inputs_of, packet_count}
 use Rattle.replay_run.specs.Record.{items_before_bad, first_bad}
 
--- the area before the first piece, the pieces, and how a run of them ends
+-- the area before the first piece, the pieces, how a run of them ends, and the pieces that come for
+-- some of the inputs
 pub record Meaning : Type 0 where
   pub area : List ℕ
   pub pieces : List Piece
   pub status : Status
+  pub pieces_for : List Input → List Piece
 
 -- what comes to the receiver: what the items before the first bad line hand over
 abbrev pub replay_inputs : List ℕ → List ℕ → List Input
@@ -57,11 +59,17 @@ area_meaning read selection area stream notes = record {
   area = area;
   pieces = replay_pieces read selection area stream notes;
   status = status_behind (first_bad notes);
+  pieces_for = λ inputs. outputs read selection area inputs;
 }
 
 -- kept bytes that are no area's: nothing is replayed
 abbrev pub no_replay : List ℕ → Meaning
-no_replay kept = record { area = area_of_kept kept; pieces = []; status = BadArea (length kept) }
+no_replay kept = record {
+  area = area_of_kept kept;
+  pieces = [];
+  status = BadArea (length kept);
+  pieces_for = λ inputs. [];
+}
 
 -- the meaning of a replay, with the bytes that are kept at its start
 abbrev pub replay_meaning : Reader → Selection → List ℕ → List ℕ → List ℕ → Meaning

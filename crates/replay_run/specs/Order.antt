@@ -1,13 +1,13 @@
 -- In which order a run asks of the world, from its first moment to its last: for the stream, then
 -- for the record, and then for their bytes. This project's own.
-use Rattle.std.specs.Prelude.{◌≡◌, ℕ, ◌≤◌, ◌⊎◌, List, Option, Some, None, Bool, true, false, not}
+use Rattle.std.specs.Prelude.{◌≡◌, ◌≢◌, ℕ, ◌≤◌, ◌⊎◌, List, Option, Some, None, Bool, true, false, not}
 use Rattle.std.specs.Prelude.{IfSome, IsSome}
 use Rattle.std.specs.Io.KnownBytes.{Consumes}
 use Rattle.bml_ports.specs.declared.outside.Port.{Port}
 use Rattle.bml_ports.specs.declared.outside.Port.TheVariants.{Stream, Notes}
 use Rattle.bml_ports.specs.Worlds.{WorldState, PortState, port_of, other_port}
 use Rattle.replay_run.specs.declared.status.Status.{Status}
-use Rattle.replay_run.specs.declared.status.Status.TheVariants.{OpenFault}
+use Rattle.replay_run.specs.declared.status.Status.TheVariants.{BadArea, OpenFault}
 use Rattle.replay_run.specs.Words.{Command}
 use Rattle.replay_run.specs.Words.Command.{Generate, Replay}
 
@@ -44,13 +44,25 @@ OpensThen port name status before behind Rest =
     ((status ≡ OpenFault) × IsOpening port name false before behind)
     ⊎ ((opened : WorldState) × IsOpening port name true before opened × Rest opened)
 
+-- a run whose kept bytes are no area's didn't come to a read
+abbrev pub ReadsNoneAtBadArea : Status → WorldState → WorldState → Type 0
+ReadsNoneAtBadArea status ready behind = (size : ℕ) → status ≡ BadArea size → behind ≡ ready
+
+-- the run ended before it asked for more, and not for an opening that failed
+abbrev pub EndsBetween : Status → WorldState → WorldState → Type 0
+EndsBetween status before behind = (behind ≡ before) × (status ≢ OpenFault)
+
 -- The stream is opened first, and the record only once the stream was opened; and only once both
--- were, they are read. A run may end behind each of these steps.
+-- were, they are read, but for a run that ends at the length of the kept bytes. A run may end behind
+-- each of these steps.
 abbrev pub OpensInOrder : List ℕ → List ℕ → Status → WorldState → WorldState → Type 0
 OpensInOrder stream notes status before behind =
-    (behind ≡ before) ⊎ OpensThen Stream stream status before behind (λ opened.
-    (behind ≡ opened) ⊎ OpensThen Notes notes status opened behind (λ ready.
-    OnlyReadsBoth ready behind))
+    EndsBetween status before behind
+    ⊎ OpensThen Stream stream status before behind (λ opened.
+    EndsBetween status opened behind
+    ⊎ OpensThen Notes notes status opened behind (λ ready.
+    OnlyReadsBoth ready behind × (status ≢ OpenFault)
+    × ReadsNoneAtBadArea status ready behind))
 
 -- the same of the two names of a replay; for any other words nothing is asked
 abbrev pub AsksInOrder : Option Command → Status → WorldState → WorldState → Type 0

@@ -1,7 +1,7 @@
 -- A device of the proofs: how far a replay has come; the stream, the inputs, the pieces, what was
 -- written and what is kept hang together. (What a run means is in `Meaning`.)
-use Rattle.std.specs.Prelude.{◌≡◌, ℕ, true, List, [], ◌++◌, length, Option, Some}
-use Rattle.ts_packets.specs.Cutter.{CutterState}
+use Rattle.std.specs.Prelude.{◌≡◌, ℕ, ◌≤◌, Bool, true, false, List, [], ◌++◌, length, Option, Some}
+use Rattle.ts_packets.specs.Cutter.{CutterState, MayFollow}
 use Rattle.ts_packets.specs.Packets.{packets_of}
 use Rattle.psi_tables.specs.declared.services.Selection.{Selection}
 use Rattle.es_reader.specs.Readers.{Reader, IsReader}
@@ -9,6 +9,7 @@ use Rattle.receiver_core.specs.Outputs.{Input, Piece}
 use Rattle.receiver_core.specs.Receiving.{ReceiverState, StandsFor}
 use Rattle.replay_run.specs.declared.record.RecordItem.{RecordItem}
 use Rattle.replay_run.specs.Kept.{Keeps}
+use Rattle.replay_run.specs.Needs.{EndsBehind, most_ahead}
 use Rattle.replay_run.specs.Outside.{Outside}
 use Rattle.replay_run.specs.Play.{inputs_of, packets_left, packet_count}
 use Rattle.replay_run.specs.Putting.{HasPut, Outlets}
@@ -27,6 +28,8 @@ pub record Replay : Type 0 where
 pub record Moment : Type 0 where
   -- the bytes of the stream that aren't cut yet, and whether the stream's end came
   pub cutter : CutterState
+  -- whether bytes in front of a packet may have been left out
+  pub loose : Bool
   pub receiver : ReceiverState
   -- the area that was loaded or stored last
   pub kept : List ℕ
@@ -38,8 +41,9 @@ pub record Moment : Type 0 where
   pub outlets : Outlets
 
 -- These inputs came to the receiver, all pieces that it gave for them so far are written, the area
--- behind the last of them is kept, and these packets are ahead. By a reader of programs that is
--- right the receiver stands for this; the rest hangs on no reader.
+-- behind the last of them is kept, and these packets are ahead. Whatever follows what was taken of
+-- the stream, its packets are those cut, and then those from what the cutter holds on. By a reader
+-- of programs that is right the receiver stands for this; the rest hangs on no reader.
 pub record IsMidway (replay : Replay) (now : Moment) (inputs : List Input)
     (ahead : List (List ℕ)) : Type 0 where
   pub taken : List ℕ
@@ -50,6 +54,16 @@ pub record IsMidway (replay : Replay) (now : Moment) (inputs : List Input)
   pub counted : now.bytes ≡ length taken
   pub ended : now.cutter.ended ≡ true → rest ≡ []
   pub ahead_is : packets_of (now.cutter.held ++ rest) ≡ ahead
+  pub done : List (List ℕ)
+  pub number : length done ≡ now.packets
+  pub before : List ℕ
+  pub skipped : List ℕ
+  pub taken_is : taken ≡ (before ++ skipped) ++ now.cutter.held
+  pub behind : EndsBehind before done
+  pub close : now.loose ≡ false → now.cutter.ended ≡ false → skipped ≡ []
+  pub cut : (more : List ℕ) → MayFollow now.cutter more
+      → packets_of (taken ++ more) ≡ done ++ packets_of (now.cutter.held ++ more)
+  pub few : length now.cutter.held ≤ most_ahead
   pub packets : now.packets ≡ packet_count inputs
   pub stands : IsReader replay.read
       → StandsFor replay.read replay.selection replay.area now.receiver inputs given

@@ -1,5 +1,5 @@
 -- A device of the proofs: why a replay stops before its end, and what it has written and kept then.
-use Rattle.std.specs.Prelude.{◌≡◌, ℕ, ◌<◌, ◌⊎◌, List}
+use Rattle.std.specs.Prelude.{◌≡◌, ℕ, ◌<◌, ◌⊎◌, List, []}
 use Rattle.bml_ports.specs.declared.outside.Port.{Port}
 use Rattle.bml_ports.specs.Counters.{Counter, FaultedSince}
 use Rattle.bml_ports.specs.Worlds.{WorldState, port_of, other_port}
@@ -51,7 +51,12 @@ run_of replay behind = account replay.stream replay.notes replay.before behind
 
 -- the meaning of a replay of which nothing came but these pieces
 abbrev pub meaning_of : Replay → List Piece → Meaning
-meaning_of replay given = record { area = replay.area; pieces = given; status = Done }
+meaning_of replay given = record {
+  area = replay.area;
+  pieces = given;
+  status = Done;
+  pieces_for = λ inputs. [];
+}
 
 -- neither file gave more than it may, as far as it was read
 abbrev pub StreamWithin : Replay → Outside → Type 0
@@ -59,13 +64,10 @@ StreamWithin replay behind = GaveAtMost stream_limit (run_of replay behind).stre
 
 -- What is written and kept where handling an item stops, behind which these pieces were given.
 abbrev pub LeavesPackets : Status → Replay → Outside → List Piece → Type 0
-LeavesPackets ReadFault replay told given =
-    StreamWithin replay told × WritesWhole (meaning_of replay given) (run_of replay told)
+LeavesPackets ReadFault replay told given = StreamWithin replay told
 LeavesPackets NoMemory replay told given =
     StreamWithin replay told × WritesWhole (meaning_of replay given) (run_of replay told)
-LeavesPackets TooLong replay told given =
-    GaveMore stream_limit (run_of replay told).stream
-    × WritesWhole (meaning_of replay given) (run_of replay told)
+LeavesPackets TooLong replay told given = GaveMore stream_limit (run_of replay told).stream
 LeavesPackets WriteFault replay told given =
     StreamWithin replay told × BreaksOff (meaning_of replay given) (run_of replay told)
 LeavesPackets KeepFault replay told given =

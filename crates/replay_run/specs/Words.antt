@@ -1,6 +1,6 @@
 -- The words of the command line, behind the program's name. Each is a list of codes. The commands
 -- are this project's own.
-use Rattle.std.specs.Prelude.{◌≡◌, ◌≢◌, ℕ, ◌≤◌, Bool, false, ◌&&◌, not, ◌==◌, nat_eq, nat_le}
+use Rattle.std.specs.Prelude.{◌≡◌, ◌≢◌, ℕ, ◌≤◌, Bool, false, ◌&&◌, not, ◌==◌, nat_le}
 use Rattle.std.specs.Prelude.{if◌then◌else◌, List, [], ◌∷◌, ◌++◌, slice_get, codes, Option, Some}
 use Rattle.std.specs.Prelude.{None, option_map, option_and_then}
 use Rattle.bml_bytes.specs.Numerals.{decimal_field}

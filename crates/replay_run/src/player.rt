@@ -48,6 +48,8 @@ pub struct Player {
 impl Player {
     ghost use Rattle.replay_run.specs.Midway.{moment, item_of_count, Goes, Stops, Handles};
     ghost use Rattle.replay_run.specs.Midway.{KeepsArea, StopsHandling, IsReadable, StartsPlayer};
+    ghost use Rattle.replay_run.specs.Ending.{end_told};
+    ghost use Rattle.replay_run.specs.Midway.{StopsInRead, StopsInStream, TakesJust, loosely};
     ghost use Rattle.replay_run.specs.Midway.{work_left};
     ghost use Rattle.replay_run.specs.Outside.{outside};
     ghost use Rattle.receiver_core.specs.Outputs.{Piece};
@@ -92,6 +94,7 @@ impl Player {
         requires area { KeepsArea self.old }
         requires within { self.old.bytes ≤ stream_limit }
         requires readable { IsReadable self.old.cutter (W.told world.old) }
+        requires told { end_told (W.told world.old).stream ≡ self.old.cutter.ended }
         requires clock { self.old.receiver.clock + milliseconds_of item < 2 ^ 62 }
 
         ensures within { OnOk result (self.new.bytes ≤ stream_limit) }
@@ -100,6 +103,8 @@ impl Player {
         ensures clock { OnOk result
             (self.new.receiver.clock ≡ self.old.receiver.clock + milliseconds_of item) }
         ensures readable { OnOk result (IsReadable self.new.cutter (W.told world.new)) }
+        ensures told { OnOk result
+            (end_told (W.told world.new).stream ≡ self.new.cutter.ended) }
         ensures reads { OnlyReads Port.Stream (W.told world.old) (W.told world.new) }
         ensures later { IsLater
             (outlets (K.told keeper.old) (S.told out.old))
@@ -113,6 +118,14 @@ impl Player {
             (moment self.old (outside (W.told world.old) (K.told keeper.old) (S.told out.old)))
             (moment self.new (outside (W.told world.new) (K.told keeper.new) (S.told out.new)))) }
         ensures stopped { IfErr result (λ status. StopsHandling item status
+            (moment self.old (outside (W.told world.old) (K.told keeper.old) (S.told out.old)))
+            (outside (W.told world.new) (K.told keeper.new) (S.told out.new))) }
+
+        ensures was_open { OnOk result
+            (self.new.cutter.ended ≡ false → self.old.cutter.ended ≡ false) }
+        ensures takes { OnOk result (self.new.cutter.ended ≡ false
+            → TakesJust item self.old.packets self.new.packets) }
+        ensures reading { IfErr result (λ status. StopsInStream status item
             (moment self.old (outside (W.told world.old) (K.told keeper.old) (S.told out.old)))
             (outside (W.told world.new) (K.told keeper.new) (S.told out.new))) }
     {
@@ -137,12 +150,15 @@ impl Player {
         requires area { KeepsArea self.old }
         requires within { self.old.bytes ≤ stream_limit }
         requires readable { IsReadable self.old.cutter (W.told world.old) }
+        requires told { end_told (W.told world.old).stream ≡ self.old.cutter.ended }
 
         ensures within { OnOk result (self.new.bytes ≤ stream_limit) }
         ensures idle { OnOk result (IsIdle self.new.receiver) }
         ensures area { OnOk result (KeepsArea self.new) }
         ensures clock { OnOk result (self.new.receiver.clock ≡ self.old.receiver.clock) }
         ensures readable { OnOk result (IsReadable self.new.cutter (W.told world.new)) }
+        ensures told { OnOk result
+            (end_told (W.told world.new).stream ≡ self.new.cutter.ended) }
         ensures reads { OnlyReads Port.Stream (W.told world.old) (W.told world.new) }
         ensures later { IsLater
             (outlets (K.told keeper.old) (S.told out.old))
@@ -156,6 +172,14 @@ impl Player {
             (moment self.old (outside (W.told world.old) (K.told keeper.old) (S.told out.old)))
             (moment self.new (outside (W.told world.new) (K.told keeper.new) (S.told out.new)))) }
         ensures stopped { IfErr result (λ status. StopsHandling (item_of_count most) status
+            (moment self.old (outside (W.told world.old) (K.told keeper.old) (S.told out.old)))
+            (outside (W.told world.new) (K.told keeper.new) (S.told out.new))) }
+
+        ensures was_open { OnOk result
+            (self.new.cutter.ended ≡ false → self.old.cutter.ended ≡ false) }
+        ensures takes { OnOk result (self.new.cutter.ended ≡ false
+            → TakesJust (item_of_count most) self.old.packets self.new.packets) }
+        ensures reading { IfErr result (λ status. StopsInStream status (item_of_count most)
             (moment self.old (outside (W.told world.old) (K.told keeper.old) (S.told out.old)))
             (outside (W.told world.new) (K.told keeper.new) (S.told out.new))) }
     {
@@ -193,6 +217,7 @@ impl Player {
         ensures idle { OnOk result (IsIdle self.new.receiver) }
         ensures area { OnOk result (KeepsArea self.new) }
         ensures bytes { self.new.bytes ≡ self.old.bytes }
+        ensures packets { self.new.packets ≡ self.old.packets }
         ensures cutter { self.new.cutter ≡ self.old.cutter }
         ensures clock { OnOk result
             (self.new.receiver.clock ≡ self.old.receiver.clock + count) }
@@ -236,6 +261,7 @@ impl Player {
         ensures idle { OnOk result (IsIdle self.new.receiver) }
         ensures area { OnOk result (KeepsArea self.new) }
         ensures bytes { self.new.bytes ≡ self.old.bytes }
+        ensures packets { self.new.packets ≡ self.old.packets }
         ensures cutter { self.new.cutter ≡ self.old.cutter }
         ensures clock { OnOk result (self.new.receiver.clock ≡ self.old.receiver.clock) }
         ensures later { IsLater
@@ -279,11 +305,11 @@ impl Player {
             (outlets (K.told keeper.old) (S.told out.old))
             (outlets (K.told keeper.new) (S.told out.new))) }
         ensures handled { OnOk result ((world : WorldState) → Handles (RecordItem.Packets 1)
-            (moment self.old (outside world (K.told keeper.old) (S.told out.old)))
+            (loosely (moment self.old (outside world (K.told keeper.old) (S.told out.old))))
             (moment self.new (outside world (K.told keeper.new) (S.told out.new)))) }
         ensures stopped { IfErr result
             (λ status. (world : WorldState) → StopsHandling (RecordItem.Packets 1) status
-            (moment self.old (outside world (K.told keeper.old) (S.told out.old)))
+            (loosely (moment self.old (outside world (K.told keeper.old) (S.told out.old))))
             (outside world (K.told keeper.new) (S.told out.new))) }
     {
         self.packets += 1;
@@ -395,17 +421,21 @@ impl Player {
         ensures packets { self.new.packets ≡ self.old.packets }
         ensures within { OnOk result (self.new.bytes ≤ stream_limit) }
         ensures readable { OnOk result (IsReadable self.new.cutter (W.told world.new)) }
+        ensures told { OnOk result
+            (end_told (W.told world.new).stream ≡ self.new.cutter.ended) }
         ensures reads { OnlyReads Port.Stream (W.told world.old) (W.told world.new) }
         ensures cause { IfErr result (λ status. StopsReading status
             (W.told world.old).stream.reads (W.told world.new).stream.reads self.new.bytes) }
+        ensures last { IfErr result (λ status. StopsInRead status stream_limit
+            self.old.bytes (W.told world.old).stream (W.told world.new).stream) }
         ensures ahead { OnOk result
             (work_left self.new.cutter self.new.bytes < work_left self.old.cutter self.old.bytes) }
         ensures goes { OnOk result ((keeper : KeeperState) (sink : SinkState) → Goes
-            (moment self.old (outside (W.told world.old) keeper sink))
-            (moment self.new (outside (W.told world.new) keeper sink))) }
+            (loosely (moment self.old (outside (W.told world.old) keeper sink)))
+            (loosely (moment self.new (outside (W.told world.new) keeper sink)))) }
         ensures stops { IfErr result
             (λ status. (keeper : KeeperState) (sink : SinkState) → Stops status
-            (moment self.old (outside (W.told world.old) keeper sink))
+            (loosely (moment self.old (outside (W.told world.old) keeper sink)))
             (outside (W.told world.new) keeper sink)) }
     {
         let mut buffer = [0; READ_LENGTH];

@@ -31,9 +31,11 @@ pub struct RecordItems {
 impl RecordItems {
     ghost use Rattle.replay_run.specs.Play.{milliseconds_of};
     ghost use Rattle.replay_run.specs.Record.{tick_limit};
-    ghost use Rattle.replay_run.specs.RecordProgress.{record_state, IsAt, IsReadable, IsWhole};
+    ghost use Rattle.replay_run.specs.RecordProgress.{record_state, IsAt, IsAtItem, IsReadable, IsWhole};
     ghost use Rattle.replay_run.specs.RecordProgress.{StartsItems, StopsItems, LeavesItems};
-    ghost use Rattle.replay_run.specs.RecordProgress.{work_left};
+    ghost use Rattle.replay_run.specs.RecordProgress.{StopsInRecord, work_left};
+    ghost use Rattle.replay_run.specs.Ending.{end_told};
+    ghost use Rattle.replay_run.specs.Midway.{StopsInRead};
     ghost use Rattle.replay_run.specs.RecordReader.{longest_line};
     ghost use Rattle.replay_run.specs.Stopping.{OnlyReads};
     ghost use Rattle.replay_run.specs.declared.record.RecordItem.{RecordItem};
@@ -54,9 +56,12 @@ impl RecordItems {
     pub fn next_item<W: World>(&mut self, world: &mut W) -> Result<Option<RecordItem>, Status>
         requires within { self.old.bytes ≤ record_limit }
         requires readable { IsReadable self.old.reader (W.told world.old) }
+        requires told { end_told (W.told world.old).notes ≡ self.old.reader.ended }
 
         ensures within { OnOk result (self.new.bytes ≤ record_limit) }
         ensures readable { OnOk result (IsReadable self.new.reader (W.told world.new)) }
+        ensures told { OnOk result
+            (end_told (W.told world.new).notes ≡ self.new.reader.ended) }
         ensures reads { OnlyReads Port.Notes (W.told world.old) (W.told world.new) }
         ensures cause { IfErr result (λ status. StopsItems status
             (W.told world.old).notes.reads (W.told world.new).notes.reads self.new.bytes) }
@@ -68,13 +73,15 @@ impl RecordItems {
         ensures item { (item : RecordItem) → result ≡ Ok (Some item)
             → (notes : List ℕ) (items : List RecordItem)
             → IsAt notes (record_state self.old (W.told world.old)) items
-            → IsAt notes (record_state self.new (W.told world.new)) (items ++ item ∷ []) }
+            → IsAtItem notes (record_state self.new (W.told world.new)) items item }
         ensures end { result ≡ Ok None → (notes : List ℕ) (items : List RecordItem)
             → IsAt notes (record_state self.old (W.told world.old)) items
             → IsWhole (file notes (W.told world.new).notes.left) items }
         ensures stopped { IfErr result (λ status. (notes : List ℕ) (items : List RecordItem)
             → IsAt notes (record_state self.old (W.told world.old)) items
             → LeavesItems status (file notes (W.told world.new).notes.left) items) }
+        ensures reading { IfErr result (λ status. StopsInRecord status
+            (record_state self.old (W.told world.old)) (W.told world.new).notes) }
     {
         'lines: loop {
             match self.reader.next() {
@@ -104,9 +111,13 @@ impl RecordItems {
         ensures within { OnOk result (self.new.bytes ≤ record_limit) }
         ensures lines { self.new.lines ≡ self.old.lines }
         ensures readable { OnOk result (IsReadable self.new.reader (W.told world.new)) }
+        ensures told { OnOk result
+            (end_told (W.told world.new).notes ≡ self.new.reader.ended) }
         ensures reads { OnlyReads Port.Notes (W.told world.old) (W.told world.new) }
         ensures cause { IfErr result (λ status. StopsItems status
             (W.told world.old).notes.reads (W.told world.new).notes.reads self.new.bytes) }
+        ensures last { IfErr result (λ status. StopsInRead status record_limit self.old.bytes
+            (W.told world.old).notes (W.told world.new).notes) }
         ensures ahead { OnOk result
             (work_left self.new.reader self.new.bytes < work_left self.old.reader self.old.bytes) }
         ensures goes { OnOk result ((notes : List ℕ) (items : List RecordItem)

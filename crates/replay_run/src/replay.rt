@@ -14,7 +14,7 @@ ghost use Rattle.replay_run.specs.Lines.{end_line};
 ghost use Rattle.replay_run.specs.Midway.{StartsPlayer};
 ghost use Rattle.replay_run.specs.Opening.{AsksAtMost, IsUnasked, LacksFile, LeavesRest};
 ghost use Rattle.replay_run.specs.Opening.{StopsAtOpening, bytes_under};
-ghost use Rattle.replay_run.specs.Order.{IsOpening, OnlyReadsBoth, OpensInOrder};
+ghost use Rattle.replay_run.specs.Order.{IsOpening, OnlyReadsBoth, OpensInOrder, ReadsNoneAtBadArea};
 ghost use Rattle.replay_run.specs.Outside.{outside};
 ghost use Rattle.replay_run.specs.Reasons.{AreAnArea, ReplayHasItsReason};
 ghost use Rattle.replay_run.specs.RecordProgress.{StartsItems};
@@ -36,6 +36,7 @@ use bml_ports::{Keeper, Port, Sink, Text, World};
 use psi_tables::Selection;
 use receiver_core::{law_of_outputs, law_of_receivers, law_of_ticks};
 use std::alloc::Global;
+use ts_packets::{packets_are_computed, packets_are_unique};
 
 // The bytes of an area.
 const AREA_LENGTH: u64 = 1024;
@@ -76,6 +77,8 @@ pub fn play_record<W: World, K: Keeper, S: Sink>(
     requires stream { IsTrue (W.told world.old).stream.readable }
     requires notes { IsTrue (W.told world.old).notes.readable }
     ensures reads { OnlyReadsBoth (W.told world.old) (W.told world.new) }
+    ensures unread { ReadsNoneAtBadArea (outcome_of result)
+        (W.told world.old) (W.told world.new) }
     ensures cause { IfErr result (λ status. StopsReplay status
         (outside (W.told world.old) (K.told keeper.old) (S.told out.old))
         (outside (W.told world.new) (K.told keeper.new) (S.told out.new))) }
@@ -182,6 +185,8 @@ fn play_items<W: World, K: Keeper, S: Sink>(
     law_of_outputs();
     law_of_receivers();
     law_of_ticks();
+    packets_are_computed();
+    packets_are_unique();
     'items: loop {
         match items.next_item(world)? {
             Some(item) => player.handle(item, world, keeper, out)?,

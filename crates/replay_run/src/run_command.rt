@@ -30,8 +30,9 @@ use std::alloc::Global;
 /// to show the display list, and what the receiver prints is written, piece by piece, and `end P`
 /// at the end for the P packets that were taken. The persistent area is what the keeper kept, and
 /// after each turn that changed its bytes it is stored, before what the turn printed is written. A
-/// replay holds neither the stream nor the record in memory, and reads a port again only where the
-/// last read gave at least one byte.
+/// replay holds neither the stream nor the record in memory. It reads a port on only for a packet or
+/// a line that it needs, and only where the last read gave at least one byte. Where a read fails or
+/// a file is too long, all was written that the bytes given before that read decide.
 ///
 /// `gen SEED COUNT` replays the stream of generated files in memory, with SEED from 0 to
 /// 4,294,967,295 and COUNT modules of random bytes, 1 to 100, and writes how many packets, bytes
@@ -47,7 +48,8 @@ pub fn run<W: World, K: Keeper, S: Sink>(
 
     // There is a reader of programs, and where the files and the kept bytes are told, the run ends
     // as its meaning by this reader says, however reads are cut; and so by every reader. Where a
-    // file is missing, it ends at its opening.
+    // read ends it, the last read was for a packet or a line that the bytes given before it lack,
+    // and what these decide was written. Where a file is missing, it ends at its opening.
     ensures reader { (read : Reader) × IsReader read × RunMeansBy read (command words.now)
         (outside (W.told world.old) (K.told keeper.old) (S.told out.old))
         (outside (W.told world.new) (K.told keeper.new) (S.told out.new)) result }
@@ -80,7 +82,8 @@ pub fn run<W: World, K: Keeper, S: Sink>(
 
     // Whether or not content is told: each fault was counted in this run, in the last call under
     // its count. No name was asked for but the two of the replay, each at its own port; the record
-    // was opened only once the stream was, and after an opening that failed nothing was asked.
+    // was opened only once the stream was, and after an opening that failed nothing was asked. Where
+    // the kept bytes are no area's, neither port was read.
     ensures cause { IsCaused result
         (outside (W.told world.old) (K.told keeper.old) (S.told out.old))
         (outside (W.told world.new) (K.told keeper.new) (S.told out.new)) }

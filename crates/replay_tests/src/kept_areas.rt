@@ -46,6 +46,32 @@ const ROWS: &[(Ports, &[u8], Status, &[u8], Option<u8>)] = &[
     ),
     (
         Ports {
+            piece: 1,
+            record_piece: 1,
+            write_piece: 1,
+            keeping: 2,
+            ..SOUND
+        },
+        b"all\n",
+        Status::KeepFault,
+        b"",
+        None,
+    ),
+    (
+        Ports {
+            piece: 1,
+            record_piece: 1,
+            write_piece: 1,
+            write: 1,
+            ..SOUND
+        },
+        b"all\n",
+        Status::WriteFault,
+        b"",
+        Some(5),
+    ),
+    (
+        Ports {
             kept: b"12345",
             ..SOUND
         },
@@ -56,6 +82,19 @@ const ROWS: &[(Ports, &[u8], Status, &[u8], Option<u8>)] = &[
     ),
     (
         Ports {
+            stream_read: 1,
+            ..SOUND
+        },
+        b"key x\n",
+        Status::BadRecord { line: 1 },
+        b"",
+        None,
+    ),
+    (
+        Ports {
+            piece: 1,
+            record_piece: 1,
+            write_piece: 1,
             stream_read: 1,
             ..SOUND
         },

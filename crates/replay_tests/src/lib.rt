@@ -24,6 +24,8 @@ mod long_records;
 #[cfg(test)]
 mod messages;
 #[cfg(test)]
+mod piece_sinks;
+#[cfg(test)]
 mod pieces;
 #[cfg(test)]
 mod receivers;

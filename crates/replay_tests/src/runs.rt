@@ -4,16 +4,19 @@ ghost use Rattle.std.specs.Prelude.{IfOk};
 ghost use Rattle.bml_ports.specs.MemoryWorlds.{told_by_world};
 ghost use Rattle.replay_run.specs.Opening.{IsUnasked};
 
+use crate::piece_sinks::PieceSink;
 use bml_ports::{MemoryKeeper, MemorySink, MemorySource, MemoryWorld, NoMemory, Text};
 use replay_run::{Status, run};
 use std::alloc::Global;
 
-/// How the ports of a run behave: the most bytes of the stream that a read gives, the room for
-/// lines, the bytes that are kept, and the numbers of the opening, of the reads of the stream and
-/// of the record, of the write and of the call of the keeper that fail, or 0.
+/// How the ports of a run behave: the most bytes of the stream and of the record that a read gives
+/// and that a write takes, the room for lines, the bytes that are kept, and the numbers of the opening, of the reads of the
+/// stream and of the record, of the write and of the call of the keeper that fail, or 0.
 #[derive(Clone, Copy)]
 pub struct Ports {
     pub piece: usize,
+    pub record_piece: usize,
+    pub write_piece: usize,
     pub room: usize,
     pub opening: u64,
     pub stream_read: u64,
@@ -26,6 +29,8 @@ pub struct Ports {
 /// Nothing fails.
 pub const SOUND: Ports = Ports {
     piece: 4096,
+    record_piece: 4096,
+    write_piece: 4096,
     room: 4096,
     opening: 0,
     stream_read: 0,
@@ -47,7 +52,7 @@ pub struct Ended {
     pub status: Status,
     pub world: MemoryWorld,
     pub keeper: MemoryKeeper,
-    pub sink: MemorySink,
+    pub sink: PieceSink,
 }
 
 /// Runs words over the files `s` and `r`.
@@ -59,7 +64,8 @@ pub fn replayed(
     ports: Ports,
 ) -> Result<Ended, NoMemory> {
     let words = texts_of(alloc, words)?;
-    let mut sink = MemorySink::new(alloc, ports.room, vec![in alloc; ports.write]?)?;
+    let sink = MemorySink::new(alloc, ports.room, vec![in alloc; ports.write]?)?;
+    let mut sink = PieceSink::new(sink, ports.write_piece);
     let kept = Vec::from_slice(alloc, ports.kept)?;
     let mut keeper = MemoryKeeper::new(kept, vec![in alloc; ports.keeping]?);
     let mut world = world_of(alloc, stream, record, ports)?;
@@ -85,7 +91,8 @@ fn world_of(
     let stream = MemorySource::new(Vec::from_slice(alloc, stream)?, ports.piece.max(1), reads);
     world.add(Text::of_bytes(alloc, b"s")?, stream)?;
     let reads = vec![in alloc; ports.record_read]?;
-    let record = MemorySource::new(Vec::from_slice(alloc, record)?, 4096, reads);
+    let piece = ports.record_piece.max(1);
+    let record = MemorySource::new(Vec::from_slice(alloc, record)?, piece, reads);
     world.add(Text::of_bytes(alloc, b"r")?, record)?;
     Ok(world)
 }

@@ -1,4 +1,3 @@
-use Rattle.std.proofs.Common.{refl}
 use Rattle.replay_run.specs.Outside.{outside}
 use Rattle.replay_run.proofs.GeneratingLaws.{generates, prints_generated}
 use Rattle.replay_run.proofs.generating.generate.Goals as goal

@@ -1,6 +1,6 @@
 use Rattle.std.proofs.Common.{◌≡◌, true, false, arith, ap, sym, ◌∙◌, length, length-append, refl}
 use Rattle.ts_packets.specs.Packets.{packets_of}
-use Rattle.replay_run.proofs.TakingLaws.{takes_all, takes_more, takes_none, takes_same}
+use Rattle.replay_run.proofs.TakingLaws.{takes_more, takes_none, takes_same}
 use Rattle.replay_run.proofs.generating.take_stream.Goals as goal
 
 pub packets-init : goal.packets-init

@@ -1,12 +1,15 @@
-use Rattle.std.proofs.Common.{refl, [], ◌∷◌, ◌++◌, Ok, None, sym, ap, subst, IsTrue}
+use Rattle.std.proofs.Common.{refl, [], ◌∷◌, ◌++◌, ◌∙◌, Ok, None, sym, ap, subst, IsTrue}
 use Rattle.std.proofs.lemmas.Result.{err_from_is_err_and}
 use Rattle.bml_ports.specs.Worlds.{PortState}
 use Rattle.es_reader.specs.Readers.{Reader}
+use Rattle.replay_run.specs.Ending.{end_told}
 use Rattle.replay_run.specs.Files.{file}
 use Rattle.replay_run.specs.Outside.{outside}
 use Rattle.replay_run.specs.Progress.{Replay}
 use Rattle.replay_run.proofs.ClockLaws.{early_later, early_room, early_start, few_lines}
 use Rattle.replay_run.proofs.CompletenessLaws.{tells_in_items, tells_in_line, tells_in_packets}
+use Rattle.replay_run.proofs.BlankLaws.{PacketLaws}
+use Rattle.replay_run.proofs.DecidingLaws.{faulty_record, faulty_stream}
 use Rattle.replay_run.proofs.EndingLaws.{left_same, between_same, at_same, begun_now}
 use Rattle.replay_run.proofs.EndingLaws.{between_within, ends_in_items, ends_in_item}
 use Rattle.replay_run.proofs.EndingLaws.{ends_with_line, reads_none, reads_notes, reads_stream}
@@ -15,6 +18,7 @@ use Rattle.replay_run.proofs.RecordProgressLaws.{at_front, at_within}
 use Rattle.replay_run.proofs.ProgressLaws.{between_push}
 use Rattle.replay_run.proofs.PuttingLaws.{later_more, later_none}
 use Rattle.replay_run.proofs.StoppingLaws.{stops_pushed}
+use Rattle.replay_run.proofs.TakenLaws.{just_push}
 use Rattle.replay_run.proofs.replay.play_items.Goals as goal
 
 pub items-init : goal.items-init
@@ -25,6 +29,8 @@ items-init g c = record {
   stream_within = c.requires.player.within;
   stream_readable = c.requires.player.readable (g.W.World.told c.args.world.now)
       c.requires.stream;
+  stream_told = c.requires.player.told (g.W.World.told c.args.world.now) c.requires.stream;
+  notes_told = c.requires.items.told (g.W.World.told c.args.world.now) c.requires.notes;
   notes_within = c.requires.items.within;
   notes_readable = c.requires.items.readable (g.W.World.told c.args.world.now) c.requires.notes;
   reads = reads_none (g.W.World.told c.args.world.now);
@@ -35,6 +41,7 @@ items-init g c = record {
         (outside (g.W.World.told c.args.world.now) (g.K.Keeper.told c.args.keeper.now)
         (g.S.Sink.told c.args.out.now)) read stream notes before begun l,
     c.requires.items.start (g.W.World.told c.args.world.now) notes n,
+    λ e. c.requires.player.packets,
   );
 }
 
@@ -61,12 +68,14 @@ returns-in_err-item-clause-ends g c =
     } in
     let was = c.items.invariant.goes read before begun stream notes l n in
     let b = between_same _ _ _ was.0 (left_same _ _ stopped.reads.other) was.1 in
-    ends_in_items laws _ replay _
-    (outside (g.W.World.told c.next_item.new.world) (g.K.Keeper.told c.items.keeper)
-    (g.S.Sink.told c.items.out)) was.0 right
-    (at_front notes _ was.0 was.2) (record { left = refl; outlets = refl })
-    (between_within _ _ was.0 _ c.items.invariant.stream_within b) c.items.invariant.idle b
-    (stopped.stopped notes was.0 was.2))
+    let behind = outside (g.W.World.told c.next_item.new.world) (g.K.Keeper.told c.items.keeper)
+    (g.S.Sink.told c.items.out) in
+    ends_in_items laws _ replay _ behind was.0 right (record { left = refl; outlets = refl })
+    (between_within _ _ was.0 _ c.items.invariant.stream_within b)
+    (faulty_record laws _ replay _ behind was.0 _ right stopped.reading b
+    (record { left = refl; outlets = refl }) c.items.invariant.idle was.3 refl was.2
+    (ap end_told stopped.reads.other ∙ c.items.invariant.stream_told))
+    c.items.invariant.idle b (stopped.stopped notes was.0 was.2))
 
 pub items-preserved : goal.items-preserved
 items-preserved g c =
@@ -81,6 +90,8 @@ items-preserved g c =
           (next.further c.in-Some.item (ap Ok c.in-Some.is));
       stream_within = done.within;
       stream_readable = done.readable;
+      stream_told = done.told;
+      notes_told = ap end_told done.reads.other ∙ next.told;
       notes_within = next.within;
       notes_readable = λ e. subst (λ (port : PortState). IsTrue port.readable)
           (sym done.reads.other) (next.readable e);
@@ -93,7 +104,8 @@ items-preserved g c =
           let a = next.item item (ap Ok c.in-Some.is) notes was.0 was.2 in (
             was.0 ++ item ∷ [],
             between_push _ _ was.0 item (done.handled _ _ _ b),
-            at_same notes _ _ (was.0 ++ item ∷ []) (left_same _ _ done.reads.other) a,
+            at_same notes _ _ (was.0 ++ item ∷ []) (left_same _ _ done.reads.other) a.at,
+            λ e. just_push was.0 item _ _ (was.3 (done.was_open e)) (done.takes e),
           );
     }
 
@@ -122,11 +134,15 @@ returns-in_err-handle-in-Some-clause-ends g c =
     let item = c.in-Some.item in
     let was = c.items.invariant.goes read before begun stream notes l n in
     let b = between_same _ _ _ was.0 (left_same _ _ next.reads.other) was.1 in
-    let after = at_same notes _ _ (was.0 ++ item ∷ []) (left_same _ _ stopped.reads.other)
-    (next.item item (ap Ok c.in-Some.is) notes was.0 was.2) in
+    let at = next.item item (ap Ok c.in-Some.is) notes was.0 was.2 in
+    let after = at_same notes _ _ (was.0 ++ item ∷ []) (left_same _ _ stopped.reads.other) at.at in
+    let packets : PacketLaws =
+    record { computed = c.packets_are_computed.ensures; unique = c.packets_are_unique.ensures } in
     ends_in_item laws _ replay _ (was.0 ++ item ∷ []) right
     (at_front notes _ (was.0 ++ item ∷ []) after)
     (at_within notes _ (was.0 ++ item ∷ []) _ next.within after)
+    (faulty_stream laws packets _ replay _ _ was.0 item _ right stopped.reading b was.3 at
+    (sym (left_same _ _ stopped.reads.other)) (ap end_told stopped.reads.other ∙ next.told))
     (stops_pushed _ _ _ was.0 item (stopped.stopped _ _ _ b)))
 
 pub returns-in-None-clause-ends : goal.returns-in-None-clause-ends
@@ -207,3 +223,7 @@ handle-requires-clause-clock g c =
     early_room _ _ _ c.items.invariant.early
     (few_lines _ _ _ c.items.items.numbered c.items.invariant.notes_within)
     (c.in_ok-item.ensures.time c.in-Some.item (ap Ok c.in-Some.is))
+
+pub handle-requires-clause-told : goal.handle-requires-clause-told
+handle-requires-clause-told g c =
+    ap end_told c.in_ok-item.ensures.reads.other ∙ c.items.invariant.stream_told

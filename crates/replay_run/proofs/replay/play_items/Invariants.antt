@@ -1,7 +1,8 @@
-use Rattle.std.proofs.Common.{◌≡◌, ◌≤◌, ℕ, ◌-◌, ◌*◌, List, Some}
+use Rattle.std.proofs.Common.{◌≡◌, ◌≤◌, ℕ, ◌-◌, ◌*◌, List, Some, false}
 use Rattle.es_reader.specs.Readers.{Reader}
 use Rattle.receiver_core.specs.Receiving.{IsIdle}
 use Rattle.replay_run.specs.declared.record.RecordItem.{RecordItem}
+use Rattle.replay_run.specs.Ending.{end_told}
 use Rattle.replay_run.specs.Files.{stream_limit, record_limit}
 use Rattle.replay_run.specs.Midway as midway
 use Rattle.replay_run.specs.Order.{OnlyReadsBoth}
@@ -20,6 +21,8 @@ invariant-items g l = record {
   early : IsEarly l.player.receiver.clock l.items.lines;
   stream_within : l.player.bytes ≤ stream_limit;
   stream_readable : midway.IsReadable l.player.cutter (g.W.World.told l.world);
+  stream_told : end_told (g.W.World.told l.world).stream ≡ l.player.cutter.ended;
+  notes_told : end_told (g.W.World.told l.world).notes ≡ l.items.reader.ended;
   notes_within : l.items.bytes ≤ record_limit;
   notes_readable : progress.IsReadable l.items.reader (g.W.World.told l.world);
   reads : OnlyReadsBoth (g.W.World.told l.initial.world) (g.W.World.told l.world);
@@ -42,7 +45,8 @@ invariant-items g l = record {
       })
       (midway.moment l.player (outside (g.W.World.told l.world) (g.K.Keeper.told l.keeper)
       (g.S.Sink.told l.out))) items
-      × progress.IsAt notes (progress.record_state l.items (g.W.World.told l.world)) items;
+      × progress.IsAt notes (progress.record_state l.items (g.W.World.told l.world)) items
+      × (l.player.cutter.ended ≡ false → midway.TakeJust items l.player.packets);
 }
 
 abbrev pub decreases-items : goal.decreases-items

@@ -1,4 +1,5 @@
 use Rattle.replay_run.specs.Outside.{account, outside}
+use Rattle.replay_run.proofs.OrderLaws.{play_reads}
 use Rattle.replay_run.proofs.RunLaws.{begun_loaded, ends_loaded, reason_loaded}
 use Rattle.replay_run.proofs.replay.play_record.Goals as goal
 
@@ -18,3 +19,6 @@ returns-clause-reason g c = λ before stream notes kept l n told.
     reason_loaded _ (account stream notes before (outside (g.W.World.told c.play_from.new.world)
     (g.K.Keeper.told c.play_from.new.keeper) (g.S.Sink.told c.play_from.new.out))) kept
     (c.in_ok-area.ensures.size kept told) (c.play_from.ensures.tells stream notes l n)
+
+pub returns-clause-unread : goal.returns-clause-unread
+returns-clause-unread g c = play_reads c.play_from.result _ _ _ _ c.play_from.ensures.cause

@@ -1,7 +1,7 @@
 use Rattle.std.proofs.Common.{◌∙◌, inr, refl}
 use Rattle.std.proofs.lemmas.Result.{err_from_is_err_and}
 use Rattle.bml_ports.specs.declared.outside.Port.TheVariants.{Stream, Notes}
-use Rattle.replay_run.proofs.OrderLaws.{stops_asking}
+use Rattle.replay_run.proofs.OrderLaws.{play_opened, stops_asking}
 use Rattle.replay_run.specs.Outside.{outside}
 use Rattle.replay_run.proofs.EndingLaws.{left_same}
 use Rattle.replay_run.proofs.RunLaws.{bytes_same, ends_unopened}
@@ -43,7 +43,11 @@ returns-clause-order g c = inr (inr (
   inr (inr (
     g.W.World.told c.open-2.new.world,
     c.in_ok-open-2.ensures.opened,
-    c.play_record.ensures.reads,
+    (
+      c.play_record.ensures.reads,
+      play_opened c.play_record.result _ _ c.play_record.ensures.cause,
+      c.play_record.ensures.unread,
+    ),
   )),
 ))
 

@@ -1,6 +1,7 @@
 use Rattle.std.proofs.Common.{◌∙◌, arith, refl, subst, sym, []}
 use Rattle.receiver_core.specs.Receiving.{StandsFor}
 use Rattle.replay_run.proofs.ProgressLaws.{between_start}
+use Rattle.replay_run.proofs.StoppingLaws.{told_open}
 use Rattle.replay_run.proofs.player.Player.new.Goals as goal
 
 pub returns-clause-starts : goal.returns-clause-starts
@@ -18,6 +19,8 @@ returns-clause-starts c = record {
   idle = c.in_ok-new.ensures.idle;
   keeps = c.area.view_is ∙ sym c.in_ok-new.ensures.area;
   clock = c.in_ok-new.ensures.clock;
+  packets = refl;
   within = omega arith;
   readable = λ world readable ended. readable;
+  told = λ world readable. told_open world.stream readable ∙ sym c.new.ensures.ended;
 }

@@ -1,4 +1,4 @@
-use Rattle.std.proofs.Common.{sym, rules}
+use Rattle.std.proofs.Common.{refl, sym, rules}
 use Rattle.std.proofs.lemmas.Result.{on_ok_weaker, MatchResult-weaker}
 use Rattle.replay_run.proofs.ProgressLaws.{midway_packet}
 use Rattle.replay_run.proofs.player.Player.next_packet.Goals as goal
@@ -6,6 +6,7 @@ use Rattle.replay_run.proofs.player.Player.next_packet.Goals as goal
 pub returns-then-not-wants-clause-handled : goal.returns-then-not-wants-clause-handled
 returns-then-not-wants-clause-handled g c = λ world replay inputs ahead m.
     midway_packet replay _ inputs ahead _ _ _ c.skip_packet.ensures.gives c.skip_packet.ensures.ended
+    c.skip_packet.ensures.held refl
     (c.wants.ensures.passes (search rules) c.requires.idle _ (sym c.front_pid.ensures)
     replay.read replay.selection replay.area) m
 
@@ -14,6 +15,7 @@ returns-clause-handled g c = on_ok_weaker c.turns.result
     (λ goes world replay inputs ahead m. goes world replay _ _
     (midway_packet replay _ inputs ahead _ _ _
     c.take_packet-packet.ensures.gives c.take_packet-packet.ensures.ended
+    c.take_packet-packet.ensures.held c.take_packet-packet.ensures.packet
     (c.wanted_packet.ensures.taken replay.read replay.selection replay.area) m))
     c.turns.ensures.goes
 
@@ -22,4 +24,5 @@ returns-clause-stopped g c = MatchResult-weaker c.turns.result c.turns.ensures.s
     (λ status stops world replay inputs ahead m. stops world replay _ _
     (midway_packet replay _ inputs ahead _ _ _
     c.take_packet-packet.ensures.gives c.take_packet-packet.ensures.ended
+    c.take_packet-packet.ensures.held c.take_packet-packet.ensures.packet
     (c.wanted_packet.ensures.taken replay.read replay.selection replay.area) m))

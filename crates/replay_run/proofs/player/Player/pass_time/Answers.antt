@@ -21,6 +21,7 @@ steps-init g c = record {
   idle = c.requires.idle;
   area = c.requires.area;
   bytes = refl;
+  packets = refl;
   cutter = refl;
   clock = refl;
   later = later_none _;
@@ -56,6 +57,7 @@ steps-preserved g c =
             before.area (same_count inputs before.passed.0 time) put.puts
             (record {
               cutter = put.cutter;
+              loose = refl;
               receiver_is = put.receiver;
               kept = put.area;
               bytes = put.bytes;
@@ -67,6 +69,7 @@ steps-preserved g c =
       idle = rw put.receiver step.idle;
       area = put.area;
       bytes = put.bytes ∙ before.bytes;
+      packets = put.packets ∙ before.packets;
       cutter = put.cutter ∙ before.cutter;
       clock = omega (
         arith,

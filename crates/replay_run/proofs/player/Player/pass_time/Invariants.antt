@@ -16,6 +16,7 @@ invariant-steps g l = record {
   idle : IsIdle l.self.receiver;
   area : KeepsArea l.self;
   bytes : l.self.bytes ≡ l.initial.self.bytes;
+  packets : l.self.packets ≡ l.initial.self.packets;
   cutter : l.self.cutter ≡ l.initial.self.cutter;
   clock : l.self.receiver.clock + l.left ≡ l.initial.self.receiver.clock + l.fn.count;
   later : IsLater (outlets (g.K.Keeper.told l.initial.keeper) (g.S.Sink.told l.initial.out))

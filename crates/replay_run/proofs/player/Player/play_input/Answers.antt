@@ -18,6 +18,7 @@ returns-clause-handled g c =
     c.requires.area (packet_count-other inputs _ (no_packet c.args.input)) puts
     (record {
       cutter = put.cutter;
+      loose = refl;
       receiver_is = put.receiver;
       kept = kept;
       bytes = put.bytes;

@@ -1,15 +1,18 @@
-use Rattle.std.proofs.Common.{◌≡◌, ◌+◌, ◌∙◌, sym, ap, arith, refl, subst, Some}
+use Rattle.std.proofs.Common.{◌≡◌, ◌+◌, ◌∙◌, sym, ap, arith, refl, subst, Some, true, true≢false}
 use Rattle.std.proofs.lemmas.Result.{err_from_is_err_and}
 use Rattle.ts_packets.specs.Packets.{packets_of}
 use Rattle.receiver_core.specs.Receiving.{ReceiverState}
-use Rattle.replay_run.specs.Midway.{Handles, item_of_count, moment}
+use Rattle.replay_run.specs.Midway.{Handles, TakesJust, item_of_count, moment}
 use Rattle.replay_run.specs.Outside.{outside}
-use Rattle.replay_run.proofs.PlayLaws.{Allows, front_of_taken, told_alike, told_apart, took_enough}
+use Rattle.replay_run.proofs.BlankLaws.{waiting_behind}
+use Rattle.replay_run.proofs.PlayLaws.{Allows, allows_more, front_of_taken, told_alike, told_apart}
+use Rattle.replay_run.proofs.PlayLaws.{took_enough}
 use Rattle.replay_run.proofs.PlayLaws.{took_less}
-use Rattle.replay_run.proofs.ProgressLaws.{midway_seek, midway_none, midway_more, midway_over}
+use Rattle.replay_run.proofs.ProgressLaws.{midway_ended, midway_loosely, midway_seek, midway_none}
+use Rattle.replay_run.proofs.ProgressLaws.{midway_more, midway_over}
 use Rattle.replay_run.proofs.PuttingLaws.{later_more, later_none}
 use Rattle.replay_run.proofs.StoppingLaws.{only_reads_none, only_reads_more, no_packets}
-use Rattle.replay_run.proofs.StoppingLaws.{stops_further, stops_more}
+use Rattle.replay_run.proofs.StoppingLaws.{stops_further, stops_more, stream_stops, turns_unread}
 use Rattle.replay_run.proofs.player.Player.take.Goals as goal
 
 pub packets-init : goal.packets-init
@@ -19,6 +22,8 @@ packets-init g c = record {
   area = c.requires.area;
   clock = refl;
   readable = c.requires.readable;
+  told = c.requires.told;
+  was_open = λ e. e;
   reads = only_reads_none _ _;
   later = later_none _;
   until = c.last_packet-last.ensures;
@@ -27,7 +32,8 @@ packets-init g c = record {
     omega arith,
     record { bound = λ n e. omega arith },
     λ replay inputs ahead m.
-        midway_none replay _ inputs ahead m,
+        midway_loosely replay _ _ _ (midway_none replay _ inputs ahead m),
+    λ e replay inputs ahead m. midway_none replay _ inputs ahead m,
   );
 }
 
@@ -44,6 +50,8 @@ packets-preserved-in-Continue-1 g c =
       area = taken.area;
       clock = taken.clock ∙ before.clock;
       readable = λ e. before.readable (sym c.seek.ensures.drops.ended ∙ sym taken.ended ∙ e);
+      told = before.told ∙ sym c.seek.ensures.drops.ended ∙ sym taken.ended;
+      was_open = λ e. before.was_open (sym c.seek.ensures.drops.ended ∙ sym taken.ended ∙ e);
       reads = before.reads;
       later = later_more _ _ _ before.later taken.later;
       until = before.until;
@@ -51,9 +59,14 @@ packets-preserved-in-Continue-1 g c =
         before.taken.0 + 1,
         omega (arith, taken.packets, before.taken.1),
         fewer,
-        λ replay inputs ahead m. midway_more replay _ inputs ahead before.taken.0
+        λ replay inputs ahead m. midway_loosely replay _ _ _
+            (midway_more replay _ inputs ahead before.taken.0
             (taken.handled (g.W.World.told c.packets.world) replay _ _
-            (midway_seek replay _ _ _ _ c.seek.ensures.gives c.seek.ensures.drops.ended
+            (midway_seek replay _ _ _ _ c.seek.ensures.gives c.seek.ensures.drops
+            (before.taken.3 replay inputs ahead m)))),
+        λ e replay inputs ahead m. midway_more replay _ inputs ahead before.taken.0
+            (taken.handled (g.W.World.told c.packets.world) replay _ _
+            (midway_seek replay _ _ _ _ c.seek.ensures.gives c.seek.ensures.drops
             (before.taken.3 replay inputs ahead m))),
       );
     }
@@ -71,7 +84,7 @@ returns-in_err-next_packet-in-Packet-clause-stopped g c =
     (front_of_taken inputs c.args.most (before.taken.0 + 1) ahead fewer)
     (stops_more _ replay _ inputs ahead before.taken.0
     (c.in_err-next_packet-in-Packet.ensures.stopped (g.W.World.told c.packets.world) replay _ _
-    (midway_seek replay _ _ _ _ c.seek.ensures.gives c.seek.ensures.drops.ended
+    (midway_seek replay _ _ _ _ c.seek.ensures.gives c.seek.ensures.drops
     (before.taken.3 replay inputs ahead m)))))
 
 pub packets-preserved : goal.packets-preserved
@@ -84,6 +97,8 @@ packets-preserved g c =
       area = read.kept ∙ before.area ∙ sym (ap (λ (receiver : ReceiverState). receiver.area) read.receiver);
       clock = ap (λ (receiver : ReceiverState). receiver.clock) read.receiver ∙ before.clock;
       readable = read.readable;
+      told = read.told;
+      was_open = λ e. before.was_open (c.seek.ensures.need_more.0 c.in-NeedMore.is).open_end;
       reads = only_reads_more _ _ _ _ before.reads read.reads;
       later = before.later;
       until = before.until;
@@ -93,8 +108,10 @@ packets-preserved g c =
         before.taken.2,
         λ replay inputs ahead m. read.goes (g.K.Keeper.told c.packets.keeper)
             (g.S.Sink.told c.packets.out) replay _ _
-            (midway_seek replay _ _ _ _ c.seek.ensures.gives c.seek.ensures.drops.ended
+            (midway_seek replay _ _ _ _ c.seek.ensures.gives c.seek.ensures.drops
             (before.taken.3 replay inputs ahead m)),
+        λ e. absurd (told_apart _ _ _ c.ne.ensures c.packets-test.true
+            (e ∙ ap Some read.packets)),
       );
     }
 
@@ -109,18 +126,19 @@ returns-in_err-read_stream-in-NeedMore-clause-stopped g c =
     (front_of_taken inputs c.args.most before.taken.0 ahead before.taken.2)
     (c.in_err-read_stream-in-NeedMore.ensures.stops (g.K.Keeper.told c.packets.keeper)
     (g.S.Sink.told c.packets.out) replay _ _
-    (midway_seek replay _ _ _ _ c.seek.ensures.gives c.seek.ensures.drops.ended
+    (midway_seek replay _ _ _ _ c.seek.ensures.gives c.seek.ensures.drops
     (before.taken.3 replay inputs ahead m))))
 
 pub returns-in-End-clause-handled : goal.returns-in-End-clause-handled
 returns-in-End-clause-handled g c = λ replay inputs ahead m.
     let before = c.packets.invariant in
     let over = c.seek.ensures.end.0 c.in-End.is in
-    midway_over replay _ inputs ahead c.args.most before.taken.0
+    midway_ended replay _ _ _ (c.seek.ensures.drops.ended ∙ over.ended)
+    (midway_over replay _ inputs ahead c.args.most before.taken.0
     (c.seek.ensures.drops.ended ∙ over.ended)
     (ap packets_of (c.seek.ensures.empty c.in-End.is) ∙ no_packets) before.taken.2
-    (midway_seek replay _ _ _ _ c.seek.ensures.gives c.seek.ensures.drops.ended
-    (before.taken.3 replay inputs ahead m))
+    (midway_seek replay _ _ _ _ c.seek.ensures.gives c.seek.ensures.drops
+    (before.taken.3 replay inputs ahead m)))
 
 pub returns-in_err-read_stream-in-NeedMore-clause-reads :
     goal.returns-in_err-read_stream-in-NeedMore-clause-reads
@@ -136,4 +154,60 @@ returns-clause-handled g c =
     (outside (g.W.World.told c.args.world.now) (g.K.Keeper.told c.args.keeper.now)
     (g.S.Sink.told c.args.out.now)))
     (moment c.packets.self (outside (g.W.World.told c.packets.world)
-    (g.K.Keeper.told c.packets.keeper) (g.S.Sink.told c.packets.out)))) same before.taken.3
+    (g.K.Keeper.told c.packets.keeper) (g.S.Sink.told c.packets.out)))) same
+    (before.taken.4 (told_alike _ _ _ c.ne.ensures c.packets-test.false))
+
+pub returns-in-End-clause-takes : goal.returns-in-End-clause-takes
+returns-in-End-clause-takes g c = λ e.
+    let over = c.seek.ensures.end.0 c.in-End.is in
+    absurd (true≢false (sym (c.seek.ensures.drops.ended ∙ over.ended) ∙ e))
+
+pub returns-clause-takes : goal.returns-clause-takes
+returns-clause-takes g c = λ e.
+    let before = c.packets.invariant in
+    let same : Some before.taken.0 ≡ c.args.most = sym (took_enough c.args.most _ _ _ before.taken.0
+    before.until before.taken.1 (told_alike _ _ _ c.ne.ensures c.packets-test.false)) in
+    subst (λ most. TakesJust (item_of_count most) c.args.self.now.packets c.packets.self.packets) same
+    before.taken.1
+
+pub returns-in_err-next_packet-in-Packet-clause-reading :
+    goal.returns-in_err-next_packet-in-Packet-clause-reading
+returns-in_err-next_packet-in-Packet-clause-reading g c =
+    let p = err_from_is_err_and c.from_residual.result c.from_residual.ensures.1 in
+    rw (p.1, p.2) (turns_unread _ _ _ _ _ _ c.in_err-next_packet-in-Packet.ensures.cause)
+
+pub returns-in_err-read_stream-in-NeedMore-clause-reading :
+    goal.returns-in_err-read_stream-in-NeedMore-clause-reading
+returns-in_err-read_stream-in-NeedMore-clause-reading g c =
+    let before = c.packets.invariant in
+    let waiting = c.seek.ensures.need_more.0 c.in-NeedMore.is in
+    let fewer : Allows c.args.most (before.taken.0 + 1) =
+    took_less c.args.most _ _ _ before.taken.0 before.until before.taken.1
+    (told_apart _ _ _ c.ne.ensures c.packets-test.true) before.taken.2 in
+    let p = err_from_is_err_and c.from_residual-in_err-read_stream-in-NeedMore.result
+    c.from_residual-in_err-read_stream-in-NeedMore.ensures.1 in
+    rw (p.1, p.2) (stream_stops _ _ _ _ _ _
+    (λ last consumed most. (
+      record {
+        now = record (moment c.packets.self (outside (g.W.World.told c.packets.world)
+            (g.K.Keeper.told c.packets.keeper) (g.S.Sink.told c.packets.out))) {
+              cutter = c.seek.new.self;
+              loose = true;
+            };
+        count = before.taken.0;
+        takes = allows_more c.args.most before.taken.0 fewer;
+        goes = λ replay inputs ahead m.
+            midway_seek replay _ _ _ _ c.seek.ensures.gives c.seek.ensures.drops
+            (before.taken.3 replay inputs ahead m);
+        packets = before.taken.1;
+        was_open = before.was_open waiting.open_end;
+        waiting = waiting_behind _ _ c.seek.ensures.drops waiting;
+        short = c.seek.ensures.room c.in-NeedMore.is;
+        within = before.within;
+        idle = before.idle;
+        outlets_are = refl;
+        consumed = consumed;
+        most = most;
+      },
+      refl,
+    )) c.in_err-read_stream-in-NeedMore.ensures.last)

@@ -1,9 +1,10 @@
-use Rattle.std.proofs.Common.{◌≡◌, ◌≤◌, ◌+◌, ℕ, option_map}
+use Rattle.std.proofs.Common.{◌≡◌, ◌≤◌, ◌+◌, ℕ, option_map, false, Some}
 use Rattle.bml_ports.specs.declared.outside.Port.TheVariants.{Stream}
 use Rattle.receiver_core.specs.Receiving.{IsIdle}
 use Rattle.replay_run.specs.declared.record.RecordItem.TheVariants.{Packets}
+use Rattle.replay_run.specs.Ending.{end_told}
 use Rattle.replay_run.specs.Files.{stream_limit}
-use Rattle.replay_run.specs.Midway.{moment, Handles, IsReadable, KeepsArea, work_left}
+use Rattle.replay_run.specs.Midway.{moment, Handles, IsReadable, KeepsArea, loosely, work_left}
 use Rattle.replay_run.specs.Outside.{outside}
 use Rattle.replay_run.specs.Putting.{IsLater, outlets}
 use Rattle.replay_run.specs.Stopping.{OnlyReads}
@@ -18,6 +19,8 @@ invariant-packets g l = record {
   area : KeepsArea l.self;
   clock : l.self.receiver.clock ≡ l.initial.self.receiver.clock;
   readable : IsReadable l.self.cutter (g.W.World.told l.world);
+  told : end_told (g.W.World.told l.world).stream ≡ l.self.cutter.ended;
+  was_open : l.self.cutter.ended ≡ false → l.initial.self.cutter.ended ≡ false;
   reads : OnlyReads Stream (g.W.World.told l.initial.world) (g.W.World.told l.world);
   later : IsLater (outlets (g.K.Keeper.told l.initial.keeper) (g.S.Sink.told l.initial.out))
       (outlets (g.K.Keeper.told l.keeper) (g.S.Sink.told l.out));
@@ -26,8 +29,13 @@ invariant-packets g l = record {
       × Handles (Packets count)
       (moment l.initial.self (outside (g.W.World.told l.initial.world)
       (g.K.Keeper.told l.initial.keeper) (g.S.Sink.told l.initial.out)))
+      (loosely (moment l.self (outside (g.W.World.told l.world) (g.K.Keeper.told l.keeper)
+      (g.S.Sink.told l.out))))
+      × (l.last ≡ Some l.self.packets → Handles (Packets count)
+      (moment l.initial.self (outside (g.W.World.told l.initial.world)
+      (g.K.Keeper.told l.initial.keeper) (g.S.Sink.told l.initial.out)))
       (moment l.self (outside (g.W.World.told l.world) (g.K.Keeper.told l.keeper)
-      (g.S.Sink.told l.out)));
+      (g.S.Sink.told l.out))));
 }
 
 abbrev pub decreases-packets : goal.decreases-packets

@@ -40,6 +40,7 @@ turns-preserved g c =
           before.area refl put.puts
           (record {
             cutter = put.cutter;
+            loose = refl;
             receiver_is = put.receiver;
             kept = put.area;
             bytes = put.bytes;

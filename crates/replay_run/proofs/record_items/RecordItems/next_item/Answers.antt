@@ -1,25 +1,26 @@
-use Rattle.std.proofs.Common.{◌≡◌, ◌≤◌, ◌+◌, ◌∙◌, sym, subst, ◌++◌, ◌∷◌, [], arith}
+use Rattle.std.proofs.Common.{◌≡◌, ◌≤◌, ◌+◌, ◌∙◌, sym, refl, subst, arith}
+use Rattle.std.proofs.lemmas.Result.{err_from_is_err_and}
 use Rattle.replay_run.specs.declared.record.Line.TheVariants.{Item as Read, Nothing}
 use Rattle.replay_run.specs.Play.{milliseconds_of}
 use Rattle.replay_run.specs.Record.{tick_limit}
-use Rattle.replay_run.specs.RecordProgress.{IsAt}
+use Rattle.replay_run.specs.RecordProgress.{IsAt, IsAtItem, record_state}
 use Rattle.replay_run.proofs.RecordProgressLaws.{at_item, at_nothing, at_bad, at_whole, time_within}
-use Rattle.replay_run.proofs.StoppingLaws.{only_reads_more}
+use Rattle.replay_run.proofs.StoppingLaws.{only_reads_more, record_stops}
 use Rattle.replay_run.proofs.record_items.RecordItems.next_item.Goals as goal
 
 pub returns-in-Line-Item-clause-item : goal.returns-in-Line-Item-clause-item
 returns-in-Line-Item-clause-item g c = λ item e notes items a.
     let same : c.in-Line-Item.item ≡ item = cc in
-    subst (λ i. IsAt notes (record {
+    subst (λ i. IsAtItem notes (record {
       reader = c.next.new.self;
       bytes = c.lines.self.bytes;
       lines = c.lines.self.lines + 1;
       left = (g.W.World.told c.lines.world).notes.left;
-    }) (items ++ i ∷ [])) same
+    }) items i) same
     (at_item notes _ items _ c.in-Line-Item.item
     (c.next.ensures.good (Read c.in-Line-Item.item) (λ clash. cc)
     (rw c.in-Line-Item.field-0-is at c.in-Line-Item.is))
-    c.next.ensures.drops.ended (c.lines.invariant.goes notes items a))
+    c.next.ensures.drops (c.lines.invariant.goes notes items a))
 
 pub returns-in-Line-Item-clause-time : goal.returns-in-Line-Item-clause-time
 returns-in-Line-Item-clause-time g c = λ item e.
@@ -48,10 +49,11 @@ lines-preserved-in-Line-Nothing g c =
       within = before.within;
       further = omega (arith, before.further);
       readable = λ e. before.readable (sym c.next.ensures.drops.ended ∙ e);
+      told = before.told ∙ sym c.next.ensures.drops.ended;
       reads = before.reads;
       goes = λ notes items a. at_nothing notes _ items _
           (c.next.ensures.good Nothing (λ clash. cc) is_nothing)
-          c.next.ensures.drops.ended (before.goes notes items a);
+          c.next.ensures.drops (before.goes notes items a);
     }
 
 pub lines-preserved : goal.lines-preserved
@@ -63,6 +65,7 @@ lines-preserved g c =
       within = read.within;
       further = omega (arith, before.further, read.lines);
       readable = read.readable;
+      told = read.told;
       reads = only_reads_more _ _ _ _ before.reads read.reads;
       goes = λ notes items a. read.goes notes items (subst (λ reader. IsAt notes (record {
         reader = reader;
@@ -76,3 +79,25 @@ pub returns-in_err-read_record-in-NeedMore-clause-reads :
     goal.returns-in_err-read_record-in-NeedMore-clause-reads
 returns-in_err-read_record-in-NeedMore-clause-reads g c =
     only_reads_more _ _ _ _ c.lines.invariant.reads c.in_err-read_record-in-NeedMore.ensures.reads
+
+pub returns-in-Line-Bad-clause-reading : goal.returns-in-Line-Bad-clause-reading
+returns-in-Line-Bad-clause-reading g c =
+    record { failed = λ e. absurd (cc); long = λ e. absurd (cc) }
+
+pub returns-in_err-read_record-in-NeedMore-clause-reading :
+    goal.returns-in_err-read_record-in-NeedMore-clause-reading
+returns-in_err-read_record-in-NeedMore-clause-reading g c =
+    let before = c.lines.invariant in
+    let p = err_from_is_err_and c.from_residual.result c.from_residual.ensures.1 in
+    rw (p.1, p.2) (record_stops _ _ _ _ _
+    (λ last consumed most. (
+      record {
+        now = record_state c.lines.self (g.W.World.told c.lines.world);
+        goes = before.goes;
+        unfinished = c.next.ensures.need_more.0 c.in-NeedMore.is;
+        within = before.within;
+        consumed = consumed;
+        most = most;
+      },
+      refl,
+    )) c.in_err-read_record-in-NeedMore.ensures.last)

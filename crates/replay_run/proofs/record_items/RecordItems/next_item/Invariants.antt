@@ -1,6 +1,7 @@
-use Rattle.std.proofs.Common.{◌≤◌, ℕ, List}
+use Rattle.std.proofs.Common.{◌≡◌, ◌≤◌, ℕ, List}
 use Rattle.bml_ports.specs.declared.outside.Port.TheVariants as ports
 use Rattle.replay_run.specs.declared.record.RecordItem.{RecordItem}
+use Rattle.replay_run.specs.Ending.{end_told}
 use Rattle.replay_run.specs.Files.{record_limit}
 use Rattle.replay_run.specs.RecordProgress.{record_state, IsAt, IsReadable, work_left}
 use Rattle.replay_run.specs.Stopping.{OnlyReads}
@@ -12,6 +13,7 @@ invariant-lines g l = record {
   within : l.self.bytes ≤ record_limit;
   further : l.initial.self.lines ≤ l.self.lines;
   readable : IsReadable l.self.reader (g.W.World.told l.world);
+  told : end_told (g.W.World.told l.world).notes ≡ l.self.reader.ended;
   reads : OnlyReads ports.Notes (g.W.World.told l.initial.world) (g.W.World.told l.world);
   goes : (notes : List ℕ) (items : List RecordItem)
       → IsAt notes (record_state l.initial.self (g.W.World.told l.initial.world)) items
