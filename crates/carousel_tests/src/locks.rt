@@ -28,6 +28,8 @@ fn sixty_four_locks_stand(rt: HostRuntime) -> Result<(), Fail> {
         assert_eq!(rt; modules.lock(0x40, u16::from(number))?, LockAnswer::Kept);
     }
     modules.feed(0x40, &announcement(67))?;
+    assert_eq!(rt; modules.seen_number(0x40, 67), Some(65));
+    assert!(rt; modules.seen_number(0x40, 1).is_none());
     assert_eq!(rt; modules.lock(0x40, 67)?, LockAnswer::Full);
     assert_eq!(rt; modules.lock(0x40, 1)?, LockAnswer::Full);
     assert_eq!(rt; modules.lock(0x40, 2)?, LockAnswer::NoEntry);
@@ -35,7 +37,16 @@ fn sixty_four_locks_stand(rt: HostRuntime) -> Result<(), Fail> {
     assert!(rt; modules.unlock(0x40, 66) && !modules.unlock(0x40, 66));
     assert_eq!(rt; modules.lock(0x40, 67)?, LockAnswer::Kept);
     assert_eq!(rt; modules.lock(0x40, 67)?, LockAnswer::Had);
+    modules.feed(0x40, &announcement(3))?;
+    assert_eq!(rt;
+        (
+            modules.seen_number(0x40, 3),
+            modules.delivery_number(0x40, 3)
+        ),
+        (Some(1), Some(66))
+    );
     assert!(rt; modules.unlock(0x40, 3));
+    assert_eq!(rt; modules.seen_number(0x40, 3), Some(66));
     assert_eq!(rt; modules.lock(0x40, 1)?, LockAnswer::Wanted);
     Ok(())
 }

@@ -75,7 +75,7 @@ fn a_section_in_its_packet(rt: HostRuntime) -> Result<(), Fail> {
         is_current: true,
     };
     let section = section_of(alloc, head, &[0x00, 0x01, 0xE1, 0xF0])?;
-    assert!(rt; section.as_slice() == ASSOCIATION);
+    assert!(rt; section.as_slice() == ASSOCIATION.as_slice());
     let mut packet = Vec::new(alloc);
     let next = push_section(alloc, &mut packet, 0x1ABC, 15, section.as_slice())?;
     assert!(rt; next == 0 && packet.len() == 188);

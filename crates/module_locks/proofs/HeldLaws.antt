@@ -18,29 +18,29 @@ use Rattle.multipart_entities.specs.declared.paths.Path.{Path}
 use Rattle.module_store.specs.Copies.{KeptModule}
 use Rattle.module_store.specs.Resources.{holds_entity, info_in_force, look, look_behind, look_by, look_in, look_unless, presence_at, presence_in, presence_unless, start_component, start_name}
 use Rattle.module_store.specs.Resources as resources
-use Rattle.module_store.specs.Store.{Followed, Stored, changes_by, component_in, delivered_by, followed_with, messages_of_component, with_section}
+use Rattle.module_store.specs.Store.{Followed, Stored, changes_by, component_in, delivered_by, followed_with, messages_of_component, number_of, with_section}
 use Rattle.module_locks.specs.Locks.{delivers, is_delivery, kept_now, kept_of, look_kept, start_path_as}
 use Rattle.module_locks.proofs.ListLaws.{any-made_some, find-made, found_passes, from_any}
 
 -- ---- what is held is there to be kept
 
 -- by why the entry is skipped
-kept_unless : (skip : Option SkipCause) (info : List ℕ) (blocks : List (Option (List ℕ))) → is_some (bytes_by skip blocks) ≡ true → is_some (kept_of (presence_unless skip info (bytes_by skip blocks))) ≡ true
-kept_unless (Some cause) info blocks e = absurd cc
-kept_unless None info blocks e = by_bytes (joined_bytes blocks) e
+kept_unless : (delivery : Option ℕ) (skip : Option SkipCause) (info : List ℕ) (blocks : List (Option (List ℕ))) → is_some (bytes_by skip blocks) ≡ true → is_some (kept_of delivery (presence_unless skip info (bytes_by skip blocks))) ≡ true
+kept_unless delivery (Some cause) info blocks e = absurd cc
+kept_unless delivery None info blocks e = by_bytes (joined_bytes blocks) e
   where
-    by_bytes : (o : Option (List ℕ)) → is_some o ≡ true → is_some (kept_of (presence_unless None info o)) ≡ true
+    by_bytes : (o : Option (List ℕ)) → is_some o ≡ true → is_some (kept_of delivery (presence_unless None info o)) ≡ true
     by_bytes None e = absurd cc
     by_bytes (Some bytes) e = refl
 
-kept_standing : (o : Option Standing) (blocks : List DataBlock) → is_some (option_and_then bytes_kept (option_map (kept_with blocks) o)) ≡ true
-    → is_some (kept_of (presence_at o (option_and_then bytes_kept (option_map (kept_with blocks) o)))) ≡ true
-kept_standing None blocks e = absurd cc
-kept_standing (Some s) blocks e = kept_unless s.skip s.entry.info (blocks_from (first_of blocks) 0 (count_of s)) e
+kept_standing : (delivery : Option ℕ) (o : Option Standing) (blocks : List DataBlock) → is_some (option_and_then bytes_kept (option_map (kept_with blocks) o)) ≡ true
+    → is_some (kept_of delivery (presence_at o (option_and_then bytes_kept (option_map (kept_with blocks) o)))) ≡ true
+kept_standing delivery None blocks e = absurd cc
+kept_standing delivery (Some s) blocks e = kept_unless delivery s.skip s.entry.info (blocks_from (first_of blocks) 0 (count_of s)) e
 
-held_kept : (messages : List Message) (number : ℕ) → is_some (bytes_held messages number) ≡ true → is_some (kept_of (presence_in (Some messages) number)) ≡ true
+pub held_kept : (delivery : Option ℕ) (messages : List Message) (number : ℕ) → is_some (bytes_held messages number) ≡ true → is_some (kept_of delivery (presence_in (Some messages) number)) ≡ true
 unfolding bytes_held
-held_kept messages number e = kept_standing (standing_of (in_force messages) number) (counting_blocks None number messages) e
+held_kept delivery messages number e = kept_standing delivery (standing_of (in_force messages) number) (counting_blocks None number messages) e
 
 -- ---- what is delivered is held
 
@@ -114,19 +114,20 @@ delivered_kept stored tag section number e = by_component (component_in stored.c
         let behind : messages_of_component (with_section tag section stored) tag ≡ Some now
         = ap (λ (o : Option Followed). option_map (λ c. c.messages) o) (component_behind tag section stored.components ∙ ap (λ (o : Option Followed). option_map (followed_with tag section) o) is)
         ∙ ap (λ b. Some (cond b (let c : Followed = record { tag = component.tag; pid = component.pid; messages = now } in c) component).messages) tagged in
-        subst (λ o. is_some (kept_of (presence_in o number)) ≡ true) (sym behind) (held_kept now number (delivered_held component.messages now number told))
+        let delivery = number_of (with_section tag section stored) tag number in
+        subst (λ o. is_some (kept_of delivery (presence_in o number)) ≡ true) (sym behind) (held_kept delivery now number (delivered_held component.messages now number told))
 
 -- ---- a look-up of what is held
 
-look_standing : (o : Option Standing) (now : Option (List ℕ)) (name : List ℕ) (kept : KeptModule) → kept_of (presence_at o now) ≡ Some kept → look_by o now name ≡ look_kept kept name
-look_standing None now name kept e = absurd cc
-look_standing (Some s) now name kept e = by_skip s.skip now e
+look_standing : (delivery : Option ℕ) (o : Option Standing) (now : Option (List ℕ)) (name : List ℕ) (kept : KeptModule) → kept_of delivery (presence_at o now) ≡ Some kept → look_by o now name ≡ look_kept kept name
+look_standing delivery None now name kept e = absurd cc
+look_standing delivery (Some s) now name kept e = by_skip s.skip now e
   where
-    by_skip : (skip : Option SkipCause) (now : Option (List ℕ)) → kept_of (presence_unless skip s.entry.info now) ≡ Some kept → look_unless skip s.entry.info now name ≡ look_kept kept name
+    by_skip : (skip : Option SkipCause) (now : Option (List ℕ)) → kept_of delivery (presence_unless skip s.entry.info now) ≡ Some kept → look_unless skip s.entry.info now name ≡ look_kept kept name
     by_skip (Some cause) now e = absurd cc
     by_skip None None e = absurd cc
     by_skip None (Some bytes) e =
-        let held : KeptModule = record { is_entity = holds_entity s.entry.info; bytes = bytes } in
+        let held : KeptModule = record { number = delivery; is_entity = holds_entity s.entry.info; bytes = bytes } in
         let same : held ≡ kept = cc in
         ap (λ (k : KeptModule). look_kept k name) same
 
@@ -134,28 +135,31 @@ look_standing (Some s) now name kept e = by_skip s.skip now e
 pub held_look : (stored : Stored) (path : Path) (kept : KeptModule) → kept_now stored path.component path.«module» ≡ Some kept → look stored path ≡ look_kept kept path.name
 held_look stored path kept e = by_messages (messages_of_component stored path.component) e
   where
-    by_messages : (o : Option (List Message)) → kept_of (presence_in o path.«module») ≡ Some kept → look_in o path.«module» path.name ≡ look_kept kept path.name
+    delivery : Option ℕ
+    delivery = number_of stored path.component path.«module»
+
+    by_messages : (o : Option (List Message)) → kept_of delivery (presence_in o path.«module») ≡ Some kept → look_in o path.«module» path.name ≡ look_kept kept path.name
     by_messages None e = absurd cc
     by_messages (Some messages) e = by_dii (in_force messages) e
       where
-        by_dii : (dii : Option Dii) → kept_of (presence_at (standing_of dii path.«module») (bytes_held messages path.«module»)) ≡ Some kept
+        by_dii : (dii : Option Dii) → kept_of delivery (presence_at (standing_of dii path.«module») (bytes_held messages path.«module»)) ≡ Some kept
             → look_behind dii messages path.«module» path.name ≡ look_kept kept path.name
         by_dii None e = absurd cc
-        by_dii (Some dii) e = look_standing (standing_of (Some dii) path.«module») (bytes_held messages path.«module») path.name kept e
+        by_dii (Some dii) e = look_standing delivery (standing_of (Some dii) path.«module») (bytes_held messages path.«module») path.name kept e
 
 -- ---- the start path, where its module is held
 
-start_standing : (o : Option Standing) (now : Option (List ℕ)) (kept : KeptModule) → kept_of (presence_at o now) ≡ Some kept
+start_standing : (delivery : Option ℕ) (o : Option Standing) (now : Option (List ℕ)) (kept : KeptModule) → kept_of delivery (presence_at o now) ≡ Some kept
     → start_name (option_map (λ entry. entry.info) (option_map (λ (s : Standing). s.entry) o)) ≡ cond kept.is_entity (codes "startup.bml") []
-start_standing None now kept e = absurd cc
-start_standing (Some s) now kept e = by_skip s.skip now e
+start_standing delivery None now kept e = absurd cc
+start_standing delivery (Some s) now kept e = by_skip s.skip now e
   where
-    by_skip : (skip : Option SkipCause) (now : Option (List ℕ)) → kept_of (presence_unless skip s.entry.info now) ≡ Some kept
+    by_skip : (skip : Option SkipCause) (now : Option (List ℕ)) → kept_of delivery (presence_unless skip s.entry.info now) ≡ Some kept
         → start_name (Some s.entry.info) ≡ cond kept.is_entity (codes "startup.bml") []
     by_skip (Some cause) now e = absurd cc
     by_skip None None e = absurd cc
     by_skip None (Some bytes) e =
-        let held : KeptModule = record { is_entity = holds_entity s.entry.info; bytes = bytes } in
+        let held : KeptModule = record { number = delivery; is_entity = holds_entity s.entry.info; bytes = bytes } in
         let same : held ≡ kept = cc in
         ap (λ (k : KeptModule). cond k.is_entity (codes "startup.bml") []) same
 
@@ -165,7 +169,10 @@ held_start stored kept e =
     ap (λ (name : List ℕ). let path : Path = record { component = start_component; «module» = 0; name = name } in path)
     (by_messages (messages_of_component stored start_component) e)
   where
-    by_messages : (o : Option (List Message)) → kept_of (presence_in o 0) ≡ Some kept
+    delivery : Option ℕ
+    delivery = number_of stored start_component 0
+
+    by_messages : (o : Option (List Message)) → kept_of delivery (presence_in o 0) ≡ Some kept
         → start_name (option_and_then (λ messages. info_in_force messages 0) o) ≡ cond kept.is_entity (codes "startup.bml") []
     by_messages None e = absurd cc
-    by_messages (Some messages) e = start_standing (standing_of (in_force messages) 0) (bytes_held messages 0) kept e
+    by_messages (Some messages) e = start_standing delivery (standing_of (in_force messages) 0) (bytes_held messages 0) kept e

@@ -72,10 +72,10 @@ none_stays f stays component number none (lock ∷ locks) e =
 
 -- ---- a section
 
-abbrev with_bytes : Option KeptModule → Lock → Lock
+abbrev pub with_bytes : Option KeptModule → Lock → Lock
 with_bytes now lock = record lock { kept = now }
 
-behind_stays : (component : ℕ) (changes : List Change) (now : Stored) → Stays (lock_behind component changes now)
+pub behind_stays : (component : ℕ) (changes : List Change) (now : Stored) → Stays (lock_behind component changes now)
 behind_stays component changes now its_component number lock =
     elim ((eqb lock.component component && not (is_some lock.kept)) && delivers lock.«module» changes)
     as (λ b. is_lock_on its_component number (cond b (with_bytes (kept_now now component lock.«module») lock) lock) ≡ is_lock_on its_component number lock)
@@ -304,7 +304,7 @@ module _ (component other : ℕ) (now : Option KeptModule) (its_component number
       as (λ b. P (kept_on (cond b (map (lock_with component other now) locks) (locks ++ record { component = component; «module» = other; kept = now } ∷ [])) its_component number))
       [ true ↦ map_holds locks e | false ↦ more_holds locks e ]
 
-  locked_holds : (answer : LockAnswer) (locks : List Lock) → kept_on locks its_component number ≡ None → P (kept_on (locks_behind answer component other now locks) its_component number)
+  pub locked_holds : (answer : LockAnswer) (locks : List Lock) → kept_on locks its_component number ≡ None → P (kept_on (locks_behind answer component other now locks) its_component number)
   locked_holds answers.NoEntry locks e = subst P (sym e) without
   locked_holds answers.Full locks e = subst P (sym e) without
   locked_holds answers.Had locks e = subst P (sym e) without
@@ -385,18 +385,18 @@ new_placed false None answer is (inr e) = absurd cc
 new_placed false (Some kept) answer is (inl e) = absurd cc
 new_placed false (Some kept) answer is (inr e) = absurd cc
 
-placed : (there : Presence) (place : Bool) (lock : Option Lock) (answer : LockAnswer) → answer_at there place lock ≡ answer → (answer ≡ answers.Kept) ⊎ (answer ≡ answers.Wanted)
+placed : (there : Presence) (place : Bool) (lock : Option Lock) (now : Option KeptModule) (answer : LockAnswer) → answer_at there place lock now ≡ answer → (answer ≡ answers.Kept) ⊎ (answer ≡ answers.Wanted)
     → is_some lock ≡ false → place ≡ true
-placed there place (Some lock) answer is added none = absurd cc
-placed Absent place None answer is (inl e) none = absurd cc
-placed Absent place None answer is (inr e) none = absurd cc
-placed Announced place None answer is added none = new_placed place None answer is added
-placed (Held is_entity bytes) place None answer is added none = new_placed place (Some (record { is_entity = is_entity; bytes = bytes })) answer is added
+placed there place (Some lock) now answer is added none = absurd cc
+placed Absent place None now answer is (inl e) none = absurd cc
+placed Absent place None now answer is (inr e) none = absurd cc
+placed Announced place None now answer is added none = new_placed place now answer is added
+placed (Held is_entity bytes) place None now answer is added none = new_placed place now answer is added
 
 pub few_behind : (modules : Modules) (component number : ℕ) → length modules.locks ≤ most_locks → length (with_lock component number modules).locks ≤ most_locks
 unfolding with_lock lock_answer
 few_behind modules component number few =
-    by_answer (answer_at there (has_place modules.locks) (lock_on modules.locks component number)) refl
+    by_answer (answer_at there (has_place modules.locks) (lock_on modules.locks component number) now) refl
   where
     there : Presence
     there = resources.presence modules.stored component number
@@ -404,12 +404,12 @@ few_behind modules component number few =
     now : Option KeptModule
     now = kept_now modules.stored component number
 
-    by_answer : (answer : LockAnswer) → answer_at there (has_place modules.locks) (lock_on modules.locks component number) ≡ answer
+    by_answer : (answer : LockAnswer) → answer_at there (has_place modules.locks) (lock_on modules.locks component number) now ≡ answer
         → length (locks_behind answer component number now modules.locks) ≤ most_locks
     by_answer answers.NoEntry is = few
     by_answer answers.Full is = few
     by_answer answers.Had is = few
     by_answer answers.Kept is =
-        few_locked component number now modules.locks (placed there (has_place modules.locks) (lock_on modules.locks component number) answers.Kept is (inl refl)) few
+        few_locked component number now modules.locks (placed there (has_place modules.locks) (lock_on modules.locks component number) now answers.Kept is (inl refl)) few
     by_answer answers.Wanted is =
-        few_locked component number now modules.locks (placed there (has_place modules.locks) (lock_on modules.locks component number) answers.Wanted is (inr refl)) few
+        few_locked component number now modules.locks (placed there (has_place modules.locks) (lock_on modules.locks component number) now answers.Wanted is (inr refl)) few

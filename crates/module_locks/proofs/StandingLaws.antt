@@ -217,7 +217,7 @@ stood state modules component number stands = alike (find (is_held_on component 
     alike (Some held) = refl
 
 -- of a module with a copy
-kept_copied : (state : ModulesState) (modules : Modules) (component number : ℕ) (kept : KeptModule) → StandsFor state modules → copy_on state.locks component number ≡ Some kept
+pub kept_copied : (state : ModulesState) (modules : Modules) (component number : ℕ) (kept : KeptModule) → StandsFor state modules → copy_on state.locks component number ≡ Some kept
     → kept_on modules.locks component number ≡ Some kept
 kept_copied state modules component number kept stands copied =
     ap (λ (o : Option Lock). option_and_then (λ (l : Lock). l.kept) o) (lock_is state modules component number stands)
@@ -234,7 +234,7 @@ kept_copied state modules component number kept stands copied =
     by_lock (Some held) e = by_keeping held.component held.«module» held.keeping e
 
 -- of one without a copy nothing is kept, or what there is to be kept
-kept_stored : (state : ModulesState) (modules : Modules) (component number : ℕ) (P : Option KeptModule → Type 0) → StandsFor state modules → copy_on state.locks component number ≡ None
+pub kept_stored : (state : ModulesState) (modules : Modules) (component number : ℕ) (P : Option KeptModule → Type 0) → StandsFor state modules → copy_on state.locks component number ≡ None
     → P None → P (kept_now modules.stored component number) → P (kept_on modules.locks component number)
 kept_stored state modules component number P stands none without within =
     subst (λ (o : Option Lock). P (option_and_then (λ (l : Lock). l.kept) o)) (sym (lock_is state modules component number stands))
@@ -294,15 +294,15 @@ stands_unlocked state modules component number stands = record {
 -- ---- another lock
 
 -- what there is to be kept, by whether the module is held
-now_held : (there : Presence) (is_held : Bool) → Some is_held ≡ holding there → is_some (kept_of there) ≡ is_held
-now_held Absent is_held e = absurd cc
-now_held Announced is_held e = let same : is_held ≡ false = cc in sym same
-now_held (Held is_entity bytes) is_held e = let same : is_held ≡ true = cc in sym same
+now_held : (delivery : Option ℕ) (there : Presence) (is_held : Bool) → Some is_held ≡ holding there → is_some (kept_of delivery there) ≡ is_held
+now_held delivery Absent is_held e = absurd cc
+now_held delivery Announced is_held e = let same : is_held ≡ false = cc in sym same
+now_held delivery (Held is_entity bytes) is_held e = let same : is_held ≡ true = cc in sym same
 
-answer_there : (there : Presence) (is_held : Bool) (place : Bool) (lock : Option Lock) → Some is_held ≡ holding there → answer_at there place lock ≡ answer_by place lock (kept_of there)
-answer_there Absent is_held place lock e = absurd cc
-answer_there Announced is_held place lock e = refl
-answer_there (Held is_entity bytes) is_held place lock e = refl
+answer_there : (there : Presence) (is_held : Bool) (place : Bool) (lock : Option Lock) (now : Option KeptModule) → Some is_held ≡ holding there → answer_at there place lock now ≡ answer_by place lock now
+answer_there Absent is_held place lock now e = absurd cc
+answer_there Announced is_held place lock now e = refl
+answer_there (Held is_entity bytes) is_held place lock now e = refl
 
 answer_fresh : (place : Bool) (now : Option KeptModule) (is_held : Bool) → is_some now ≡ is_held → answer_by place None now ≡ cond place (answer_new is_held) answers.Full
 answer_fresh true None is_held e = ap answer_new e
@@ -318,7 +318,7 @@ pub absent_answer : (component number : ℕ) (modules : Modules) → None ≡ ho
 unfolding lock_answer
 absent_answer component number modules e = by_presence (presence modules.stored component number) e
   where
-    by_presence : (there : Presence) → None ≡ holding there → answer_at there (has_place modules.locks) (lock_on modules.locks component number) ≡ answers.NoEntry
+    by_presence : (there : Presence) → None ≡ holding there → answer_at there (has_place modules.locks) (lock_on modules.locks component number) (kept_now modules.stored component number) ≡ answers.NoEntry
     by_presence Absent e = refl
     by_presence Announced e = absurd cc
     by_presence (Held is_entity bytes) e = absurd cc
@@ -332,13 +332,13 @@ same_with component number modules answer is same state stands =
     = ap (λ a. locks_behind a component number (kept_now modules.stored component number) modules.locks) is ∙ same in
     subst (λ (l : List Lock). StandsFor state (let m : Modules = record { stored = modules.stored; locks = l } in m)) (sym still) stands
 
--- no lock stands on it yet
+-- delivery lock stands on it yet
 module _ (component number : ℕ) (modules : Modules) (state : ModulesState) (stands : StandsFor state modules) (is_held : Bool) (here : Some is_held ≡ holding (presence modules.stored component number)) where
   abbrev there : Presence
   there = presence modules.stored component number
 
   now_is : is_some (kept_now modules.stored component number) ≡ is_held
-  now_is = now_held there is_held here
+  now_is = now_held (store.number_of modules.stored component number) there is_held here
 
   no_lock : None ≡ wanting_on state.locks component number → lock_on modules.locks component number ≡ None
   no_lock none = lock_is state modules component number stands ∙ by_lock (find (is_held_on component number) state.locks) none
@@ -350,7 +350,7 @@ module _ (component number : ℕ) (modules : Modules) (state : ModulesState) (st
   pub new_answer : None ≡ wanting_on state.locks component number → lock_answer component number modules ≡ cond (has_room state.locks) (answer_new is_held) answers.Full
   unfolding lock_answer
   new_answer none =
-      answer_there there is_held (has_place modules.locks) (lock_on modules.locks component number) here
+      answer_there there is_held (has_place modules.locks) (lock_on modules.locks component number) (kept_now modules.stored component number) here
       ∙ ap (λ (o : Option Lock). answer_by (has_place modules.locks) o (kept_now modules.stored component number)) (no_lock none)
       ∙ answer_fresh (has_place modules.locks) (kept_now modules.stored component number) is_held now_is
       ∙ ap (λ b. cond b (answer_new is_held) answers.Full) (room_same state modules stands)
@@ -418,7 +418,7 @@ module _ (component number : ℕ) (modules : Modules) (state : ModulesState) (st
   unfolding lock_answer
   again_answer wanting is =
       let lock = lock_there wanting is in
-      answer_there there is_held (has_place modules.locks) (lock_on modules.locks component number) here
+      answer_there there is_held (has_place modules.locks) (lock_on modules.locks component number) (kept_now modules.stored component number) here
       ∙ ap (λ (o : Option Lock). answer_by (has_place modules.locks) o (kept_now modules.stored component number)) lock.1
       ∙ ap (λ b. cond b answers.Had (answer_new (is_some (kept_now modules.stored component number)))) lock.2
       ∙ ap (λ b. cond (not wanting) answers.Had (answer_new b)) now_is

@@ -1,3 +1,4 @@
 pub mod Locks
 pub mod Standing
+pub mod Histories
 pub mod devices

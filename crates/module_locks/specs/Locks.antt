@@ -3,7 +3,7 @@
 -- one keeps what, is this project's own).
 use Rattle.std.specs.Prelude.{ℕ, nat_lt, ◌==◌, Bool, ◌&&◌, not, if◌then◌else◌, List, [], ◌∷◌, ◌++◌, length, filter, find, map, Option, Some, None, codes, is_some, option_and_then}
 use Rattle.std.specs.List.{list_any}
-use Rattle.std.specs.Option.{option_map_or}
+use Rattle.std.specs.Option.{option_map_or, option_or}
 use Rattle.carousel_blocks.specs.declared.changes.Change.{Change}
 use Rattle.multipart_entities.specs.declared.paths.Path.{Path}
 use Rattle.psi_tables.specs.declared.components.Component.{Component}
@@ -11,7 +11,7 @@ use Rattle.module_store.specs.Copies.{KeptModule}
 use Rattle.module_store.specs.Resources.{Presence, Resource, found_or_missing, look, named_as, presence, start_component}
 use Rattle.module_store.specs.Resources as resources
 use Rattle.module_store.specs.Resources.Presence.{Absent, Announced, Held}
-use Rattle.module_store.specs.Store.{Stored, delivered_by}
+use Rattle.module_store.specs.Store.{Stored, delivered_by, number_of}
 use Rattle.module_store.specs.Store as store
 use Rattle.module_locks.specs.declared.answers.LockAnswer.{LockAnswer}
 use Rattle.module_locks.specs.declared.answers.LockAnswer.TheVariants as answers
@@ -62,6 +62,27 @@ look_up modules path =
     option_map_or (λ kept. look_kept kept path.name) (kept_on modules.locks path.component path.«module»)
     (look modules.stored path)
 
+-- what a lock gets of a module, where it is held, with the number of the delivery that brought it
+abbrev pub kept_of : Option ℕ → Presence → Option KeptModule
+kept_of delivery Absent = None
+kept_of delivery Announced = None
+kept_of delivery (Held is_entity bytes) =
+    Some (record { number = delivery; is_entity = is_entity; bytes = bytes })
+
+abbrev pub kept_now : Stored → ℕ → ℕ → Option KeptModule
+kept_now stored component number =
+    kept_of (number_of stored component number) (presence stored component number)
+
+-- What a look-up sees of a module as a whole: what a lock keeps of it, and else the module, where it is held; and the number
+-- of the delivery that brought that.
+abbrev pub seen : Modules → ℕ → ℕ → Option KeptModule
+seen modules component number =
+    option_or (kept_on modules.locks component number) (kept_now modules.stored component number)
+
+abbrev pub seen_number : Modules → ℕ → ℕ → Option ℕ
+seen_number modules component number =
+    option_and_then (λ kept. kept.number) (seen modules component number)
+
 -- ---- the start document
 
 -- its path, where its module holds an entity or is one resource
@@ -81,15 +102,6 @@ start_path modules =
 
 -- ---- a module is locked, or unlocked
 
--- what a lock gets of a module, where it is held
-abbrev pub kept_of : Presence → Option KeptModule
-kept_of Absent = None
-kept_of Announced = None
-kept_of (Held is_entity bytes) = Some (record { is_entity = is_entity; bytes = bytes })
-
-abbrev pub kept_now : Stored → ℕ → ℕ → Option KeptModule
-kept_now stored component number = kept_of (presence stored component number)
-
 -- a place is left for one more lock
 abbrev pub has_place : List Lock → Bool
 has_place locks = nat_lt (length locks) most_locks
@@ -103,16 +115,15 @@ answer_by place (Some lock) now =
     if is_some lock.kept then answers.Had else if is_some now then answers.Kept else answers.Wanted
 
 -- A module without an unskipped entry can't be locked. One on which no lock stands can't be, where no place is left.
-abbrev pub answer_at : Presence → Bool → Option Lock → LockAnswer
-answer_at Absent place lock = answers.NoEntry
-answer_at Announced place lock = answer_by place lock None
-answer_at (Held is_entity bytes) place lock =
-    answer_by place lock (Some (record { is_entity = is_entity; bytes = bytes }))
+abbrev pub answer_at : Presence → Bool → Option Lock → Option KeptModule → LockAnswer
+answer_at Absent place lock now = answers.NoEntry
+answer_at Announced place lock now = answer_by place lock now
+answer_at (Held is_entity bytes) place lock now = answer_by place lock now
 
 unfoldable pub lock_answer : ℕ → ℕ → Modules → LockAnswer
 lock_answer component number modules =
     answer_at (presence modules.stored component number) (has_place modules.locks)
-    (lock_on modules.locks component number)
+    (lock_on modules.locks component number) (kept_now modules.stored component number)
 
 -- the lock on a module, which is wanted, gets what there is to be kept; one that keeps something keeps it
 abbrev pub lock_with : ℕ → ℕ → Option KeptModule → Lock → Lock

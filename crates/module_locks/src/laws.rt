@@ -1,7 +1,7 @@
 //! What holds of modules with locks. Each function is a law: its contract is what it is for, and it
 //! does nothing when it runs.
 
-ghost use Rattle.std.specs.Prelude.{◌≡◌, ◌≤◌, ◌<◌, ◌^◌, ℕ, List, None, Some, true, false, is_some, length, AllPairs};
+ghost use Rattle.std.specs.Prelude.{◌≡◌, ◌≤◌, ◌<◌, ◌^◌, ◌-◌, ◌++◌, ℕ, List, None, Some, true, false, is_some, length, AllPairs};
 ghost use Rattle.multipart_entities.specs.declared.paths.Path.{Path};
 ghost use Rattle.psi_tables.specs.declared.components.Component.{Component};
 ghost use Rattle.psi_tables.specs.Components.{AreApart};
@@ -10,9 +10,10 @@ ghost use Rattle.module_store.specs.Resources.Resource.{Found};
 ghost use Rattle.module_store.specs.Staying.{tells_of, is_gone};
 ghost use Rattle.module_store.specs.Store.{gone_by};
 ghost use Rattle.module_store.specs.Copies.{KeptModule};
-ghost use Rattle.module_locks.specs.Locks.{Modules, changes_by, is_lock_on, kept_on, lock_on, look_up, most_locks, start_path, with_lock, with_map, with_section, without_lock};
+ghost use Rattle.module_locks.specs.Histories.{Happening, behind_all};
+ghost use Rattle.module_locks.specs.Locks.{Modules, changes_by, is_lock_on, kept_on, lock_on, look_up, most_locks, seen, seen_number, start_path, with_lock, with_map, with_section, without_lock};
 
-use module_store::{law_of_found_resources, law_of_start_paths};
+use module_store::{law_of_found_resources, law_of_start_paths, law_of_undelivered_modules};
 
 /// What is found under a path stays there, with the same bytes, until a change of its module is told
 /// or its module is unlocked. A lock changes no look-up.
@@ -82,6 +83,28 @@ pub fn law_of_kept_modules()
     ensures gone { (modules : Modules) (component number : ℕ)
         → lock_on (without_lock component number modules).locks component number ≡ None }
 {}
+
+/// In one history of modules, two moments at which the same number is seen of a module, below 2^64 - 1, see the same of it: the
+/// same bytes, as an entity or as one resource, and so look-ups find the same under each path of the module. A number is
+/// seen exactly where there is something to see.
+pub fn law_of_seen_numbers()
+    ensures same { (first more : List Happening) (component number delivery : ℕ)
+        → number < 2 ^ 16 → delivery < 2 ^ 64 - 1
+        → seen_number (behind_all first) component number ≡ Some delivery
+        → seen_number (behind_all (first ++ more)) component number ≡ Some delivery
+        → seen (behind_all (first ++ more)) component number
+        ≡ seen (behind_all first) component number }
+    ensures paths { (first more : List Happening) (path : Path) (delivery : ℕ)
+        → path.«module» < 2 ^ 16 → delivery < 2 ^ 64 - 1
+        → seen_number (behind_all first) path.component path.«module» ≡ Some delivery
+        → seen_number (behind_all (first ++ more)) path.component path.«module» ≡ Some delivery
+        → look_up (behind_all (first ++ more)) path ≡ look_up (behind_all first) path }
+    ensures some { (happened : List Happening) (component number : ℕ) → number < 2 ^ 16
+        → is_some (seen_number (behind_all happened) component number)
+        ≡ is_some (seen (behind_all happened) component number) }
+{
+    law_of_undelivered_modules();
+}
 
 /// At most 64 locks stand.
 pub fn law_of_few_locks()

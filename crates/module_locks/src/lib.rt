@@ -15,8 +15,8 @@ mod modules;
 
 pub use crate::answers::LockAnswer;
 pub use crate::laws::{
-    law_of_few_locks, law_of_found_paths, law_of_kept_modules, law_of_standing_locks,
-    law_of_start_documents,
+    law_of_few_locks, law_of_found_paths, law_of_kept_modules, law_of_seen_numbers,
+    law_of_standing_locks, law_of_start_documents,
 };
 pub use crate::modules::Modules;
 pub use module_store::{Change, ChangeLine, Look, push_change_line};

@@ -5,7 +5,7 @@ ghost use Rattle.carousel_blocks.specs.InForce.{size_limit};
 ghost use Rattle.module_store.specs.Resources.{HasAtMost, presence, resource_of};
 ghost use Rattle.module_store.specs.Standing.{ForStored};
 ghost use Rattle.module_store.specs.Store.{gone_by, number_of};
-ghost use Rattle.module_locks.specs.Locks.{at_start, changes_by, lock_answer, lock_on, look_up, start_path, start_path_as, with_lock, with_map, with_section, without_lock};
+ghost use Rattle.module_locks.specs.Locks.{at_start, changes_by, lock_answer, lock_on, look_up, seen_number, start_path, start_path_as, with_lock, with_map, with_section, without_lock};
 ghost use Rattle.module_locks.specs.Locks as spec_locks;
 ghost use Rattle.module_locks.specs.Standing.{ForModules, IsHeld, StandsFor};
 ghost use Rattle.module_locks.specs.devices.Keeping.{answer_new as spec_answer};
@@ -171,6 +171,19 @@ impl Modules {
         self.store.delivery_number(component, module)
     }
 
+    /// The number of the delivery that brought what a look-up sees of a module: of what a lock keeps of it, and else of the
+    /// module, where it is held; None where there is neither. As long as it stays the same, below 2^64 - 1, look-ups of the
+    /// module find the same bytes. This takes no memory.
+    pub fn seen_number(&self, component: u8, module: u16) -> Option<u64>
+        ensures { ForModules self.now
+            (λ modules. result ≡ seen_number modules component «module») }
+    {
+        match self.copy_on(component, module) {
+            Some(copy) => copy.number(),
+            None => self.store.delivery_number(component, module),
+        }
+    }
+
     // The path of the start document, where its module holds an entity or is one resource.
     fn start_path_as(&self, is_entity: bool) -> Result<Path, NoMemory>
         ensures { IfOk result (λ path. path ≡ start_path_as is_entity) }
@@ -332,7 +345,8 @@ fn copy_lock(alloc: Global, store: &Store, lock: &mut HeldLock) -> Result<(), No
         return Ok(());
     };
     if let ModulePresence::Held { is_entity, bytes } = store.presence(lock.component, lock.module) {
-        lock.keeping = Keeping::Copied(ModuleCopy::new(alloc, is_entity, bytes)?);
+        let number = store.delivery_number(lock.component, lock.module);
+        lock.keeping = Keeping::Copied(ModuleCopy::new(alloc, number, is_entity, bytes)?);
     }
     Ok(())
 }

@@ -153,7 +153,7 @@ later_delivers number (Some change) changes h = at_module (delivered_by change.m
     at_module None numbers h = h
     at_module (Some n) numbers h = elim (eqb n number) as (λ b. (b || list_any (λ n. eqb n number) numbers) ≡ true) [ true ↦ refl | false ↦ h ]
 
-all_deliver : (change : ℕ → Option Change) (number from count : ℕ) → from ≤ number → number < from + count → delivered_in (change number) ≡ Some number
+pub all_deliver : (change : ℕ → Option Change) (number from count : ℕ) → from ≤ number → number < from + count → delivered_in (change number) ≡ Some number
     → Delivers number (deliveries_of (filter_map change (range_with_len from count)))
 all_deliver change number from zero low high is = absurd (omega arith)
 all_deliver change number from (suc count) low high is =

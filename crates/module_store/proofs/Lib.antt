@@ -11,3 +11,4 @@ pub mod GoneLaws
 pub mod MapLaws
 pub mod StayingLaws
 pub mod SinceLaws
+pub mod UndeliveredLaws

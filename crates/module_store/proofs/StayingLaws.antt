@@ -93,7 +93,7 @@ untold before now number low none =
     )
 
 -- module numbers have two bytes, and component_tags one
-number_is_low : (number : ℕ) → number < 65536 → number < number_bound
+pub number_is_low : (number : ℕ) → number < 65536 → number < number_bound
 unfolding number_bound
 number_is_low number low = low
 
@@ -201,7 +201,7 @@ start_stays before now same = ap (λ info. let path : Path = record { component 
 -- ---- one more section
 
 -- where no change of the module is told behind a section, it is the same, whether or not the section has a message
-same_behind : MessageLaws → (messages : List Message) (section : List ℕ) (number : ℕ) → change_at messages (messages ++ messages_of (section ∷ [])) number ≡ None
+pub same_behind : MessageLaws → (messages : List Message) (section : List ℕ) (number : ℕ) → change_at messages (messages ++ messages_of (section ∷ [])) number ≡ None
     → IsSameModule messages (messages ++ messages_of (section ∷ [])) number
 same_behind laws messages section number none = by_message (message_of section) none
   where

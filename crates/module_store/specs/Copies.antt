@@ -4,8 +4,10 @@ use Rattle.carousel_blocks.specs.InForce.{size_limit}
 use Rattle.multipart_entities.specs.declared.parts.Part.{Part}
 use Rattle.module_store.specs.Entities.{ArePartsOf}
 
--- the bytes of a module that was held, and whether they are an entity by the Type that it had then
+-- the bytes of a module that was held, whether they are an entity by the Type that it had then, and the number of the
+-- delivery that brought it (of a module that is held there always is one)
 pub record KeptModule : Type 0 where
+  pub number : Option ℕ
   pub is_entity : Bool
   pub bytes : List ℕ
 

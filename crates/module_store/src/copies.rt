@@ -11,9 +11,11 @@ use multipart_entities::Parts;
 use std::alloc::Global;
 use std::marker::Model;
 
-/// The bytes of a module that was held, and whether they are an entity by the Type that it had then. Contracts see both.
+/// The bytes of a module that was held, whether they are an entity by the Type that it had then, and the number of the
+/// delivery that brought it. Contracts see all three.
 #[derive(Drop)]
 pub struct ModuleCopy {
+    number: Option<u64>,
     is_entity: bool,
     bytes: Vec<u8>,
     /// The parts of an entity.
@@ -26,17 +28,26 @@ impl Model for ModuleCopy {
 
     ghost Value = { KeptModule };
 
-    ghost view = { λ c. record { is_entity = c.is_entity; bytes = c.bytes.items } };
+    ghost view = { λ c. record {
+      number = c.number;
+      is_entity = c.is_entity;
+      bytes = c.bytes.items;
+    } };
 
     ghost invariant = { λ c. IsCopy c.is_entity c.bytes.items c.parts };
 }
 
 impl ModuleCopy {
     /// Copies the bytes of a module, at most 1,048,576, and finds the parts of an entity.
-    pub fn new(alloc: Global, is_entity: bool, bytes: &[u8]) -> Result<ModuleCopy, NoMemory>
+    pub fn new(
+        alloc: Global,
+        number: Option<u64>,
+        is_entity: bool,
+        bytes: &[u8],
+    ) -> Result<ModuleCopy, NoMemory>
         requires { length bytes.now ≤ size_limit }
-        ensures { IfOk result
-            (λ made. made ≡ record { is_entity = is_entity; bytes = bytes.now }) }
+        ensures { IfOk result (λ made. made
+            ≡ record { number = number; is_entity = is_entity; bytes = bytes.now }) }
     {
         let parts = if is_entity {
             parts_of(alloc, bytes)?
@@ -46,10 +57,18 @@ impl ModuleCopy {
         let mut copied = Vec::new(alloc);
         copied.extend_from_slice(bytes)?;
         Ok(ModuleCopy {
+            number,
             is_entity,
             bytes: copied,
             parts,
         })
+    }
+
+    /// The number of the delivery that brought the module.
+    pub fn number(&self) -> Option<u64>
+        ensures { result ≡ self.now.number }
+    {
+        self.number
     }
 
     /// Whether the module held an entity.

@@ -1,15 +1,16 @@
 //! The laws of the carousel, and what follows for what is found. Each function is a law: its contract is what it is for,
 //! and it does nothing when it runs.
 
-ghost use Rattle.std.specs.Prelude.{◌≡◌, ◌<◌, ◌^◌, ◌↔◌, ℕ, List, None, false, AllPairs, Contains};
+ghost use Rattle.std.specs.Prelude.{◌≡◌, ◌<◌, ◌^◌, ◌↔◌, ℕ, Bool, List, None, false, AllPairs, Contains};
 ghost use Rattle.multipart_entities.specs.declared.paths.Path.{Path};
 ghost use Rattle.psi_tables.specs.declared.components.Component.{Component};
 ghost use Rattle.psi_tables.specs.Components.{AreApart};
 ghost use Rattle.module_store.specs.Carousels.{MessageLaws};
-ghost use Rattle.module_store.specs.Resources.{look, start_component, start_path};
+ghost use Rattle.module_store.specs.Resources.{look, presence, start_component, start_path};
+ghost use Rattle.module_store.specs.Resources.Presence.{Held};
 ghost use Rattle.module_store.specs.Resources.Resource.{Found};
 ghost use Rattle.module_store.specs.Since.{HasMessagesSince, IsSince, Told, sections_since, stored_behind};
-ghost use Rattle.module_store.specs.Staying.{tells_of, is_gone};
+ghost use Rattle.module_store.specs.Staying.{is_delivered, is_gone, tells_of};
 ghost use Rattle.module_store.specs.Store.{Stored, at_start, changes_by, with_section, gone_by, with_map};
 
 use carousel_blocks::{
@@ -39,6 +40,24 @@ pub fn law_of_found_resources()
         → AllPairs AreApart components → look stored path ≡ Found bytes
         → is_gone path.component path.«module» (gone_by components stored) ≡ false
         → look (with_map components stored) path ≡ Found bytes }
+{
+    law_of_messages();
+}
+
+/// A module that is held behind a section that doesn't deliver it was held before, with the same bytes, as an entity or as one
+/// resource. So was one that is held behind another component map.
+pub fn law_of_undelivered_modules()
+    ensures sections { (stored : Stored) (component : ℕ) (section : List ℕ)
+        (its_component number : ℕ) (is_entity : Bool) (bytes : List ℕ) → number < 2 ^ 16
+        → presence (with_section component section stored) its_component number
+        ≡ Held is_entity bytes
+        → (component ≡ its_component
+        → is_delivered number (changes_by component section stored) ≡ false)
+        → presence stored its_component number ≡ Held is_entity bytes }
+    ensures maps { (stored : Stored) (components : List Component)
+        (its_component number : ℕ) (is_entity : Bool) (bytes : List ℕ)
+        → presence (with_map components stored) its_component number ≡ Held is_entity bytes
+        → presence stored its_component number ≡ Held is_entity bytes }
 {
     law_of_messages();
 }

@@ -21,7 +21,10 @@ mod staging;
 mod store;
 
 pub use crate::copies::ModuleCopy;
-pub use crate::laws::{law_of_component_messages, law_of_found_resources, law_of_start_paths};
+pub use crate::laws::{
+    law_of_component_messages, law_of_found_resources, law_of_start_paths,
+    law_of_undelivered_modules,
+};
 pub use crate::lines::push_change_line;
 pub use crate::resources::{Look, ModulePresence};
 pub use crate::store::Store;
