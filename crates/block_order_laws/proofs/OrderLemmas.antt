@@ -10,7 +10,7 @@ use Rattle.module_store.specs.Resources.{Waiting, presence}
 use Rattle.module_store.specs.Store.{held_in, messages_of_component}
 use Rattle.module_locks.specs.Locks.{Modules, changes_by, look_up, start_path, with_section}
 use Rattle.carousel_laws.specs.Freedom.{OnlyRepeat, Repeats}
-use Rattle.carousel_laws.specs.Services.{IsDelivery, modules_after}
+use Rattle.carousel_laws.specs.Services.{IsDelivery, KeepTheSame, modules_after}
 use Rattle.page.specs.Dispatches as dispatches
 use Rattle.page.specs.State as page
 use Rattle.receiver_core.specs.Outputs.{Piece, piece_of, pieces_of_turns, state_behind_turns, texts_of}
@@ -37,7 +37,7 @@ pub record SettledLaws : Type 0 where
 
 pub record AlikeLaws : Type 0 where
   pub locks : (modules : Modules) (tag : ℕ) (messages : List Message) (dii : Dii) (first second : List (List ℕ)) → messages_of_component modules.stored tag ≡ Some messages
-      → Repeats messages dii first second → (modules_after modules tag first).locks ≡ (modules_after modules tag second).locks
+      → Repeats messages dii first second → KeepTheSame (modules_after modules tag first).locks (modules_after modules tag second).locks
   pub looks : (modules : Modules) (tag : ℕ) (messages : List Message) (dii : Dii) (first second : List (List ℕ)) (path : Path) → messages_of_component modules.stored tag ≡ Some messages
       → Repeats messages dii first second → look_up (modules_after modules tag first) path ≡ look_up (modules_after modules tag second) path
   pub start : (modules : Modules) (tag : ℕ) (messages : List Message) (dii : Dii) (first second : List (List ℕ)) → messages_of_component modules.stored tag ≡ Some messages

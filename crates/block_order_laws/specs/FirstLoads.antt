@@ -11,6 +11,7 @@ use Rattle.module_store.specs.Lines.{line_with}
 use Rattle.module_store.specs.Resources.{presence}
 use Rattle.module_store.specs.Store.{held_in, messages_of_component}
 use Rattle.module_locks.specs.Locks.{Modules, look_up, start_path}
+use Rattle.carousel_laws.specs.Services.{KeepTheSame}
 use Rattle.page.specs.Dispatches.{dispatch}
 use Rattle.page.specs.State as page
 use Rattle.receiver_core.specs.Outputs.{pieces_of_turns, state_behind_turns, texts_of}
@@ -74,10 +75,10 @@ pub record ComesToLoad (pid tag : ℕ) (sections : List (List ℕ)) (s : State) 
 
 -- ---- the two lists
 
--- The same locks stand and keep the same, the same is held, announced or absent, under each path the same is found, and
--- the start document has the same path.
+-- The same locks stand and keep the same, but for the numbers of the deliveries that brought it. The same is held,
+-- announced or absent, under each path the same is found, and the start document has the same path.
 pub record OfferTheSame (one other : Modules) : Type 0 where
-  pub locks : one.locks ≡ other.locks
+  pub locks : KeepTheSame one.locks other.locks
   pub held : (component number : ℕ)
       → held_in one.stored component number ≡ held_in other.stored component number
   pub presence : (component number : ℕ)
@@ -85,8 +86,8 @@ pub record OfferTheSame (one other : Modules) : Type 0 where
   pub looks : (path : Path) → look_up one path ≡ look_up other path
   pub start : start_path one ≡ start_path other
 
--- The states agree in all but the packets and the sections that came: in the service and the component map, in all parts
--- of the page but its modules, and in all that these offer.
+-- The states agree in all but the packets and the sections that came and the numbers of deliveries: in the service and the
+-- component map, in all parts of the page but its modules, and in all that these offer.
 pub record Agree (one other : State) : Type 0 where
   pub services : services one ≡ services other
   pub page : page.with_modules other.page.modules one.page ≡ other.page

@@ -15,8 +15,8 @@ use psi_tables::law_of_unread_sections;
 /// dispatch. Let sections of a component repeat the DII in force or bring blocks, in two lists that
 /// bring the same blocks, with one reading. Then both lists have a section whose turn makes a
 /// dispatch, or neither has. Where both have, the first dispatch is the same load. Where neither
-/// has, the states after them agree in all but the packets and sections that came. Until then lines
-/// `module` are printed, and nothing else.
+/// has, the states after them agree in all but the packets and sections that came and the numbers
+/// of deliveries. Until then lines `module` are printed, and nothing else.
 pub fn law_of_first_loads()
     ensures { (s : State) (pid tag : ℕ) (messages : List Message) (dii : Dii)
         (first second : List (List ℕ)) → AwaitsDocument s pid tag messages

@@ -7,9 +7,9 @@
 //! load: from the same path, of the same bytes, and with the same bytes for each of its needs. So
 //! the same document is read, or it is refused for the same fault. Until then lines `module` are
 //! printed, and nothing else. Where none is, the receiver is in the same state after both lists, but
-//! for the packets and sections that came. [`law_of_first_loads`] says so of the steps of a
-//! receiver, and by its contract each `Receiver` makes these steps. `specs/FirstLoads.antt` has the
-//! words.
+//! for the packets and sections that came and the numbers of deliveries. [`law_of_first_loads`] says
+//! so of the steps of a receiver, and by its contract each `Receiver` makes these steps.
+//! `specs/FirstLoads.antt` has the words.
 //!
 //! Nothing is said of what comes after the first load: its scripts see which modules are there by
 //! then.

@@ -14,7 +14,7 @@ ghost use Rattle.module_store.specs.Store.{Stored, held_in, messages_of_componen
 ghost use Rattle.module_locks.specs.Locks.{Modules, changes_by, look_up, with_section};
 ghost use Rattle.module_locks.specs.Locks as modules_of;
 ghost use Rattle.carousel_laws.specs.Freedom.{OnlyRepeat, Repeats};
-ghost use Rattle.carousel_laws.specs.Services.{IsDelivery, modules_after};
+ghost use Rattle.carousel_laws.specs.Services.{IsDelivery, KeepTheSame, modules_after};
 ghost use Rattle.carousel_laws.specs.Stores.{stored_after};
 
 use carousel_blocks::{
@@ -112,14 +112,16 @@ pub fn law_of_settled_paths()
 }
 
 /// The law of same stores with the locks on modules: after both lists the same locks stand, and
-/// keep the same; under each path a look-up finds the same; the start document has the same path;
-/// and each module is absent, announced or held alike.
+/// keep the same but for the numbers of the deliveries that brought it; under each path a look-up
+/// finds the same; the start document has the same path; and each module is absent, announced or
+/// held alike.
 pub fn law_of_same_services()
     ensures locks { (modules : Modules) (tag : ℕ) (messages : List Message) (dii : Dii)
         (first second : List (List ℕ))
         → messages_of_component modules.stored tag ≡ Some messages
         → Repeats messages dii first second
-        → (modules_after modules tag first).locks ≡ (modules_after modules tag second).locks }
+        → KeepTheSame (modules_after modules tag first).locks
+        (modules_after modules tag second).locks }
     ensures looks { (modules : Modules) (tag : ℕ) (messages : List Message) (dii : Dii)
         (first second : List (List ℕ)) (path : Path)
         → messages_of_component modules.stored tag ≡ Some messages

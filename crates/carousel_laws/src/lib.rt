@@ -5,9 +5,10 @@
 //! stay in force, and let two lists of sections bring the same blocks, in whatever order and
 //! however often; `specs/Freedom.antt` says when they do. Then the same modules are held after
 //! both, with the same bytes ([`law_of_carousel_freedom`]), and a store finds the same
-//! ([`law_of_same_stores`]). The locks on modules are the same too, and what each of them keeps
-//! ([`law_of_same_services`]). Until then each section brings a module or nothing, and what is found
-//! or missing stays so ([`law_of_settled_paths`]). A module is held as soon as a block completes it
+//! ([`law_of_same_stores`]). The locks on modules are the same too, and what each of them keeps, but
+//! for the numbers of the deliveries that brought it ([`law_of_same_services`]). Until then each
+//! section brings a module or nothing, and what is found or missing stays so
+//! ([`law_of_settled_paths`]). A module is held as soon as a block completes it
 //! ([`law_of_completing_blocks`]).
 #![tactic(auto)]
 
