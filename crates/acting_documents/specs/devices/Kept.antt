@@ -6,6 +6,7 @@ use Rattle.module_locks.specs.Standing.{ModulesState}
 use Rattle.multipart_entities.specs.declared.paths.Path.{Path}
 use Rattle.style_reader.specs.declared.rules.Rule.{Rule}
 use Rattle.style_cascade.specs.StyledTrees.{StyledTree}
+use Rattle.display_list.specs.Bodies.{body_of}
 use Rattle.es_values.specs.declared.values.Value.{Value}
 use Rattle.es_values.specs.Objects.{ObjectState}
 use Rattle.es_reader.specs.Programs.{Tells, ToldProgram}
@@ -16,7 +17,7 @@ use Rattle.event_queue.specs.declared.events.Event.{Event}
 use Rattle.document_load.specs.Scripts.{HandlerState, unnamed_places}
 use Rattle.browser_objects.specs.Calls.{BrowserParts}
 use Rattle.document_stages.specs.Stages.{StageState}
-use Rattle.acting_documents.specs.Documents.{Document, body_of, first_tree}
+use Rattle.acting_documents.specs.Documents.{Document, first_tree}
 use Rattle.acting_documents.specs.Runs.{no_event}
 
 -- the document with what is told of its programs, which node is its body, how many values its styles worked out,

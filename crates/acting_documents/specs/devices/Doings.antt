@@ -1,7 +1,7 @@
 -- A device of the proofs: what calls do to a document that acts, whatever document is kept.
 use Rattle.std.specs.Prelude.{◌≡◌, ◌++◌, List, ℕ}
 use Rattle.module_locks.specs.Standing.{ModulesState, StandsFor}
-use Rattle.acting_documents.specs.Kept.{IsDocument, KeptDocument}
+use Rattle.acting_documents.specs.devices.Kept.{IsDocument, KeptDocument}
 use Rattle.acting_documents.specs.Runs.{Effect, Scene}
 
 -- what is kept and lent is the document, with what it acts on
