@@ -3,10 +3,18 @@ use Rattle.std.specs.Prelude.{◌≡◌, ◌++◌, ℕ, List, Option, Some, None
 use Rattle.module_locks.specs.Standing.{ModulesState, StandsFor}
 use Rattle.multipart_entities.specs.declared.paths.Path.{Path}
 use Rattle.browser_objects.specs.Calls.{BrowserParts}
-use Rattle.acting_documents.specs.Beginnings.{unload_effect}
-use Rattle.acting_documents.specs.Doings.{Does, IsScene}
-use Rattle.acting_documents.specs.Kept.{IsDocument, KeptDocument}
+use Rattle.acting_documents.specs.Beginnings.{load_effect, unload_effect}
+use Rattle.acting_documents.specs.Handling.{handled}
+use Rattle.acting_documents.specs.devices.Doings.{Does, IsScene}
+use Rattle.acting_documents.specs.devices.Kept.{IsDocument, KeptDocument}
 use Rattle.acting_documents.specs.Runs.{Effect, Scene}
+use Rattle.page.specs.declared.acts.Task.{Task}
+use Rattle.page.specs.declared.acts.Task.TheVariants.{Begin, Handle}
+
+-- what a document does in a dispatch
+abbrev pub task_effect : Task → Scene → Effect
+task_effect Begin s = load_effect s
+task_effect (Handle event) s = handled event s
 
 -- What a document is lent, and gives back: what belongs to the receiver, with the timers, and the modules.
 pub record Lent : Type 0 where

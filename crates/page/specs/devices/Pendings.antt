@@ -10,10 +10,10 @@ use Rattle.module_locks.specs.Standing.{ForModules, ModulesState}
 use Rattle.es_reader.specs.Readers.{Reader, IsReader}
 use Rattle.document_load.specs.Drafts.{DraftState}
 use Rattle.document_load.specs.Scripts.{bad_numbers, sources_of}
-use Rattle.acting_documents.specs.Kept.{IsDocument, KeptDocument}
+use Rattle.acting_documents.specs.devices.Kept.{IsDocument, KeptDocument}
 use Rattle.page.specs.Lines.{load_lines, refuse_line}
 use Rattle.page.specs.Loading.{are_settled, loadable_reading, opened, wanted_path}
-use Rattle.page.specs.PendingStates.{IsFound, IsStartPath}
+use Rattle.page.specs.devices.PendingStates.{IsFound, IsStartPath}
 use Rattle.page.specs.State.{Wanted}
 use Rattle.page.specs.State.Wanted.{StartDocument, DocumentAt, NoDocument}
 use Rattle.page.specs.declared.loading.Load.{Load}
