@@ -1,9 +1,8 @@
 -- The body of a document: it is an element, and what scripts do leaves it where it is.
-use Rattle.std.proofs.Common.{◌≡◌, ℕ, zero, suc, ◌+◌, ◌<◌, Bool, true, false, List, [], ◌∷◌, length, drop, Option, Some, None, refl, sym, ap, ◌∙◌, subst, add-one, arith}
-use Rattle.std.specs.Prelude.{codes, if◌then◌else◌, IsSome}
+use Rattle.std.proofs.Common.{◌≡◌, ℕ, zero, suc, ◌+◌, Bool, true, false, List, [], ◌∷◌, Option, Some, None, refl, sym, ap, ◌∙◌, subst, arith}
+use Rattle.std.specs.Prelude.{if◌then◌else◌, IsSome}
 use Rattle.std.specs.Option.{option_map_or}
-use Rattle.bml_bytes.specs.Words.{is_same}
-use Rattle.dom_tree.specs.Items.{Content, Item, IsElement, changed_at, put_text, put_value, tag_in, tag_of, with_attribute, with_text}
+use Rattle.dom_tree.specs.Items.{Content, Item, IsElement, changed_at, put_text, put_value, tag_in, with_attribute, with_text}
 use Rattle.dom_tree.specs.Items.Content.{Element, Text}
 use Rattle.dom_tree.specs.Walks.{first, places_from}
 use Rattle.dom_tree.specs.declared.node_ids.NodeId.{NodeId}
