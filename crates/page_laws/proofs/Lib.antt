@@ -26,3 +26,7 @@ pub mod DueLemmas
 pub mod LaterPageLemmas
 pub mod TickLemmas
 pub mod RepeatLemmas
+pub mod CountLemmas
+pub mod CountedActingLemmas
+pub mod CountedSceneLemmas
+pub mod CountedPageLemmas

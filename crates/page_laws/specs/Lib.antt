@@ -1,3 +1,4 @@
 pub mod Soundness
 pub mod Turns
 pub mod Times
+pub mod Counts
