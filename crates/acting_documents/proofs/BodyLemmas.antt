@@ -1,48 +1,30 @@
--- The body of a document: where it is found among the nodes, and that what scripts do leaves it there.
-use Rattle.std.proofs.Common.{◌≡◌, ℕ, zero, suc, ◌+◌, ◌<◌, Bool, true, false, List, [], ◌∷◌, length, drop, Option, Some, None, refl, sym, ap, ◌∙◌, subst, add-one, arith}
-use Rattle.std.specs.Prelude.{codes, if◌then◌else◌, IsSome}
+-- The body of a document: it is an element, and what scripts do leaves it where it is.
+use Rattle.std.proofs.Common.{◌≡◌, ℕ, zero, suc, ◌+◌, Bool, true, false, List, [], ◌∷◌, Option, Some, None, refl, sym, ap, ◌∙◌, subst, arith}
+use Rattle.std.specs.Prelude.{if◌then◌else◌, IsSome}
 use Rattle.std.specs.Option.{option_map_or}
-use Rattle.bml_bytes.specs.Words.{is_same}
-use Rattle.dom_tree.specs.Items.{Content, Item, IsElement, changed_at, put_text, put_value, tag_in, tag_of, with_attribute, with_text}
+use Rattle.dom_tree.specs.Items.{Content, Item, IsElement, changed_at, put_text, put_value, tag_in, with_attribute, with_text}
 use Rattle.dom_tree.specs.Items.Content.{Element, Text}
 use Rattle.dom_tree.specs.Walks.{first, places_from}
 use Rattle.dom_tree.specs.declared.node_ids.NodeId.{NodeId}
 use Rattle.dom_objects.specs.Writes.{Change, changed_items}
 use Rattle.dom_objects.specs.Writes.Change.{NoChange, ChangesText, ChangesAttribute, ChangesStyle}
-use Rattle.acting_documents.specs.Documents.{body_of, is_body}
-
-abbrev pub is_body_tag : Option (List ℕ) → Bool
-is_body_tag tag = option_map_or (λ t. is_same t (codes "body")) tag false
+use Rattle.display_list.specs.Bodies.{body_of, is_body, is_body_tag}
 
 -- ---- where it is found
 
-abbrev pub body_from : ℕ → List Item → Option ℕ
+abbrev body_from : ℕ → List Item → Option ℕ
 body_from place items = first (places_from is_body place items)
 
 one_more : (b : Bool) (place : ℕ) (more : List ℕ) → first (if b then place ∷ more else more) ≡ (if b then Some place else first more)
 one_more true place more = refl
 one_more false place more = refl
 
-body_at : (items : List Item) (n place : ℕ) → n < length items → body_from place (drop n items) ≡ (if is_body_tag (tag_of items n) then Some place else body_from (place + 1) (drop (suc n) items))
-body_at [] n place h = absurd (omega (arith, h))
-body_at (x ∷ xs) zero place h = one_more (is_body x) place (places_from is_body (place + 1) xs)
-body_at (x ∷ xs) (suc n) place h = body_at xs n place (omega (arith, h))
-
-pub body-here : (items : List Item) (n : ℕ) → n < length items → is_body_tag (tag_of items n) ≡ true → body_from n (drop n items) ≡ Some n
-body-here items n h e = body_at items n n h ∙ ap (λ (b : Bool). if b then Some n else body_from (n + 1) (drop (suc n) items)) e
-
-pub body-later : (items : List Item) (n : ℕ) → n < length items → is_body_tag (tag_of items n) ≡ false → body_from n (drop n items) ≡ body_from (n + 1) (drop (n + 1) items)
-body-later items n h e =
-    body_at items n n h ∙ (ap (λ (b : Bool). if b then Some n else body_from (n + 1) (drop (suc n) items)) e
-    ∙ ap (λ (m : ℕ). body_from (n + 1) (drop m items)) (sym (add-one n)))
-
-pub body-start : (items : List Item) → body_from 0 (drop 0 items) ≡ body_of items
-unfolding body_of
-body-start items = refl
-
 -- ---- it is an element
 
-tagged : (tag : Option (List ℕ)) → is_body_tag tag ≡ true → IsSome tag
+abbrev is_tagged : Option (List ℕ) → Bool
+is_tagged tag = option_map_or is_body_tag tag false
+
+tagged : (tag : Option (List ℕ)) → is_tagged tag ≡ true → IsSome tag
 tagged None e = cc
 tagged (Some tag) e = refl
 
@@ -85,6 +67,6 @@ attribute_keeps name value (Text old) = refl
 pub body-changed : (change : Change) (items : List Item) → body_of (changed_items change items) ≡ body_of items
 unfolding body_of
 body-changed NoChange items = refl
-body-changed (ChangesText node text) items = ap first (kept_places (with_text text) (λ item. ap is_body_tag (text_keeps text item.content)) items node 0)
-body-changed (ChangesAttribute node name value) items = ap first (kept_places (with_attribute name value) (λ item. ap is_body_tag (attribute_keeps name value item.content)) items node 0)
+body-changed (ChangesText node text) items = ap first (kept_places (with_text text) (λ item. ap is_tagged (text_keeps text item.content)) items node 0)
+body-changed (ChangesAttribute node name value) items = ap first (kept_places (with_attribute name value) (λ item. ap is_tagged (attribute_keeps name value item.content)) items node 0)
 body-changed (ChangesStyle node state property value) items = refl

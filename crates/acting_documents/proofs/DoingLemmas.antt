@@ -31,11 +31,16 @@ use Rattle.event_queue.specs.declared.events.Event.TheVariants as events
 use Rattle.document_load.specs.Scripts.{HandlerState, unnamed_places}
 use Rattle.browser_objects.specs.Calls.{BrowserParts}
 use Rattle.dom_objects.specs.declared.current_events.CurrentEvent.{CurrentEvent}
-use Rattle.document_stages.specs.Acting.{Acting, key_posts}
-use Rattle.acting_documents.specs.Handling.{key_effect, kind_of, run_handler, timer_effect, timer_taken}
-use Rattle.acting_documents.specs.Documents.{Document, body_of, handler_in, passes}
-use Rattle.acting_documents.specs.Doings.{Changes, Does, DoesApart, HasDone, IsScene, lent_modules}
-use Rattle.acting_documents.specs.Kept.{IsDocument, KeptDocument}
+use Rattle.document_stages.specs.Acting.{Acting, change_posts, due_posted, key_posts, message_posts}
+use Rattle.acting_documents.specs.Handling.{change_effect, due_effect, key_effect, kind_of, message_effect, run_handler, timer_effect, timer_taken}
+use Rattle.display_list.specs.Bodies.{body_of}
+use Rattle.acting_documents.specs.Documents.{Document, handler_in, passes}
+use Rattle.acting_documents.specs.devices.Doings.{Changes, Does, DoesApart, HasDone, IsScene, lent_modules}
+use Rattle.acting_documents.specs.devices.Kept.{IsDocument, KeptDocument}
+use Rattle.acting_documents.specs.Notices.{notice_effect}
+use Rattle.acting_documents.specs.devices.Posting.{post_effect, posted_by, takes}
+use Rattle.acting_documents.specs.declared.notices.Notice.{Notice}
+use Rattle.acting_documents.specs.declared.notices.Notice.TheVariants as notices
 use Rattle.acting_documents.specs.Beginnings.{run_scripts, script_places}
 use Rattle.acting_documents.specs.Runs.{Effect, End, Scene, acting_in, and_then, done, effect_behind, effect_of_end, ended, hosted_in, most_steps, no_event, nothing_done, run_function, run_program, unless_launched}
 use Rattle.document_stages.specs.Calling.{HasCalled, HasRead, HasWritten}
@@ -48,7 +53,7 @@ use Rattle.focus_keys.specs.KeyTables.{passes_list}
 use Rattle.focus_keys.specs.Targets.{normal_value}
 use Rattle.style_reader.specs.declared.properties.Property.TheVariants.{UsedKeyList}
 use Rattle.acting_documents.proofs.BodyLemmas.{body-element}
-use Rattle.acting_documents.proofs.EndedLemmas.{EndsAs, Stays, ended-stays, ends_as, stays_of}
+use Rattle.acting_documents.proofs.EndedLemmas.{EndsAs, Stays, change_posts-stays, due_posted-stays, ended-stays, ends_as, key_posts-stays, message_posts-stays, stays_of}
 
 -- ---- part by part
 
@@ -481,7 +486,7 @@ gives (Ok x) change old stage first last given modules programs handlers globals
 gives (Err e) change old stage first last given modules programs handlers globals heap body before after is begins becomes keeps left printed = tt
 
 -- whatever modules it is lent
-pub gives_apart : {T E : Type 0} (r : Result T E) (change : Acting → Acting) (old : KeptDocument) (stage first last given : StageState) (modules : ModulesState) (programs : List ToldProgram) (handlers : List HandlerState) (globals : List (List ℕ × Value)) (heap : List ObjectState) (body : Option NodeId) (before after : List ℕ)
+gives_apart : {T E : Type 0} (r : Result T E) (change : Acting → Acting) (old : KeptDocument) (stage first last given : StageState) (modules : ModulesState) (programs : List ToldProgram) (handlers : List HandlerState) (globals : List (List ℕ × Value)) (heap : List ObjectState) (body : Option NodeId) (before after : List ℕ)
     → kept_in stage modules programs handlers globals heap body ≡ old
     → first.acting ≡ record stage.acting { event = no_event; launched = None; text = [] }
     → last.acting ≡ change first.acting
@@ -495,7 +500,7 @@ gives_apart (Ok x) change old stage first last given modules programs handlers g
 gives_apart (Err e) change old stage first last given modules programs handlers globals heap body before after is begins becomes keeps left printed = tt
 
 -- the same at another time
-pub gives_later : {T E : Type 0} (r : Result T E) (moment : ℕ) (change : Acting → Acting) (old : KeptDocument) (stage first last given : StageState) (modules : ModulesState) (programs : List ToldProgram) (handlers : List HandlerState) (globals : List (List ℕ × Value)) (heap : List ObjectState) (body : Option NodeId) (before after : List ℕ)
+gives_later : {T E : Type 0} (r : Result T E) (moment : ℕ) (change : Acting → Acting) (old : KeptDocument) (stage first last given : StageState) (modules : ModulesState) (programs : List ToldProgram) (handlers : List HandlerState) (globals : List (List ℕ × Value)) (heap : List ObjectState) (body : Option NodeId) (before after : List ℕ)
     → kept_in stage modules programs handlers globals heap body ≡ old
     → first.acting ≡ record stage.acting { event = no_event; launched = None; text = [] }
     → last.acting ≡ change (record first.acting { now = moment })
@@ -623,8 +628,36 @@ of_lent modules old d k =
       body = p.body;
     })
 
-pub does_key : (key : ℕ) (down passed : Bool) (old new : KeptDocument) (before after : List ℕ) → ((d : Document) → IsDocument old d → passed ≡ passes key d) → DoesApart (λ s. if passed then done (key_posts down key) s else nothing_done s) old new before after → DoesApart (key_effect key down) old new before after
-unfolding key_effect
-does_key key down passed old new before after is x modules =
-    does_as (λ s. if passed then done (key_posts down key) s else nothing_done s) (key_effect key down) (lent_modules modules old) (lent_modules modules new) before after
-    (λ s k. ap (λ (b : Bool). if b then done (key_posts down key) s else nothing_done s) (sym (is s.document (of_lent modules old s.document k.is)))) (x modules)
+-- ---- what a document is told
+
+-- what is posted of it, behind which the text is given
+pub gives_posted : {T E : Type 0} (r : Result T E) (notice : Notice) (old : KeptDocument) (stage first last given : StageState) (modules : ModulesState) (programs : List ToldProgram) (handlers : List HandlerState) (globals : List (List ℕ × Value)) (heap : List ObjectState) (body : Option NodeId) (before after : List ℕ)
+    → kept_in stage modules programs handlers globals heap body ≡ old
+    → first.acting ≡ record stage.acting { event = no_event; launched = None; text = [] }
+    → last.acting ≡ posted_by notice first.acting
+    → OnOk r (given.acting ≡ record last.acting { text = [] })
+    → OnOk r (after ≡ before ++ last.acting.text)
+    → OnOk r (DoesApart (post_effect notice) old (kept_in given modules programs handlers globals heap body) before after)
+unfolding due_effect
+gives_posted r (notices.Key key down) old stage first last given modules programs handlers globals heap body before after is begins becomes left printed =
+    gives_apart r (key_posts down key) old stage first last given modules programs handlers globals heap body before after is begins becomes (key_posts-stays down key) left printed
+gives_posted r (notices.Message component message) old stage first last given modules programs handlers globals heap body before after is begins becomes left printed =
+    gives_apart r (message_posts component message.now) old stage first last given modules programs handlers globals heap body before after is begins becomes (message_posts-stays component message.now) left printed
+gives_posted r (notices.Change component change) old stage first last given modules programs handlers globals heap body before after is begins becomes left printed =
+    gives_apart r (change_posts component change.now) old stage first last given modules programs handlers globals heap body before after is begins becomes (change_posts-stays component change.now) left printed
+gives_posted r (notices.Moment moment) old stage first last given modules programs handlers globals heap body before after is begins becomes left printed =
+    gives_later r moment (due_posted moment) old stage first last given modules programs handlers globals heap body before after is begins becomes (due_posted-stays moment) left printed
+
+-- it comes to the document or not
+told_or_not : (notice : Notice) (s : Scene) → notice_effect notice s ≡ (if takes notice s.document then post_effect notice s else nothing_done s)
+unfolding key_effect message_effect change_effect
+told_or_not (notices.Key key down) s = refl
+told_or_not (notices.Message component message) s = refl
+told_or_not (notices.Change component change) s = refl
+told_or_not (notices.Moment moment) s = refl
+
+pub does_notice : (notice : Notice) (taken : Bool) (old new : KeptDocument) (before after : List ℕ) → ((d : Document) → IsDocument old d → taken ≡ takes notice d) → DoesApart (λ s. if taken then post_effect notice s else nothing_done s) old new before after
+    → DoesApart (notice_effect notice) old new before after
+does_notice notice taken old new before after is x modules =
+    does_as (λ s. if taken then post_effect notice s else nothing_done s) (notice_effect notice) (lent_modules modules old) (lent_modules modules new) before after
+    (λ s k. told_or_not notice s ∙ ap (λ (b : Bool). if b then post_effect notice s else nothing_done s) (sym (is s.document (of_lent modules old s.document k.is)))) (x modules)

@@ -36,7 +36,7 @@ use Rattle.browser_objects.specs.declared.effects.Effect.TheVariants as effects
 use Rattle.dom_objects.specs.Writes.{change_of}
 use Rattle.document_stages.specs.Acting.{Acting, Answered, acted, acting_with_timers, begun, button_post, button_posts, change_posts, due_posted, each_item, element_call, fired, focus_on, focused, focused_node, gives, has_focus, has_room, is_subscription, is_unload, key_posts, launch, left_by, lock_post, lock_posts, message_post, message_posts, module_post, moved_to, no_focus, node_written, posted, posted_for, posted_where, pressed, read_by, refused, text_written, timer_fired, timer_posted, timer_settled, timers_fired, update_posts, with_browser, with_focus, written}
 use Rattle.document_stages.specs.Hosting.{Hosted, browser_done, called, done_for, lock_answered}
-use Rattle.acting_documents.specs.Documents.{body_of}
+use Rattle.display_list.specs.Bodies.{body_of}
 use Rattle.acting_documents.specs.Runs.{End, ended}
 use Rattle.document_stages.specs.Calling.{HasCalled, HasRead, HasWritten, Replies}
 use Rattle.document_stages.specs.declared.script_hosts.ScriptHost.{ScriptHost}

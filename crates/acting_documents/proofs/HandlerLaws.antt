@@ -11,7 +11,7 @@ use Rattle.document_load.specs.contracts.handler_kinds.HandlerKind.{the_type as 
 use Rattle.document_load.specs.declared.handler_kinds.HandlerKind.{HandlerKind}
 use Rattle.document_load.specs.declared.handler_kinds.HandlerKind.TheVariants as kinds
 use Rattle.acting_documents.specs.Documents.{handler_in, is_handler}
-use Rattle.acting_documents.specs.Handlers.{Adds, IsIndexOf, is_key}
+use Rattle.acting_documents.specs.devices.Handlers.{Adds, IsIndexOf, is_key}
 use Rattle.acting_documents.specs.declared.handlers.HandlerKey.{HandlerKey}
 
 -- ---- tests

@@ -1,10 +1,9 @@
 -- The document of a page while it acts: its nodes and their styles, the focus, the events that wait, and the
 -- world of its scripts (after BML and its scripts, ARIB STD-B24 volume 2, in this project's own profile).
-use Rattle.std.specs.Prelude.{ℕ, ◌==◌, ◌&&◌, Bool, false, List, Option, codes, find, option_map}
+use Rattle.std.specs.Prelude.{ℕ, ◌==◌, ◌&&◌, Bool, false, List, Option, find, option_map}
 use Rattle.std.specs.Option.{option_map_or}
 use Rattle.bml_bytes.specs.Words.{is_same}
-use Rattle.dom_tree.specs.Items.{Item, tag_in}
-use Rattle.dom_tree.specs.Walks.{first, places}
+use Rattle.dom_tree.specs.Items.{Item}
 use Rattle.multipart_entities.specs.declared.paths.Path.{Path}
 use Rattle.style_reader.specs.declared.properties.Property.TheVariants.{UsedKeyList}
 use Rattle.style_reader.specs.declared.rules.Rule.{Rule}
@@ -12,6 +11,7 @@ use Rattle.style_cascade.specs.Cascade.{unwritten}
 use Rattle.style_cascade.specs.StyledTrees.{StyledTree}
 use Rattle.focus_keys.specs.KeyTables.{passes_list}
 use Rattle.focus_keys.specs.Targets.{normal_value}
+use Rattle.display_list.specs.Bodies.{body_of}
 use Rattle.es_values.specs.declared.values.Value.{Value}
 use Rattle.es_values.specs.Objects.{ObjectState}
 use Rattle.es_reader.specs.Statements.{Item as ProgramItem}
@@ -43,14 +43,6 @@ pub record Document : Type 0 where
 abbrev pub first_tree : List Item → List Rule → StyledTree
 first_tree items rules =
     record { items = items; sources = unwritten rules; focus = no_focus }
-
--- the node is an element `body`; tags compare by case
-abbrev pub is_body : Item → Bool
-is_body item = option_map_or (λ tag. is_same tag (codes "body")) (tag_in item.content) false
-
--- the body is the first of them in document order
-unfoldable pub body_of : List Item → Option ℕ
-body_of items = first (places is_body items)
 
 -- the handler is the value of that attribute of the node
 abbrev pub is_handler : ℕ → HandlerKind → HandlerState → Bool

@@ -7,6 +7,7 @@ use Rattle.dom_tree.specs.NodeNumbers.{number_of}
 use Rattle.focus_keys.specs.Defaults.{action_of}
 use Rattle.focus_keys.specs.KeyTables.{key_number}
 use Rattle.focus_keys.specs.declared.keys.Key.TheVariants.{Enter}
+use Rattle.display_list.specs.Bodies.{body_of}
 use Rattle.document_load.specs.declared.handler_kinds.HandlerKind.{HandlerKind}
 use Rattle.document_load.specs.declared.handler_kinds.HandlerKind.TheVariants as kinds
 use Rattle.carousel_blocks.specs.declared.changes.Change.{Change}
@@ -16,7 +17,7 @@ use Rattle.event_queue.specs.declared.events.Event.{Event}
 use Rattle.event_queue.specs.declared.events.Event.TheVariants as events
 use Rattle.event_queue.specs.Timers.{timer_of, with_settled}
 use Rattle.document_stages.specs.Acting.{acted, change_posts, due_posted, key_posts, message_posts, with_timers}
-use Rattle.acting_documents.specs.Documents.{Document, body_of, handler_in, passes}
+use Rattle.acting_documents.specs.Documents.{Document, handler_in, passes}
 use Rattle.acting_documents.specs.Runs.{Effect, Scene, done, nothing_done, run_function, run_program}
 
 -- the kind of the handlers of an event; there is none for `default` and for timers

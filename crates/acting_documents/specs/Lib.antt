@@ -3,6 +3,5 @@ pub mod StopLines
 pub mod Runs
 pub mod Handling
 pub mod Beginnings
-pub mod Kept
-pub mod Handlers
-pub mod Doings
+pub mod Notices
+pub mod devices

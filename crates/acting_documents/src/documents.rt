@@ -6,12 +6,11 @@ ghost use Rattle.document_load.specs.Scripts.{HavePlaces, unnamed_places};
 ghost use Rattle.document_load.specs.ScriptViews.{told_handler};
 ghost use Rattle.es_shapes.specs.Codes.{declared_by};
 ghost use Rattle.event_items.specs.Subscriptions.{first_items};
-ghost use Rattle.dom_tree.specs.NodeNumbers.{number_of};
 ghost use Rattle.module_locks.specs.Standing.{ModulesState};
 ghost use Rattle.acting_documents.specs.Beginnings.{begin as spec_begin, load_effect, run_scripts as spec_run_scripts, script_places, unload_effect, without_waiting};
-ghost use Rattle.acting_documents.specs.Documents.{Document as TheDocument, body_of as spec_body_of, document_lines};
-ghost use Rattle.acting_documents.specs.Doings.{Changes, Does, DoesApart, lent_modules};
-ghost use Rattle.acting_documents.specs.Kept.{IsDocument, kept_first, staged_first};
+ghost use Rattle.acting_documents.specs.Documents.{Document as TheDocument, document_lines};
+ghost use Rattle.acting_documents.specs.devices.Doings.{Changes, Does, DoesApart, lent_modules};
+ghost use Rattle.acting_documents.specs.devices.Kept.{IsDocument, kept_first, staged_first};
 ghost use Rattle.acting_documents.specs.Runs.{nothing_done, run_function as spec_run_function, run_program as spec_run_program};
 
 mod events;
@@ -21,6 +20,7 @@ use crate::handlers::Handlers;
 use crate::stop_lines::push_stop_line;
 use bml_bytes::{NoMemory, Text};
 use browser_objects::BrowserState;
+use display_list::body_of;
 use document_load::{Document, Handler};
 use document_stages::{ScriptHost, Stage};
 use dom_objects::CurrentEvent;
@@ -58,7 +58,7 @@ pub struct ActingDocument {
 
 impl Model for ActingDocument {
     ghost use Rattle.dom_tree.specs.NodeNumbers.{number_of};
-    ghost use Rattle.acting_documents.specs.Kept.{IsActing, KeptDocument};
+    ghost use Rattle.acting_documents.specs.devices.Kept.{IsActing, KeptDocument};
 
     ghost Value = { KeptDocument };
 
@@ -421,19 +421,4 @@ fn stage_with(
             Err(NoMemory)
         }
     }
-}
-
-// The first `body` of a document.
-fn body_of(tree: &Tree) -> Option<NodeId>
-    ensures { number_of result ≡ spec_body_of tree.now }
-{
-    'nodes: for number in 0..tree.node_count() {
-        let node = NodeId(number);
-        if let Some(tag) = tree.tag(node) {
-            if tag.is_word("body") {
-                return Some(node);
-            }
-        }
-    }
-    None
 }

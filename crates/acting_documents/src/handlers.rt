@@ -4,7 +4,7 @@ ghost use Rattle.std.specs.Prelude.{◌≡◌, IfOk, OnOk, map, option_and_then}
 ghost use Rattle.document_load.specs.ScriptViews.{told_handler};
 ghost use Rattle.acting_documents.specs.Documents.{handler_in};
 ghost use Rattle.acting_documents.specs.Handling.{kind_of as spec_kind_of};
-ghost use Rattle.acting_documents.specs.Handlers.{Adds, IsIndexOf};
+ghost use Rattle.acting_documents.specs.devices.Handlers.{Adds, IsIndexOf};
 
 use bml_bytes::NoMemory;
 use document_load::{Handler, HandlerKind};
@@ -33,7 +33,7 @@ impl Model for Handlers {
     ghost use Rattle.std.specs.Prelude.{List, map};
     ghost use Rattle.document_load.specs.Scripts.{HandlerState};
     ghost use Rattle.document_load.specs.ScriptViews.{told_handler};
-    ghost use Rattle.acting_documents.specs.Handlers.{IsIndexOf};
+    ghost use Rattle.acting_documents.specs.devices.Handlers.{IsIndexOf};
 
     ghost Value = { List HandlerState };
 

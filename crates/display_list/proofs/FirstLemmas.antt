@@ -5,7 +5,8 @@ use Rattle.std.specs.Prelude.{slice_get, option_and_then}
 use Rattle.std.specs.Option.{option_map_or}
 use Rattle.dom_tree.specs.Items.{Item, tag_in}
 use Rattle.dom_tree.specs.Walks.{first, places_from}
-use Rattle.display_list.specs.Places.{body_of, has_tag, is_body_tag}
+use Rattle.display_list.specs.Bodies.{body_of, is_body, is_body_tag}
+use Rattle.display_list.specs.Places.{has_tag}
 
 -- the test of the element at a place
 abbrev passes_at : {A : Type 0} → (A → Bool) → List A → ℕ → Bool
@@ -35,7 +36,7 @@ tag-at : (test : List ℕ → Bool) (o : Option Item) → option_map_or (λ (ite
 tag-at test None = refl
 tag-at test (Some item) = refl
 
-has_tag-at : (items : List Item) (node : ℕ) → passes_at (λ (item : Item). option_map_or is_body_tag (tag_in item.content) false) items node ≡ has_tag is_body_tag items node
+has_tag-at : (items : List Item) (node : ℕ) → passes_at is_body items node ≡ has_tag is_body_tag items node
 has_tag-at items node = tag-at is_body_tag (slice_get items node)
 
 -- no node before this one is a `body`
@@ -46,11 +47,11 @@ pub body_of-found : (items : List Item) (node : ℕ) → node < length items →
 unfolding body_of
 body_of-found items node h before e =
     let same : 0 + node ≡ node = omega arith in
-    sym (first-place (λ (item : Item). option_map_or is_body_tag (tag_in item.content) false) 0 items node h (λ j low. has_tag-at items j ∙ before.none j low) (has_tag-at items node ∙ e) ∙ ap Some same)
+    sym (first-place is_body 0 items node h (λ j low. has_tag-at items j ∙ before.none j low) (has_tag-at items node ∙ e) ∙ ap Some same)
 
 pub body_of-none : (items : List Item) → NoneBefore items (length items) → None ≡ body_of items
 unfolding body_of
-body_of-none items before = sym (no-place (λ (item : Item). option_map_or is_body_tag (tag_in item.content) false) 0 items (λ j low. has_tag-at items j ∙ before.none j low))
+body_of-none items before = sym (no-place is_body 0 items (λ j low. has_tag-at items j ∙ before.none j low))
 
 pub NoneBefore-start : (items : List Item) → NoneBefore items 0
 NoneBefore-start items = record { none = λ k low. absurd (omega (arith, low)) }

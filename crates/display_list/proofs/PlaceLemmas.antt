@@ -10,7 +10,8 @@ use Rattle.dom_tree.specs.Items.{Item, parent_of}
 use Rattle.dom_tree.specs.Walks.{path_of, IsTree}
 use Rattle.dom_tree.specs.declared.node_ids.NodeId.{NodeId}
 use Rattle.display_list.specs.Shown.{Shown, no_style, style_at}
-use Rattle.display_list.specs.Places.{ancestors_of, body_of, has_tag, holder_of, is_box_tag, is_inline_tag, is_under_body, offset_of, place_of, total, total_of}
+use Rattle.display_list.specs.Bodies.{body_of}
+use Rattle.display_list.specs.Places.{ancestors_of, has_tag, holder_of, is_box_tag, is_inline_tag, is_under_body, offset_of, place_of, total, total_of}
 use Rattle.display_list.specs.devices.Views.{added_by, holder_inside, node_id, node_place_around, node_place_of, node_place_outside, origin_of, place_in, ArePlaces, IsNear, IsNearPlace}
 use Rattle.display_list.specs.declared.node_styles.NodeStyle.{NodeStyle}
 use Rattle.display_list.specs.declared.places.NodePlace.{NodePlace}

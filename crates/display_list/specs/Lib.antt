@@ -1,3 +1,4 @@
+pub mod Bodies
 pub mod Places
 pub mod Show
 pub mod Shown

@@ -4,16 +4,14 @@ use Rattle.std.specs.Prelude.{ℕ, ◌==◌, Bool, false, not, ◌&&◌, ◌||�
 use Rattle.std.specs.Option.{option_map_or}
 use Rattle.std.specs.List.{list_any, filter, range_with_len}
 use Rattle.bml_bytes.specs.Words.{is_same}
-use Rattle.dom_tree.specs.Items.{Item, parent_of, tag_in, tag_of}
-use Rattle.dom_tree.specs.Walks.{first, places, path_of}
+use Rattle.dom_tree.specs.Items.{Item, parent_of, tag_of}
+use Rattle.dom_tree.specs.Walks.{path_of}
+use Rattle.display_list.specs.Bodies.{body_of, is_body_tag}
 use Rattle.display_list.specs.Shown.{Shown, style_at}
 use Rattle.display_list.specs.declared.node_styles.NodeStyle.{NodeStyle}
 use Rattle.display_list.specs.declared.places.Place.{Place}
 
 -- ---- tags; they compare by case
-
-abbrev pub is_body_tag : List ℕ → Bool
-is_body_tag tag = is_same tag (codes "body")
 
 abbrev pub is_input_tag : List ℕ → Bool
 is_input_tag tag = is_same tag (codes "input")
@@ -39,10 +37,6 @@ abbrev pub has_tag : (List ℕ → Bool) → List Item → ℕ → Bool
 has_tag test items node = option_map_or test (tag_of items node) false
 
 -- ---- which are drawn
-
--- the first `body` in document order
-unfoldable pub body_of : List Item → Option ℕ
-body_of items = first (places (λ item. option_map_or is_body_tag (tag_in item.content) false) items)
 
 -- the node is the body or stands under it, at any depth
 unfoldable pub is_under_body : List Item → ℕ → Bool

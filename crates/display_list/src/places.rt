@@ -5,11 +5,12 @@ ghost use Rattle.std.specs.Option.{option_map_or};
 ghost use Rattle.dom_tree.specs.Items.{parent_of};
 ghost use Rattle.dom_tree.specs.NodeNumbers.{number_of};
 ghost use Rattle.dom_tree.specs.Walks.{IsTree};
-ghost use Rattle.display_list.specs.Places.{body_of};
+ghost use Rattle.display_list.specs.Bodies.{body_of as spec_body_of};
 ghost use Rattle.display_list.specs.devices.Views.{added_by, holder_inside, node_place_of, node_place_outside, place_in, shown_in, ArePlaces, IsNearPlace};
 
+use crate::bodies::body_of;
 use crate::node_styles::NodeStyle;
-use crate::tags::{is_body, is_box, is_inline};
+use crate::tags::{is_box, is_inline};
 use bml_bytes::NoMemory;
 use dom_tree::{NodeId, Tree, law_of_paths};
 use std::alloc::Global;
@@ -45,7 +46,7 @@ pub fn node_places_of(
     ensures places { IfOk result
         (λ places. ArePlaces (shown_in tree.now styles.now) (length tree.now) places.items) }
 {
-    let body = first_body(tree);
+    let body = body_of(tree);
     let count = tree.node_count();
     let mut places = Vec::with_capacity(alloc, count as usize)?;
     'nodes: for number in 0..count {
@@ -67,7 +68,7 @@ impl NodePlace {
         requires node { node.0 < length tree.now }
         requires tree { IsTree tree.now }
         requires styles { length styles.now ≡ length tree.now }
-        requires body { number_of body ≡ body_of tree.now }
+        requires body { number_of body ≡ spec_body_of tree.now }
         requires before { ArePlaces (shown_in tree.now styles.now) node.0 before.now }
         ensures place { result ≡ node_place_of (shown_in tree.now styles.now) node.0 }
         ensures near { IsNearPlace node.0 result }
@@ -135,19 +136,6 @@ fn offset(tree: &Tree, node: NodeId, style: NodeStyle) -> (i16, i16)
     } else {
         (0, 0)
     }
-}
-
-// The first `body` in document order.
-fn first_body(tree: &Tree) -> Option<NodeId>
-    ensures { number_of result ≡ body_of tree.now }
-{
-    'nodes: for number in 0..tree.node_count() {
-        let node = NodeId(number);
-        if is_body(tree, node) {
-            return Some(node);
-        }
-    }
-    None
 }
 
 // Whether it is this node.

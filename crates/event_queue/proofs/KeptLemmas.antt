@@ -8,7 +8,7 @@ use Rattle.std.proofs.lemmas.Bool.{false≢true, leb-true, ltb-false}
 use Rattle.std.proofs.lemmas.Option.{none-some}
 use Rattle.std.proofs.lemmas.List.Sums.{fails_before_first}
 use Rattle.std.proofs.lemmas.List.Quantifiers.{position-Some}
-use Rattle.event_queue.specs.Timers.{Timer, goes_on, is_due, is_firing, least_moment, lesser, replaced, settled, settled_or_ended}
+use Rattle.event_queue.specs.Timers.{Timer, goes_on, is_due, is_firing, least_moment, lesser, replaced, after_settling, left_after_settling}
 use Rattle.event_queue.specs.devices.KeptTimers.{AreKept, IsChanged, seen}
 use Rattle.event_queue.specs.declared.timers.KeptTimer.{KeptTimer}
 
@@ -146,36 +146,36 @@ changed-at test change xs ys place f ch =
     ∙ sym (f.replaced_is (λ timer. change timer ∷ []))
 
 pub goes-on-at : (test : Timer → Bool) (xs ys : List KeptTimer) (place : ℕ)
-    → IsFirst test xs place blank → IsChanged settled place xs ys
-    → goes_on (settled (seen (get_or xs place blank))) ≡ true
-    → map seen ys ≡ replaced test settled_or_ended (map seen xs)
+    → IsFirst test xs place blank → IsChanged after_settling place xs ys
+    → goes_on (after_settling (seen (get_or xs place blank))) ≡ true
+    → map seen ys ≡ replaced test left_after_settling (map seen xs)
 goes-on-at test xs ys place f ch on =
     ap (map seen) ch.new_is
     ∙ set-seen xs place ch.timer f.below
     ∙ ap (λ timer. map seen (take place xs) ++ (timer ∷ map seen (drop (suc place) xs)))
     (ch.seen_is blank)
-    ∙ sym (f.replaced_is settled_or_ended ∙ made)
+    ∙ sym (f.replaced_is left_after_settling ∙ made)
   where
     made : map seen (take place xs)
-        ++ (settled_or_ended (seen (get_or xs place blank)) ++ map seen (drop (suc place) xs))
+        ++ (left_after_settling (seen (get_or xs place blank)) ++ map seen (drop (suc place) xs))
         ≡ map seen (take place xs)
-        ++ (settled (seen (get_or xs place blank)) ∷ map seen (drop (suc place) xs))
+        ++ (after_settling (seen (get_or xs place blank)) ∷ map seen (drop (suc place) xs))
     made = rw on refl
 
 pub ends-at : (test : Timer → Bool) (xs ys : List KeptTimer) (place : ℕ)
-    → IsFirst test xs place blank → IsChanged settled place xs ys
-    → goes_on (settled (seen (get_or xs place blank))) ≡ false
+    → IsFirst test xs place blank → IsChanged after_settling place xs ys
+    → goes_on (after_settling (seen (get_or xs place blank))) ≡ false
     → map seen (take place ys ++ drop (suc place) ys)
-    ≡ replaced test settled_or_ended (map seen xs)
+    ≡ replaced test left_after_settling (map seen xs)
 ends-at test xs ys place f ch off =
     ap (map seen)
     (ap₂ (λ a b. a ++ b) (ap (take place) ch.new_is ∙ take-set xs place ch.timer)
     (ap (drop (suc place)) ch.new_is ∙ drop-set-lt (suc place) xs place ch.timer (omega arith)))
     ∙ map-append seen (take place xs) (drop (suc place) xs)
-    ∙ sym (f.replaced_is settled_or_ended ∙ made)
+    ∙ sym (f.replaced_is left_after_settling ∙ made)
   where
     made : map seen (take place xs)
-        ++ (settled_or_ended (seen (get_or xs place blank)) ++ map seen (drop (suc place) xs))
+        ++ (left_after_settling (seen (get_or xs place blank)) ++ map seen (drop (suc place) xs))
         ≡ map seen (take place xs) ++ map seen (drop (suc place) xs)
     made = rw off refl
 

@@ -67,8 +67,8 @@ abbrev pub most_out : ℕ
 most_out = 2 ^ 32 - 1
 
 -- once it has fired its next moment is one interval after the one that was due, and one more event is out
-abbrev pub fired : Timer → Timer
-fired timer =
+abbrev pub after_firing : Timer → Timer
+after_firing timer =
     record timer {
       moment = timer.moment + timer.interval;
       left = option_map (λ left. left - 1) timer.left;
@@ -76,8 +76,8 @@ fired timer =
     }
 
 -- one of its events was dispatched, or was lost
-abbrev pub settled : Timer → Timer
-settled timer = record timer { out = timer.out - 1 }
+abbrev pub after_settling : Timer → Timer
+after_settling timer = record timer { out = timer.out - 1 }
 
 -- it goes on: a firing is left, or an event of it is out
 abbrev pub goes_on : Timer → Bool
@@ -110,15 +110,15 @@ without_timer number s =
 -- the first timer that is due has fired
 abbrev pub with_fired : ℕ → TimersState → TimersState
 with_fired moment s =
-    record s { timers = replaced (is_due moment) (λ timer. fired timer ∷ []) s.timers }
+    record s { timers = replaced (is_due moment) (λ timer. after_firing timer ∷ []) s.timers }
 
 -- one event of the timer of a number was dispatched or lost: it ends where it goes on no more
-abbrev pub settled_or_ended : Timer → List Timer
-settled_or_ended timer = if goes_on (settled timer) then settled timer ∷ [] else []
+abbrev pub left_after_settling : Timer → List Timer
+left_after_settling timer = if goes_on (after_settling timer) then after_settling timer ∷ [] else []
 
 abbrev pub with_settled : ℕ → TimersState → TimersState
 with_settled number s =
-    record s { timers = replaced (has_number number) settled_or_ended s.timers }
+    record s { timers = replaced (has_number number) left_after_settling s.timers }
 
 -- the lesser of two moments, of which the second may be absent
 abbrev pub lesser : ℕ → Option ℕ → Option ℕ

@@ -81,6 +81,11 @@ impl Event {
 }
 
 impl Default for Event {
+    ghost use Rattle.std.specs.Prelude.{◌≡◌};
+    ghost use Rattle.event_queue.specs.declared.events.Event.TheVariants.{Load};
+
+    ghost is_default = { λ event. event ≡ Load };
+
     /// What stands in the places of a queue that hold no event yet.
     fn default() -> Event {
         Event::Load

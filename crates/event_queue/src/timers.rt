@@ -1,7 +1,7 @@
 //! The timers of a document.
 
 ghost use Rattle.std.specs.Prelude.{◌≡◌, ◌+◌, ◌<◌, ◌≤◌, ◌^◌, ◌∷◌, [], IsTrue, ◌↔◌, ℕ, true, All, IfSome, IfNone, IsSome, MatchOption, Some, None, length, is_some, map, option_map, position, remove, slice_index_or};
-ghost use Rattle.event_queue.specs.Timers.{TimersState, fired, firings_of, first_due, goes_on as spec_goes_on, has_number, has_place, is_due as spec_is_due, is_firing as spec_is_firing, least_moment, lesser as spec_lesser, no_timers, settled, timer_of, timer_set, with_fired, with_settled, with_timer, without_timer};
+ghost use Rattle.event_queue.specs.Timers.{TimersState, after_firing, firings_of, first_due, goes_on as spec_goes_on, has_number, has_place, is_due as spec_is_due, is_firing as spec_is_firing, least_moment, lesser as spec_lesser, no_timers, after_settling, timer_of, timer_set, with_fired, with_settled, with_timer, without_timer};
 ghost use Rattle.event_queue.specs.devices.KeptTimers.{IsChanged, seen};
 ghost use Rattle.event_queue.specs.declared.timers.KeptTimer.{KeptTimer as KeptTimerSeen};
 
@@ -54,7 +54,7 @@ impl KeptTimer {
     // It fires.
     fn fire(&mut self)
         requires moment { self.old.moment < 2 ^ 62 }
-        ensures fired { seen self.new ≡ fired (seen self.old) }
+        ensures fired { seen self.new ≡ after_firing (seen self.old) }
         ensures function { self.new.function ≡ self.old.function }
     {
         self.moment += u64::from(self.interval);
@@ -66,7 +66,7 @@ impl KeptTimer {
 
     // One of its events was dispatched or lost.
     fn settle(&mut self)
-        ensures settled { seen self.new ≡ settled (seen self.old) }
+        ensures settled { seen self.new ≡ after_settling (seen self.old) }
         ensures function { self.new.function ≡ self.old.function }
     {
         self.out = self.out.saturating_sub(1);
@@ -221,7 +221,7 @@ fn fire_at(timers: &mut ArrayVec<KeptTimer, TIMER_LIMIT>, place: usize) -> u32
         → (slice_index_or timers.old.items place d).moment < 2 ^ 62 }
     ensures number { (d : KeptTimerSeen)
         → result ≡ (slice_index_or timers.old.items place d).number }
-    ensures changed { IsChanged fired place timers.old.items timers.new.items }
+    ensures changed { IsChanged after_firing place timers.old.items timers.new.items }
 {
     let timer = &mut timers.as_mut_slice()[place];
     timer.fire();
@@ -232,8 +232,8 @@ fn fire_at(timers: &mut ArrayVec<KeptTimer, TIMER_LIMIT>, place: usize) -> u32
 fn settle_at(timers: &mut ArrayVec<KeptTimer, TIMER_LIMIT>, place: usize) -> bool
     requires place { place < length timers.old.items }
     ensures goes_on { (d : KeptTimerSeen) → result
-        ≡ spec_goes_on (settled (seen (slice_index_or timers.old.items place d))) }
-    ensures changed { IsChanged settled place timers.old.items timers.new.items }
+        ≡ spec_goes_on (after_settling (seen (slice_index_or timers.old.items place d))) }
+    ensures changed { IsChanged after_settling place timers.old.items timers.new.items }
 {
     let timer = &mut timers.as_mut_slice()[place];
     timer.settle();

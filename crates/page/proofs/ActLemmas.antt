@@ -13,13 +13,16 @@ use Rattle.event_queue.specs.declared.events.Event.TheVariants as events
 use Rattle.event_queue.specs.declared.item_kinds.ItemKind.TheVariants as kinds
 use Rattle.document_stages.specs.Acting.{Acting, acting_with_timers, button_posts, button_post, change_posts, fired, has_room, key_posts, lock_post, lock_posts, message_posts, message_post, module_post, posted, posted_where, pressed, timer_fired, timer_settled, timers_fired, update_posts}
 use Rattle.acting_documents.specs.Handling.{change_effect, due_effect, key_effect, message_effect}
+use Rattle.acting_documents.specs.Notices.{notice_effect}
+use Rattle.acting_documents.specs.declared.notices.Notice.{Notice}
+use Rattle.acting_documents.specs.declared.notices.Notice.TheVariants as notices
 use Rattle.browser_objects.specs.Calls.{BrowserParts}
-use Rattle.acting_documents.specs.Doings.{DoesApart, IsScene, lent_modules}
+use Rattle.acting_documents.specs.devices.Doings.{DoesApart, IsScene, lent_modules}
 use Rattle.acting_documents.specs.Documents.{Document, passes}
-use Rattle.acting_documents.specs.Kept.{IsDocument, KeptDocument}
+use Rattle.acting_documents.specs.devices.Kept.{IsDocument, KeptDocument}
 use Rattle.acting_documents.specs.Runs.{Effect, Scene, acting_in, done, no_event, nothing_done}
 use Rattle.module_locks.specs.Standing.{ModulesState}
-use Rattle.page.specs.Acts.{ActsApart}
+use Rattle.page.specs.devices.Acts.{ActsApart}
 
 -- ---- event items
 
@@ -51,7 +54,7 @@ told_launches component message item a = by (fires_for_message component message
     by true = firing_launches component message item.node a
     by false = refl
 
-pub message_launches : (component : ℕ) (message : Message) (s : Scene) → (message_effect component message s).launched ≡ None
+message_launches : (component : ℕ) (message : Message) (s : Scene) → (message_effect component message s).launched ≡ None
 unfolding message_effect message_posts
 message_launches component message s = items_launch (message_post component message) (told_launches component message) s.document.items.items (acting_in no_event s)
 
@@ -77,7 +80,7 @@ change_posts_launch component change a =
     let updated = update_posts component change.«module» change.status a in
     either_launches change.locked (lock_posts component change.«module» updated) updated (locks_launch component change.«module» updated) ∙ update_launches component change.«module» change.status a
 
-pub change_launches : (component : ℕ) (change : Change) (s : Scene) → (change_effect component change s).launched ≡ None
+change_launches : (component : ℕ) (change : Change) (s : Scene) → (change_effect component change s).launched ≡ None
 unfolding change_effect
 change_launches component change s = change_posts_launch component change (acting_in no_event s)
 
@@ -91,7 +94,7 @@ key_posts_launch : (down : Bool) (key : ℕ) (a : Acting) → (key_posts down ke
 key_posts_launch true key a = either_launches _ (button_posts (pressed key a)) (pressed key a) (button_launches (pressed key a))
 key_posts_launch false key a = refl
 
-pub key_launches : (key : ℕ) (down : Bool) (s : Scene) → (key_effect key down s).launched ≡ None
+key_launches : (key : ℕ) (down : Bool) (s : Scene) → (key_effect key down s).launched ≡ None
 unfolding key_effect
 key_launches key down s = by (passes key s.document)
   where
@@ -120,9 +123,17 @@ all_launch (suc more) moment a = by (first_due moment a.browser.timers) (λ numb
     by None rest = refl
     by (Some number) rest = rest number ∙ fired_launches moment number a
 
-pub due_launches : (moment : ℕ) (s : Scene) → (due_effect moment s).launched ≡ None
+due_launches : (moment : ℕ) (s : Scene) → (due_effect moment s).launched ≡ None
 unfolding due_effect
 due_launches moment s = all_launch most_timers moment (acting_in no_event (record s { now = moment }))
+
+-- ---- what a document is told
+
+pub notice_launches : (notice : Notice) (s : Scene) → (notice_effect notice s).launched ≡ None
+notice_launches (notices.Key key down) s = key_launches key down s
+notice_launches (notices.Message component message) s = message_launches component message.now s
+notice_launches (notices.Change component change) s = change_launches component change.now s
+notice_launches (notices.Moment moment) s = due_launches moment s
 
 -- ---- what is lent
 

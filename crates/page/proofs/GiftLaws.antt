@@ -6,7 +6,7 @@ use Rattle.module_locks.specs.Locks.{Modules}
 use Rattle.module_locks.specs.Standing.{ModulesState, StandsFor}
 use Rattle.document_load.specs.Drafts.{DraftState, with_gift, with_gifts}
 use Rattle.page.specs.Loading.{text_at}
-use Rattle.page.specs.Gifts.{GivesFound, with_found}
+use Rattle.page.specs.devices.Gifts.{GivesFound, with_found}
 
 -- what is given once the first needs had their turn
 pub gifts_below : {A B : Type 0} → (A → Option B) → ℕ → List A → List (Option B)

@@ -19,15 +19,15 @@ use Rattle.module_store.specs.Lines.{line_of_change}
 use Rattle.multipart_entities.specs.declared.paths.Path.{Path}
 use Rattle.acting_documents.specs.Beginnings.{load_effect}
 use Rattle.acting_documents.specs.Documents.{Document, document_lines}
-use Rattle.acting_documents.specs.Doings.{IsScene}
+use Rattle.acting_documents.specs.devices.Doings.{IsScene}
 use Rattle.acting_documents.specs.Handling.{change_effect, due_effect, handled, without_first}
-use Rattle.acting_documents.specs.Kept.{IsDocument, KeptDocument}
+use Rattle.acting_documents.specs.devices.Kept.{IsDocument, KeptDocument}
 use Rattle.acting_documents.specs.Runs.{Effect, Scene}
-use Rattle.page.specs.Acts.{Acts, ActsApart, HasActed, HasStayed, Lent, lent_to}
+use Rattle.page.specs.devices.Acts.{Acts, ActsApart, HasActed, HasStayed, Lent, lent_to}
 use Rattle.page.specs.Dispatches.{dispatch, dispatches, event_in, load_at, most_dispatches, next_and, next_event, next_load, turn}
 use Rattle.page.specs.Inputs.{change_step, display_of, document_step, due_step, with_clock}
 use Rattle.page.specs.Loading.{load, loadable_reading, opened, wanted_path}
-use Rattle.page.specs.Pendings.{Loads, loading_behind, wanted_at, wanted_of}
+use Rattle.page.specs.devices.Pendings.{Loads, loading_behind, wanted_at, wanted_of}
 use Rattle.page.specs.Standing.{AreDocuments, Begins, HasMade, HasMadeAmid, HasMadeOf, IsAlone, Makes, MakesAmid, MakesWith, MayMake, PageState, Posts, StandsAmid, StandsFor, TakesLoad, behind_launch, with_document}
 use Rattle.page.specs.State.{State, Step, Wanted, scene_in, stays_or_goes, step_behind, step_of, still}
 use Rattle.page.specs.State.Wanted.{NoDocument}
@@ -200,42 +200,23 @@ makes_alone step old new before after made = record {
       record { stands = has.stands; text_is = has.text_is };
 }
 
--- what is posted in a document by a call that may find no memory
-pub posted_as : {A E : Type 0} (effect : Scene → Effect) (old page new : PageState) (k document : KeptDocument) (browser : BrowserParts) (before after : List ℕ) (result : Result A E) → page ≡ old → page.document ≡ Some k → page.loading ≡ kept.Nothing
-    → new ≡ with_document document browser page → OnOk result (ActsApart effect page.clock k document page.browser browser before after) → OnOk result (Makes (document_step effect) old new before after)
-posted_as effect old page new k document browser before after (Err fault) view is none same acts = tt
-posted_as effect old page new k document browser before after (Ok done) view is none same acts =
-    subst (λ (p : PageState). Makes (document_step effect) p new before after) view
-    (subst (λ (p : PageState). Makes (document_step effect) page p before after) (sym same)
-    (makes_alone (document_step effect) page (with_document document browser page) before after (document_made effect page k document browser before after is none acts)))
+-- what is done by a call that may find no memory
+pub done_as : {A E : Type 0} (effect : Scene → Effect) (old page new : PageState) (k document : KeptDocument) (browser : BrowserParts) (before after : List ℕ) (result : Result A E) → page ≡ old → page.document ≡ Some k → page.loading ≡ kept.Nothing
+    → new ≡ with_document document browser page → OnOk result (ActsApart effect page.clock k document page.browser browser before after) → OnOk result (MakesAmid (document_step effect) old new before after)
+done_as effect old page new k document browser before after (Err fault) view is none same acts = tt
+done_as effect old page new k document browser before after (Ok done) view is none same acts =
+    subst (λ (p : PageState). MakesAmid (document_step effect) p new before after) view
+    (subst (λ (p : PageState). MakesAmid (document_step effect) page p before after) (sym same)
+    (document_made effect page k document browser before after is none acts))
+
+-- what the document does in a call that spends the page where it found no memory
+pub told_after : {A E : Type 0} (effect : Scene → Effect) (old page now : PageState) (before after : List ℕ) (called result : Result A E) → OnOk called (MakesAmid (document_step effect) old page before after) → result ≡ called → now ≡ with_spent (is_err called) page
+    → OnOk result (Makes (document_step effect) old now before after)
+told_after effect old page now before after (Err fault) result made same spent = makes_after (document_step effect) old page now before after (Err fault) result tt same spent
+told_after effect old page now before after (Ok done) result made same spent =
+    makes_after (document_step effect) old page now before after (Ok done) result (makes_alone (document_step effect) old page before after made) same spent
 
 -- ---- moments
-
-due_without : (moment : ℕ) (s : State) → s.document ≡ None → due_step moment s ≡ still (with_clock moment s)
-due_without moment s e = ap (λ (o : Option Document). option_map_or (λ d. step_of (with_clock moment s) (due_effect moment (scene_in s d))) o (still (with_clock moment s))) e
-
--- without a document the clock moves alone
-pub time_passed : (moment : ℕ) (page : PageState) (before : List ℕ) → page.document ≡ None → Makes (due_step moment) page (record page { clock = moment }) before before
-time_passed moment page before is = record {
-  text = [];
-  printed = sym (append-nil before);
-  makes = λ modules s stands.
-      subst (HasMade (record page { clock = moment }) modules []) (sym (due_without moment s (none_there page s is stands.document))) (record {
-        stands = record {
-          modules_are = stands.modules_are;
-          reader = stands.reader;
-          document = stands.document;
-          wanted = stands.wanted;
-          current = stands.current;
-          clock = refl;
-          browser = stands.browser;
-        };
-        text_is = refl;
-      });
-}
-
-due_with : (moment : ℕ) (s : State) (d : Document) → s.document ≡ Some d → due_step moment s ≡ step_of (with_clock moment s) (due_effect moment (scene_in s d))
-due_with moment s d e = ap (λ (o : Option Document). option_map_or (λ d. step_of (with_clock moment s) (due_effect moment (scene_in s d))) o (still (with_clock moment s))) e
 
 -- the clock moves behind what a document does as it moves before
 clock_moved : (moment : ℕ) (page : PageState) (modules : ModulesState) (text : List ℕ) (s : State) (e : Effect) → HasMadeAmid page modules [] text (step_of s e) → HasMade (record page { clock = moment }) modules text (step_of (with_clock moment s) e)
@@ -267,30 +248,38 @@ clock_moved moment page modules text s e has = by e.launched has
       text_is = has.text_is;
     }
 
--- with a document the clock moves, and its timers post their events
-pub moved : (moment : ℕ) (old page : PageState) (k new : KeptDocument) (browser : BrowserParts) (before after : List ℕ) → page ≡ old → page.document ≡ Some k → page.loading ≡ kept.Nothing → ActsApart (due_effect moment) page.clock k new page.browser browser before after
-    → Makes (due_step moment) old (record (with_document new browser page) { clock = moment }) before after
-moved moment old page k new browser before after view is none acts =
-    subst (λ (p : PageState). Makes (due_step moment) p (record (with_document new browser page) { clock = moment }) before after) view (record {
-      text = (acts k.modules).text;
-      printed = (acts k.modules).printed;
-      makes = λ modules s stands.
-          let there = document_there page s k is stands.document in
-          let has = stayed_apart (due_effect moment) page k new browser before after acts modules [] s there.0 none stands there.2 in
-          subst (HasMade (record (with_document new browser page) { clock = moment }) modules (acts k.modules).text) (sym (due_with moment s there.0 there.1))
-          (clock_moved moment (with_document new browser page) modules (acts k.modules).text s (due_effect moment (scene_in s there.0)) has);
-    })
+-- the clock moves behind what the document does, where there is one
+pub moved : (moment : ℕ) (old page : PageState) (before after : List ℕ) → MakesAmid (document_step (due_effect moment)) old page before after → Makes (due_step moment) old (record page { clock = moment }) before after
+moved moment old page before after made = record {
+  text = made.text;
+  printed = made.printed;
+  makes = λ modules s stands. by modules s s.document (made.makes modules [] s stands);
+}
+  where
+    by : (modules : ModulesState) (s : State) (o : Option Document) → HasMadeAmid page modules [] made.text (option_map_or (λ d. step_of s (due_effect moment (scene_in s d))) o (still s))
+        → HasMade (record page { clock = moment }) modules made.text (option_map_or (λ d. step_of (with_clock moment s) (due_effect moment (scene_in s d))) o (still (with_clock moment s)))
+    by modules s None has = record {
+      stands = record {
+        modules_are = has.stands.modules_are;
+        reader = has.stands.reader;
+        document = has.stands.document;
+        wanted = has.stands.wanted;
+        current = has.stands.current;
+        clock = refl;
+        browser = has.stands.browser;
+      };
+      text_is = has.text_is;
+    }
+    by modules s (Some d) has = clock_moved moment page modules made.text s (due_effect moment (scene_in s d)) has
 
 -- ---- changes in modules
 
--- their line is told, and then the document does what it does
-abbrev told_step : List ℕ → (Scene → Effect) → State → Step
-told_step line effect s = step_behind line (document_step effect s)
-
-told_with : (line : List ℕ) (effect : Scene → Effect) (page : PageState) (k new : KeptDocument) (browser : BrowserParts) (before between after : List ℕ) → page.document ≡ Some k → page.loading ≡ kept.Nothing → between ≡ before ++ line
-    → ActsApart effect page.clock k new page.browser browser between after → MakesAmid (told_step line effect) page (with_document new browser page) before after
-told_with line effect page k new browser before between after is none printed acts =
-    let made = document_made effect page k new browser between after is none acts in
+-- their line is told, and then the document does what it does, by a call that may find no memory
+pub change_as : {A E : Type 0} (component : ℕ) (change : Change) (old new : PageState) (before between after : List ℕ) (result : Result A E) → between ≡ before ++ line_of_change component change
+    → OnOk result (MakesAmid (document_step (change_effect component change)) old new between after) → OnOk result (MakesAmid (change_step component change) old new before after)
+change_as component change old new before between after (Err fault) printed made = tt
+change_as component change old new before between after (Ok done) printed made =
+    let line = line_of_change component change in
     record {
       text = line ++ made.text;
       printed = made.printed ∙ ap (λ (l : List ℕ). l ++ made.text) printed ∙ append_assoc before line made.text;
@@ -298,15 +287,6 @@ told_with line effect page k new browser before between after is none printed ac
           let has = made.makes modules changes s stands in
           record { stands = has.stands; text_is = ap (λ (l : List ℕ). line ++ l) has.text_is };
     }
-
--- the same of a call that may find no memory
-pub change_as : {A E : Type 0} (component : ℕ) (change : Change) (old page new : PageState) (k document : KeptDocument) (browser : BrowserParts) (before between after : List ℕ) (result : Result A E) → page ≡ old → page.document ≡ Some k → page.loading ≡ kept.Nothing → new ≡ with_document document browser page
-    → between ≡ before ++ line_of_change component change → OnOk result (ActsApart (change_effect component change) page.clock k document page.browser browser between after) → OnOk result (MakesAmid (change_step component change) old new before after)
-change_as component change old page new k document browser before between after (Err fault) view is none same printed acts = tt
-change_as component change old page new k document browser before between after (Ok done) view is none same printed acts =
-    subst (λ (p : PageState). MakesAmid (change_step component change) p new before after) view
-    (subst (λ (p : PageState). MakesAmid (change_step component change) page p before after) (sym same)
-    (told_with (line_of_change component change) (change_effect component change) page k document browser before between after is none printed acts))
 
 -- a change is followed, and then told
 posts_change : (component : ℕ) (change : Change) (page now : PageState) (before after : List ℕ) (spent : Bool) → MakesAmid (change_step component change) (behind_change component change page) now before after

@@ -21,13 +21,13 @@ use Rattle.module_store.specs.Resources.Resource.{Found, Waiting}
 use Rattle.page.specs.declared.loading.Load.{Load}
 use Rattle.page.specs.declared.loading.Load.TheVariants as load
 use Rattle.page.specs.declared.loading.Loading.TheVariants as kept
-use Rattle.page.specs.Gifts.{IsFinished}
+use Rattle.page.specs.devices.Gifts.{IsFinished}
 use Rattle.acting_documents.specs.Documents.{Document}
-use Rattle.acting_documents.specs.Kept.{IsDocument, KeptDocument, kept_as, kept_first}
+use Rattle.acting_documents.specs.devices.Kept.{IsDocument, KeptDocument, kept_as, kept_first}
 use Rattle.page.specs.Lines.{load_lines}
 use Rattle.page.specs.Loading.{are_settled, is_settled, loadable_reading, reading_in, once_settled, opened, text_at, wanted_path}
-use Rattle.page.specs.PendingStates.{IsFound, IsStartPath, PendingState}
-use Rattle.page.specs.Pendings.{Loads, LoadsAs, LoadsUnread, WaitsAt, wanted_at, wanted_of}
+use Rattle.page.specs.devices.PendingStates.{IsFound, IsStartPath, PendingState}
+use Rattle.page.specs.devices.Pendings.{Loads, LoadsAs, LoadsUnread, WaitsAt, wanted_at, wanted_of}
 use Rattle.page.specs.State.{Wanted}
 
 -- what a document that was read and is the one that is there comes to

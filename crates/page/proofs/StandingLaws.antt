@@ -19,8 +19,8 @@ use Rattle.module_store.specs.Staying.{tells_of, is_gone}
 use Rattle.module_store.specs.Store.{gone_by}
 use Rattle.page.specs.declared.loading.Loading.{Loading}
 use Rattle.page.specs.declared.loading.Loading.TheVariants as kept
-use Rattle.page.specs.Pendings.{IsCurrent, loading_behind, loading_behind_all, unread, wanted_at, wanted_of}
-use Rattle.page.specs.PendingStates.{IsFound, IsStartPath, PendingState}
+use Rattle.page.specs.devices.Pendings.{IsCurrent, loading_behind, loading_behind_all, unread, wanted_at, wanted_of}
+use Rattle.page.specs.devices.PendingStates.{IsFound, IsStartPath, PendingState}
 use Rattle.page.specs.Standing.{PageState, StandsAmid, StandsFor}
 use Rattle.page.specs.State.{State, with_modules}
 

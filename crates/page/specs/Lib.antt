@@ -3,8 +3,5 @@ pub mod State
 pub mod Loading
 pub mod Dispatches
 pub mod Inputs
-pub mod Gifts
-pub mod Acts
-pub mod PendingStates
-pub mod Pendings
+pub mod devices
 pub mod Standing

@@ -9,11 +9,11 @@ use Rattle.event_queue.specs.Timers.{no_timers}
 use Rattle.browser_objects.specs.Calls.{BrowserParts}
 use Rattle.document_stages.specs.Acting.{with_timers}
 use Rattle.acting_documents.specs.Documents.{Document}
-use Rattle.acting_documents.specs.Kept.{IsDocument, KeptDocument}
+use Rattle.acting_documents.specs.devices.Kept.{IsDocument, KeptDocument}
 use Rattle.acting_documents.specs.Beginnings.{load_effect}
-use Rattle.page.specs.Acts.{Acts}
+use Rattle.page.specs.devices.Acts.{Acts}
 use Rattle.page.specs.Inputs.{changes_step}
-use Rattle.page.specs.Pendings.{IsCurrent, loading_behind_all, wanted_of}
+use Rattle.page.specs.devices.Pendings.{IsCurrent, loading_behind_all, wanted_of}
 use Rattle.page.specs.State.{State, Step, still}
 use Rattle.page.specs.declared.loading.Load.{Load}
 use Rattle.page.specs.declared.loading.Load.TheVariants as came
@@ -55,6 +55,11 @@ pub record StandsAmid (page : PageState) (modules : ModulesState) (changes : Lis
 -- The page with these modules is in this state, and each change in them was posted.
 abbrev pub StandsFor : PageState → ModulesState → State → Type 0
 StandsFor page modules s = StandsAmid page modules [] s
+
+-- no more than the document was changed, with what it is lent of the receiver
+abbrev pub KeepsBeside : PageState → PageState → Type 0
+KeepsBeside old new =
+    new ≡ record old { document = new.document; worked = new.worked; browser = new.browser }
 
 -- the persistent area
 abbrev pub page_area : PageState → List ℕ

@@ -2,20 +2,22 @@
 
 ghost use Rattle.std.specs.Io.{StartsWith};
 ghost use Rattle.std.specs.Prelude.{◌≡◌, ◌<◌, ◌^◌, ◌∷◌, ◌++◌, ℕ, List, [], false, true, None, IfOk, IsErr, OnErr, OnOk, is_err};
+ghost use Rattle.acting_documents.specs.Notices.{IsInTime, notice_effect};
 ghost use Rattle.es_reader.specs.Readers.{Reader, IsReader};
 ghost use Rattle.event_queue.specs.Timers.{least_moment};
 ghost use Rattle.module_locks.specs.Locks.{at_start};
 ghost use Rattle.module_locks.specs.Standing.{ModulesState};
 ghost use Rattle.module_locks.specs.Standing as of_modules;
 ghost use Rattle.page.specs.Dispatches.{dispatch as spec_dispatch, next_event, next_load, turn as spec_turn};
-ghost use Rattle.page.specs.Inputs.{change_step, display_of, due_step, key_step, message_step, with_random};
-ghost use Rattle.page.specs.Standing.{Begins, IsSpent, Makes, MakesAmid, MakesWith, MayMake, Posts, StandsFor, TakesLoad, behind_launch, page_area};
+ghost use Rattle.page.specs.Inputs.{change_step, display_of, document_step, due_step, key_step, message_step, with_random};
+ghost use Rattle.page.specs.devices.Pendings.{loading_behind};
+ghost use Rattle.page.specs.Standing.{Begins, IsSpent, KeepsBeside, Makes, MakesAmid, MakesWith, MayMake, Posts, StandsFor, TakesLoad, behind_launch, page_area};
 ghost use Rattle.page.specs.State.{State, opening};
 ghost use Rattle.page.specs.declared.loading.Loading.TheVariants as kept;
 
-use crate::acts::{begin, handle, post_change, post_due, post_key, post_message};
+use crate::acts::{Task, act, tell};
 use crate::loading::{Load, Loading};
-use acting_documents::ActingDocument;
+use acting_documents::{ActingDocument, Notice};
 use bml_bytes::{AreaBytes, NoMemory, law_of_fronts};
 use browser_objects::BrowserState;
 use display_list::push_clock_line;
@@ -97,15 +99,15 @@ impl Page {
     ) -> Result<(), NoMemory>
         ensures posted { OnOk result (Posts ((component, change.now) ∷ [])
             self.old self.new out.old.items out.new.items) }
+        ensures loading { OnOk result
+            (self.new.loading ≡ loading_behind component change.now self.old.loading) }
         ensures clock { self.new.clock ≡ self.old.clock }
         ensures grows { StartsWith out.new.items out.old.items }
         ensures unspent { OnOk result (self.new.spent ≡ false) }
         ensures spent { OnErr result (IsSpent self.new) }
         ensures after_spent { IsSpent self.old → IsErr result }
     {
-        if self.spent {
-            return Err(NoMemory);
-        }
+        self.refuse_spent()?;
         self.loading.follow(component, change);
         let told = self.tell_change(component, change, out);
         self.spent_by(told)
@@ -120,21 +122,26 @@ impl Page {
     ) -> Result<(), NoMemory>
         ensures told { OnOk result (MakesAmid (change_step component change.now)
             self.old self.new out.old.items out.new.items) }
+        ensures loading { self.new.loading ≡ self.old.loading }
         ensures clock { self.new.clock ≡ self.old.clock }
         ensures spent { self.new.spent ≡ self.old.spent }
         ensures grows { StartsWith out.new.items out.old.items }
     {
         law_of_fronts();
         push_change_line(component, change, out)?;
+        self.tell(Notice::Change { component, change }, out)
+    }
+
+    // Tells the document something, where there is one, which posts the events of that.
+    fn tell(&mut self, notice: Notice<'_>, out: &mut Vec<u8>) -> Result<(), NoMemory>
+        requires { IsInTime notice }
+        ensures told { OnOk result (MakesAmid (document_step (notice_effect notice.entry))
+            self.old self.new out.old.items out.new.items) }
+        ensures kept { KeepsBeside self.old self.new }
+        ensures grows { StartsWith out.new.items out.old.items }
+    {
         match &mut self.document {
-            Some(document) => post_change(
-                document,
-                &mut self.browser,
-                self.clock,
-                component,
-                change,
-                out,
-            ),
+            Some(document) => tell(document, &mut self.browser, self.clock, notice, out),
             None => Ok(()),
         }
     }
@@ -150,27 +157,16 @@ impl Page {
     ) -> Result<(), NoMemory>
         ensures posted { OnOk result (Makes (message_step component message.now)
             self.old self.new out.old.items out.new.items) }
+        ensures loading { self.new.loading ≡ self.old.loading }
         ensures clock { self.new.clock ≡ self.old.clock }
         ensures grows { StartsWith out.new.items out.old.items }
         ensures unspent { OnOk result (self.new.spent ≡ false) }
         ensures spent { OnErr result (IsSpent self.new) }
         ensures after_spent { IsSpent self.old → IsErr result }
     {
-        if self.spent {
-            return Err(NoMemory);
-        }
-        let Some(document) = &mut self.document else {
-            return Ok(());
-        };
-        let posted = post_message(
-            document,
-            &mut self.browser,
-            self.clock,
-            component,
-            message,
-            out,
-        );
-        self.spent_by(posted)
+        self.refuse_spent()?;
+        let told = self.tell(Notice::Message { component, message }, out);
+        self.spent_by(told)
     }
 
     /// Posts what a key does that is pressed (`down`) or released: where the used-key-list of the
@@ -180,20 +176,16 @@ impl Page {
     pub fn post_key(&mut self, code: u8, down: bool, out: &mut Vec<u8>) -> Result<(), NoMemory>
         ensures posted { OnOk result
             (Makes (key_step code down) self.old self.new out.old.items out.new.items) }
+        ensures loading { self.new.loading ≡ self.old.loading }
         ensures clock { self.new.clock ≡ self.old.clock }
         ensures grows { StartsWith out.new.items out.old.items }
         ensures unspent { OnOk result (self.new.spent ≡ false) }
         ensures spent { OnErr result (IsSpent self.new) }
         ensures after_spent { IsSpent self.old → IsErr result }
     {
-        if self.spent {
-            return Err(NoMemory);
-        }
-        let Some(document) = &mut self.document else {
-            return Ok(());
-        };
-        let posted = post_key(document, &mut self.browser, self.clock, code, down, out);
-        self.spent_by(posted)
+        self.refuse_spent()?;
+        let told = self.tell(Notice::Key { key: code, down }, out);
+        self.spent_by(told)
     }
 
     /// The moment when a timer of the document is due next, and None where none is.
@@ -209,6 +201,7 @@ impl Page {
         requires { moment < 2 ^ 62 }
         ensures moved { OnOk result
             (Makes (due_step moment) self.old self.new out.old.items out.new.items) }
+        ensures loading { self.new.loading ≡ self.old.loading }
         ensures clock { OnOk result (self.new.clock ≡ moment) }
         ensures kept { OnErr result (self.new.clock ≡ self.old.clock) }
         ensures grows { StartsWith out.new.items out.old.items }
@@ -216,9 +209,7 @@ impl Page {
         ensures spent { OnErr result (IsSpent self.new) }
         ensures after_spent { IsSpent self.old → IsErr result }
     {
-        if self.spent {
-            return Err(NoMemory);
-        }
+        self.refuse_spent()?;
         let moved = self.move_to(moment, out);
         self.spent_by(moved)
     }
@@ -235,15 +226,14 @@ impl Page {
     pub fn add_random(&mut self, word: u32) -> Result<(), NoMemory>
         ensures added { OnOk result ((modules : ModulesState) (s : State)
             → StandsFor self.old modules s → StandsFor self.new modules (with_random word s)) }
+        ensures loading { self.new.loading ≡ self.old.loading }
         ensures clock { self.new.clock ≡ self.old.clock }
         ensures area { page_area self.new ≡ page_area self.old }
         ensures unspent { OnOk result (self.new.spent ≡ false) }
         ensures spent { OnErr result (IsSpent self.new) }
         ensures after_spent { IsSpent self.old → IsErr result }
     {
-        if self.spent {
-            return Err(NoMemory);
-        }
+        self.refuse_spent()?;
         let added = match self.browser.random.push_back(word) {
             Ok(()) => Ok(()),
             Err(_) => Err(NoMemory),
@@ -264,9 +254,7 @@ impl Page {
         ensures spent { OnErr result (IsSpent self.new) }
         ensures after_spent { IsSpent self.old → IsErr result }
     {
-        if self.spent {
-            return Err(NoMemory);
-        }
+        self.refuse_spent()?;
         let turned = self.make_dispatches(modules, out);
         self.spent_by(turned)
     }
@@ -276,15 +264,14 @@ impl Page {
     pub fn show(&mut self, out: &mut Vec<u8>) -> Result<(), NoMemory>
         ensures shown { OnOk result (Makes (λ s. record { state = s; text = display_of s })
             self.old self.new out.old.items out.new.items) }
+        ensures loading { self.new.loading ≡ self.old.loading }
         ensures clock { self.new.clock ≡ self.old.clock }
         ensures grows { StartsWith out.new.items out.old.items }
         ensures unspent { OnOk result (self.new.spent ≡ false) }
         ensures spent { OnErr result (IsSpent self.new) }
         ensures after_spent { IsSpent self.old → IsErr result }
     {
-        if self.spent {
-            return Err(NoMemory);
-        }
+        self.refuse_spent()?;
         let shown = self.push_display(out);
         self.spent_by(shown)
     }
@@ -314,6 +301,14 @@ impl Page {
         self.clock
     }
 
+    // A page that is spent takes nothing any more.
+    fn refuse_spent(&self) -> Result<(), NoMemory>
+        ensures unspent { OnOk result (self.now.spent ≡ false) }
+        ensures spent { OnErr result (IsSpent self.now) }
+    {
+        if self.spent { Err(NoMemory) } else { Ok(()) }
+    }
+
     // Where a call found no memory, the page is spent.
     fn spent_by(&mut self, called: Result<(), NoMemory>) -> Result<(), NoMemory>
         ensures same { result ≡ called }
@@ -328,15 +323,12 @@ impl Page {
         requires { moment < 2 ^ 62 }
         ensures moved { OnOk result
             (Makes (due_step moment) self.old self.new out.old.items out.new.items) }
+        ensures loading { self.new.loading ≡ self.old.loading }
         ensures clock { OnOk result (self.new.clock ≡ moment) }
         ensures kept { OnErr result (self.new.clock ≡ self.old.clock) }
         ensures grows { StartsWith out.new.items out.old.items }
     {
-        let Some(document) = &mut self.document else {
-            self.clock = moment;
-            return Ok(());
-        };
-        post_due(document, &mut self.browser, self.clock, moment, out)?;
+        self.tell(Notice::Moment(moment), out)?;
         self.clock = moment;
         Ok(())
     }
@@ -384,7 +376,8 @@ impl Page {
         let Some(event) = document.take_event() else {
             return Ok(false);
         };
-        let launched = handle(document, &mut self.browser, modules, self.clock, event, out)?;
+        let task = Task::Handle(event);
+        let launched = act(document, &mut self.browser, modules, self.clock, task, out)?;
         self.go_on(launched);
         Ok(true)
     }
@@ -450,7 +443,15 @@ impl Page {
         ensures clock { self.new.clock ≡ self.old.clock }
         ensures grows { StartsWith out.new.items out.old.items }
     {
-        let begun = begin(&mut document, &mut self.browser, modules, self.clock, out);
+        let task = Task::Begin;
+        let begun = act(
+            &mut document,
+            &mut self.browser,
+            modules,
+            self.clock,
+            task,
+            out,
+        );
         drop(mem::replace(&mut self.document, Some(document)));
         let launched = begun?;
         self.go_on(launched);
@@ -474,6 +475,7 @@ impl Page {
     fn push_display(&mut self, out: &mut Vec<u8>) -> Result<(), NoMemory>
         ensures shown { OnOk result (Makes (λ s. record { state = s; text = display_of s })
             self.old self.new out.old.items out.new.items) }
+        ensures loading { self.new.loading ≡ self.old.loading }
         ensures clock { self.new.clock ≡ self.old.clock }
         ensures grows { StartsWith out.new.items out.old.items }
     {

@@ -2,15 +2,15 @@
 
 ghost use Rattle.std.specs.Io.{StartsWith};
 ghost use Rattle.std.specs.Prelude.{◌≡◌, ◌<◌, ◌++◌, true, None, IfOk, IfSome, OnOk, length, map};
-ghost use Rattle.acting_documents.specs.Kept.{kept_first};
+ghost use Rattle.acting_documents.specs.devices.Kept.{kept_first};
 ghost use Rattle.document_load.specs.Scripts.{HavePlaces};
 ghost use Rattle.document_load.specs.ScriptViews.{told_handler};
 ghost use Rattle.module_locks.specs.Standing.{ForModules};
 ghost use Rattle.page.specs.Loading.{are_settled};
 ghost use Rattle.page.specs.declared.loading.Loading.TheVariants as kept;
 ghost use Rattle.page.specs.Lines.{load_lines};
-ghost use Rattle.page.specs.Gifts.{GivesFound, IsFinished, with_found};
-ghost use Rattle.page.specs.Pendings.{KnowsItsPlace, Loads, LoadsSettled, WaitsAt, unread};
+ghost use Rattle.page.specs.devices.Gifts.{GivesFound, IsFinished, with_found};
+ghost use Rattle.page.specs.devices.Pendings.{KnowsItsPlace, Loads, LoadsSettled, WaitsAt, unread};
 
 use crate::lines::push_load_lines;
 use crate::loading::{Load, Loading};
@@ -36,7 +36,7 @@ pub struct Pending {
 
 impl Model for Pending {
     ghost use Rattle.std.specs.Prelude.{◌≤◌, length};
-    ghost use Rattle.page.specs.PendingStates.{PendingState};
+    ghost use Rattle.page.specs.devices.PendingStates.{PendingState};
 
     ghost Value = { PendingState };
 

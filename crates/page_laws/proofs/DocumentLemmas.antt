@@ -30,7 +30,8 @@ use Rattle.script_laws.specs.Passing.{HeapPasses, ObjectPasses}
 use Rattle.script_laws.specs.Staying.{AreFit, StaysWithin}
 use Rattle.document_stages.specs.Acting.{Acting, acted, begun, change_posts, due_posted, first_focus, key_posts, message_posts}
 use Rattle.document_stages.specs.Hosting.{Hosted}
-use Rattle.acting_documents.specs.Documents.{Document, body_of, handler_in, is_body, passes}
+use Rattle.display_list.specs.Bodies.{body_of, is_body}
+use Rattle.acting_documents.specs.Documents.{Document, handler_in, passes}
 use Rattle.acting_documents.specs.Handling.{body_in, change_effect, deactivated, default_action, due_effect, focus_of, handled, handled_at, key_effect, kind_of, message_effect, run_handler, timer_effect, timer_taken}
 use Rattle.acting_documents.specs.Beginnings.{begin, load_effect, run_scripts, script_places, unload_effect, without_waiting}
 use Rattle.page.specs.Loading.{opened}

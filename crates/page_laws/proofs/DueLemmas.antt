@@ -5,7 +5,7 @@ use Rattle.std.specs.Option.{option_map_or}
 use Rattle.std.proofs.lemmas.Bool.{leb-false, leb-true, lt-leb}
 use Rattle.std.proofs.lemmas.List.Elements.{All-cons, All-head, All-nil, All-tail}
 use Rattle.event_queue.specs.Queues.{most_events}
-use Rattle.event_queue.specs.Timers.{Timer, fired, first_due, goes_on, has_number, is_due, is_firing, least_moment, lesser, most_timers, replaced, settled, settled_or_ended, with_fired}
+use Rattle.event_queue.specs.Timers.{Timer, after_firing, first_due, goes_on, has_number, is_due, is_firing, least_moment, lesser, most_timers, replaced, after_settling, left_after_settling, with_fired}
 use Rattle.event_queue.specs.declared.events.Event.TheVariants as events
 use Rattle.browser_objects.specs.Calls.{least_interval}
 use Rattle.document_stages.specs.Acting.{Acting, acting_with_timers, posted, timer_fired, timer_posted, timer_settled, timers_fired}
@@ -156,17 +156,17 @@ count-most moment (timer ∷ timers) = by (is_due moment timer) (count-most mome
 -- ---- the first that is due fires
 
 fired-passed : (moment : ℕ) (timer : Timer) → IsNear moment timer
-    → is_due moment timer ≡ true → is_due moment (fired timer) ≡ false
+    → is_due moment timer ≡ true → is_due moment (after_firing timer) ≡ false
 fired-passed moment timer h e =
-    and-false (is_firing (fired timer).left) (nat_le (timer.moment + timer.interval) moment)
+    and-false (is_firing (after_firing timer).left) (nat_le (timer.moment + timer.interval) moment)
     (lt-leb (timer.moment + timer.interval) moment
     (omega (arith, h.apart, h.reached (both-first _ _ e))))
 
 fired-near : (moment : ℕ) (timers : List Timer) → AreNear moment timers
-    → AreNear moment (replaced (is_due moment) (λ timer. fired timer ∷ []) timers)
+    → AreNear moment (replaced (is_due moment) (λ timer. after_firing timer ∷ []) timers)
 fired-near moment timers all =
-    replaced-every (IsNear moment) (is_due moment) (λ timer. fired timer ∷ [])
-    (λ timer e h. All-cons (IsNear moment) (fired timer) []
+    replaced-every (IsNear moment) (is_due moment) (λ timer. after_firing timer ∷ [])
+    (λ timer e h. All-cons (IsNear moment) (after_firing timer) []
     (record {
       reached = λ firing. omega (arith, h.reached (both-first _ _ e));
       apart = h.apart;
@@ -183,7 +183,7 @@ passed-over moment timer timers e =
 -- one less is due then
 fired-fewer : (moment : ℕ) (timers : List Timer) (first : Timer) → AreNear moment timers
     → find (is_due moment) timers ≡ Some first
-    → suc (due_count moment (replaced (is_due moment) (λ timer. fired timer ∷ []) timers))
+    → suc (due_count moment (replaced (is_due moment) (λ timer. after_firing timer ∷ []) timers))
     ≤ due_count moment timers
 unfolding replaced
 fired-fewer moment [] first all e = absurd (cc e)
@@ -192,19 +192,19 @@ fired-fewer moment (timer ∷ timers) first all e =
     (fired-fewer moment timers first (All-tail (IsNear moment) timer timers all))
   where
     others : List Timer
-    others = replaced (is_due moment) (λ timer. fired timer ∷ []) timers
+    others = replaced (is_due moment) (λ timer. after_firing timer ∷ []) timers
 
     by : (t : Bool) → is_due moment timer ≡ t
         → (if t then Some timer else find (is_due moment) timers) ≡ Some first
         → (find (is_due moment) timers ≡ Some first
         → suc (due_count moment others) ≤ due_count moment timers)
-        → suc (due_count moment (if t then fired timer ∷ timers else timer ∷ others))
+        → suc (due_count moment (if t then after_firing timer ∷ timers else timer ∷ others))
         ≤ length (if t then timer ∷ filter (is_due moment) timers
         else filter (is_due moment) timers)
     by true is e more =
         omega (
           arith,
-          passed-over moment (fired timer) timers
+          passed-over moment (after_firing timer) timers
               (fired-passed moment timer (All-head (IsNear moment) timer timers all) is),
         )
     by false is e more = omega (arith, more e, passed-over moment timer others is)
@@ -212,9 +212,9 @@ fired-fewer moment (timer ∷ timers) first all e =
 -- ---- an event of it is lost
 
 settled-near : (moment number : ℕ) (timers : List Timer) → AreNear moment timers
-    → AreNear moment (replaced (has_number number) settled_or_ended timers)
+    → AreNear moment (replaced (has_number number) left_after_settling timers)
 settled-near moment number timers all =
-    replaced-every (IsNear moment) (has_number number) settled_or_ended
+    replaced-every (IsNear moment) (has_number number) left_after_settling
     (λ timer e h. settled-every (IsNear moment) timer
     (record { reached = h.reached; apart = h.apart }))
     timers all
@@ -232,7 +232,7 @@ one-counted false one timers = omega arith
 
 -- no more are due then
 settled-fewer : (moment number : ℕ) (timers : List Timer)
-    → due_count moment (replaced (has_number number) settled_or_ended timers)
+    → due_count moment (replaced (has_number number) left_after_settling timers)
     ≤ due_count moment timers
 unfolding replaced
 settled-fewer moment number [] = omega arith
@@ -240,20 +240,20 @@ settled-fewer moment number (timer ∷ timers) =
     by (has_number number timer) (settled-fewer moment number timers)
   where
     others : List Timer
-    others = replaced (has_number number) settled_or_ended timers
+    others = replaced (has_number number) left_after_settling timers
 
     of : (goes : Bool)
-        → due_count moment ((if goes then settled timer ∷ [] else []) ++ timers)
+        → due_count moment ((if goes then after_settling timer ∷ [] else []) ++ timers)
         ≤ due_count moment (timer ∷ timers)
     of true =
-        both-counted (is_due moment timer) (settled timer) timer (filter (is_due moment) timers)
+        both-counted (is_due moment timer) (after_settling timer) timer (filter (is_due moment) timers)
         (filter (is_due moment) timers) (omega arith)
     of false = one-counted (is_due moment timer) timer (filter (is_due moment) timers)
 
     by : (t : Bool) → due_count moment others ≤ due_count moment timers
-        → due_count moment (if t then settled_or_ended timer ++ timers else timer ∷ others)
+        → due_count moment (if t then left_after_settling timer ++ timers else timer ∷ others)
         ≤ due_count moment (timer ∷ timers)
-    by true more = of (goes_on (settled timer))
+    by true more = of (goes_on (after_settling timer))
     by false more =
         both-counted (is_due moment timer) timer timer (filter (is_due moment) others)
         (filter (is_due moment) timers) more

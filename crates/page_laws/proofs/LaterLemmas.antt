@@ -2,7 +2,7 @@
 use Rattle.std.proofs.Common.{◌≡◌, ℕ, Bool, true, false, List, [], ◌∷◌, ◌++◌, refl, arith}
 use Rattle.std.specs.Prelude.{All, if◌then◌else◌}
 use Rattle.std.proofs.lemmas.List.Elements.{All-append, All-cons, All-head, All-nil, All-push, All-tail}
-use Rattle.event_queue.specs.Timers.{Timer, TimersState, goes_on, has_number, replaced, settled, settled_or_ended, timer_set, with_settled}
+use Rattle.event_queue.specs.Timers.{Timer, TimersState, goes_on, has_number, replaced, after_settling, left_after_settling, timer_set, with_settled}
 use Rattle.page_laws.specs.Times.{IsLater}
 use Rattle.page_laws.proofs.TimerLemmas.{HoldsOfTimers}
 
@@ -30,18 +30,18 @@ replaced-every P test make keeps (timer ∷ timers) all =
         All-cons P timer (replaced test make timers) (All-head P timer timers all) more
 
 -- what holds of a timer whatever number of events is out
-pub settled-every : (P : Timer → Type 0) (timer : Timer) → P (settled timer)
-    → All P (settled_or_ended timer)
-settled-every P timer h = by (goes_on (settled timer))
+pub settled-every : (P : Timer → Type 0) (timer : Timer) → P (after_settling timer)
+    → All P (left_after_settling timer)
+settled-every P timer h = by (goes_on (after_settling timer))
   where
-    by : (goes : Bool) → All P (if goes then settled timer ∷ [] else [])
-    by true = All-cons P (settled timer) [] h (All-nil P)
+    by : (goes : Bool) → All P (if goes then after_settling timer ∷ [] else [])
+    by true = All-cons P (after_settling timer) [] h (All-nil P)
     by false = All-nil P
 
 pub with_settled-later : (moment number : ℕ) (s : TimersState) → LaterThan moment s
     → LaterThan moment (with_settled number s)
 with_settled-later moment number s all =
-    replaced-every (IsLater moment) (has_number number) settled_or_ended
+    replaced-every (IsLater moment) (has_number number) left_after_settling
     (λ timer e h. settled-every (IsLater moment) timer
     (record { later = h.later; apart = h.apart }))
     s.timers all

@@ -33,3 +33,7 @@ pub mod LastWriteLemmas
 pub mod NodeReadLemmas
 pub mod ReachedLemmas
 pub mod MomentListLemmas
+pub mod CountLemmas
+pub mod CountedActingLemmas
+pub mod CountedSceneLemmas
+pub mod CountedPageLemmas

@@ -6,7 +6,7 @@ use Rattle.std.proofs.lemmas.Bool.{ltb-true}
 use Rattle.std.proofs.lemmas.List.Elements.{All-append, All-cons, All-head, All-nil, All-push, All-tail, All-weaker}
 use Rattle.std.proofs.lemmas.List.Kept.{AllPairs-cons}
 use Rattle.std.proofs.lemmas.List.Quantifiers.{all_pairs_push}
-use Rattle.event_queue.specs.Timers.{Timer, TimersState, fired, has_number, has_place, is_due, most_timers, no_timers, replaced, settled_or_ended, settled, goes_on, timer_set, with_fired, with_settled, with_timer, without_timer}
+use Rattle.event_queue.specs.Timers.{Timer, TimersState, after_firing, has_number, has_place, is_due, most_timers, no_timers, replaced, left_after_settling, after_settling, goes_on, timer_set, with_fired, with_settled, with_timer, without_timer}
 use Rattle.browser_objects.specs.Calls.{least_interval}
 use Rattle.page_laws.specs.Soundness.{AreTimers}
 use Rattle.page_laws.proofs.TargetLemmas.{both-first}
@@ -19,7 +19,7 @@ pub record HoldsOfTimers (Good : TimersState → Type 0) (now : ℕ) (s : Timers
       → Good (with_timer (timer_set s.next function interval turns now) s)
   pub ends : (number : ℕ) → Good (without_timer number s)
 
-abbrev IsBefore : Timer → Timer → Type 0
+abbrev pub IsBefore : Timer → Timer → Type 0
 IsBefore one other = one.number < other.number
 
 -- what a timer gives way to: none, or one of its number
@@ -39,11 +39,11 @@ way-all P timer (other ∷ []) way h =
     (All-nil (λ (t : Timer). P t.number))
 way-all P timer (other ∷ another ∷ more) way h = absurd way
 
-first-before : (timer : Timer) (timers : List Timer) → AllPairs IsBefore (timer ∷ timers)
+pub first-before : (timer : Timer) (timers : List Timer) → AllPairs IsBefore (timer ∷ timers)
     → All (IsBefore timer) timers
 first-before timer timers pairs k d within = pairs zero (suc k) d (omega arith) (omega arith)
 
-others-ascend : (timer : Timer) (timers : List Timer) → AllPairs IsBefore (timer ∷ timers)
+pub others-ascend : (timer : Timer) (timers : List Timer) → AllPairs IsBefore (timer ∷ timers)
     → AllPairs IsBefore timers
 others-ascend timer timers pairs i j d before within =
     pairs (suc i) (suc j) d (omega arith) (omega arith)
@@ -162,16 +162,16 @@ calls-sound now s h = record {
 
 pub with_fired-sound : (moment : ℕ) (s : TimersState) → AreTimers s → AreTimers (with_fired moment s)
 with_fired-sound moment s h =
-    replaced-sound (is_due moment) (λ timer. fired timer ∷ []) (λ timer. refl) s h
+    replaced-sound (is_due moment) (λ timer. after_firing timer ∷ []) (λ timer. refl) s h
 
-settled-way : (timer : Timer) → GivesWay timer (settled_or_ended timer)
-settled-way timer = by (goes_on (settled timer))
+settled-way : (timer : Timer) → GivesWay timer (left_after_settling timer)
+settled-way timer = by (goes_on (after_settling timer))
   where
-    by : (goes : Bool) → GivesWay timer (if goes then settled timer ∷ [] else [])
+    by : (goes : Bool) → GivesWay timer (if goes then after_settling timer ∷ [] else [])
     by true = refl
     by false = tt
 
 pub with_settled-sound : (number : ℕ) (s : TimersState) → AreTimers s
     → AreTimers (with_settled number s)
 with_settled-sound number s h =
-    replaced-sound (has_number number) settled_or_ended settled-way s h
+    replaced-sound (has_number number) left_after_settling settled-way s h

@@ -4,3 +4,4 @@ pub mod Times
 pub mod Reached
 pub mod Nodes
 pub mod Moments
+pub mod Counts

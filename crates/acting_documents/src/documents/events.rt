@@ -6,7 +6,7 @@ ghost use Rattle.dom_tree.specs.NodeNumbers.{number_of};
 ghost use Rattle.event_queue.specs.Events.{target_of};
 ghost use Rattle.event_queue.specs.Queues.{first_of};
 ghost use Rattle.module_locks.specs.Standing.{ModulesState};
-ghost use Rattle.acting_documents.specs.Doings.{Changes, Does, lent_modules};
+ghost use Rattle.acting_documents.specs.devices.Doings.{Changes, Does, lent_modules};
 ghost use Rattle.acting_documents.specs.Handling.{default_action, focus_of, handled as spec_handled, handled_at, released, run_handler as spec_run_handler, timer_effect, timer_taken, without_first};
 
 use crate::documents::ActingDocument;

@@ -1,32 +1,45 @@
-//! What is posted in a document.
+//! What a document is told, and posts.
 
 ghost use Rattle.std.specs.Io.{StartsWith};
-ghost use Rattle.std.specs.Prelude.{◌≡◌, ◌<◌, ◌^◌, OnOk};
-ghost use Rattle.document_stages.specs.Acting.{key_posts};
+ghost use Rattle.std.specs.Prelude.{◌≡◌, OnOk};
 ghost use Rattle.acting_documents.specs.Documents.{Document as TheDocument, passes as spec_passes};
-ghost use Rattle.acting_documents.specs.Doings.{DoesApart};
-ghost use Rattle.acting_documents.specs.Handling.{change_effect, due_effect, key_effect, message_effect};
-ghost use Rattle.acting_documents.specs.Kept.{IsDocument};
-ghost use Rattle.acting_documents.specs.Runs.{done};
+ghost use Rattle.acting_documents.specs.devices.Doings.{DoesApart};
+ghost use Rattle.acting_documents.specs.devices.Kept.{IsDocument};
+ghost use Rattle.acting_documents.specs.Notices.{IsInTime, notice_effect};
+ghost use Rattle.acting_documents.specs.devices.Posting.{post_effect, posted_by, takes as spec_takes};
 
 use crate::documents::ActingDocument;
+use crate::notices::Notice;
 use bml_bytes::NoMemory;
-use carousel_blocks::Change;
+use document_stages::Stage;
 use dom_objects::CurrentEvent;
-use event_messages::Message;
 
 impl ActingDocument {
-    /// Posts what a key does that is pressed or released, where the body lets it pass.
-    pub fn post_key(&mut self, key: u8, down: bool, out: &mut Vec<u8>) -> Result<(), NoMemory>
+    /// Takes what it is told, and posts the events of that. A key posts what it does where the body
+    /// lets it pass; a message and a change come to the event items; and the timers fire that are
+    /// due at a moment, to which the clock goes.
+    pub fn tell(&mut self, notice: Notice<'_>, out: &mut Vec<u8>) -> Result<(), NoMemory>
+        requires { IsInTime notice }
         ensures does { OnOk result
-            (DoesApart (key_effect key down) self.old self.new out.old.items out.new.items) }
+            (DoesApart (notice_effect notice.entry) self.old self.new out.old.items out.new.items) }
         ensures grows { StartsWith out.new.items out.old.items }
     {
-        if self.passes(key) {
-            self.post_passed(key, down, out)
-        } else {
+        if !self.takes(notice) {
             self.do_nothing();
-            Ok(())
+            return Ok(());
+        }
+        self.post(notice, out)
+    }
+
+    // Whether it comes to the document: a key does where the body lets it pass.
+    fn takes(&mut self, notice: Notice<'_>) -> bool
+        ensures takes { (d : TheDocument)
+            → IsDocument self.old d → result ≡ spec_takes notice.entry d }
+        ensures kept { self.new ≡ record self.old { worked = self.new.worked } }
+    {
+        match notice {
+            Notice::Key { key, .. } => self.passes(key),
+            _ => true,
         }
     }
 
@@ -45,58 +58,28 @@ impl ActingDocument {
         self.host.stage.passes(body, key)
     }
 
-    // Posts what a key does that passes.
-    fn post_passed(&mut self, key: u8, down: bool, out: &mut Vec<u8>) -> Result<(), NoMemory>
+    // Posts the events of what it is told. A key is one that passes.
+    fn post(&mut self, notice: Notice<'_>, out: &mut Vec<u8>) -> Result<(), NoMemory>
+        requires { IsInTime notice }
         ensures does { OnOk result
-            (DoesApart (done (key_posts down key)) self.old self.new out.old.items out.new.items) }
+            (DoesApart (post_effect notice.entry) self.old self.new out.old.items out.new.items) }
         ensures grows { StartsWith out.new.items out.old.items }
     {
         self.host.stage.prepare(CurrentEvent::none());
-        self.host.stage.post_key(key, down)?;
+        post_on(&mut self.host.stage, notice)?;
         self.host.stage.give_text(out)
     }
+}
 
-    /// A message of a component comes to the event items: those that fire for it post their events.
-    pub fn post_message(
-        &mut self,
-        component: u8,
-        message: &Message,
-        out: &mut Vec<u8>,
-    ) -> Result<(), NoMemory>
-        ensures does { OnOk result (DoesApart (message_effect component message.now)
-            self.old self.new out.old.items out.new.items) }
-        ensures grows { StartsWith out.new.items out.old.items }
-    {
-        self.host.stage.prepare(CurrentEvent::none());
-        self.host.stage.post_message(component, message)?;
-        self.host.stage.give_text(out)
-    }
-
-    /// A module of a component changed: the event items that are told of it post their events.
-    pub fn post_change(
-        &mut self,
-        component: u8,
-        change: &Change,
-        out: &mut Vec<u8>,
-    ) -> Result<(), NoMemory>
-        ensures does { OnOk result (DoesApart (change_effect component change.now)
-            self.old self.new out.old.items out.new.items) }
-        ensures grows { StartsWith out.new.items out.old.items }
-    {
-        self.host.stage.prepare(CurrentEvent::none());
-        self.host.stage.post_change(component, change)?;
-        self.host.stage.give_text(out)
-    }
-
-    /// The clock goes to a moment, and the timers that are due then post their events.
-    pub fn post_due(&mut self, moment: u64, out: &mut Vec<u8>) -> Result<(), NoMemory>
-        requires { moment < 2 ^ 62 }
-        ensures does { OnOk result
-            (DoesApart (due_effect moment) self.old self.new out.old.items out.new.items) }
-        ensures grows { StartsWith out.new.items out.old.items }
-    {
-        self.host.stage.prepare(CurrentEvent::none());
-        self.host.stage.post_due(moment)?;
-        self.host.stage.give_text(out)
+// Posts the events of what a document is told.
+fn post_on(stage: &mut Stage, notice: Notice<'_>) -> Result<(), NoMemory>
+    requires { IsInTime notice }
+    ensures { OnOk result (stage.new.acting ≡ posted_by notice.entry stage.old.acting) }
+{
+    match notice {
+        Notice::Key { key, down } => stage.post_key(key, down),
+        Notice::Message { component, message } => stage.post_message(component, message),
+        Notice::Change { component, change } => stage.post_change(component, change),
+        Notice::Moment(moment) => stage.post_due(moment),
     }
 }

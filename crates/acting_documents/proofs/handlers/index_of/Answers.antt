@@ -2,7 +2,7 @@ use Rattle.std.proofs.Common.{List, map, sym, subst, take, arith}
 use Rattle.std.proofs.lemmas.List.{map_more}
 use Rattle.document_load.specs.Scripts.{HandlerState}
 use Rattle.document_load.specs.ScriptViews.{told_handler}
-use Rattle.acting_documents.specs.Handlers.{IsIndexOf}
+use Rattle.acting_documents.specs.devices.Handlers.{IsIndexOf}
 use Rattle.acting_documents.proofs.HandlerLaws.{index-none}
 use Rattle.acting_documents.proofs.handlers.index_of.Goals as goal
 

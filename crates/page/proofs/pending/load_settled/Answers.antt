@@ -1,4 +1,4 @@
-use Rattle.page.specs.PendingStates.{PendingState}
+use Rattle.page.specs.devices.PendingStates.{PendingState}
 use Rattle.page.proofs.PendingLaws.{is_loaded}
 use Rattle.page.proofs.pending.load_settled.Goals as goal
 

@@ -1,8 +1,8 @@
 use Rattle.std.proofs.Common.{ap, ◌∙◌, sym}
 use Rattle.std.specs.Prelude.{is_some}
 use Rattle.std.proofs.lemmas.Result.{on_ok_weaker}
-use Rattle.acting_documents.specs.Doings.{Does}
-use Rattle.acting_documents.specs.Kept.{KeptDocument}
+use Rattle.acting_documents.specs.devices.Doings.{Does}
+use Rattle.acting_documents.specs.devices.Kept.{KeptDocument}
 use Rattle.acting_documents.specs.Beginnings.{begin as spec_begin, load_effect, run_scripts, script_places}
 use Rattle.acting_documents.proofs.DoingLemmas.{does_stopped, does_then}
 use Rattle.acting_documents.proofs.documents.ActingDocument.begin.Goals as goal

@@ -1,7 +1,7 @@
 use Rattle.std.proofs.Common.{Option, sym, subst}
 use Rattle.dom_tree.specs.NodeNumbers.{number_of}
 use Rattle.dom_tree.specs.declared.node_ids.NodeId.{NodeId}
-use Rattle.acting_documents.specs.Doings.{Does}
+use Rattle.acting_documents.specs.devices.Doings.{Does}
 use Rattle.acting_documents.specs.Handling.{handled_at}
 use Rattle.acting_documents.proofs.documents.ActingDocument.handle_at.Goals as goal
 

@@ -2,9 +2,9 @@ use Rattle.std.proofs.Common.{◌≡◌, Some, None, ap, ◌∙◌, sym}
 use Rattle.std.specs.Prelude.{option_map}
 use Rattle.std.proofs.lemmas.Result.{on_ok_weaker}
 use Rattle.event_queue.specs.Timers.{timer_of}
-use Rattle.acting_documents.specs.Doings.{Does}
+use Rattle.acting_documents.specs.devices.Doings.{Does}
 use Rattle.acting_documents.specs.Handling.{timer_effect}
-use Rattle.acting_documents.specs.Kept.{KeptDocument}
+use Rattle.acting_documents.specs.devices.Kept.{KeptDocument}
 use Rattle.acting_documents.proofs.DoingLemmas.{does_no_timer, does_timer}
 use Rattle.acting_documents.proofs.documents.ActingDocument.handle_timer.Goals as goal
 

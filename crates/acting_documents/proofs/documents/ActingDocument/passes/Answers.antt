@@ -1,6 +1,6 @@
 use Rattle.std.proofs.Common.{ap, subst, sym, ◌∙◌}
 use Rattle.dom_tree.specs.NodeNumbers.{number_of}
-use Rattle.acting_documents.specs.Kept.{IsDocument, KeptDocument}
+use Rattle.acting_documents.specs.devices.Kept.{IsDocument, KeptDocument}
 use Rattle.acting_documents.proofs.DoingLemmas.{kept_in, no_element, passes_by, passes_none}
 use Rattle.acting_documents.proofs.documents.ActingDocument.passes.Goals as goal
 

@@ -2,7 +2,7 @@ use Rattle.std.proofs.Common.{◌≡◌, ap, sym, ◌∙◌, None}
 use Rattle.std.specs.Prelude.{option_and_then}
 use Rattle.acting_documents.specs.Documents.{handler_in}
 use Rattle.acting_documents.specs.Handling.{kind_of}
-use Rattle.acting_documents.specs.Kept.{KeptDocument}
+use Rattle.acting_documents.specs.devices.Kept.{KeptDocument}
 use Rattle.acting_documents.proofs.DoingLemmas.{does_no_handler}
 use Rattle.acting_documents.proofs.documents.ActingDocument.run_handler.Goals as goal
 

@@ -1,8 +1,8 @@
 use Rattle.std.proofs.Common.{List, ℕ, ◌+◌, ap, ◌∙◌, sym, subst, take, drop, arith}
 use Rattle.std.specs.Prelude.{is_some}
 use Rattle.std.proofs.lemmas.List.{take_all, take-append-drop, take_more}
-use Rattle.acting_documents.specs.Doings.{Does}
-use Rattle.acting_documents.specs.Kept.{KeptDocument}
+use Rattle.acting_documents.specs.devices.Doings.{Does}
+use Rattle.acting_documents.specs.devices.Kept.{KeptDocument}
 use Rattle.acting_documents.specs.Beginnings.{run_scripts as spec_run_scripts}
 use Rattle.acting_documents.proofs.DoingLemmas.{does_grows, does_scripts-more, does_scripts-stopped}
 use Rattle.acting_documents.proofs.documents.ActingDocument.run_places.Goals as goal

@@ -1,6 +1,6 @@
 use Rattle.std.proofs.Common.{take}
 use Rattle.std.specs.Io.{StartsWith}
-use Rattle.acting_documents.specs.Doings.{Does}
+use Rattle.acting_documents.specs.devices.Doings.{Does}
 use Rattle.acting_documents.specs.Beginnings.{run_scripts as spec_run_scripts}
 use Rattle.acting_documents.proofs.documents.ActingDocument.run_places.Given as goal
 

@@ -1,5 +1,5 @@
 use Rattle.std.proofs.Common.{◌≤◌, length, subst, arith}
-use Rattle.acting_documents.specs.Kept.{KeptDocument}
+use Rattle.acting_documents.specs.devices.Kept.{KeptDocument}
 use Rattle.acting_documents.proofs.DoingLemmas.{does_no_program}
 use Rattle.acting_documents.proofs.documents.ActingDocument.run_program.Goals as goal
 

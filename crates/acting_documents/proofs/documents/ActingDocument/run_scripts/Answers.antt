@@ -1,6 +1,6 @@
 use Rattle.std.proofs.Common.{List, ℕ, subst}
 use Rattle.std.proofs.lemmas.Result.{on_ok_weaker}
-use Rattle.acting_documents.specs.Doings.{Does}
+use Rattle.acting_documents.specs.devices.Doings.{Does}
 use Rattle.acting_documents.specs.Beginnings.{run_scripts as spec_run_scripts, script_places}
 use Rattle.acting_documents.proofs.DoingLemmas.{does_scripts}
 use Rattle.acting_documents.proofs.documents.ActingDocument.run_scripts.Goals as goal

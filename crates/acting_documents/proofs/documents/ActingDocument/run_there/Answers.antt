@@ -2,8 +2,8 @@ use Rattle.std.proofs.Common.{List, refl, sym, subst}
 use Rattle.std.proofs.lemmas.Result.{on_ok_weaker}
 use Rattle.std.specs.List.{AllZip}
 use Rattle.es_reader.specs.Programs.{Tells, ToldProgram}
-use Rattle.acting_documents.specs.Doings.{Does}
-use Rattle.acting_documents.specs.Kept.{KeptDocument}
+use Rattle.acting_documents.specs.devices.Doings.{Does}
+use Rattle.acting_documents.specs.devices.Kept.{KeptDocument}
 use Rattle.acting_documents.specs.Runs.{run_program as spec_run_program}
 use Rattle.acting_documents.proofs.DoingLemmas.{does_program, kept_in, leaves_in, steps-are}
 use Rattle.acting_documents.proofs.documents.ActingDocument.run_there.Goals as goal

@@ -1,7 +1,7 @@
 use Rattle.std.proofs.lemmas.Result.{on_ok_weaker}
 use Rattle.event_queue.specs.declared.events.Event.TheVariants as events
 use Rattle.acting_documents.specs.Beginnings.{unload_effect, without_waiting}
-use Rattle.acting_documents.specs.Doings.{Does}
+use Rattle.acting_documents.specs.devices.Doings.{Does}
 use Rattle.acting_documents.specs.Handling.{handled}
 use Rattle.acting_documents.proofs.DoingLemmas.{does_changed}
 use Rattle.acting_documents.proofs.documents.ActingDocument.unload.Goals as goal

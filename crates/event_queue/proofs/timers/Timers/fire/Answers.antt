@@ -1,6 +1,6 @@
 use Rattle.std.proofs.Common.{◌<◌, ◌^◌, Some, sym, ap, ◌∙◌, arith}
 use Rattle.std.specs.Prelude.{◌≤◌, option_map, position, slice_index_or}
-use Rattle.event_queue.specs.Timers.{fired, first_due, is_due}
+use Rattle.event_queue.specs.Timers.{after_firing, first_due, is_due}
 use Rattle.event_queue.specs.devices.KeptTimers.{seen}
 use Rattle.event_queue.proofs.KeptLemmas.{blank, changed-at, due-moment, first, none}
 use Rattle.event_queue.proofs.timers.Timers.fire.Goals as goal
@@ -34,4 +34,4 @@ returns-in-Some-clause-fired c h =
     (ap (position (λ timer. is_due c.args.moment (seen timer))) (sym c.as_slice.ensures.value) ∙ (sym c.due_place.ensures ∙ c.in-Some.is)) in
     rw (← c.self.view_is)
     (ap (λ timers. record { timers = timers; next = c.self.inside.next })
-    (changed-at (is_due c.args.moment) fired c.self.inside.timers.items c.fire_at.new.timers.items c.in-Some.place f c.fire_at.ensures.changed))
+    (changed-at (is_due c.args.moment) after_firing c.self.inside.timers.items c.fire_at.new.timers.items c.in-Some.place f c.fire_at.ensures.changed))

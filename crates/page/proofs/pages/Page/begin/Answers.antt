@@ -1,17 +1,17 @@
 use Rattle.std.proofs.Common.{◌∙◌, subst, ap}
 use Rattle.std.specs.Prelude.{Option}
 use Rattle.std.specs.Option.{option_map_or}
-use Rattle.acting_documents.specs.Kept.{KeptDocument}
+use Rattle.acting_documents.specs.devices.Kept.{KeptDocument}
 use Rattle.page.specs.Standing.{Begins, PageState, behind_launch}
 use Rattle.page.specs.contracts.pages.Page.{the_view}
 use Rattle.page.proofs.pages.Page.begin.Goals as goal
 
 pub returns-clause-begins : goal.returns-clause-begins
 returns-clause-begins c =
-    let browser = c.begin-begun.new.browser in
-    subst (λ (page : PageState). Begins c.args.modules.now c.begin-begun.new.modules c.args.document page c.go_on.new.self c.args.out.now.items c.begin-begun.new.out.items) c.self.view_is (record {
+    let browser = c.act-begun.new.browser in
+    subst (λ (page : PageState). Begins c.args.modules.now c.act-begun.new.modules c.args.document page c.go_on.new.self c.args.out.now.items c.act-begun.new.out.items) c.self.view_is (record {
       launched = c.in_ok-launched.launched;
-      document = c.begin-begun.new.document;
+      document = c.act-begun.new.document;
       browser = browser;
       acts = c.in_ok-launched.ensures.acts;
       new_is =

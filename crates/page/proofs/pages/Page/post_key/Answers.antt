@@ -1,14 +1,8 @@
-use Rattle.std.proofs.Common.{Some, refl}
 use Rattle.acting_documents.specs.Handling.{key_effect}
-use Rattle.page.specs.Inputs.{key_step}
-use Rattle.page.specs.contracts.pages.Page.{the_view}
-use Rattle.page.proofs.PageLaws.{alone, makes_after, posted_as}
+use Rattle.page.proofs.PageLaws.{told_after}
 use Rattle.page.proofs.pages.Page.post_key.Goals as goal
 
 pub returns-clause-posted : goal.returns-clause-posted
 returns-clause-posted c =
-    let posted = the_view (record c.self.inside { document = Some c.post_key-posted.new.document; browser = c.post_key-posted.new.browser }) in
-    makes_after (key_step c.args.code c.args.down) c.args.self.now posted c.spent_by.new.self c.args.out.now.items c.post_key-posted.new.out.items c.post_key-posted.result c.spent_by.result
-    (posted_as (key_effect c.args.code c.args.down) c.args.self.now (the_view c.self.inside) posted c.in-Some.document c.post_key-posted.new.document c.post_key-posted.new.browser c.args.out.now.items c.post_key-posted.new.out.items c.post_key-posted.result
-    c.self.view_is c.in-Some.is (alone c.self.inside.document c.self.inside.loading c.in-Some.document c.in-Some.is c.self.invariant.1) refl c.post_key-posted.ensures.acts)
-    c.spent_by.ensures.same c.spent_by.ensures.page
+    told_after (key_effect c.args.code c.args.down) c.args.self.now c.tell-told.new.self c.spent_by.new.self c.args.out.now.items c.tell-told.new.out.items c.tell-told.result c.spent_by.result
+    c.tell-told.ensures.told c.spent_by.ensures.same c.spent_by.ensures.page

@@ -1,8 +1,8 @@
 use Rattle.std.proofs.Common.{◌≡◌, refl, sym, subst, true}
 use Rattle.module_locks.specs.Standing.{ForModules}
 use Rattle.page.specs.Loading.{are_settled}
-use Rattle.page.specs.Pendings.{WaitsAt}
-use Rattle.page.specs.PendingStates.{PendingState}
+use Rattle.page.specs.devices.Pendings.{WaitsAt}
+use Rattle.page.specs.devices.PendingStates.{PendingState}
 use Rattle.page.proofs.PendingLaws.{goes_on}
 use Rattle.page.proofs.pending.Pending.load.Goals as goal
 

@@ -1,0 +1,137 @@
+-- A device of the proofs: what is kept of a document that is wanted, and what comes of its load, whatever the
+-- state stands for.
+use Rattle.std.specs.Prelude.{◌≡◌, ◌==◌, ◌&&◌, Bool, true, false, if◌then◌else◌, ℕ, List, [], ◌∷◌, ◌++◌, slice_get, Option, Some, None, Result, Ok, Err}
+use Rattle.bml_reader.specs.declared.faults.DocFault.{DocFault}
+use Rattle.carousel_blocks.specs.declared.changes.Change.{Change}
+use Rattle.multipart_entities.specs.declared.paths.Path.{Path}
+use Rattle.module_locks.specs.Locks.{Modules, look_up}
+use Rattle.module_store.specs.Resources.Resource.{Waiting}
+use Rattle.module_locks.specs.Standing.{ForModules, ModulesState}
+use Rattle.es_reader.specs.Readers.{Reader, IsReader}
+use Rattle.document_load.specs.Drafts.{DraftState}
+use Rattle.document_load.specs.Scripts.{bad_numbers, sources_of}
+use Rattle.acting_documents.specs.devices.Kept.{IsDocument, KeptDocument}
+use Rattle.page.specs.Lines.{load_lines, refuse_line}
+use Rattle.page.specs.Loading.{are_settled, loadable_reading, opened, wanted_path}
+use Rattle.page.specs.devices.PendingStates.{IsFound, IsStartPath}
+use Rattle.page.specs.State.{Wanted}
+use Rattle.page.specs.State.Wanted.{StartDocument, DocumentAt, NoDocument}
+use Rattle.page.specs.declared.loading.Load.{Load}
+use Rattle.page.specs.declared.loading.Load.TheVariants as load
+use Rattle.page.specs.declared.loading.Loading.{Loading}
+use Rattle.page.specs.declared.loading.Loading.TheVariants as kept
+
+-- the document at a path: the start document, or one that a script launched
+abbrev pub wanted_at : Bool → Path → Wanted
+wanted_at is_start path = if is_start then StartDocument else DocumentAt path
+
+-- what is kept of it as long as it wasn't read
+abbrev pub unread : Bool → Path → Loading
+unread is_start path = if is_start then kept.Start else kept.At path
+
+-- what is wanted: one that was read and waits is still wanted
+abbrev pub wanted_of : Loading → Wanted
+wanted_of kept.Start = StartDocument
+wanted_of (kept.At path) = DocumentAt path
+wanted_of (kept.Pending pending) = wanted_at pending.is_start pending.path
+wanted_of kept.Nothing = NoDocument
+
+-- one that was read is the one that is there
+abbrev pub IsCurrent : Modules → Loading → Type 0
+IsCurrent modules (kept.Pending pending) = IsFound modules pending
+IsCurrent modules _ = Unit {0}
+
+-- ---- what changes tell of it
+
+-- a document was read, and this change in a component is of its module
+abbrev pub is_told_by : ℕ → Change → Loading → Bool
+is_told_by component change (kept.Pending pending) =
+    (pending.path.component == component) && (change.«module» == pending.path.«module»)
+is_told_by component change _ = false
+
+-- it is wanted, and wasn't read
+abbrev pub wanted_anew : Loading → Loading
+wanted_anew (kept.Pending pending) = unread pending.is_start pending.path
+wanted_anew loading = loading
+
+-- then it is wanted anew
+abbrev pub loading_behind : ℕ → Change → Loading → Loading
+loading_behind component change loading =
+    if is_told_by component change loading then wanted_anew loading else loading
+
+-- and so behind several changes, each with its component
+abbrev pub loading_behind_all : List (ℕ × Change) → Loading → Loading
+loading_behind_all [] loading = loading
+loading_behind_all (change ∷ changes) loading =
+    loading_behind_all changes (loading_behind change.0 change.1 loading)
+
+-- ---- a load
+
+-- the need at this place is waited for
+pub record WaitsAt (state : ModulesState) (needs : List Path) (place : ℕ) : Type 0 where
+  pub need : Path
+  pub is_there : slice_get needs place ≡ Some need
+  pub waits : ForModules state (λ modules. look_up modules need ≡ Waiting)
+
+-- a document that goes on waiting knows the place of a need that is waited for
+abbrev pub KnowsItsPlace : ModulesState → Load → Type 0
+KnowsItsPlace state (load.Waits (kept.Pending pending)) =
+    WaitsAt state pending.draft.needs pending.place
+KnowsItsPlace state _ = Unit {0}
+
+pub record GoesOn (modules : Modules) (wanted : Wanted)
+    (reading : Option (Result DraftState DocFault)) (loading : Loading) (text : List ℕ)
+    : Type 0 where
+  pub none : reading ≡ None
+  pub still : wanted_of loading ≡ wanted
+  pub current : IsCurrent modules loading
+  pub silent : text ≡ []
+
+pub record IsRefused (path : Path) (reading : Option (Result DraftState DocFault))
+    (text : List ℕ) : Type 0 where
+  pub fault : DocFault
+  pub reading_is : reading ≡ Some (Err fault)
+  pub text_is : text ≡ refuse_line path fault
+
+pub record IsLoaded (read : Reader) (path : Path) (reading : Option (Result DraftState DocFault))
+    (document : KeptDocument) (text : List ℕ) : Type 0 where
+  pub draft : DraftState
+  pub reading_is : reading ≡ Some (Ok draft)
+  pub document_is : IsDocument document (opened read path draft)
+  pub text_is : text ≡ load_lines path (bad_numbers read (sources_of draft))
+
+-- what comes of a reading under the path of what is wanted, and the lines that tell it
+abbrev pub LoadsAs : Reader → Modules → Wanted → Path → Load → List ℕ → Type 0
+LoadsAs read modules wanted path (load.Waits loading) text =
+    GoesOn modules wanted (loadable_reading modules path) loading text
+LoadsAs read modules wanted path load.Refused text =
+    IsRefused path (loadable_reading modules path) text
+LoadsAs read modules wanted path (load.Loaded document) text =
+    IsLoaded read path (loadable_reading modules path) document text
+
+-- A text was printed, and this came of what was kept of a document that is wanted.
+pub record Loads (state : ModulesState) (old : Loading) (new : Load) (before after : List ℕ)
+    : Type 0 where
+  pub text : List ℕ
+  pub printed : after ≡ before ++ text
+  pub loads : ForModules state (λ modules. IsCurrent modules old → (path : Path)
+      → wanted_path (wanted_of old) modules ≡ Some path → (read : Reader) → IsReader read
+      → LoadsAs read modules (wanted_of old) path new text)
+
+-- The same of a document that wasn't read, and is at this path.
+pub record LoadsUnread (state : ModulesState) (is_start : Bool) (path : Path) (new : Load)
+    (before after : List ℕ) : Type 0 where
+  pub text : List ℕ
+  pub printed : after ≡ before ++ text
+  pub loads : ForModules state (λ modules. IsStartPath is_start modules path
+      → (read : Reader) → IsReader read
+      → LoadsAs read modules (wanted_at is_start path) path new text)
+
+-- The same of the document that is loaded of a draft at a path, where nothing that it needs is waited for.
+abbrev pub LoadsSettled : ModulesState → Path → DraftState → KeptDocument → List ℕ → List ℕ → Type 0
+LoadsSettled state path draft document before after =
+    (is_start : Bool) (place : ℕ)
+    → ForModules state (λ modules. are_settled modules draft.needs ≡ true)
+    → Loads state
+    (kept.Pending (record { is_start = is_start; path = path; draft = draft; place = place }))
+    (load.Loaded document) before after
