@@ -9,7 +9,6 @@ use Rattle.es_values.specs.Objects.{ObjectState}
 use Rattle.es_eval.specs.declared.outcomes.Outcome.TheVariants.{Normal as AtEnd}
 use Rattle.es_eval.specs.declared.works.Given.{Given}
 use Rattle.es_eval.specs.declared.works.Now.TheVariants.{Gives}
-use Rattle.es_eval.specs.declared.works.Work.{Work}
 use Rattle.es_eval.specs.devices.Machines.{IsFrameLive, IsMachine, MachineState, behind_frame, burden, items_of, outside_of, rest, run_from, value_of_call, world_of}
 use Rattle.es_eval.specs.Worlds.{World}
 use Rattle.es_eval.specs.Worlds.Run.{Over}

@@ -2,7 +2,6 @@
 use Rattle.std.proofs.Common.{◌≡◌, ◌∙◌, ◌+◌, ℕ, zero, suc, List, [], ◌∷◌, ap, sym, subst, refl, arith}
 use Rattle.std.specs.Prelude.{All, Bool, true, false, IfSome, Option, Some, None, if◌then◌else◌, is_some, slice_get, slice_set, Result, Ok, Err, OnOk, OnErr}
 use Rattle.std.specs.List.{position, position_from}
-use Rattle.std.specs.Option.{option_map, option_map_or}
 use Rattle.std.specs.Map.{lookup}
 use Rattle.std.proofs.lemmas.Iterator.Adapters.{position_from-zero}
 use Rattle.std.proofs.lemmas.List.Elements.{All-cons, All-head, All-nil, All-set, All-tail}
@@ -15,7 +14,6 @@ use Rattle.es_reader.specs.Programs.{ToldProgram}
 use Rattle.es_values.specs.declared.values.Value.{Value}
 use Rattle.es_values.specs.Heaps.{IsLive, with_value}
 use Rattle.es_values.specs.Objects.{ObjectState}
-use Rattle.es_eval.specs.declared.works.Work.{Work}
 use Rattle.es_eval.specs.devices.Machines.{AreLive, IsFrameLive}
 use Rattle.es_eval.specs.Worlds.{IsNamedLive}
 

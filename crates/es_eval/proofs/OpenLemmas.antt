@@ -1,14 +1,14 @@
 -- What a change of the frames makes of the calls that are open.
-use Rattle.std.proofs.Common.{◌≡◌, ◌∙◌, ◌+◌, ◌-◌, ◌<◌, ◌≤◌, ℕ, suc, List, [], ◌∷◌, ◌++◌, length, take, ap, sym, subst, refl, arith}
+use Rattle.std.proofs.Common.{◌≡◌, ◌∙◌, ◌+◌, ◌-◌, ◌<◌, ℕ, suc, List, [], ◌∷◌, ◌++◌, length, take, ap, sym, refl, arith}
 use Rattle.std.specs.Prelude.{Option, Some, None, reverse, slice_get}
-use Rattle.std.proofs.lemmas.List.{length-append, length-reverse, reverse-append, take_all, take_more}
+use Rattle.std.proofs.lemmas.List.{length-append, reverse-append, take_all, take_more}
 use Rattle.std.proofs.lemmas.Option.{get_or_from_slice_get, none-some, slice_get-get_or, slice_get_within}
 use Rattle.es_frames.specs.Frames as frame
 use Rattle.es_frames.specs.Frames.{Frame}
 use Rattle.es_shapes.specs.declared.functions.Declared.{Declared}
 use Rattle.es_values.specs.declared.values.Value.{Value}
 use Rattle.es_eval.specs.declared.works.Work.{Work}
-use Rattle.es_eval.specs.devices.OpenCalls.{Call, below_last, call_of, function_of, joined, next_item, this_of, value_at, values_of, with_item, with_value, without_item}
+use Rattle.es_eval.specs.devices.OpenCalls.{below_last, call_of, function_of, joined, next_item, this_of, values_of, with_item, with_value, without_item}
 
 pub length-joined : (functions : List (Option Declared)) (frames : List (Frame Work))
     → length functions ≡ length frames → length (joined functions frames) ≡ length frames

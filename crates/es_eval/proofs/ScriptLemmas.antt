@@ -18,7 +18,6 @@ use Rattle.es_eval.specs.declared.outcomes.Outcome.TheVariants.{Normal as AtEnd,
 use Rattle.es_eval.specs.declared.outcomes.StopCause.TheVariants.{NotCallable, Unresolved}
 use Rattle.es_eval.specs.declared.works.Now.{Now}
 use Rattle.es_eval.specs.declared.works.Now.TheVariants as now
-use Rattle.es_eval.specs.declared.works.Work.{Work}
 use Rattle.es_eval.specs.Actions.{Action}
 use Rattle.es_eval.specs.Calls.{call_number, call_value}
 use Rattle.es_shapes.specs.Codes.{declared_by, program_at}

@@ -1,6 +1,6 @@
 -- A call that is opened: its first places are given the arguments.
 use Rattle.std.proofs.Common.{◌≡◌, ◌∙◌, ◌+◌, ◌-◌, ◌≤◌, ℕ, zero, suc, List, [], ◌∷◌, ◌++◌, length, take, ap, sym, refl, arith, append_assoc, length-append}
-use Rattle.std.specs.Prelude.{All, Option, Some, replicate}
+use Rattle.std.specs.Prelude.{Option, Some, replicate}
 use Rattle.std.proofs.lemmas.List.{length_push, set_past}
 use Rattle.std.proofs.Math.Seq.{set-append_seam}
 use Rattle.std.proofs.lemmas.List.Elements.{All-cons, All-head, All-nil, All-tail}

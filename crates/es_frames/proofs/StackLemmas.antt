@@ -2,7 +2,7 @@
 use Rattle.std.proofs.Common.{◌≡◌, ◌∙◌, ◌+◌, ◌-◌, ◌<◌, ◌≤◌, ℕ, suc, List, [], ◌∷◌, ◌++◌, length, take, drop, ap, sym, subst, refl, arith}
 use Rattle.std.specs.Prelude.{Option, Some, None, reverse, slice_get, slice_set, IsSome}
 use Rattle.std.specs.Option.{option_to_list}
-use Rattle.std.proofs.lemmas.List.{reverse-append, length-append, take_at, drop_at, take_all, drop_all, take_more, drop_more, take-append-le, drop-append-le, drop-set-add}
+use Rattle.std.proofs.lemmas.List.{reverse-append, length-append, take_at, drop_at, take_all, drop_all, take_more, take-append-le, drop-append-le, drop-set-add}
 use Rattle.std.proofs.lemmas.Option.{slice_get_within, get_or_from_slice_get, slice_get-get_or, none-some}
 use Rattle.es_values.specs.declared.values.Value.{Value}
 use Rattle.es_frames.specs.declared.control_stack.Mark.{Mark}
