@@ -20,7 +20,7 @@ use Rattle.es_shapes.specs.Operators.{signed_number}
 use Rattle.es_eval.specs.Operations.{signs}
 use Rattle.es_eval.specs.Actions.{Action, Next, as_number, behind, charged, gives, step, stops}
 use Rattle.es_shapes.specs.Codes.{declared_by}
-use Rattle.es_eval.specs.devices.Machines.{Carries, GoesOn, MachineState, Stays, rest, run_from, world_of}
+use Rattle.es_eval.specs.devices.Machines.{CarriesOn, GoesOn, MachineState, Stays, rest, run_from, world_of}
 use Rattle.es_eval.specs.Members.{delete_in}
 use Rattle.es_eval.specs.Rows.{expression_row, with_members}
 use Rattle.es_shapes.specs.Syntax.{Expression, Function as Declared}
@@ -34,41 +34,45 @@ use Rattle.es_eval.specs.Worlds.Run.{Over}
 -- too few steps are left
 pub stopped-run : {A : Type 0} (programs : List ToldProgram) (old new : MachineState)
     (first : Action A) (more : A → Action Given) (found : Option A) (next : Now)
-    → Carries first (world_of old) found (world_of new) → found ≡ None
+    → CarriesOn first old found new → found ≡ None
     → next ≡ now.Over (Stopped Budget)
     → GoesOn programs old (behind first more) new next
 stopped-run {A} programs old new first more found next carries none over =
-    let carried : Carries first (world_of old) None (world_of new) =
-    subst (λ (o : Option A). Carries first (world_of old) o (world_of new)) none carries in
+    let carried : CarriesOn first old None new =
+    subst (λ (o : Option A). CarriesOn first old o new) none carries in
     ap (run_from programs new) over
-    ∙ sym (carried (λ x after. more x after (rest programs old.frames)))
+    ∙ sym (carried programs (λ x after. more x after (rest programs old.frames)))
 
 -- what is found goes on
 pub carried-run : {A : Type 0} (programs : List ToldProgram) (old mid new : MachineState)
     (first : Action A) (more : A → Action Given) (found : Option A) (x : A) (next : Now)
-    → Carries first (world_of old) found (world_of mid) → found ≡ Some x → Stays old mid
+    → CarriesOn first old found mid → found ≡ Some x → Stays old mid
     → GoesOn programs mid (more x) new next
     → GoesOn programs old (behind first more) new next
 carried-run {A} programs old mid new first more found x next carries some stays on =
-    let carried : Carries first (world_of old) (Some x) (world_of mid) =
-    subst (λ (o : Option A). Carries first (world_of old) o (world_of mid)) some carries in
-    on ∙ ap (more x (world_of mid)) (stays.rest programs)
-    ∙ sym (carried (λ y after. more y after (rest programs old.frames)))
+    let carried : CarriesOn first old (Some x) mid =
+    subst (λ (o : Option A). CarriesOn first old o mid) some carries in
+    on ∙ ap (more x (world_of programs mid)) (stays.rest programs)
+    ∙ sym (carried programs (λ y after. more y after (rest programs old.frames)))
 
 -- ---- steps
 
 -- what a step that is taken makes of each action
 abbrev pub Steps : MachineState → Bool → MachineState → Type 0
 Steps old taken new =
-    (action : Action Value) (next : Next Value) → step action (world_of old) next
-    ≡ (if taken then action (world_of new) next else Over (Stopped Budget) (world_of new))
+    (programs : List ToldProgram) (action : Action Value) (next : Next Value)
+    → step action (world_of programs old) next
+    ≡ (if taken then action (world_of programs new) next
+    else Over (Stopped Budget) (world_of programs new))
 
 -- it may do what it likes with what comes behind
-step-run : (old new : MachineState) (taken : Bool) (action : Action Given) (next : Next Given)
-    → Steps old taken new → step action (world_of old) next
-    ≡ (if taken then action (world_of new) next else Over (Stopped Budget) (world_of new))
-step-run old new taken action next steps =
-    steps (λ w other. action w next) (λ value w. Over (Stopped Budget) w)
+step-run : (programs : List ToldProgram) (old new : MachineState) (taken : Bool)
+    (action : Action Given) (next : Next Given) → Steps old taken new
+    → step action (world_of programs old) next
+    ≡ (if taken then action (world_of programs new) next
+    else Over (Stopped Budget) (world_of programs new))
+step-run programs old new taken action next steps =
+    steps programs (λ w other. action w next) (λ value w. Over (Stopped Budget) w)
 
 pub unstepped-run : (programs : List ToldProgram) (old new : MachineState) (taken : Bool)
     (action : Action Given) (next : Now) → Steps old taken new → taken ≡ false
@@ -76,23 +80,25 @@ pub unstepped-run : (programs : List ToldProgram) (old new : MachineState) (take
 unstepped-run programs old new taken action next steps none over =
     let stepped = subst (λ (b : Bool). Steps old b new) none steps in
     ap (run_from programs new) over
-    ∙ sym (step-run old new false action (rest programs old.frames) stepped)
+    ∙ sym (step-run programs old new false action (rest programs old.frames) stepped)
 
 pub stepped-run : (programs : List ToldProgram) (old mid new : MachineState) (taken : Bool)
     (action : Action Given) (next : Now) → Steps old taken mid → taken ≡ true → Stays old mid
     → GoesOn programs mid action new next → GoesOn programs old (step action) new next
 stepped-run programs old mid new taken action next steps some stays on =
     let stepped = subst (λ (b : Bool). Steps old b mid) some steps in
-    on ∙ ap (action (world_of mid)) (stays.rest programs)
-    ∙ sym (step-run old mid true action (rest programs old.frames) stepped)
+    on ∙ ap (action (world_of programs mid)) (stays.rest programs)
+    ∙ sym (step-run programs old mid true action (rest programs old.frames) stepped)
 
 -- ---- charges
 
 -- what a charge that is taken makes of each action
 abbrev pub Charges : (List ObjectState → ℕ) → MachineState → Bool → MachineState → Type 0
 Charges charge old taken new =
-    (action : Action Value) (next : Next Value) → charged charge action (world_of old) next
-    ≡ (if taken then action (world_of new) next else Over (Stopped Budget) (world_of new))
+    (programs : List ToldProgram) (action : Action Value) (next : Next Value)
+    → charged charge action (world_of programs old) next
+    ≡ (if taken then action (world_of programs new) next
+    else Over (Stopped Budget) (world_of programs new))
 
 pub uncharged-run : (programs : List ToldProgram) (old new : MachineState)
     (charge : List ObjectState → ℕ) (taken : Bool) (action : Action Value) (next : Now)
@@ -101,7 +107,7 @@ pub uncharged-run : (programs : List ToldProgram) (old new : MachineState)
 uncharged-run programs old new charge taken action next charges none over =
     let charged_none = subst (λ (b : Bool). Charges charge old b new) none charges in
     ap (run_from programs new) over
-    ∙ sym (charged_none action (λ value after. rest programs old.frames (given.Value value) after))
+    ∙ sym (charged_none programs action (λ value after. rest programs old.frames (given.Value value) after))
 
 pub charged-run : (programs : List ToldProgram) (old mid new : MachineState)
     (charge : List ObjectState → ℕ) (taken : Bool) (action : Action Value) (next : Now)
@@ -110,8 +116,8 @@ pub charged-run : (programs : List ToldProgram) (old mid new : MachineState)
     → GoesOn programs old (as_value (charged charge action)) new next
 charged-run programs old mid new charge taken action next charges some stays on =
     let charged_some = subst (λ (b : Bool). Charges charge old b mid) some charges in
-    on ∙ ap (as_value action (world_of mid)) (stays.rest programs)
-    ∙ sym (charged_some action (λ value after. rest programs old.frames (given.Value value) after))
+    on ∙ ap (as_value action (world_of programs mid)) (stays.rest programs)
+    ∙ sym (charged_some programs action (λ value after. rest programs old.frames (given.Value value) after))
 
 -- ---- items
 
@@ -120,25 +126,26 @@ pub put-run : (programs : List ToldProgram) (old mid new : MachineState) (item :
     (action : Action Given) (next : Now)
     → ((told : List ToldProgram) → rest told mid.frames
     ≡ (λ handed w. does told item handed w (rest told old.frames)))
-    → world_of mid ≡ world_of old → GoesOn programs mid action new next
+    → ((told : List ToldProgram) → world_of told mid ≡ world_of told old)
+    → GoesOn programs mid action new next
     → run_from programs new next
-    ≡ action (world_of old) (λ handed w. does programs item handed w (rest programs old.frames))
+    ≡ action (world_of programs old) (λ handed w. does programs item handed w (rest programs old.frames))
 put-run programs old mid new item action next rests same on =
-    on ∙ ap (λ (w : World). action w (rest programs mid.frames)) same
-    ∙ ap (action (world_of old)) (rests programs)
+    on ∙ ap (λ (w : World). action w (rest programs mid.frames)) (same programs)
+    ∙ ap (action (world_of programs old)) (rests programs)
 
 -- ---- properties that go
 
 pub deleted-run : (programs : List ToldProgram) (old new : MachineState) (object : ℕ)
     (name : List ℕ) (there : Bool) (next : Now)
-    → ((k : Next Value) → delete_in object name (world_of old) k
-    ≡ k (Boolean there) (world_of new))
+    → ((told : List ToldProgram) (k : Next Value) → delete_in object name (world_of told old) k
+    ≡ k (Boolean there) (world_of told new))
     → Stays old new → next ≡ now.Gives (given.Value (Boolean there))
     → GoesOn programs old (as_value (delete_in object name)) new next
 deleted-run programs old new object name there next deletes stays is =
     ap (run_from programs new) is
-    ∙ ap (λ (k : Next Given). k (given.Value (Boolean there)) (world_of new)) (stays.rest programs)
-    ∙ sym (deletes (λ value w. rest programs old.frames (given.Value value) w))
+    ∙ ap (λ (k : Next Given). k (given.Value (Boolean there)) (world_of programs new)) (stays.rest programs)
+    ∙ sym (deletes programs (λ value w. rest programs old.frames (given.Value value) w))
 
 -- ---- bases
 
@@ -184,7 +191,7 @@ evaluated-run programs old mid new taken e found next steps some stays unfolds i
     (declared_by programs) (called (declared_by programs)) (enters programs) x)) new next)
     (sym is) on in
     stepped-run programs old mid new taken (as_value (valued functions e)) next steps some stays
-    (same ∙ sym (unfolds functions e (world_of mid)
+    (same ∙ sym (unfolds functions e (world_of programs mid)
     (λ value after. rest programs mid.frames (given.Value value) after)))
 
 -- ---- signs

@@ -7,6 +7,7 @@ use Rattle.es_builtins.specs.declared.built.Built.{Built}
 use Rattle.es_builtins.specs.Keeping.{RowKeeps}
 use Rattle.es_builtins.specs.Rows.{Answers, Row}
 use Rattle.es_builtins.specs.Rows.Row.{NoRow, Gives}
+use Rattle.es_reader.specs.Programs.{ToldProgram}
 use Rattle.es_values.specs.declared.budgets.Budget.{Budget}
 use Rattle.es_values.specs.declared.values.Value.{Value}
 use Rattle.es_values.specs.Heaps.{IsLive}
@@ -31,20 +32,20 @@ machine_with_heap m heap left kept longer less = record {
 }
 
 -- the run goes on with what a row gives
-pub answered-row : (m : MachineState) (row : Row) (built : Built) (heap : List ObjectState)
+pub answered-row : (programs : List ToldProgram) (m : MachineState) (row : Row) (built : Built) (heap : List ObjectState)
     (left : ℕ) (next : Next Value)
     → Answers row m.heap (record { left = m.left }) built heap (record { left = left })
-    → by_row_in (world_of m) next row
-    ≡ built_run built (world_of (record m { heap = heap; left = left })) next
-answered-row m NoRow built heap left next is =
+    → by_row_in (world_of programs m) next row
+    ≡ built_run built (world_of programs (record m { heap = heap; left = left })) next
+answered-row programs m NoRow built heap left next is =
     rw (is.0, is.1, ap (λ (b : Budget). b.left) is.2) refl
-answered-row m (Gives charge value given) built heap left next is =
+answered-row programs m (Gives charge value given) built heap left next is =
     by (nat_le charge m.left) refl
   where
     by : (enough : Bool) → nat_le charge m.left ≡ enough
-        → (if enough then next value (world_of (record m { heap = given; left = m.left - charge }))
-        else Over (Stopped OutOfSteps) (world_of m))
-        ≡ built_run built (world_of (record m { heap = heap; left = left })) next
+        → (if enough then next value (world_of programs (record m { heap = given; left = m.left - charge }))
+        else Over (Stopped OutOfSteps) (world_of programs m))
+        ≡ built_run built (world_of programs (record m { heap = heap; left = left })) next
     by true e =
         let all = is.enough (leb-true charge m.left e) in rw (all.0, all.1, all.2) refl
     by false e =

@@ -13,7 +13,7 @@ use Rattle.es_builtins.specs.declared.built.Built.{Built}
 use Rattle.es_builtins.specs.Functions.{construction_row, function_row}
 use Rattle.es_builtins.specs.Methods.{method_row}
 use Rattle.es_builtins.specs.Rows.{Row}
-use Rattle.es_frames.specs.Frames.{Frame}
+use Rattle.es_eval.specs.devices.OpenCalls.{Call, names_at}
 use Rattle.es_values.specs.Charges.{conversion_charge}
 use Rattle.es_values.specs.Heaps.{object_at, value_of}
 use Rattle.es_values.specs.Objects.{ObjectState}
@@ -73,6 +73,7 @@ missing-run P enters other found is arm =
 -- what a function at a place is
 pub record IsDeclared (programs : List ToldProgram) (declared : Declared) (told : ToldFunction)
     (function : Function) : Type 0 where
+  pub names : names_at programs declared ≡ told.locals
   pub locals : function.locals ≡ told.locals
   pub parameters : function.parameters ≡ told.parameters
   pub body : statements_of (function_trees programs declared.program declared.function 0)
@@ -85,11 +86,15 @@ pub is_declared : (programs : List ToldProgram) (declared : Declared) (told : To
     → declared_at programs declared ≡ Some function
     → IsDeclared programs declared told function
 unfolding declared_at function_at
-is_declared programs declared told function is at =
-    by (slice_get programs declared.program) refl is at
+is_declared programs declared told function told_is at =
+    by (slice_get programs declared.program) refl told_is at
   where
     place : ℕ
     place = declared.function
+
+    named : (there : Option ToldFunction) → Some told ≡ there
+        → option_map_or (λ told. told.locals) there [] ≡ told.locals
+    named there is = ap (λ found. option_map_or (λ told. told.locals) found []) (sym is)
 
     parts : (found : ToldProgram) (there : Option ToldFunction) → Some told ≡ there
         → option_map (function_at found.rows) there ≡ Some function
@@ -115,6 +120,8 @@ is_declared programs declared told function is at =
     by (Some found) e is at =
         let all = parts found (slice_get found.functions place) is at in
         record {
+          names = named (option_and_then (λ found. slice_get found.functions declared.function)
+              (slice_get programs declared.program)) told_is;
           locals = all.0;
           parameters = all.1;
           body = rw e all.2;
@@ -169,9 +176,9 @@ no_statements programs declared function at none =
 
 -- ---- what is entered
 
-pub behind_call : (programs : List ToldProgram) (frames : List (Frame Work)) → 1 ≤ length frames
+pub behind_call : (programs : List ToldProgram) (frames : List Call) → 1 ≤ length frames
     → behind_frame programs frames
-    ≡ (λ handed w. rest programs frames (value_of_call handed) (outside_of frames w))
+    ≡ (λ handed w. rest programs frames (value_of_call handed) (outside_of programs frames w))
 unfolding rest
 behind_call programs [] some = absurd (omega arith)
 behind_call programs (caller ∷ below) some = refl
@@ -257,33 +264,33 @@ pub entered-run : (programs : List ToldProgram) (old mid new : MachineState) (de
     → function_trees programs declared.program declared.function 0
     ≡ OneMore (tree_of programs first)
     (function_trees programs declared.program declared.function 1)
-    → world_of mid ≡ inside_told told this arguments (world_of old)
+    → world_of programs mid ≡ inside_told told this arguments (world_of programs old)
     → rest programs mid.frames ≡ behind_frame programs old.frames
-    → run_from programs new next ≡ executes programs first (world_of mid) (λ completion w.
+    → run_from programs new next ≡ executes programs first (world_of programs mid) (λ completion w.
     does programs (StatementItem (StatementsItem (BodyListing declared.program declared.function) 1))
     (completed completion) w (rest programs mid.frames))
     → GoesOn programs old (as_value (enters_body programs function this arguments)) new next
 entered-run programs old mid new declared told first function this arguments next is some trees at behind on =
     let back : rest programs mid.frames
-    ≡ (λ handed w. rest programs old.frames (value_of_call handed) (outside_of old.frames w)) =
+    ≡ (λ handed w. rest programs old.frames (value_of_call handed) (outside_of programs old.frames w)) =
     behind ∙ behind_call programs old.frames some in
     on
     ∙ ap (λ w. executes programs first w (λ completion w. does programs item (completed completion) w
     (rest programs mid.frames)))
-    (at ∙ told-inside told function this arguments (world_of old) is.locals is.parameters)
+    (at ∙ told-inside told function this arguments (world_of programs old) is.locals is.parameters)
     ∙ ap (λ go. executes programs first inner (λ completion w. does programs item (completed completion)
     w go)) back
     ∙ body-run programs declared.program declared.function first function.body inner
-    (λ handed w. rest programs old.frames (value_of_call handed) (outside_of old.frames w))
-    (λ value w. rest programs old.frames (given.Value value) (outside (world_of old) w)) trees is.body
-    (λ completion after. ap (λ handed. rest programs old.frames handed (outside_of old.frames after))
+    (λ handed w. rest programs old.frames (value_of_call handed) (outside_of programs old.frames w))
+    (λ value w. rest programs old.frames (given.Value value) (outside (world_of programs old) w)) trees is.body
+    (λ completion after. ap (λ handed. rest programs old.frames handed (outside_of programs old.frames after))
     (returned-given completion))
   where
     item : Work
     item = StatementItem (StatementsItem (BodyListing declared.program declared.function) 1)
 
     inner : World
-    inner = inside function this arguments (world_of old)
+    inner = inside function this arguments (world_of programs old)
 
 -- ---- how deep calls are
 
@@ -322,8 +329,8 @@ pub no_statements-run : (programs : List ToldProgram) (old : MachineState) (decl
 no_statements-run programs old declared function this arguments next at none shallow some is =
     shallow-run programs old old function this arguments next shallow some
     (ap (run_from programs old) is
-    ∙ sym (no_body-run programs function.body (inside function this arguments (world_of old))
-    (λ value w. rest programs old.frames (given.Value value) (outside (world_of old) w))
+    ∙ sym (no_body-run programs function.body (inside function this arguments (world_of programs old))
+    (λ value w. rest programs old.frames (given.Value value) (outside (world_of programs old) w))
     (no_statements programs declared function at none)))
 
 -- programs by another name
@@ -408,14 +415,14 @@ module _ (programs : List ToldProgram) (old : MachineState) (function : Function
 
     shallow-construct : (new : MachineState) (next : Now)
         → run_from programs new next
-        ≡ constructs (length old.heap) (with_new_object (world_of old)) (rest programs old.frames)
+        ≡ constructs (length old.heap) (with_new_object (world_of programs old)) (rest programs old.frames)
         → GoesOn programs old (as_value (construct (called fs) function arguments)) new next
     unfolding constructs fs
     shallow-construct new next on = rw (not_deep (length old.frames) shallow some) on
 
     pub construct-run : (mid put new : MachineState) (object : ℕ) (next : Now)
-        → object ≡ length old.heap → world_of mid ≡ with_new_object (world_of old)
-        → Stays old mid → world_of put ≡ world_of mid
+        → object ≡ length old.heap → world_of programs mid ≡ with_new_object (world_of programs old)
+        → Stays old mid → world_of programs put ≡ world_of programs mid
         → rest programs put.frames
         ≡ (λ handed w. does programs (CallItem (Constructed (Object object))) handed w
         (rest programs mid.frames))
@@ -434,12 +441,12 @@ module _ (programs : List ToldProgram) (old : MachineState) (function : Function
         ∙ ap (λ w. called fs function.body (inside function (Object object) arguments w)
         (λ value after. rest programs put.frames (given.Value value) (outside w after))) (same ∙ world)
         ∙ ap (λ go. called fs function.body (inside function (Object object) arguments
-        (with_new_object (world_of old))) (λ value after. go (given.Value value)
-        (outside (with_new_object (world_of old)) after))) back
-        ∙ ap (λ number. constructs number (with_new_object (world_of old)) (rest programs old.frames)) at)
+        (with_new_object (world_of programs old))) (λ value after. go (given.Value value)
+        (outside (with_new_object (world_of programs old)) after))) back
+        ∙ ap (λ number. constructs number (with_new_object (world_of programs old)) (rest programs old.frames)) at)
 
     pub empty-construct : (mid : MachineState) (object : ℕ) (declared : Declared) (next : Now)
-        → object ≡ length old.heap → world_of mid ≡ with_new_object (world_of old)
+        → object ≡ length old.heap → world_of programs mid ≡ with_new_object (world_of programs old)
         → Stays old mid → declared_at programs declared ≡ Some function
         → function_trees programs declared.program declared.function 0 ≡ NoTrees
         → next ≡ now.Gives (given.Value (Object object))
@@ -449,30 +456,31 @@ module _ (programs : List ToldProgram) (old : MachineState) (function : Function
     empty-construct mid object declared next at world stays is none gives =
         shallow-construct mid next
         (ap (run_from programs mid) gives
-        ∙ ap (λ go. go (given.Value (Object object)) (world_of mid)) (stays.rest programs)
+        ∙ ap (λ go. go (given.Value (Object object)) (world_of programs mid)) (stays.rest programs)
         ∙ ap (rest programs old.frames (given.Value (Object object))) world
         ∙ ap (λ number. rest programs old.frames (given.Value (Object number))
-        (with_new_object (world_of old))) at
+        (with_new_object (world_of programs old))) at
         ∙ sym (no_body-run programs function.body
-        (inside function (Object (length old.heap)) arguments (with_new_object (world_of old)))
+        (inside function (Object (length old.heap)) arguments (with_new_object (world_of programs old)))
         (λ value after. rest programs old.frames
         (given.Value (object_or (Object (length old.heap)) value))
-        (outside (with_new_object (world_of old)) after))
+        (outside (with_new_object (world_of programs old)) after))
         (no_statements programs declared function is none)))
 
 -- ---- what is built in
 
 pub built-call : (programs : List ToldProgram) (old new : MachineState)
     (row : List ObjectState → Row) (built : Built) (next : Now)
-    → ((go : Next Value) → by_row row (world_of old) go ≡ built_run built (world_of new) go)
+    → ((told : List ToldProgram) (go : Next Value)
+    → by_row row (world_of told old) go ≡ built_run built (world_of told new) go)
     → Stays old new
-    → run_from programs new next ≡ built_run built (world_of new) (value_rest programs new.frames)
+    → run_from programs new next ≡ built_run built (world_of programs new) (value_rest programs new.frames)
     → GoesOn programs old (as_value (by_row row)) new next
 built-call programs old new row built next called stays on =
     on
-    ∙ ap (λ go. built_run built (world_of new) (λ value w. go (given.Value value) w))
+    ∙ ap (λ go. built_run built (world_of programs new) (λ value w. go (given.Value value) w))
     (stays.rest programs)
-    ∙ sym (called (value_rest programs old.frames))
+    ∙ sym (called programs (value_rest programs old.frames))
 
 -- a property that is no function
 property-run : (functions : List Function) (body : Body) (object : ℕ) (key : List ℕ)
@@ -509,7 +517,7 @@ member-run programs old new base value object key arguments next at is other on 
     functions = declared_by programs
 
     w : World
-    w = world_of old
+    w = world_of programs old
 
     go : Next Given
     go = rest programs old.frames
@@ -519,9 +527,10 @@ member-run programs old new base value object key arguments next at is other on 
 -- what charges for arguments makes of each action
 abbrev pub ChargesAll : MachineState → List Value → Bool → MachineState → Type 0
 ChargesAll old arguments taken new =
-    (action : Action Value) (next : Next Value)
-    → charged (λ heap. sum_by (conversion_charge heap) arguments) action (world_of old) next
-    ≡ (if taken then action (world_of new) next else Over (Stopped Budget) (world_of new))
+    (programs : List ToldProgram) (action : Action Value) (next : Next Value)
+    → charged (λ heap. sum_by (conversion_charge heap) arguments) action (world_of programs old) next
+    ≡ (if taken then action (world_of programs new) next
+    else Over (Stopped Budget) (world_of programs new))
 
 abbrev pub asks : HostRef → List ℕ → List Value → Action Value
 asks base key arguments =
@@ -531,16 +540,16 @@ asks base key arguments =
 pub host-run : (programs : List ToldProgram) (old new : MachineState) (base : HostRef)
     (key : List ℕ) (arguments values : List Value) (taken : Bool) → values ≡ arguments
     → ChargesAll old values taken new → taken ≡ true → Stays old new
-    → Calls base key arguments new.heap (answered (world_of new)
+    → Calls base key arguments new.heap (answered (world_of programs new)
     (λ value after. rest programs new.frames (given.Value value) after))
-    ≡ as_value (asks base key arguments) (world_of old) (rest programs old.frames)
+    ≡ as_value (asks base key arguments) (world_of programs old) (rest programs old.frames)
 host-run programs old new base key arguments values taken same charges some stays =
     let charged_for : ChargesAll old arguments true new =
     subst (λ b. ChargesAll old arguments b new) some
     (subst (λ xs. ChargesAll old xs taken new) same charges) in
-    ap (λ go. Calls base key arguments new.heap (answered (world_of new)
+    ap (λ go. Calls base key arguments new.heap (answered (world_of programs new)
     (λ value after. go (given.Value value) after))) (stays.rest programs)
-    ∙ sym (charged_for (λ w next. Calls base key arguments w.heap (answered w next))
+    ∙ sym (charged_for programs (λ w next. Calls base key arguments w.heap (answered w next))
     (λ value w. rest programs old.frames (given.Value value) w))
 
 pub no_host-run : (programs : List ToldProgram) (old new : MachineState) (base : HostRef)
@@ -553,7 +562,7 @@ no_host-run programs old new base key arguments values taken next same charges n
     subst (λ b. ChargesAll old arguments b new) none
     (subst (λ xs. ChargesAll old xs taken new) same charges) in
     ap (run_from programs new) over
-    ∙ sym (charged_for (λ w next. Calls base key arguments w.heap (answered w next))
+    ∙ sym (charged_for programs (λ w next. Calls base key arguments w.heap (answered w next))
     (λ value w. rest programs old.frames (given.Value value) w))
 
 -- ---- arguments

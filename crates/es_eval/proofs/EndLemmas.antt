@@ -3,38 +3,37 @@ use Rattle.std.proofs.Common.{◌≡◌, ◌∙◌, ◌+◌, ◌≤◌, List, []
 use Rattle.std.specs.Prelude.{All, None}
 use Rattle.std.proofs.lemmas.List.Elements.{All-tail}
 use Rattle.std.proofs.lemmas.List.Sums.{sum_by-cons}
-use Rattle.es_frames.specs.Frames.{Frame, below_last, next_item}
+use Rattle.es_eval.specs.devices.OpenCalls.{Call, below_last, next_item}
 use Rattle.es_reader.specs.Programs.{ToldProgram}
 use Rattle.es_values.specs.Objects.{ObjectState}
 use Rattle.es_eval.specs.declared.outcomes.Outcome.TheVariants.{Normal as AtEnd}
 use Rattle.es_eval.specs.declared.works.Given.{Given}
 use Rattle.es_eval.specs.declared.works.Now.TheVariants.{Gives}
-use Rattle.es_eval.specs.declared.works.Work.{Work}
 use Rattle.es_eval.specs.devices.Machines.{IsFrameLive, IsMachine, MachineState, behind_frame, burden, items_of, outside_of, rest, run_from, value_of_call, world_of}
 use Rattle.es_eval.specs.Worlds.{World}
 use Rattle.es_eval.specs.Worlds.Run.{Over}
 use Rattle.es_eval.proofs.MachineLemmas.{rest-no_item}
 
-behind-call : (programs : List ToldProgram) (below : List (Frame Work)) (handed : Given)
+behind-call : (programs : List ToldProgram) (below : List Call) (handed : Given)
     (w : World) → 1 ≤ length below
     → behind_frame programs below handed w
-    ≡ rest programs below (value_of_call handed) (outside_of below w)
+    ≡ rest programs below (value_of_call handed) (outside_of programs below w)
 unfolding rest behind_frame
 behind-call programs [] handed w some = absurd (omega arith)
 behind-call programs (caller ∷ below) handed w some = refl
 
-behind-all : (programs : List ToldProgram) (below : List (Frame Work)) (handed : Given)
+behind-all : (programs : List ToldProgram) (below : List Call) (handed : Given)
     (w : World) → length below ≡ 0 → behind_frame programs below handed w ≡ Over AtEnd w
 unfolding behind_frame
 behind-all programs [] handed w none = refl
 behind-all programs (caller ∷ below) handed w none = absurd (omega arith)
 
-length-below : (frames : List (Frame Work)) → 1 ≤ length frames
+length-below : (frames : List Call) → 1 ≤ length frames
     → length (below_last frames) + 1 ≡ length frames
 length-below [] some = absurd (omega arith)
 length-below (last ∷ below) some = omega arith
 
-live-below : (heap : List ObjectState) (frames : List (Frame Work))
+live-below : (heap : List ObjectState) (frames : List Call)
     → All (IsFrameLive heap) frames → All (IsFrameLive heap) (below_last frames)
 live-below heap [] live = live
 live-below heap (last ∷ below) live = All-tail (IsFrameLive heap) last below live
@@ -48,29 +47,29 @@ module _ (programs : List ToldProgram) (m : MachineState) (handed : Given)
       (Gives (value_of_call handed))
   leaves more =
       let below = length-below m.frames (omega arith) in
-      ap (λ behind. behind handed (world_of m)) (rest-no_item programs m.frames none (omega arith))
-      ∙ behind-call programs (below_last m.frames) handed (world_of m) (omega arith)
+      ap (λ behind. behind handed (world_of programs m)) (rest-no_item programs m.frames none (omega arith))
+      ∙ behind-call programs (below_last m.frames) handed (world_of programs m) (omega arith)
 
   -- behind the lowest call the script is at its end
-  pub ends : length m.frames ≡ 1 → run_from programs m (Gives handed) ≡ Over AtEnd (world_of m)
+  pub ends : length m.frames ≡ 1 → run_from programs m (Gives handed) ≡ Over AtEnd (world_of programs m)
   ends one =
       let below = length-below m.frames (omega arith) in
-      ap (λ behind. behind handed (world_of m)) (rest-no_item programs m.frames none (omega arith))
-      ∙ behind-all programs (below_last m.frames) handed (world_of m) (omega arith)
+      ap (λ behind. behind handed (world_of programs m)) (rest-no_item programs m.frames none (omega arith))
+      ∙ behind-all programs (below_last m.frames) handed (world_of programs m) (omega arith)
 
 pub burden-below : (m : MachineState) → 1 ≤ length m.frames
     → burden (record m { frames = below_last m.frames }) + 1 ≤ burden m
 unfolding burden
 burden-below m some = by m.frames some
   where
-    by : (frames : List (Frame Work)) → 1 ≤ length frames
+    by : (frames : List Call) → 1 ≤ length frames
         → burden (record m { frames = below_last frames }) + 1 ≤ burden (record m { frames = frames })
     by [] h = absurd (omega arith)
     by (last ∷ below) h = let all = sum_by-cons items_of last below in omega arith
 
 -- ---- the frame of a call is closed
 
-module _ (m : MachineState) (frames : List (Frame Work)) (is : frames ≡ below_last m.frames)
+module _ (m : MachineState) (frames : List Call) (is : frames ≡ below_last m.frames)
     (more : 2 ≤ length m.frames) where
   pub closed-run : (programs : List ToldProgram) (handed : Given) → next_item m.frames ≡ None
       → run_from programs m (Gives handed)

@@ -43,12 +43,12 @@ pub handed-run : (programs : List ToldProgram) (old mid : MachineState) (item : 
     (handed : Given) → IsNoStatement item → IsNoValue handed
     → rest programs old.frames
     ≡ (λ handed w. does programs item handed w (rest programs mid.frames))
-    → world_of mid ≡ world_of old
+    → ((told : List ToldProgram) → world_of told mid ≡ world_of told old)
     → run_from programs mid (Gives handed) ≡ run_from programs old (Gives handed)
 handed-run programs old mid item handed expression none taken same =
-    sym (handed-on programs item handed (world_of mid) (rest programs mid.frames) expression none)
-    ∙ sym (ap (λ (next : Next Given). next handed (world_of mid)) taken)
-    ∙ ap (λ (w : World). rest programs old.frames handed w) same
+    sym (handed-on programs item handed (world_of programs mid) (rest programs mid.frames) expression none)
+    ∙ sym (ap (λ (next : Next Given). next handed (world_of programs mid)) taken)
+    ∙ ap (λ (w : World). rest programs old.frames handed w) (same programs)
 
 pub some-turn : (item : Work) → 1 ≤ turns_of item
 some-turn (work.Operand item) = omega arith

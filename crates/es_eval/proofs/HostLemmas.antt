@@ -67,10 +67,10 @@ module _ {H : Type 0} (reads : H → HostRef → List ℕ → Value → H → Ty
 
   -- the script is over
   pub leads-over : (outcome : Outcome) → asked ≡ now.Over outcome
-      → MayEnd reads writes calls first start outcome (world_of m) h
+      → MayEnd reads writes calls first start outcome (world_of programs m) h
   unfolding MayEnd
   leads-over outcome is =
-      (leads-from (now.Over outcome) is).ends outcome (world_of m) h (refl, refl, refl)
+      (leads-from (now.Over outcome) is).ends outcome (world_of programs m) h (refl, refl, refl)
 
   -- a member was read
   pub leads-read : (base : HostRef) (name : List ℕ) (value : Value) (next : Now) (then : H)
@@ -106,7 +106,7 @@ module _ {H : Type 0} (reads : H → HostRef → List ℕ → Value → H → Ty
       (w : World) (after : H)
       → MayEnd reads writes calls (run_from programs (record m { heap = heap }) (next_behind answer))
       then outcome w after
-      → MayEnd reads writes calls (answered (world_of m)
+      → MayEnd reads writes calls (answered (world_of programs m)
       (λ value later. rest programs m.frames (given.Value value) later) answer heap)
       then outcome w after
   behind-answer (host.Value value) heap then outcome w after ended = ended

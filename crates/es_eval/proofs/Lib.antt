@@ -1,3 +1,4 @@
+pub mod OpenLemmas
 pub mod AlikeLemmas
 pub mod MemberLemmas
 pub mod CallLemmas

@@ -7,7 +7,9 @@ use Rattle.std.proofs.lemmas.Bool.{leb-true}
 use Rattle.std.proofs.lemmas.List.Elements.{All-cons, All-head, All-tail, All-weaker}
 use Rattle.std.proofs.lemmas.List.Sums.{sum_by-cons}
 use Rattle.std.proofs.lemmas.Option.{none-some, same_Some}
-use Rattle.es_frames.specs.Frames.{Frame, behind_first, below_last, next_item, place_of, slots_of, with_item, with_value, with_value_in, without_item}
+use Rattle.es_eval.specs.devices.OpenCalls.{Call, below_last, locals_of, next_item, with_item, with_value, without_item}
+use Rattle.es_eval.specs.devices.Slots.{IsSlotOf}
+use Rattle.es_frames.specs.Frames.{behind_first, with_value_in}
 use Rattle.es_reader.specs.Programs.{ToldProgram}
 use Rattle.es_values.specs.declared.values.Value.{Value}
 use Rattle.es_values.specs.declared.values.Value.TheVariants.{Undefined, Null, Bool as Boolean, Number, Str, Object, Function, Host}
@@ -25,33 +27,33 @@ use Rattle.es_eval.specs.Worlds.{IsNamedLive}
 use Rattle.es_eval.specs.devices.Works.{does}
 use Rattle.es_eval.specs.Worlds.{World, with_name}
 use Rattle.es_eval.specs.Worlds.Run.{Over}
-use Rattle.es_eval.proofs.NameLemmas.{live_with_value_in, local_there, local_written, no_local}
+use Rattle.es_eval.proofs.NameLemmas.{live_with_value_in, local_there, local_written}
 
 -- ---- lengths
 
-pub length-with_item : (frames : List (Frame Work)) (item : Work)
+pub length-with_item : (frames : List Call) (item : Work)
     → length (with_item frames item) ≡ length frames
 length-with_item [] item = refl
 length-with_item (last ∷ below) item = refl
 
-pub length-without_item : (frames : List (Frame Work))
+pub length-without_item : (frames : List Call)
     → length (without_item frames) ≡ length frames
 length-without_item [] = refl
 length-without_item (last ∷ below) = refl
 
-pub length-with_value : (frames : List (Frame Work)) (place : ℕ) (value : Value)
+pub length-with_value : (frames : List Call) (place : ℕ) (value : Value)
     → length (with_value frames place value) ≡ length frames
 length-with_value [] place value = refl
 length-with_value (last ∷ below) place value = refl
 
-pub some-next_item : (frames : List (Frame Work)) (item : Work) → next_item frames ≡ Some item
+pub some-next_item : (frames : List Call) (item : Work) → next_item frames ≡ Some item
     → 1 ≤ length frames
 some-next_item [] item is = absurd (none-some item is)
 some-next_item (last ∷ below) item is = omega arith
 
 -- ---- the rest of a run
 
-pub rest-with_item : (programs : List ToldProgram) (frames : List (Frame Work)) (item : Work)
+pub rest-with_item : (programs : List ToldProgram) (frames : List Call) (item : Work)
     → 1 ≤ length frames
     → rest programs (with_item frames item)
     ≡ (λ handed w. does programs item handed w (rest programs frames))
@@ -59,18 +61,18 @@ unfolding rest
 rest-with_item programs [] item some = absurd (omega arith)
 rest-with_item programs (last ∷ below) item some = refl
 
-pub rest-with_value : (programs : List ToldProgram) (frames : List (Frame Work)) (place : ℕ)
+pub rest-with_value : (programs : List ToldProgram) (frames : List Call) (place : ℕ)
     (value : Value) → rest programs (with_value frames place value) ≡ rest programs frames
 unfolding rest
 rest-with_value programs [] place value = refl
 rest-with_value programs (last ∷ below) place value = refl
 
-frames-next_item : (frames : List (Frame Work)) (item : Work) → next_item frames ≡ Some item
+frames-next_item : (frames : List Call) (item : Work) → next_item frames ≡ Some item
     → frames ≡ with_item (without_item frames) item
 frames-next_item [] item is = absurd (none-some item is)
 frames-next_item (last ∷ below) item is = by last.items is
   where
-    with : List Work → List (Frame Work)
+    with : List Work → List Call
     with items = record last { items = items } ∷ below
 
     by : (items : List Work) → next_item (with items) ≡ Some item
@@ -79,7 +81,7 @@ frames-next_item (last ∷ below) item is = by last.items is
     by (first ∷ others) h = ap (λ work. with (work ∷ others)) (same_Some first item h)
 
 -- the item that is taken
-pub rest-next_item : (programs : List ToldProgram) (frames : List (Frame Work)) (item : Work)
+pub rest-next_item : (programs : List ToldProgram) (frames : List Call) (item : Work)
     → next_item frames ≡ Some item
     → rest programs frames
     ≡ (λ handed w. does programs item handed w (rest programs (without_item frames)))
@@ -89,14 +91,14 @@ rest-next_item programs (last ∷ below) item is =
     ∙ rest-with_item programs (without_item (last ∷ below)) item (omega arith)
 
 -- a frame without items
-pub rest-no_item : (programs : List ToldProgram) (frames : List (Frame Work))
+pub rest-no_item : (programs : List ToldProgram) (frames : List Call)
     → next_item frames ≡ None → 1 ≤ length frames
     → rest programs frames ≡ behind_frame programs (below_last frames)
 unfolding rest
 rest-no_item programs [] none some = absurd (omega arith)
 rest-no_item programs (last ∷ below) none some = by last.items none
   where
-    with : List Work → List (Frame Work)
+    with : List Work → List Call
     with items = record last { items = items } ∷ below
 
     by : (items : List Work) → next_item (with items) ≡ None
@@ -106,29 +108,29 @@ rest-no_item programs (last ∷ below) none some = by last.items none
 
 -- ---- worlds
 
-pub world-with_item : (m : MachineState) (item : Work)
-    → world_of (record m { frames = with_item m.frames item }) ≡ world_of m
-world-with_item m item = by m.frames
+pub world-with_item : (programs : List ToldProgram) (m : MachineState) (item : Work)
+    → world_of programs (record m { frames = with_item m.frames item }) ≡ world_of programs m
+world-with_item programs m item = by m.frames
   where
-    by : (frames : List (Frame Work))
-        → world_of (record m { frames = with_item frames item })
-        ≡ world_of (record m { frames = frames })
+    by : (frames : List Call)
+        → world_of programs (record m { frames = with_item frames item })
+        ≡ world_of programs (record m { frames = frames })
     by [] = refl
     by (last ∷ below) = refl
 
-pub world-without_item : (m : MachineState)
-    → world_of (record m { frames = without_item m.frames }) ≡ world_of m
-world-without_item m = by m.frames
+pub world-without_item : (programs : List ToldProgram) (m : MachineState)
+    → world_of programs (record m { frames = without_item m.frames }) ≡ world_of programs m
+world-without_item programs m = by m.frames
   where
-    by : (frames : List (Frame Work))
-        → world_of (record m { frames = without_item frames })
-        ≡ world_of (record m { frames = frames })
+    by : (frames : List Call)
+        → world_of programs (record m { frames = without_item frames })
+        ≡ world_of programs (record m { frames = frames })
     by [] = refl
     by (last ∷ below) = refl
 
 -- ---- how much is left
 
-items-with_item : (frames : List (Frame Work)) (item : Work) → 1 ≤ length frames
+items-with_item : (frames : List Call) (item : Work) → 1 ≤ length frames
     → sum_by items_of (with_item frames item) ≡ sum_by items_of frames + turns_of item
 items-with_item [] item some = absurd (omega arith)
 items-with_item (last ∷ below) item some =
@@ -180,21 +182,22 @@ named-stays heap more names longer =
     All-weaker (IsNamedLive heap) (IsNamedLive more)
     (λ named. live-stays heap more named.1 longer) names
 
-frame-stays : (heap more : List ObjectState) → length heap ≤ length more → (frame : Frame Work)
+frame-stays : (heap more : List ObjectState) → length heap ≤ length more → (frame : Call)
     → IsFrameLive heap frame → IsFrameLive more frame
 frame-stays heap more longer frame live = (
   live-stays heap more frame.this longer live.0,
-  named-stays heap more frame.slots longer live.1,
+  All-weaker (IsLive heap) (IsLive more) (λ value. live-stays heap more value longer) frame.values
+      live.1,
   All-weaker (IsWorkLive heap) (IsWorkLive more) (λ item. work-stays heap more item longer)
       frame.items live.2,
 )
 
-pub frames-stay : (heap more : List ObjectState) (frames : List (Frame Work))
+pub frames-stay : (heap more : List ObjectState) (frames : List Call)
     → length heap ≤ length more → All (IsFrameLive heap) frames → All (IsFrameLive more) frames
 frames-stay heap more frames longer =
     All-weaker (IsFrameLive heap) (IsFrameLive more) (frame-stays heap more longer) frames
 
-pub live_with_item : (heap : List ObjectState) (frames : List (Frame Work)) (item : Work)
+pub live_with_item : (heap : List ObjectState) (frames : List Call) (item : Work)
     → All (IsFrameLive heap) frames → IsWorkLive heap item
     → All (IsFrameLive heap) (with_item frames item)
 live_with_item heap [] item live new = live
@@ -209,7 +212,7 @@ items-behind : (heap : List ObjectState) (items : List Work) → All (IsWorkLive
 items-behind heap [] live = live
 items-behind heap (first ∷ others) live = All-tail (IsWorkLive heap) first others live
 
-pub live_without_item : (heap : List ObjectState) (frames : List (Frame Work))
+pub live_without_item : (heap : List ObjectState) (frames : List Call)
     → All (IsFrameLive heap) frames → All (IsFrameLive heap) (without_item frames)
 live_without_item heap [] live = live
 live_without_item heap (last ∷ below) live =
@@ -219,13 +222,13 @@ live_without_item heap (last ∷ below) live =
     (All-tail (IsFrameLive heap) last below live)
 
 first-live : (heap : List ObjectState) (items : List Work) (item : Work)
-    → All (IsWorkLive heap) items → next_item (record { this = Undefined; slots = []; items = items } ∷ []) ≡ Some item
+    → All (IsWorkLive heap) items → next_item (record { this = Undefined; function = None; values = []; items = items } ∷ []) ≡ Some item
     → IsWorkLive heap item
 first-live heap [] item live is = absurd (none-some item is)
 first-live heap (first ∷ others) item live is =
     subst (IsWorkLive heap) (same_Some first item is) (All-head (IsWorkLive heap) first others live)
 
-pub live_next_item : (heap : List ObjectState) (frames : List (Frame Work)) (item : Work)
+pub live_next_item : (heap : List ObjectState) (frames : List Call) (item : Work)
     → All (IsFrameLive heap) frames → next_item frames ≡ Some item → IsWorkLive heap item
 live_next_item heap [] item live is = absurd (none-some item is)
 live_next_item heap (last ∷ below) item live is =
@@ -233,7 +236,7 @@ live_next_item heap (last ∷ below) item live is =
 
 -- ---- what each machine keeps
 
-pub machine_with_item : (m : MachineState) (frames : List (Frame Work)) (item : Work)
+pub machine_with_item : (m : MachineState) (frames : List Call) (item : Work)
     → IsMachine m → IsWorkLive m.heap item → frames ≡ with_item m.frames item
     → IsMachine (record m { frames = frames })
 machine_with_item m frames item kept live is =
@@ -247,7 +250,7 @@ machine_with_item m frames item kept live is =
       steps = kept.steps;
     }
 
-pub machine_without_item : (m : MachineState) (frames : List (Frame Work))
+pub machine_without_item : (m : MachineState) (frames : List Call)
     → IsMachine m → frames ≡ without_item m.frames → IsMachine (record m { frames = frames })
 machine_without_item m frames kept is =
     let long = length-without_item m.frames in
@@ -262,7 +265,7 @@ machine_without_item m frames kept is =
 
 -- the run is told by the world and by what the rest is
 pub run-at : (programs : List ToldProgram) (m : MachineState) (next : Now) (w : World)
-    (more : Next Given) → rest programs m.frames ≡ more → world_of m ≡ w
+    (more : Next Given) → rest programs m.frames ≡ more → world_of programs m ≡ w
     → run_from programs m next ≡ next_run programs next w more
 run-at programs m next w more behind at = rw (behind, at) refl
 
@@ -276,13 +279,13 @@ module _ (old new : MachineState) (item : Work)
   put-rest some programs =
       ap (λ m. rest programs m.frames) is ∙ rest-with_item programs old.frames item some
 
-  pub put-world : world_of new ≡ world_of old
-  put-world = ap world_of is ∙ world-with_item old item
+  pub put-world : (programs : List ToldProgram) → world_of programs new ≡ world_of programs old
+  put-world programs = ap (world_of programs) is ∙ world-with_item programs old item
 
   pub put-more : 1 ≤ length old.frames → burden new ≡ burden old + 2 * turns_of item
   put-more some = ap burden is ∙ burden-with_item old item some
 
-pub take-live : (heap : List ObjectState) (frames : List (Frame Work)) (taken : Option Work)
+pub take-live : (heap : List ObjectState) (frames : List Call) (taken : Option Work)
     → All (IsFrameLive heap) frames → taken ≡ next_item frames
     → IfSome taken (λ item. IsWorkLive heap item)
 take-live heap frames None live is = tt
@@ -305,8 +308,9 @@ take-done old taken is some none programs =
     rest-no_item programs old.frames (sym is ∙ none) some
 
 pub take-world : (old new : MachineState) → new ≡ record old { frames = without_item old.frames }
-    → world_of new ≡ world_of old
-take-world old new e = ap world_of e ∙ world-without_item old
+    → (programs : List ToldProgram) → world_of programs new ≡ world_of programs old
+take-world old new e programs =
+    ap (world_of programs) e ∙ world-without_item programs old
 
 pub take-less : (old new : MachineState) (taken : Option Work)
     → new ≡ record old { frames = without_item old.frames } → taken ≡ next_item old.frames
@@ -322,14 +326,15 @@ take-less old new (Some item) e is =
 -- where steps are charged, the run goes on or is over
 pub charged-runs : {A : Type 0} (m : MachineState) (charge after : ℕ) (taken : Bool)
     → Charges charge (record { left = m.left }) taken (record { left = after })
-    → (more : Action A) (next : Next A) → takes charge more (world_of m) next
-    ≡ (if taken then more (world_of (record m { left = after })) next
-    else Over (Stopped Budget) (world_of (record m { left = after })))
-charged-runs {A} m charge after taken charges more next =
+    → (programs : List ToldProgram) (more : Action A) (next : Next A)
+    → takes charge more (world_of programs m) next
+    ≡ (if taken then more (world_of programs (record m { left = after })) next
+    else Over (Stopped Budget) (world_of programs (record m { left = after })))
+charged-runs {A} m charge after taken charges programs more next =
     by (nat_le charge m.left) charges.answer charges.left
   where
     with : ℕ → World
-    with left = world_of (record m { left = left })
+    with left = world_of programs (record m { left = left })
 
     by : (enough : Bool) → taken ≡ enough
         → after ≡ (if enough then m.left - charge else m.left)
@@ -341,11 +346,12 @@ charged-runs {A} m charge after taken charges more next =
 
 pub charged-carries : {A : Type 0} (m : MachineState) (charge after : ℕ)
     → Charges charge (record { left = m.left }) true (record { left = after })
-    → (found : World → A) (next : Next A)
-    → takes charge (λ w go. go (found w) w) (world_of m) next
-    ≡ next (found (world_of (record m { left = after }))) (world_of (record m { left = after }))
-charged-carries m charge after charges found next =
-    charged-runs m charge after true charges (λ w go. go (found w) w) next
+    → (programs : List ToldProgram) (found : World → A) (next : Next A)
+    → takes charge (λ w go. go (found w) w) (world_of programs m) next
+    ≡ next (found (world_of programs (record m { left = after })))
+    (world_of programs (record m { left = after }))
+charged-carries m charge after charges programs found next =
+    charged-runs m charge after true charges programs (λ w go. go (found w) w) next
 
 pub less_left : (left charge after : ℕ) (taken : Bool)
     → Charges charge (record { left = left }) taken (record { left = after }) → after ≤ left
@@ -380,7 +386,7 @@ burden-step m after taken charges was_taken =
     by false is e left = absurd (cc)
 
 pub stays_where_less : (old : MachineState) (globals : List (List ℕ × Value))
-    (heap : List ObjectState) (frames : List (Frame Work)) (left : ℕ)
+    (heap : List ObjectState) (frames : List Call) (left : ℕ)
     → frames ≡ old.frames → length old.heap ≤ length heap → left ≤ old.left
     → Stays old (record { globals = globals; heap = heap; frames = frames; left = left })
 unfolding burden
@@ -392,22 +398,22 @@ stays_where_less old globals heap frames left is longer less = record {
 
 -- ---- names
 
-live-with_slot : (heap : List ObjectState) (frames : List (Frame Work)) (place : ℕ)
+live-with_slot : (heap : List ObjectState) (frames : List Call) (place : ℕ)
     (value : Value) → All (IsFrameLive heap) frames → IsLive heap value
     → All (IsFrameLive heap) (with_value frames place value)
 live-with_slot heap [] place value live new = live
 live-with_slot heap (last ∷ below) place value live new =
     let first : IsFrameLive heap last = All-head (IsFrameLive heap) last below live in
     All-cons (IsFrameLive heap)
-    (record last { slots = with_value_in last.slots place value }) below
-    (first.0, live_with_value_in heap last.slots place value first.1 new, first.2)
+    (record last { values = with_value_in last.values place value }) below
+    (first.0, live_with_value_in heap last.values place value first.1 new, first.2)
     (All-tail (IsFrameLive heap) last below live)
 
-items-with_value : (frames : List (Frame Work)) (place : ℕ) (value : Value)
+items-with_value : (frames : List Call) (place : ℕ) (value : Value)
     → sum_by items_of (with_value frames place value) ≡ sum_by items_of frames
 items-with_value [] place value = refl
 items-with_value (last ∷ below) place value =
-    sum_by-cons items_of (record last { slots = with_value_in last.slots place value }) below
+    sum_by-cons items_of (record last { values = with_value_in last.values place value }) below
     ∙ sym (sum_by-cons items_of last below)
 
 burden-with_value : (m : MachineState) (place : ℕ) (value : Value)
@@ -418,21 +424,23 @@ burden-with_value m place value =
     let items = items-with_value m.frames place value in
     omega arith
 
-world-with_slots : (m : MachineState) (place : ℕ) (value : Value)
-    → world_of (record m { frames = with_value m.frames place value })
-    ≡ record (world_of m) { locals = slots_of (with_value m.frames place value) }
-world-with_slots m place value = by m.frames
+world-with_slots : (programs : List ToldProgram) (m : MachineState) (place : ℕ) (value : Value)
+    → world_of programs (record m { frames = with_value m.frames place value })
+    ≡ record (world_of programs m) {
+      locals = locals_of programs (with_value m.frames place value);
+    }
+world-with_slots programs m place value = by m.frames
   where
-    by : (frames : List (Frame Work))
-        → world_of (record m { frames = with_value frames place value })
-        ≡ record (world_of (record m { frames = frames })) {
-          locals = slots_of (with_value frames place value);
+    by : (frames : List Call)
+        → world_of programs (record m { frames = with_value frames place value })
+        ≡ record (world_of programs (record m { frames = frames })) {
+          locals = locals_of programs (with_value frames place value);
         }
     by [] = refl
     by (last ∷ below) = refl
 
 -- a local that is written
-module _ (m : MachineState) (frames : List (Frame Work)) (place : ℕ) (value : Value)
+module _ (m : MachineState) (frames : List Call) (place : ℕ) (value : Value)
     (is : frames ≡ with_value m.frames place value) where
   pub machine_with_value : IsMachine m → IsLive m.heap value
       → IsMachine (record m { frames = frames })
@@ -454,20 +462,21 @@ module _ (m : MachineState) (frames : List (Frame Work)) (place : ℕ) (value : 
     heap = omega arith;
   }
 
-  pub world-with_value : (name : List ℕ) → place_of m.frames name ≡ Some place
-      → world_of (record m { frames = frames }) ≡ with_name name value (world_of m)
-  world-with_value name found =
-      let there = local_there name m.frames place found in
-      let written = local_written name m.frames place value found in
-      rw (is, world-with_slots m place value, written, there) refl
+  pub world-with_value : (programs : List ToldProgram) (name : List ℕ)
+      → IsSlotOf programs m.frames name (Some place)
+      → world_of programs (record m { frames = frames })
+      ≡ with_name name value (world_of programs m)
+  world-with_value programs name slot =
+      let there = local_there name programs m.frames place slot in
+      let written = local_written name programs m.frames place value slot in
+      rw (is, world-with_slots programs m place value, written, there) refl
 
 -- a global that is written
-pub world-with_global : (m : MachineState) (name : List ℕ) (value : Value)
-    → place_of m.frames name ≡ None
-    → world_of (record m { globals = with_value_of m.globals name value })
-    ≡ with_name name value (world_of m)
-world-with_global m name value found =
-    let none = no_local name m.frames found in rw none refl
+pub world-with_global : (programs : List ToldProgram) (m : MachineState) (name : List ℕ)
+    (value : Value) → IsSlotOf programs m.frames name None
+    → world_of programs (record m { globals = with_value_of m.globals name value })
+    ≡ with_name name value (world_of programs m)
+world-with_global programs m name value none = rw none refl
 
 pub machine_with_globals : (m : MachineState) (globals : List (List ℕ × Value)) → IsMachine m
     → All (IsNamedLive m.heap) globals → IsMachine (record m { globals = globals })

@@ -4,7 +4,7 @@ use Rattle.std.proofs.Common.{◌≡◌, ◌∙◌, ◌<◌, ◌++◌, ℕ, zero
 use Rattle.std.specs.Prelude.{Option, Some, None, map, slice_get, take}
 use Rattle.std.proofs.lemmas.List.{take-map}
 use Rattle.std.proofs.lemmas.Option.{slice_get-map}
-use Rattle.es_frames.specs.Frames.{Frame, below_last, next_item}
+use Rattle.es_eval.specs.devices.OpenCalls.{Call, below_last, next_item}
 use Rattle.es_reader.specs.Programs.{ToldProgram}
 use Rattle.es_reader.specs.Statements.{Item}
 use Rattle.es_values.specs.declared.hosts.HostAnswer.{HostAnswer}
@@ -18,7 +18,6 @@ use Rattle.es_eval.specs.declared.outcomes.Outcome.TheVariants.{Normal as AtEnd,
 use Rattle.es_eval.specs.declared.outcomes.StopCause.TheVariants.{NotCallable, Unresolved}
 use Rattle.es_eval.specs.declared.works.Now.{Now}
 use Rattle.es_eval.specs.declared.works.Now.TheVariants as now
-use Rattle.es_eval.specs.declared.works.Work.{Work}
 use Rattle.es_eval.specs.Actions.{Action}
 use Rattle.es_eval.specs.Calls.{call_number, call_value}
 use Rattle.es_shapes.specs.Codes.{declared_by, program_at}
@@ -37,17 +36,17 @@ use Rattle.es_eval.proofs.UnboundedLemmas.{global-unbounded, program-unbounded}
 
 -- ---- what comes behind the lowest call
 
-behind-lowest : (programs : List ToldProgram) (below : List (Frame Work)) → length below ≡ 0
+behind-lowest : (programs : List ToldProgram) (below : List Call) → length below ≡ 0
     → behind_frame programs below ≡ (λ handed w. Over AtEnd w)
 unfolding behind_frame
 behind-lowest programs [] none = refl
 behind-lowest programs (caller ∷ below) none = absurd (omega arith)
 
-no-more : (frames : List (Frame Work)) → length frames ≡ 1 → length (below_last frames) ≡ 0
+no-more : (frames : List Call) → length frames ≡ 1 → length (below_last frames) ≡ 0
 no-more [] one = refl
 no-more (last ∷ below) one = omega arith
 
-pub rest-lowest : (programs : List ToldProgram) (frames : List (Frame Work))
+pub rest-lowest : (programs : List ToldProgram) (frames : List Call)
     → length frames ≡ 1 → next_item frames ≡ None
     → rest programs frames ≡ (λ handed w. Over AtEnd w)
 rest-lowest programs frames one idle =
@@ -60,19 +59,19 @@ module _ (programs : List ToldProgram) (place : ℕ) (old declared named new : M
     (first : Now) where
   pub program-starts : length old.frames ≡ 1 → next_item old.frames ≡ None
       → declared.frames ≡ old.frames → named.frames ≡ declared.frames
-      → world_of declared ≡ with_declared programs place (world_of old)
-      → world_of named ≡ with_variables (variables_of programs place) (world_of declared)
+      → world_of programs declared ≡ with_declared programs place (world_of programs old)
+      → world_of programs named ≡ with_variables (variables_of programs place) (world_of programs declared)
       → GoesOn programs named (as_completion (statements (runs programs)
       (statements_from programs (Top place) 0))) new first
-      → run_from programs new first ≡ told_run programs place (world_of old)
+      → run_from programs new first ≡ told_run programs place (world_of programs old)
   unfolding told_run
   program-starts one idle same-declared same-named as_declared as_named on =
       let action : Action Completion =
       statements (runs programs) (statements_from programs (Top place) 0) in
       on
-      ∙ ap (λ (frames : List (Frame Work)). as_completion action (world_of named)
+      ∙ ap (λ (frames : List Call). as_completion action (world_of programs named)
       (rest programs frames)) (same-named ∙ same-declared)
-      ∙ ap (as_completion action (world_of named)) (rest-lowest programs old.frames one idle)
+      ∙ ap (as_completion action (world_of programs named)) (rest-lowest programs old.frames one idle)
       ∙ ap (λ (w : World). action w ends_normally) as_named
       ∙ ap (λ (w : World). action (with_variables (variables_of programs place) w) ends_normally)
       as_declared
@@ -82,31 +81,31 @@ module _ (programs : List ToldProgram) (place : ℕ) (old declared named new : M
 module _ (programs : List ToldProgram) (name : List ℕ) (m : MachineState) (first : Now) where
   pub global-called : (number : ℕ) (value : Value) (found : Option Value) (args : List Value)
       (new : MachineState) → length m.frames ≡ 1 → next_item m.frames ≡ None
-      → found ≡ global (world_of m) name → found ≡ Some value → value ≡ Function number
+      → found ≡ global (world_of programs m) name → found ≡ Some value → value ≡ Function number
       → args ≡ []
       → GoesOn programs m (as_value (call_number (declared_by programs)
       (called (declared_by programs)) number Undefined args)) new first
-      → run_from programs new first ≡ told_global_run programs name (world_of m)
+      → run_from programs new first ≡ told_global_run programs name (world_of programs m)
   unfolding told_global_run
   global-called number value found args new one idle is some function none on =
       let action : List Value → Action Value = λ args. call_number (declared_by programs)
       (called (declared_by programs)) number Undefined args in
       on
-      ∙ ap (λ (args : List Value). as_value (action args) (world_of m) (rest programs m.frames)) none
-      ∙ ap (as_value (action []) (world_of m)) (rest-lowest programs m.frames one idle)
+      ∙ ap (λ (args : List Value). as_value (action args) (world_of programs m) (rest programs m.frames)) none
+      ∙ ap (as_value (action []) (world_of programs m)) (rest-lowest programs m.frames one idle)
       ∙ rw (← is, some, function) refl
 
   pub global-stopped : (value : Value) (found : Option Value)
-      → found ≡ global (world_of m) name → found ≡ Some value
+      → found ≡ global (world_of programs m) name → found ≡ Some value
       → ((number : ℕ) → value ≡ Function number → ⊥) → first ≡ now.Over (Stopped NotCallable)
-      → run_from programs m first ≡ told_global_run programs name (world_of m)
+      → run_from programs m first ≡ told_global_run programs name (world_of programs m)
   unfolding told_global_run
   global-stopped value found is some other over = rw (over, ← is, some) (by value other)
     where
       by : (value : Value) → ((number : ℕ) → value ≡ Function number → ⊥)
-          → Over (Stopped NotCallable) (world_of m)
+          → Over (Stopped NotCallable) (world_of programs m)
           ≡ call_value (declared_by programs) (called (declared_by programs)) value []
-          (world_of m) ends_normally
+          (world_of programs m) ends_normally
       by Undefined other = refl
       by Null other = refl
       by (Boolean truth) other = refl
@@ -116,9 +115,9 @@ module _ (programs : List ToldProgram) (name : List ℕ) (m : MachineState) (fir
       by (Function number) other = absurd (other number refl)
       by (Host reference) other = refl
 
-  pub global-unresolved : (found : Option Value) → found ≡ global (world_of m) name
+  pub global-unresolved : (found : Option Value) → found ≡ global (world_of programs m) name
       → found ≡ None → first ≡ now.Over (Stopped Unresolved)
-      → run_from programs m first ≡ told_global_run programs name (world_of m)
+      → run_from programs m first ≡ told_global_run programs name (world_of programs m)
   unfolding told_global_run
   global-unresolved found is none over = rw (over, ← is, none) refl
 
@@ -173,7 +172,7 @@ module _ (sources : List (List Item)) (programs told : List ToldProgram)
       → ((found : ToldProgram) → slice_get programs place ≡ Some found
       → statements_from programs (Top place) 0 ≡ (program_at found).body)
       → run_at (map program_of sources) place globals heap budget
-      ≡ told_run told place (world_of m)
+      ≡ told_run told place (world_of told m)
   source-run place h tops =
       let found = there programs place h in
       rw (← texts, same, start)
@@ -181,7 +180,7 @@ module _ (sources : List (List Item)) (programs told : List ToldProgram)
 
   pub source-global : (name : List ℕ)
       → global_run (map program_of sources) name globals heap budget
-      ≡ told_global_run told name (world_of m)
+      ≡ told_global_run told name (world_of told m)
   source-global name =
       rw (← texts, same, start)
       (told-global programs name globals heap budget)
@@ -190,14 +189,14 @@ pub ends-with : {H : Type 0} (reads : H → HostRef → List ℕ → Value → H
     (writes : H → HostRef → List ℕ → Value → List ObjectState → H → Type 0)
     (calls : H → HostRef → List ℕ → List Value → List ObjectState → HostAnswer → H
     → List ObjectState → Type 0)
-    (run told : Run) (h after : H) (outcome : Outcome) (m : MachineState)
+    (programs : List ToldProgram) (run told : Run) (h after : H) (outcome : Outcome) (m : MachineState)
     (globals : List (List ℕ × Value)) (heap : List ObjectState) → run ≡ told
     → globals ≡ m.globals → heap ≡ m.heap
-    → MayEnd reads writes calls told h outcome (world_of m) after
+    → MayEnd reads writes calls told h outcome (world_of programs m) after
     → EndsWith reads writes calls run h outcome globals heap after
-ends-with reads writes calls run told h after outcome m globals heap is names objects ends = (
-  world_of m,
+ends-with reads writes calls programs run told h after outcome m globals heap is names objects ends = (
+  world_of programs m,
   sym names,
   sym objects,
-  subst (λ (r : Run). MayEnd reads writes calls r h outcome (world_of m) after) (sym is) ends,
+  subst (λ (r : Run). MayEnd reads writes calls r h outcome (world_of programs m) after) (sym is) ends,
 )

@@ -131,10 +131,10 @@ typeof-is None = refl
 typeof-is (Some value) = refl
 
 pub typeof-run : (programs : List ToldProgram) (m : MachineState) (name : List ℕ)
-    (found : Option Value) (next : Now) → found ≡ named (world_of m) name
+    (found : Option Value) (next : Now) → found ≡ named (world_of programs m) name
     → next ≡ now.Gives (given.Value (type_text (unwrap_or found Undefined)))
     → GoesOn programs m (as_value (typeof_name name)) m next
 typeof-run programs m name found next is gives =
     ap (run_from programs m) gives
-    ∙ ap (λ (text : Value). rest programs m.frames (given.Value text) (world_of m))
+    ∙ ap (λ (text : Value). rest programs m.frames (given.Value text) (world_of programs m))
     (typeof-is found ∙ ap (λ (o : Option Value). option_map_or type_text o (type_text Undefined)) is)

@@ -1,27 +1,26 @@
--- A frame that is opened for a call: its first places are given the arguments.
-use Rattle.std.proofs.Common.{◌≡◌, ◌∙◌, ◌+◌, ◌-◌, ◌≤◌, ℕ, zero, suc, List, [], ◌∷◌, ◌++◌, length, map, take, ap, sym, refl, arith, append_assoc, length-append}
-use Rattle.std.specs.Prelude.{All, Some, slice_get}
-use Rattle.std.proofs.lemmas.List.{length_push}
-use Rattle.std.proofs.lemmas.Option.{slice_get_past}
+-- A call that is opened: its first places are given the arguments.
+use Rattle.std.proofs.Common.{◌≡◌, ◌∙◌, ◌+◌, ◌-◌, ◌≤◌, ℕ, zero, suc, List, [], ◌∷◌, ◌++◌, length, take, ap, sym, refl, arith, append_assoc, length-append}
+use Rattle.std.specs.Prelude.{Option, Some, replicate}
+use Rattle.std.proofs.lemmas.List.{length_push, set_past}
 use Rattle.std.proofs.Math.Seq.{set-append_seam}
 use Rattle.std.proofs.lemmas.List.Elements.{All-cons, All-head, All-nil, All-tail}
 use Rattle.std.proofs.lemmas.List.Sums.{sum_by-cons}
-use Rattle.es_frames.specs.Frames.{Frame, new_frame, with_value, with_value_in}
+use Rattle.es_eval.specs.devices.OpenCalls.{Call, named_values, names_at, with_value}
 use Rattle.es_values.specs.declared.values.Value.{Value}
 use Rattle.es_values.specs.declared.values.Value.TheVariants.{Undefined}
 use Rattle.es_values.specs.Heaps.{IsLive}
 use Rattle.es_values.specs.Objects.{ObjectState}
 use Rattle.es_reader.specs.Programs.{ToldProgram}
+use Rattle.es_shapes.specs.declared.functions.Declared.{Declared}
 use Rattle.es_eval.specs.declared.works.Work.{Work}
 use Rattle.es_eval.specs.Calls.{bound}
 use Rattle.es_eval.specs.devices.Machines.{AreLive, IsFrameLive, IsMachine, IsWorkLive, MachineState, behind_frame, burden, items_of, rest, world_of}
-use Rattle.es_eval.specs.Worlds.{IsNamedLive}
 use Rattle.es_eval.specs.devices.Slots.{with_values}
 use Rattle.es_eval.specs.Worlds.{World}
 
 -- ---- one value more
 
-values-more : (frames : List (Frame Work)) (place : ℕ) (values : List Value) (value : Value)
+values-more : (frames : List Call) (place : ℕ) (values : List Value) (value : Value)
     → with_values frames place (values ++ value ∷ [])
     ≡ with_value (with_values frames place values) (place + length values) value
 values-more frames place [] value =
@@ -32,123 +31,139 @@ values-more frames place (first ∷ others) value =
     ∙ ap (λ at. with_value (with_values (with_value frames place first) (place + 1) others) at value)
     far
 
-pub values_more : (old now new : List (Frame Work)) (place : ℕ) (values : List Value)
+pub values_more : (old now new : List Call) (place : ℕ) (values : List Value)
     (value : Value) → now ≡ with_values old 0 values → place ≡ length values
     → new ≡ with_value now place value → new ≡ with_values old 0 (values ++ value ∷ [])
 values_more old now new place values value done counted is =
     let far : place ≡ 0 + length values = omega arith in
     is ∙ rw (done, far) (sym (values-more old 0 values value))
 
--- ---- a frame with values in its first places
+-- ---- a call with values in its first places
 
-slot-there : (done : List (List ℕ × Value)) (slot : List ℕ × Value)
-    (others : List (List ℕ × Value)) → slice_get (done ++ slot ∷ others) (length done) ≡ Some slot
-slot-there [] slot others = refl
-slot-there (first ∷ done) slot others = slot-there done slot others
+-- those of a call: the arguments, as far as there are parameters, and Undefined
+abbrev pub filled : List (List ℕ) → ℕ → List Value → List Value
+filled [] parameters arguments = []
+filled (name ∷ names) zero arguments = Undefined ∷ filled names zero arguments
+filled (name ∷ names) (suc more) [] = Undefined ∷ filled names more []
+filled (name ∷ names) (suc more) (value ∷ arguments) = value ∷ filled names more arguments
 
-slot-written : (done : List (List ℕ × Value)) (slot : List ℕ × Value)
-    (others : List (List ℕ × Value)) (value : Value)
-    → with_value_in (done ++ slot ∷ others) (length done) value
-    ≡ done ++ (slot.0, value) ∷ others
-slot-written done slot others value =
-    rw (slot-there done slot others) (set-append_seam done slot others (slot.0, value))
+-- by the names they are the locals of the definition
+pub named-filled : (names : List (List ℕ)) (parameters : ℕ) (arguments : List Value)
+    → named_values names (filled names parameters arguments) ≡ bound names parameters arguments
+named-filled [] parameters arguments = refl
+named-filled (name ∷ names) zero arguments =
+    ap (λ others. (name, Undefined) ∷ others) (named-filled names zero arguments)
+named-filled (name ∷ names) (suc more) [] =
+    ap (λ others. (name, Undefined) ∷ others) (named-filled names more [])
+named-filled (name ∷ names) (suc more) (value ∷ arguments) =
+    ap (λ others. (name, value) ∷ others) (named-filled names more arguments)
 
-slot-past : (slots : List (List ℕ × Value)) (place : ℕ) (value : Value) → length slots ≤ place
-    → with_value_in slots place value ≡ slots
-slot-past slots place value past = rw (slice_get_past slots place past) refl
+filled-zero : (names : List (List ℕ)) (arguments : List Value)
+    → filled names 0 arguments ≡ replicate (length names) Undefined
+filled-zero [] arguments = refl
+filled-zero (name ∷ names) arguments =
+    ap (λ others. Undefined ∷ others) (filled-zero names arguments)
 
-bound-zero : (names : List (List ℕ)) (arguments : List Value)
-    → bound names 0 arguments ≡ map (λ name. (name, Undefined)) names
-bound-zero [] arguments = refl
-bound-zero (name ∷ names) arguments =
-    ap (λ others. (name, Undefined) ∷ others) (bound-zero names arguments)
+filled-absent : (names : List (List ℕ)) (parameters : ℕ)
+    → filled names parameters [] ≡ replicate (length names) Undefined
+filled-absent [] parameters = refl
+filled-absent (name ∷ names) zero = filled-zero (name ∷ names) []
+filled-absent (name ∷ names) (suc more) =
+    ap (λ others. Undefined ∷ others) (filled-absent names more)
 
-bound-absent : (names : List (List ℕ)) (parameters : ℕ)
-    → bound names parameters [] ≡ map (λ name. (name, Undefined)) names
-bound-absent [] parameters = refl
-bound-absent (name ∷ names) zero = bound-zero (name ∷ names) []
-bound-absent (name ∷ names) (suc more) =
-    ap (λ others. (name, Undefined) ∷ others) (bound-absent names more)
+module _ (function : Option Declared) (this : Value) (items : List Work) (below : List Call) where
+  with : List Value → List Call
+  with values = record { function = function; this = this; values = values; items = items } ∷ below
 
-module _ (this : Value) (items : List Work) (below : List (Frame Work)) where
-  with : List (List ℕ × Value) → List (Frame Work)
-  with slots = record { this = this; slots = slots; items = items } ∷ below
-
-  values-past : (slots : List (List ℕ × Value)) (place : ℕ) (values : List Value)
-      → length slots ≤ place
-      → with_values (with slots) place values ≡ with slots
+  values-past : (there : List Value) (place : ℕ) (values : List Value) → length there ≤ place
+      → with_values (with there) place values ≡ with there
   unfolding with
-  values-past slots place [] past = refl
-  values-past slots place (value ∷ values) past =
-      ap (λ left. with_values (with left) (place + 1) values) (slot-past slots place value past)
-      ∙ values-past slots (place + 1) values (omega arith)
+  values-past there place [] past = refl
+  values-past there place (value ∷ values) past =
+      ap (λ left. with_values (with left) (place + 1) values) (set_past there place value past)
+      ∙ values-past there (place + 1) values (omega arith)
 
-  values-bound : (names : List (List ℕ)) (parameters : ℕ) (arguments : List Value)
-      (done : List (List ℕ × Value))
-      → with_values (with (done ++ map (λ name. (name, Undefined)) names)) (length done)
-      (take parameters arguments) ≡ with (done ++ bound names parameters arguments)
+  values-filled : (names : List (List ℕ)) (parameters : ℕ) (arguments done : List Value)
+      → with_values (with (done ++ replicate (length names) Undefined)) (length done)
+      (take parameters arguments) ≡ with (done ++ filled names parameters arguments)
   unfolding with
-  values-bound [] parameters arguments done =
+  values-filled [] parameters arguments done =
       let long = length-append done [] in
       values-past (done ++ []) (length done) (take parameters arguments) (omega arith)
-  values-bound (name ∷ names) zero arguments done =
-      ap (λ slots. with (done ++ slots)) (sym (bound-zero (name ∷ names) arguments))
-  values-bound (name ∷ names) (suc more) [] done =
-      ap (λ slots. with (done ++ slots)) (sym (bound-absent (name ∷ names) (suc more)))
-  values-bound (name ∷ names) (suc more) (value ∷ arguments) done =
-      let others : List (List ℕ × Value) = map (λ name. (name, Undefined)) names in
-      let slot : List (List ℕ × Value) = (name, value) ∷ [] in
-      ap (λ slots. with_values (with slots) (length done + 1) (take more arguments))
-      (slot-written done (name, Undefined) others value ∙ sym (append_assoc done slot others))
-      ∙ (ap (λ place. with_values (with ((done ++ slot) ++ others)) place (take more arguments))
-      (sym (length_push done (name, value)))
-      ∙ (values-bound names more arguments (done ++ slot)
-      ∙ ap with (append_assoc done slot (bound names more arguments))))
+  values-filled (name ∷ names) zero arguments done =
+      ap (λ values. with (done ++ values)) (sym (filled-zero (name ∷ names) arguments))
+  values-filled (name ∷ names) (suc more) [] done =
+      ap (λ values. with (done ++ values)) (sym (filled-absent (name ∷ names) (suc more)))
+  values-filled (name ∷ names) (suc more) (value ∷ arguments) done =
+      let others : List Value = replicate (length names) Undefined in
+      let first : List Value = value ∷ [] in
+      ap (λ values. with_values (with values) (length done + 1) (take more arguments))
+      (set-append_seam done Undefined others value ∙ sym (append_assoc done first others))
+      ∙ (ap (λ place. with_values (with ((done ++ first) ++ others)) place (take more arguments))
+      (sym (length_push done value))
+      ∙ (values-filled names more arguments (done ++ first)
+      ∙ ap with (append_assoc done first (filled names more arguments))))
 
--- the frame that is opened
-pub frame_bound : (names : List (List ℕ)) (this : Value) (below : List (Frame Work))
-    (parameters : ℕ) (arguments : List Value)
-    → with_values (new_frame names this ∷ below) 0 (take parameters arguments)
-    ≡ record { this = this; slots = bound names parameters arguments; items = [] } ∷ below
+-- a call before its arguments
+abbrev pub fresh : Declared → List (List ℕ) → Value → Call
+fresh declared names this = record {
+  function = Some declared;
+  this = this;
+  values = replicate (length names) Undefined;
+  items = [];
+}
+
+-- and behind them
+abbrev pub open_call : Declared → List (List ℕ) → Value → ℕ → List Value → Call
+open_call declared names this parameters arguments = record {
+  function = Some declared;
+  this = this;
+  values = filled names parameters arguments;
+  items = [];
+}
+
+pub call_filled : (declared : Declared) (names : List (List ℕ)) (this : Value)
+    (below : List Call) (parameters : ℕ) (arguments : List Value)
+    → with_values (fresh declared names this ∷ below) 0 (take parameters arguments)
+    ≡ open_call declared names this parameters arguments ∷ below
 unfolding with
-frame_bound names this below parameters arguments =
-    values-bound this [] below names parameters arguments []
+call_filled declared names this below parameters arguments =
+    values-filled (Some declared) this [] below names parameters arguments []
 
 -- ---- what is live
 
-live-bound : (heap : List ObjectState) (names : List (List ℕ)) (parameters : ℕ)
+live-filled : (heap : List ObjectState) (names : List (List ℕ)) (parameters : ℕ)
     (arguments : List Value) → AreLive heap arguments
-    → All (IsNamedLive heap) (bound names parameters arguments)
-live-bound heap [] parameters arguments live = All-nil (IsNamedLive heap)
-live-bound heap (name ∷ names) zero arguments live =
-    All-cons (IsNamedLive heap) (name, Undefined) (bound names 0 arguments) tt
-    (live-bound heap names 0 arguments live)
-live-bound heap (name ∷ names) (suc more) [] live =
-    All-cons (IsNamedLive heap) (name, Undefined) (bound names more []) tt
-    (live-bound heap names more [] live)
-live-bound heap (name ∷ names) (suc more) (value ∷ arguments) live =
-    All-cons (IsNamedLive heap) (name, value) (bound names more arguments)
+    → AreLive heap (filled names parameters arguments)
+live-filled heap [] parameters arguments live = All-nil (IsLive heap)
+live-filled heap (name ∷ names) zero arguments live =
+    All-cons (IsLive heap) Undefined (filled names 0 arguments) tt
+    (live-filled heap names 0 arguments live)
+live-filled heap (name ∷ names) (suc more) [] live =
+    All-cons (IsLive heap) Undefined (filled names more []) tt
+    (live-filled heap names more [] live)
+live-filled heap (name ∷ names) (suc more) (value ∷ arguments) live =
+    All-cons (IsLive heap) value (filled names more arguments)
     (All-head (IsLive heap) value arguments live)
-    (live-bound heap names more arguments (All-tail (IsLive heap) value arguments live))
+    (live-filled heap names more arguments (All-tail (IsLive heap) value arguments live))
 
--- ---- the frame more
+-- ---- the call more
 
-module _ (m : MachineState) (frames : List (Frame Work)) (names : List (List ℕ)) (this : Value)
-    (parameters : ℕ) (arguments : List Value)
-    (is : frames ≡ with_values (new_frame names this ∷ m.frames) 0 (take parameters arguments)) where
-  opened : frames
-      ≡ record { this = this; slots = bound names parameters arguments; items = [] } ∷ m.frames
-  opened = is ∙ frame_bound names this m.frames parameters arguments
+module _ (m : MachineState) (frames : List Call) (declared : Declared) (names : List (List ℕ))
+    (this : Value) (parameters : ℕ) (arguments : List Value)
+    (is : frames
+    ≡ with_values (fresh declared names this ∷ m.frames) 0 (take parameters arguments)) where
+  opened : frames ≡ open_call declared names this parameters arguments ∷ m.frames
+  opened = is ∙ call_filled declared names this m.frames parameters arguments
 
   pub machine_opened : IsMachine m → length m.frames ≤ 64 → IsLive m.heap this
       → AreLive m.heap arguments → IsMachine (record m { frames = frames })
   machine_opened kept shallow live_this live = rw opened record {
     globals = kept.globals;
     frames =
-        All-cons (IsFrameLive m.heap)
-        (record { this = this; slots = bound names parameters arguments; items = [] }) m.frames (
+        All-cons (IsFrameLive m.heap) (open_call declared names this parameters arguments) m.frames (
           live_this,
-          live-bound m.heap names parameters arguments live,
+          live-filled m.heap names parameters arguments live,
           All-nil (IsWorkLive m.heap),
         ) kept.frames;
     some = omega arith;
@@ -156,32 +171,36 @@ module _ (m : MachineState) (frames : List (Frame Work)) (names : List (List ℕ
     steps = kept.steps;
   }
 
-  pub world_opened : 1 ≤ length m.frames
-      → world_of (record m { frames = frames }) ≡ record (world_of m) {
+  pub world_opened : 1 ≤ length m.frames → (programs : List ToldProgram)
+      → names_at programs declared ≡ names
+      → world_of programs (record m { frames = frames }) ≡ record (world_of programs m) {
         locals = bound names parameters arguments;
         this = this;
-        depth = (world_of m).depth + 1;
+        depth = (world_of programs m).depth + 1;
       }
-  world_opened some =
+  world_opened some programs told =
       let deep : suc (length m.frames) - 1 ≡ length m.frames - 1 + 1 = omega arith in
       rw opened
-      (ap {A = ℕ} {B = World} (λ depth. record (world_of m) {
-        locals = bound names parameters arguments;
-        this = this;
-        depth = depth;
-      }) deep)
+      (ap (λ own. with_locals (named_values own (filled names parameters arguments))
+      (suc (length m.frames) - 1)) told
+      ∙ ap (λ locals. with_locals locals (suc (length m.frames) - 1))
+      (named-filled names parameters arguments)
+      ∙ ap (with_locals (bound names parameters arguments)) deep)
+    where
+      with_locals : List (List ℕ × Value) → ℕ → World
+      with_locals locals depth =
+          record (world_of programs m) { locals = locals; this = this; depth = depth }
 
   pub burden_opened : burden (record m { frames = frames }) ≤ burden m + 1
   unfolding burden
   burden_opened =
-      let more = sum_by-cons items_of
-      (record { this = this; slots = bound names parameters arguments; items = [] }) m.frames in
+      let more = sum_by-cons items_of (open_call declared names this parameters arguments) m.frames in
       rw opened (omega arith)
 
-pub rest_opened : (below frames : List (Frame Work)) (names : List (List ℕ)) (this : Value)
-    (parameters : ℕ) (arguments : List Value)
-    → frames ≡ with_values (new_frame names this ∷ below) 0 (take parameters arguments)
+pub rest_opened : (below frames : List Call) (declared : Declared) (names : List (List ℕ))
+    (this : Value) (parameters : ℕ) (arguments : List Value)
+    → frames ≡ with_values (fresh declared names this ∷ below) 0 (take parameters arguments)
     → (programs : List ToldProgram) → rest programs frames ≡ behind_frame programs below
 unfolding rest
-rest_opened below frames names this parameters arguments is programs =
-    ap (rest programs) (is ∙ frame_bound names this below parameters arguments)
+rest_opened below frames declared names this parameters arguments is programs =
+    ap (rest programs) (is ∙ call_filled declared names this below parameters arguments)

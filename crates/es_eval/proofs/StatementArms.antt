@@ -30,7 +30,7 @@ use Rattle.es_eval.specs.declared.works.Work.TheVariants.{Statement as Statement
 use Rattle.es_eval.specs.Actions.{Action, Next, and_then, behind, step}
 use Rattle.es_shapes.specs.devices.Parts.{declarator_at, expression_at, listed, statement_at, statements_from, tree_of, trees_from}
 use Rattle.es_shapes.specs.Codes.{declared_by}
-use Rattle.es_eval.specs.devices.Machines.{Carries, GoesOn, MachineState, Stays, names_in, rest, run_from, world_of}
+use Rattle.es_eval.specs.devices.Machines.{CarriesOn, GoesOn, MachineState, Stays, names_in, rest, run_from, world_of}
 use Rattle.es_eval.specs.Rows.{Completion, Evaluation, behind_body, declarator_row, declarators, entered_place, statement_row, statements, turn_body, turn_row, update_row, visit_all, visited_place, where_normal}
 use Rattle.es_eval.specs.Rows.Completion.{Normal, Broke, Continued, Returned}
 use Rattle.es_eval.specs.Rows.Task.{Do, Visit as VisitTurn}
@@ -274,7 +274,7 @@ pub declare-on : (programs : List ToldProgram) (m old new : MachineState)
     ≡ OneMore (tree_of programs declared_code) (trees_from programs code (place + 1))
     → declarator_at programs declared_code ≡ declared programs shape → shape.value ≡ Some value
     → run_from programs new next
-    ≡ evaluates programs value (world_of m) (λ value after. does programs
+    ≡ evaluates programs value (world_of programs m) (λ value after. does programs
     (StatementItem (statement.Declared shape.name code (place + 1))) (given.Value value) after
     (rest programs m.frames))
     → GoesOn programs old (as_completion (declares programs code first)) new next
@@ -282,9 +282,9 @@ declare-on programs m old new code declared_code place first shape value next sa
     subst (λ (o : MachineState). GoesOn programs o (as_completion (declares programs code first))
     new next) same
     (on
-    ∙ declared-with programs code declared_code place shape value (world_of m)
+    ∙ declared-with programs code declared_code place shape value (world_of programs m)
     (rest programs m.frames) is what some
-    ∙ begun (world_of m)
+    ∙ begun (world_of programs m)
     (λ completion after. rest programs m.frames (completed completion) after))
 
 pub declare-end : (programs : List ToldProgram) (m old : MachineState) (code : Code)
@@ -299,8 +299,8 @@ declare-end programs m old code place first same begun none =
     λ completion after. rest programs m.frames (completed completion) after in
     subst (λ (o : MachineState). GoesOn programs o (as_completion (declares programs code first)) m
     (now.Gives given.Normal)) same
-    (sym (nothing-declared programs code place (world_of m) onward none)
-    ∙ begun (world_of m) onward)
+    (sym (nothing-declared programs code place (world_of programs m) onward none)
+    ∙ begun (world_of programs m) onward)
 
 -- ---- names that are visited
 
@@ -309,21 +309,21 @@ module _ (programs : List ToldProgram) (m : MachineState) (visit : Visiting) (na
     (is : name ≡ get_or visit.names.items visit.next name) where
   pub visit-past : (next : Next Completion)
       → has_property (object_at m.heap visit.object) name ≡ false
-      → turns programs (visit_task programs visit) (world_of m) next
-      ≡ turns programs (visit_task programs (record visit { next = visit.next + 1 })) (world_of m)
+      → turns programs (visit_task programs visit) (world_of programs m) next
+      ≡ turns programs (visit_task programs (record visit { next = visit.next + 1 })) (world_of programs m)
       next
   visit-past next gone =
       ap (λ names. done (declared_by programs) (VisitTurn
       (visitor_shaped programs visit.visitor) visit.object names
-      (statement_at programs visit.body)) (world_of m) next)
+      (statement_at programs visit.body)) (world_of programs m) next)
       (drop-at visit.names.items visit.next name inside is)
       ∙ visit-skips (declared_by programs) (visitor_shaped programs visit.visitor) visit.object name
-      (drop (visit.next + 1) visit.names.items) (statement_at programs visit.body) (world_of m) next
+      (drop (visit.next + 1) visit.names.items) (statement_at programs visit.body) (world_of programs m) next
       gone
 
   pub visit-on : (old new : MachineState) (first : Visiting) (next : Now) → m ≡ old
-      → ((next : Next Completion) → turns programs (visit_task programs visit) (world_of m) next
-      ≡ turns programs (visit_task programs first) (world_of m) next)
+      → ((next : Next Completion) → turns programs (visit_task programs visit) (world_of programs m) next
+      ≡ turns programs (visit_task programs first) (world_of programs m) next)
       → has_property (object_at m.heap visit.object) name ≡ true
       → GoesOn programs m (behind
       (visited_place (enters programs) (visitor_shaped programs visit.visitor))
@@ -336,18 +336,18 @@ module _ (programs : List ToldProgram) (m : MachineState) (visit : Visiting) (na
       (as_completion (turns programs (visit_task programs first))) new next) same
       (on
       ∙ sym (visit-turn (declared_by programs) (visitor_shaped programs visit.visitor) visit.object
-      name (drop (visit.next + 1) visit.names.items) (statement_at programs visit.body) (world_of m)
+      name (drop (visit.next + 1) visit.names.items) (statement_at programs visit.body) (world_of programs m)
       onward there)
       ∙ ap (λ names. done (declared_by programs) (VisitTurn
       (visitor_shaped programs visit.visitor) visit.object names
-      (statement_at programs visit.body)) (world_of m) onward)
+      (statement_at programs visit.body)) (world_of programs m) onward)
       (sym (drop-at visit.names.items visit.next name inside is))
       ∙ begun onward)
 
 pub visit-end : (programs : List ToldProgram) (m old : MachineState) (visit first : Visiting)
     → m ≡ old → ((next : Next Completion)
-    → turns programs (visit_task programs visit) (world_of m) next
-    ≡ turns programs (visit_task programs first) (world_of m) next)
+    → turns programs (visit_task programs visit) (world_of programs m) next
+    ≡ turns programs (visit_task programs first) (world_of programs m) next)
     → length visit.names.items ≤ visit.next
     → GoesOn programs old (as_completion (turns programs (visit_task programs first))) m
     (now.Gives given.Normal)
@@ -357,7 +357,7 @@ visit-end programs m old visit first same begun past =
     subst (λ (o : MachineState). GoesOn programs o
     (as_completion (turns programs (visit_task programs first))) m (now.Gives given.Normal)) same
     (sym (visited-none (declared_by programs) (visitor_shaped programs visit.visitor) visit.object
-    (drop visit.next visit.names.items) (statement_at programs visit.body) (world_of m) onward
+    (drop visit.next visit.names.items) (statement_at programs visit.body) (world_of programs m) onward
     (drop-end visit.names.items visit.next past))
     ∙ begun onward)
 
@@ -385,7 +385,7 @@ visit-var programs old new visitor name more next is on = rw is on
 pub all-visited : (programs : List ToldProgram) (old mid new : MachineState)
     (visitor : VisitorShape) (body : Code) (value : Value) (object : ℕ)
     (found : Option (List (List ℕ))) (names : List (List ℕ)) (next : Now)
-    → value ≡ Object object → Carries (names_in object) (world_of old) found (world_of mid)
+    → value ≡ Object object → CarriesOn (names_in object) old found mid
     → found ≡ Some names → Stays old mid
     → GoesOn programs mid (as_completion (turns programs
     (VisitTurn (visitor_shaped programs visitor) object names (statement_at programs body)))) new
@@ -393,34 +393,34 @@ pub all-visited : (programs : List ToldProgram) (old mid new : MachineState)
     → GoesOn programs old (as_completion (visit_all (turns programs)
     (visitor_shaped programs visitor) (statement_at programs body) value)) new next
 all-visited programs old mid new visitor body value object found names next is carries some stays on =
-    let carried : Carries (names_in object) (world_of old) (Some names) (world_of mid) =
-    subst (λ (o : Option (List (List ℕ))). Carries (names_in object) (world_of old) o
-    (world_of mid)) some carries in
+    let carried : CarriesOn (names_in object) old (Some names) mid =
+    subst (λ (o : Option (List (List ℕ))). CarriesOn (names_in object) old o
+    mid) some carries in
     subst (λ (v : Value). GoesOn programs old (as_completion (visit_all (turns programs)
     (visitor_shaped programs visitor) (statement_at programs body) v)) new next) (sym is)
     (on
     ∙ ap (λ (more : Next Given). done (declared_by programs)
     (VisitTurn (visitor_shaped programs visitor) object names (statement_at programs body))
-    (world_of mid) (λ completion after. more (completed completion) after)) (stays.rest programs)
-    ∙ sym (carried (λ names w. done (declared_by programs)
+    (world_of programs mid) (λ completion after. more (completed completion) after)) (stays.rest programs)
+    ∙ sym (carried programs (λ names w. done (declared_by programs)
     (VisitTurn (visitor_shaped programs visitor) object names (statement_at programs body)) w
     (λ completion after. rest programs old.frames (completed completion) after))))
 
 pub none-visited : (programs : List ToldProgram) (old new : MachineState)
     (visitor : VisitorShape) (body : Code) (value : Value) (object : ℕ)
     (found : Option (List (List ℕ))) (next : Now)
-    → value ≡ Object object → Carries (names_in object) (world_of old) found (world_of new)
+    → value ≡ Object object → CarriesOn (names_in object) old found new
     → found ≡ None → next ≡ now.Over (Stopped Budget)
     → GoesOn programs old (as_completion (visit_all (turns programs)
     (visitor_shaped programs visitor) (statement_at programs body) value)) new next
 none-visited programs old new visitor body value object found next is carries none over =
-    let carried : Carries (names_in object) (world_of old) None (world_of new) =
-    subst (λ (o : Option (List (List ℕ))). Carries (names_in object) (world_of old) o
-    (world_of new)) none carries in
+    let carried : CarriesOn (names_in object) old None new =
+    subst (λ (o : Option (List (List ℕ))). CarriesOn (names_in object) old o
+    new) none carries in
     subst (λ (v : Value). GoesOn programs old (as_completion (visit_all (turns programs)
     (visitor_shaped programs visitor) (statement_at programs body) v)) new next) (sym is)
     (ap (run_from programs new) over
-    ∙ sym (carried (λ names w. done (declared_by programs)
+    ∙ sym (carried programs (λ names w. done (declared_by programs)
     (VisitTurn (visitor_shaped programs visitor) object names (statement_at programs body)) w
     (λ completion after. rest programs old.frames (completed completion) after))))
 
@@ -432,7 +432,7 @@ pub var-turns : (programs : List ToldProgram) (old mid put new : MachineState) (
     → ((told : List ToldProgram) → rest told put.frames
     ≡ (λ handed w. does told (StatementItem (statement.NextTurn loop)) handed w
     (rest told mid.frames)))
-    → world_of put ≡ world_of mid
+    → ((told : List ToldProgram) → world_of told put ≡ world_of told mid)
     → GoesOn programs put (as_completion (declares programs code 0)) new next
     → GoesOn programs old (as_completion (starts_loop programs (head.FirstVar code) loop)) new next
 unfolding first_shaped
@@ -441,7 +441,7 @@ var-turns programs old mid put new code loop taken next steps some stays rests s
     (turns programs (loop_task programs loop)))) next steps some stays
     (put-run programs mid put new (StatementItem (statement.NextTurn loop))
     (as_completion (declares programs code 0)) next rests same on
-    ∙ declared-turns programs code loop (world_of mid) (rest programs mid.frames))
+    ∙ declared-turns programs code loop (world_of programs mid) (rest programs mid.frames))
 
 pub var-stopped : (programs : List ToldProgram) (old new : MachineState) (code : Code)
     (loop : Loop) (taken : Bool) (next : Now) → Steps old taken new → taken ≡ false
@@ -465,8 +465,8 @@ statement-on programs old mid new code shape taken next steps some stays is on =
     (as_completion (done (declared_by programs) (Do (statement_at programs code)))) next steps some
     stays
     (on ∙ ap (λ (s : Statement). as_completion (statement_row (enters programs) (runs programs)
-    (turns programs) s) (world_of mid) (rest programs mid.frames)) (sym is)
-    ∙ sym (done-row (declared_by programs) (Do (statement_at programs code)) (world_of mid)
+    (turns programs) s) (world_of programs mid) (rest programs mid.frames)) (sym is)
+    ∙ sym (done-row (declared_by programs) (Do (statement_at programs code)) (world_of programs mid)
     (λ completion after. rest programs mid.frames (completed completion) after)))
 
 pub statement-stopped : (programs : List ToldProgram) (old new : MachineState) (code : Code)

@@ -35,7 +35,7 @@ IsPut old item mid =
 pub update-run : (programs : List ToldProgram) (old mid new : MachineState) (operator : Operator)
     (place there : Placed) (right : Code) (next : Now) → there ≡ place
     → IsPut old (work.Target (target.UpdateRead operator there right)) mid
-    → world_of mid ≡ world_of old
+    → ((told : List ToldProgram) → world_of told mid ≡ world_of told old)
     → GoesOn programs mid (as_value (read_place (place_of place))) new next
     → GoesOn programs old (use_row programs (use_of.Update operator right) (place_of place)) new next
 update-run programs old mid new operator place there right next is rests same on =
@@ -47,7 +47,7 @@ update-run programs old mid new operator place there right next is rests same on
 pub steps-run : (programs : List ToldProgram) (old mid new : MachineState) (in_front down : Bool)
     (place there : Placed) (next : Now) → there ≡ place
     → IsPut old (work.Target (target.StepRead in_front down there)) mid
-    → world_of mid ≡ world_of old
+    → ((told : List ToldProgram) → world_of told mid ≡ world_of told old)
     → GoesOn programs mid (as_value (read_place (place_of place))) new next
     → GoesOn programs old (use_row programs (use_of.Step in_front down) (place_of place)) new next
 steps-run programs old mid new in_front down place there next is rests same on =
@@ -62,7 +62,7 @@ pub instead-run : (programs : List ToldProgram) (old mid new : MachineState) (pl
     → after ≡ stepped down number
     → kept ≡ (if in_front then after else number)
     → IsPut old (work.Operand (operand.Instead (Number kept))) mid
-    → world_of mid ≡ world_of old
+    → ((told : List ToldProgram) → world_of told mid ≡ world_of told old)
     → GoesOn programs mid (as_value (write_place place (Number after))) new next
     → GoesOn programs old (as_value (and_then (write_place place (Number (stepped down number)))
     (gives (Number (if in_front then stepped down number else number))))) new next
@@ -93,12 +93,12 @@ visiting programs visit next (Returned value) w = refl
 
 pub visited-run : (programs : List ToldProgram) (old new : MachineState) (visit : Visit)
     (next : Now)
-    → run_from programs new next ≡ executes programs visit.body (world_of old)
+    → run_from programs new next ≡ executes programs visit.body (world_of programs old)
     (λ completion w. does programs (work.Statement (statement.Visiting visit))
     (completed completion) w (rest programs old.frames))
     → GoesOn programs old (as_completion (visit_body programs visit)) new next
 visited-run programs old new visit next run =
-    run ∙ ap (executes programs visit.body (world_of old))
+    run ∙ ap (executes programs visit.body (world_of programs old))
     (λ i completion w. visiting programs visit (rest programs old.frames) completion w i)
 
 pub none-found : {A : Type 0} (found : Option A) → ((x : A) → found ≡ Some x → ⊥)

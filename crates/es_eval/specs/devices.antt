@@ -1,5 +1,6 @@
 -- Devices of the proofs: what the machine stands for, item by item.
 pub mod Bounds
+pub mod OpenCalls
 pub mod Slots
 pub mod Declaring
 pub mod Works

@@ -291,7 +291,7 @@ impl Machine {
         let Some(function) = declaration(programs, declared) else {
             return Ok(stopped(StopCause::NotCallable));
         };
-        self.open_function(function, this, args)?;
+        self.open_function(declared, function, this, args)?;
         let listing = Listing::Body(declared.program, declared.function);
         self.execute_then(
             Work::Statement(StatementWork::Statements(listing, 1)),
@@ -459,7 +459,7 @@ fn first_statement(programs: &[Program], declared: Declared) -> Option<Code>
 // What a built-in answered.
 fn answered(built: Built) -> Now
     ensures run { (programs : List ToldProgram) (m : MachineState) → run_from programs m result
-        ≡ built_run built (world_of m) (value_rest programs m.frames) }
+        ≡ built_run built (world_of programs m) (value_rest programs m.frames) }
     ensures live { values_of_next result ≡ values_of_built built }
     ensures less { weight_of_next result ≤ 11 }
 {

@@ -1,7 +1,6 @@
 //! The evaluator's loop: what is next is done until the script is over.
 
 ghost use Rattle.std.specs.Prelude.{◌≡◌, ◌<◌, ◌+◌, List, None, IfOk};
-ghost use Rattle.es_frames.specs.Frames.{next_item};
 ghost use Rattle.es_reader.specs.Programs.{ToldProgram};
 ghost use Rattle.es_values.specs.Heaps.{IsLive, IsSound};
 ghost use Rattle.es_eval.specs.declared.works.Given.TheVariants.{Value as GivenValue};
@@ -10,6 +9,7 @@ ghost use Rattle.es_eval.specs.declared.works.Now.TheVariants.{Calls, Gives, Ove
 ghost use Rattle.es_eval.specs.Endings.{MayEnd};
 ghost use Rattle.es_eval.specs.devices.Machines.{AreLive, GoesOn, IsLessAfter, IsNextLive, IsWorkLive, burden, next_behind as spec_next_behind, run_from, value_of_call as spec_value_of_call, values_of_given, weight, world_of};
 ghost use Rattle.es_eval.specs.devices.Leading.{LeadsTo};
+ghost use Rattle.es_eval.specs.devices.OpenCalls.{next_item};
 ghost use Rattle.es_eval.specs.devices.Works.{does};
 
 use crate::globals::Globals;
@@ -68,7 +68,7 @@ impl Machine {
             Work::Operand(item) => self.on_operand(programs.list(), item, given),
             Work::Member(item) => self.on_member(item, given),
             Work::Call(item) => self.on_call(programs, item, given),
-            Work::Target(item) => self.on_target(item, given),
+            Work::Target(item) => self.on_target(programs.list(), item, given),
             Work::Statement(item) => {
                 self.on_statement(programs.list(), item, Given::Value(given))
             }
@@ -100,7 +100,8 @@ impl Machine {
     ) -> Result<Outcome, NoMemory>
         requires { IsNextLive self.old first }
         ensures ends { IfOk result (λ outcome. MayEnd H.reads H.writes H.calls
-            (run_from programs.old self.old first) host.old outcome (world_of self.new) host.new) }
+            (run_from programs.old self.old first) host.old outcome (world_of programs.old self.new)
+            host.new) }
     {
         let mut now = first;
         'script: loop {

@@ -55,7 +55,7 @@ impl Machine {
             Shape::Truth(truth) => Ok(value(Value::Bool(truth))),
             Shape::Number(number) => Ok(value(Value::Number(Num::Whole(number)))),
             Shape::Text(text) => Ok(value(Value::Str(text))),
-            Shape::Name(name) => self.name_value(&name),
+            Shape::Name(name) => self.name_value(programs, &name),
             Shape::Index(base, key) => {
                 self.evaluate_then(Work::Member(MemberWork::IndexBase(key)), base)
             }
@@ -142,23 +142,22 @@ impl Machine {
         ensures less { IfOk result (IsLess self.old self.new) }
     {
         match expression(programs, operand)? {
-            Shape::Name(name) => self.typeof_name(&name),
+            Shape::Name(name) => self.typeof_name(programs, &name),
             _ => self.evaluate_then(Work::Operand(OperandWork::Typeof), operand),
         }
     }
 
     // The name of the type of a name's value.
-    fn typeof_name(&mut self, name: &Text) -> Result<Now, NoMemory>
-        ensures run { IfOk result (λ next. (programs : List ToldProgram)
-            → GoesOn programs self.old (as_value (step (spec_typeof_name name.now))) self.new
-            next) }
+    fn typeof_name(&mut self, programs: &[Program], name: &Text) -> Result<Now, NoMemory>
+        ensures run { IfOk result (λ next. GoesOn programs.now self.old
+            (as_value (step (spec_typeof_name name.now))) self.new next) }
         ensures live { IfOk result (IsNextLive self.new) }
         ensures less { IfOk result (IsLess self.old self.new) }
     {
         if !self.take_step() {
             return Ok(stopped(StopCause::Budget));
         }
-        let found = self.read_name(name)?.unwrap_or(Value::Undefined);
+        let found = self.read_name(programs, name)?.unwrap_or(Value::Undefined);
         Ok(value(self.type_text(&found)?))
     }
 

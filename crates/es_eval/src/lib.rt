@@ -27,6 +27,7 @@ mod laws;
 mod machine;
 mod members;
 mod nexts;
+mod open_calls;
 mod operands;
 mod outcomes;
 mod scripts;

@@ -1,16 +1,16 @@
 //! The evaluator's state: the globals, the objects, the control stack and the steps that are left.
 
 ghost use Rattle.std.specs.Prelude.{◌≡◌, ◌≤◌, ◌+◌, ◌*◌, ◌^◌, ◌<◌, [], List, length, true, false, Some, None, IfOk, IfSome, OnOk, if◌then◌else◌, option_map};
-ghost use Rattle.std.specs.List.{sum_by};
+ghost use Rattle.std.specs.List.{position, sum_by};
 ghost use Rattle.es_builtins.specs.Functions.{construction_row, function_row};
 ghost use Rattle.es_builtins.specs.Methods.{method_row};
-ghost use Rattle.es_frames.specs.Frames.{below_last, next_item, with_item, without_item};
 ghost use Rattle.es_reader.specs.Programs.{ToldProgram};
 ghost use Rattle.es_reader.specs.Told.{told_function};
 ghost use Rattle.es_values.specs.declared.values.Value.{Value as AnyValue};
 ghost use Rattle.es_values.specs.declared.values.Value.TheVariants.{Bool as Boolean};
 ghost use Rattle.es_values.specs.Charges.{conversion_charge, put_charge};
 ghost use Rattle.es_values.specs.Heaps.{IsLive, has_property, object_at, value_of};
+ghost use Rattle.bml_bytes.specs.Words.{is_same};
 ghost use Rattle.es_eval.specs.declared.outcomes.Outcome.TheVariants.{Normal as AtEnd, Stopped};
 ghost use Rattle.es_eval.specs.declared.outcomes.StopCause.TheVariants.{Budget as OutOfSteps};
 ghost use Rattle.es_eval.specs.declared.works.Given.{Given};
@@ -18,21 +18,22 @@ ghost use Rattle.es_eval.specs.declared.works.Given.TheVariants.{Value as GivenV
 ghost use Rattle.es_eval.specs.declared.works.Now.TheVariants.{Gives};
 ghost use Rattle.es_eval.specs.Actions.{Action, Next, as_number, as_text, by_row, charged, step};
 ghost use Rattle.es_eval.specs.Calls.{bound, with_new_object};
-ghost use Rattle.es_eval.specs.devices.Machines.{AreLive, Carries, IsWorkLive, Stays, behind_frame, built_run, burden, names_in, rest, run_from, turns_of, value_of_call, values_of_built, values_of_next, weight, world_of};
+ghost use Rattle.es_eval.specs.devices.OpenCalls.{below_last, function_of, names_at, names_in as local_names, next_item, with_item, without_item};
+ghost use Rattle.es_eval.specs.devices.Machines.{AreLive, CarriesOn, IsWorkLive, Stays, behind_frame, built_run, burden, names_in, rest, run_from, this_in, turns_of, value_of_call, values_of_built, values_of_next, weight, world_of};
 ghost use Rattle.es_eval.specs.Members.{delete_in, named, put_member};
 ghost use Rattle.es_eval.specs.Operations.{operates};
-ghost use Rattle.es_eval.specs.devices.Slots.{with_values};
+ghost use Rattle.es_eval.specs.devices.Slots.{IsSlotOf, with_values};
 ghost use Rattle.es_eval.specs.devices.Works.{completed, does, evaluates, executes};
 ghost use Rattle.es_eval.specs.Worlds.{local as spec_local, with_name};
 ghost use Rattle.es_eval.specs.Worlds.Run.{Over};
 
 use crate::globals::Globals;
+use crate::open_calls::OpenCalls;
 use crate::works::{Now, Work};
 use bml_bytes::{NoMemory, Text};
 use es_builtins::{Built, call_function, call_method, construct, law_of_rows, value_named};
-use es_frames::Frames;
-use es_reader::FunctionDecl;
-use es_shapes::{Code, Operator, charge_all, charge_operation, operated};
+use es_reader::{FunctionDecl, Program};
+use es_shapes::{Code, Declared, Operator, charge_all, charge_operation, declaration, operated};
 use es_values::{Budget, Heap, Num, Value};
 use std::marker::Model;
 
@@ -41,7 +42,7 @@ use std::marker::Model;
 pub struct Machine {
     pub globals: Globals,
     pub heap: Heap,
-    pub frames: Frames<Work>,
+    pub frames: OpenCalls,
     pub steps: Budget,
 }
 
@@ -75,7 +76,8 @@ impl Machine {
             (self.new ≡ record self.old { frames = with_item self.old.frames item }) }
         ensures rest { OnOk result ((programs : List ToldProgram) → rest programs self.new.frames
             ≡ (λ handed w. does programs item handed w (rest programs self.old.frames))) }
-        ensures world { OnOk result (world_of self.new ≡ world_of self.old) }
+        ensures world { OnOk result ((programs : List ToldProgram)
+            → world_of programs self.new ≡ world_of programs self.old) }
         ensures more { OnOk result (burden self.new ≡ burden self.old + 2 * turns_of item) }
     {
         self.frames.put(item)?;
@@ -93,7 +95,8 @@ impl Machine {
         ensures done { result ≡ None → (programs : List ToldProgram)
             → rest programs self.old.frames
             ≡ behind_frame programs (below_last self.old.frames) }
-        ensures world { world_of self.new ≡ world_of self.old }
+        ensures world { (programs : List ToldProgram)
+            → world_of programs self.new ≡ world_of programs self.old }
         ensures less { IfSome result
             (λ item. burden self.old ≡ burden self.new + 2 * turns_of item) }
     {
@@ -104,7 +107,7 @@ impl Machine {
     pub fn evaluate_then(&mut self, item: Work, code: Code) -> Result<Now, NoMemory>
         requires { IsWorkLive self.old.heap item }
         ensures run { IfOk result (λ next. (programs : List ToldProgram)
-            → run_from programs self.new next ≡ evaluates programs code (world_of self.old)
+            → run_from programs self.new next ≡ evaluates programs code (world_of programs self.old)
             (λ value w. does programs item (GivenValue value) w (rest programs self.old.frames))) }
         ensures live { IfOk result (λ next. values_of_next next ≡ []) }
         ensures less { IfOk result (λ next. weight self.new next ≤ burden self.old + 7) }
@@ -117,7 +120,7 @@ impl Machine {
     pub fn execute_then(&mut self, item: Work, code: Code) -> Result<Now, NoMemory>
         requires { IsWorkLive self.old.heap item }
         ensures run { IfOk result (λ next. (programs : List ToldProgram)
-            → run_from programs self.new next ≡ executes programs code (world_of self.old)
+            → run_from programs self.new next ≡ executes programs code (world_of programs self.old)
             (λ completion w. does programs item (completed completion) w
             (rest programs self.old.frames))) }
         ensures live { IfOk result (λ next. values_of_next next ≡ []) }
@@ -132,10 +135,10 @@ impl Machine {
     /// Takes a step, where one is left.
     #[tactic(auto, using(crate::proofs::MachineLemmas::stays_where_less))]
     pub fn take_step(&mut self) -> bool
-        ensures step { (action : Action AnyValue) (next : Next AnyValue)
-            → step action (world_of self.old) next
-            ≡ (if result then action (world_of self.new) next
-            else Over (Stopped OutOfSteps) (world_of self.new)) }
+        ensures step { (programs : List ToldProgram) (action : Action AnyValue)
+            (next : Next AnyValue) → step action (world_of programs self.old) next
+            ≡ (if result then action (world_of programs self.new) next
+            else Over (Stopped OutOfSteps) (world_of programs self.new)) }
         ensures less { result ≡ true → burden self.new + 40 ≤ burden self.old }
         ensures stays { Stays self.old self.new }
     {
@@ -146,8 +149,8 @@ impl Machine {
     #[tactic(auto, using(crate::proofs::MachineLemmas::stays_where_less))]
     pub fn to_text(&mut self, value: &Value) -> Result<Option<Text>, NoMemory>
         requires { IsLive self.old.heap value.now }
-        ensures text { IfOk result (λ found.
-            Carries (as_text value.now) (world_of self.old) found (world_of self.new)) }
+        ensures text { IfOk result
+            (λ found. CarriesOn (as_text value.now) self.old found self.new) }
         ensures stays { Stays self.old self.new }
     {
         if self.steps.charge_conversion(&self.heap, value) {
@@ -161,10 +164,11 @@ impl Machine {
     #[tactic(auto, using(crate::proofs::MachineLemmas::stays_where_less))]
     pub fn charge_conversion(&mut self, value: &Value) -> bool
         requires { IsLive self.old.heap value.now }
-        ensures charge { (action : Action AnyValue) (next : Next AnyValue)
-            → charged (λ heap. conversion_charge heap value.now) action (world_of self.old) next
-            ≡ (if result then action (world_of self.new) next
-            else Over (Stopped OutOfSteps) (world_of self.new)) }
+        ensures charge { (programs : List ToldProgram) (action : Action AnyValue)
+            (next : Next AnyValue) → charged (λ heap. conversion_charge heap value.now) action
+            (world_of programs self.old) next
+            ≡ (if result then action (world_of programs self.new) next
+            else Over (Stopped OutOfSteps) (world_of programs self.new)) }
         ensures stays { Stays self.old self.new }
     {
         self.steps.charge_conversion(&self.heap, value)
@@ -174,8 +178,8 @@ impl Machine {
     #[tactic(auto, using(crate::proofs::MachineLemmas::stays_where_less))]
     pub fn to_number(&mut self, value: &Value) -> Result<Option<Num>, NoMemory>
         requires { IsLive self.old.heap value.now }
-        ensures number { IfOk result (λ found.
-            Carries (as_number value.now) (world_of self.old) found (world_of self.new)) }
+        ensures number { IfOk result
+            (λ found. CarriesOn (as_number value.now) self.old found self.new) }
         ensures stays { Stays self.old self.new }
     {
         if self.steps.charge_conversion(&self.heap, value) {
@@ -190,7 +194,7 @@ impl Machine {
     /// The `this` of the call that runs.
     #[tactic(auto, using(crate::proofs::NameLemmas::live_this))]
     pub fn this(&self) -> Result<Value, NoMemory>
-        ensures this { IfOk result (λ value. value ≡ (world_of self.now).this) }
+        ensures this { IfOk result (λ value. value ≡ this_in self.now.frames) }
         ensures live { IfOk result (λ value. IsLive self.now.heap value) }
     {
         match self.frames.this() {
@@ -201,11 +205,12 @@ impl Machine {
 
     /// The value of a name: a local, else a global, else what is built in.
     #[tactic(auto, using(crate::proofs::NameLemmas::live_global))]
-    pub fn read_name(&self, name: &Text) -> Result<Option<Value>, NoMemory>
-        ensures value { IfOk result (λ found. found ≡ named (world_of self.now) name.now) }
+    pub fn read_name(&self, programs: &[Program], name: &Text) -> Result<Option<Value>, NoMemory>
+        ensures value { IfOk result
+            (λ found. found ≡ named (world_of programs.now self.now) name.now) }
         ensures live { IfOk result (λ found. IfSome found (λ value. IsLive self.now.heap value)) }
     {
-        if let Some(value) = self.local(name)? {
+        if let Some(value) = self.local(programs, name)? {
             return Ok(Some(value));
         }
         match self.globals.get(name) {
@@ -216,11 +221,12 @@ impl Machine {
 
     // The value of a local.
     #[tactic(auto, using(crate::proofs::NameLemmas::no_local, crate::proofs::NameLemmas::local_at, crate::proofs::NameLemmas::live_at))]
-    fn local(&self, name: &Text) -> Result<Option<Value>, NoMemory>
-        ensures value { IfOk result (λ found. found ≡ spec_local (world_of self.now) name.now) }
+    fn local(&self, programs: &[Program], name: &Text) -> Result<Option<Value>, NoMemory>
+        ensures value { IfOk result
+            (λ found. found ≡ spec_local (world_of programs.now self.now) name.now) }
         ensures live { IfOk result (λ found. IfSome found (λ value. IsLive self.now.heap value)) }
     {
-        let Some(place) = self.frames.find(name) else {
+        let Some(place) = self.filled_slot(programs, name)? else {
             return Ok(None);
         };
         match self.frames.slot(place) {
@@ -229,15 +235,52 @@ impl Machine {
         }
     }
 
+    // The place of a name among the locals of the function that runs, where it is one of them.
+    fn slot_of(&self, programs: &[Program], name: &Text) -> Result<Option<u32>, NoMemory>
+        ensures { IfOk result (λ found. found ≡ position (is_same name.now)
+            (local_names programs.now (function_of self.now.frames))) }
+    {
+        let Some(declared) = self.frames.function() else {
+            return Ok(None);
+        };
+        let Some(function) = declaration(programs, declared) else {
+            return Ok(None);
+        };
+        match u32::try_from(function.locals.len()) {
+            Ok(_) => Ok(place_among(&function.locals, name)),
+            Err(_) => Err(NoMemory),
+        }
+    }
+
+    // The same, where the call that runs has a value there, as it always does.
+    #[tactic(auto, using(crate::proofs::NameLemmas::no_local, crate::proofs::NameLemmas::no_value))]
+    fn filled_slot(&self, programs: &[Program], name: &Text) -> Result<Option<u32>, NoMemory>
+        ensures { IfOk result (IsSlotOf programs.now self.now.frames name.now) }
+    {
+        let Some(place) = self.slot_of(programs, name)? else {
+            return Ok(None);
+        };
+        if self.frames.slot(place).is_some() {
+            Ok(Some(place))
+        } else {
+            Ok(None)
+        }
+    }
+
     /// Gives a name a value: a local, and else a global, which is made where it is new.
     #[tactic(auto, using(crate::proofs::MachineLemmas::stays_where_less))]
-    pub fn write_name(&mut self, name: &Text, value: Value) -> Result<(), NoMemory>
+    pub fn write_name(
+        &mut self,
+        programs: &[Program],
+        name: &Text,
+        value: Value,
+    ) -> Result<(), NoMemory>
         requires { IsLive self.old.heap value }
-        ensures name { OnOk result (world_of self.new
-            ≡ with_name name.now value (world_of self.old)) }
+        ensures name { OnOk result (world_of programs.now self.new
+            ≡ with_name name.now value (world_of programs.now self.old)) }
         ensures stays { Stays self.old self.new }
     {
-        match self.frames.find(name) {
+        match self.filled_slot(programs, name)? {
             Some(place) => {
                 self.frames.set_slot(place, value);
                 Ok(())
@@ -270,8 +313,8 @@ impl Machine {
     #[tactic(auto, using(crate::proofs::MachineLemmas::stays_where_less))]
     pub fn names(&mut self, object: u64) -> Result<Option<Vec<Text>>, NoMemory>
         requires { object < length self.old.heap }
-        ensures names { IfOk result (λ found. Carries (names_in object) (world_of self.old)
-            (option_map (λ names. names.items) found) (world_of self.new)) }
+        ensures names { IfOk result (λ found. CarriesOn (names_in object) self.old
+            (option_map (λ names. names.items) found) self.new) }
         ensures stays { Stays self.old self.new }
     {
         let names = self.heap.names(object)?;
@@ -286,8 +329,9 @@ impl Machine {
     #[tactic(auto, using(crate::proofs::MachineLemmas::stays_where_less))]
     pub fn delete(&mut self, object: u64, name: &Text) -> bool
         requires { object < length self.old.heap }
-        ensures delete { (next : Next AnyValue) → delete_in object name.now (world_of self.old) next
-            ≡ next (Boolean result) (world_of self.new) }
+        ensures delete { (programs : List ToldProgram) (next : Next AnyValue)
+            → delete_in object name.now (world_of programs self.old) next
+            ≡ next (Boolean result) (world_of programs self.new) }
         ensures stays { Stays self.old self.new }
     {
         self.heap.remove(object, name)
@@ -303,10 +347,10 @@ impl Machine {
     ) -> Result<bool, NoMemory>
         requires object { object < length self.old.heap }
         requires value { IsLive self.old.heap value.now }
-        ensures put { IfOk result (λ put. Carries
+        ensures put { IfOk result (λ put. CarriesOn
             (charged (λ heap. put_charge heap object name.now value.now)
-            (put_member object name.now value.now)) (world_of self.old)
-            (if put then Some value.now else None) (world_of self.new)) }
+            (put_member object name.now value.now)) self.old
+            (if put then Some value.now else None) self.new) }
         ensures stays { Stays self.old self.new }
     {
         if !self.steps.charge_put(&self.heap, object, name, value)? {
@@ -326,8 +370,8 @@ impl Machine {
     ) -> Result<Option<Value>, NoMemory>
         requires left { IsLive self.old.heap left.now }
         requires right { IsLive self.old.heap right.now }
-        ensures value { IfOk result (λ found. Carries (operates operator left.now right.now)
-            (world_of self.old) found (world_of self.new)) }
+        ensures value { IfOk result (λ found. CarriesOn (operates operator left.now right.now)
+            self.old found self.new) }
         ensures live { IfOk result (λ found. IfSome found (λ value. IsLive self.new.heap value)) }
         ensures stays { Stays self.old self.new }
     {
@@ -343,6 +387,7 @@ impl Machine {
     /// Opens the frame of a call of a function with these arguments, which has no item yet.
     pub fn open_function(
         &mut self,
+        declared: Declared,
         function: &FunctionDecl,
         this: Value,
         mut args: Vec<Value>,
@@ -350,20 +395,22 @@ impl Machine {
         requires this { IsLive self.old.heap this }
         requires args { AreLive self.old.heap args.items }
         requires depth { length self.old.frames ≤ 64 }
-        ensures world { OnOk result (world_of self.new ≡ record (world_of self.old) {
-          locals = bound (told_function function.now).locals function.now.parameters args.items;
-          this = this;
-          depth = (world_of self.old).depth + 1;
-        }) }
+        ensures world { OnOk result ((programs : List ToldProgram)
+            → names_at programs declared ≡ (told_function function.now).locals
+            → world_of programs self.new ≡ record (world_of programs self.old) {
+              locals = bound (told_function function.now).locals function.now.parameters args.items;
+              this = this;
+              depth = (world_of programs self.old).depth + 1;
+            }) }
         ensures rest { OnOk result ((programs : List ToldProgram)
             → rest programs self.new.frames ≡ behind_frame programs self.old.frames) }
         ensures less { OnOk result (burden self.new ≤ burden self.old + 1) }
         ensures heap { self.new.heap ≡ self.old.heap }
     {
-        let Ok(_) = u32::try_from(function.locals.len()) else {
+        let Ok(locals) = u32::try_from(function.locals.len()) else {
             return Err(NoMemory);
         };
-        self.frames.push(&function.locals, this)?;
+        self.frames.push(Some(declared), locals, this)?;
         args.truncate(function.parameters as usize);
         set_slots(&mut self.frames, args);
         Ok(())
@@ -374,7 +421,7 @@ impl Machine {
         ensures run { (programs : List ToldProgram) (handed : Given)
             → next_item self.old.frames ≡ None → run_from programs self.old (Gives handed)
             ≡ (if result then run_from programs self.new (Gives (value_of_call handed))
-            else Over AtEnd (world_of self.new)) }
+            else Over AtEnd (world_of programs self.new)) }
         ensures less { result ≡ true → burden self.new + 1 ≤ burden self.old }
         ensures same { result ≡ false → self.new ≡ self.old }
         ensures heap { self.new.heap ≡ self.old.heap }
@@ -391,10 +438,12 @@ impl Machine {
     #[tactic(auto, using(crate::proofs::MachineLemmas::stays_where_less))]
     pub fn charge_conversions(&mut self, values: &[Value]) -> bool
         requires { AreLive self.old.heap values.now }
-        ensures charge { (action : Action AnyValue) (next : Next AnyValue)
+        ensures charge { (programs : List ToldProgram) (action : Action AnyValue)
+            (next : Next AnyValue)
             → charged (λ heap. sum_by (conversion_charge heap) values.now) action
-            (world_of self.old) next ≡ (if result then action (world_of self.new) next
-            else Over (Stopped OutOfSteps) (world_of self.new)) }
+            (world_of programs self.old) next
+            ≡ (if result then action (world_of programs self.new) next
+            else Over (Stopped OutOfSteps) (world_of programs self.new)) }
         ensures stays { Stays self.old self.new }
     {
         charge_all(values, &self.heap, &mut self.steps)
@@ -404,7 +453,8 @@ impl Machine {
     #[tactic(auto, using(crate::proofs::MachineLemmas::stays_where_less))]
     pub fn add_object(&mut self) -> Result<u64, NoMemory>
         ensures world { IfOk result (λ object. (object ≡ length self.old.heap)
-            × (world_of self.new ≡ with_new_object (world_of self.old))) }
+            × ((programs : List ToldProgram)
+            → world_of programs self.new ≡ with_new_object (world_of programs self.old))) }
         ensures live { IfOk result (λ object. object < length self.new.heap) }
         ensures stays { Stays self.old self.new }
     {
@@ -416,9 +466,10 @@ impl Machine {
     #[tactic(auto, using(crate::proofs::MachineLemmas::stays_where_less))]
     pub fn call_built_in_function(&mut self, number: u64, args: &[Value]) -> Result<Built, NoMemory>
         requires { AreLive self.old.heap args.now }
-        ensures run { IfOk result (λ built. (next : Next AnyValue)
-            → by_row (λ heap. function_row heap number args.now) (world_of self.old) next
-            ≡ built_run built (world_of self.new) next) }
+        ensures run { IfOk result (λ built. (programs : List ToldProgram) (next : Next AnyValue)
+            → by_row (λ heap. function_row heap number args.now)
+            (world_of programs self.old) next
+            ≡ built_run built (world_of programs self.new) next) }
         ensures live { IfOk result (λ built. AreLive self.new.heap (values_of_built built)) }
         ensures stays { Stays self.old self.new }
     {
@@ -432,9 +483,10 @@ impl Machine {
     #[tactic(auto, using(crate::proofs::MachineLemmas::stays_where_less))]
     pub fn construct_built_in(&mut self, number: u64, args: &[Value]) -> Result<Built, NoMemory>
         requires { AreLive self.old.heap args.now }
-        ensures run { IfOk result (λ built. (next : Next AnyValue)
-            → by_row (λ heap. construction_row heap number args.now) (world_of self.old) next
-            ≡ built_run built (world_of self.new) next) }
+        ensures run { IfOk result (λ built. (programs : List ToldProgram) (next : Next AnyValue)
+            → by_row (λ heap. construction_row heap number args.now)
+            (world_of programs self.old) next
+            ≡ built_run built (world_of programs self.new) next) }
         ensures live { IfOk result (λ built. AreLive self.new.heap (values_of_built built)) }
         ensures stays { Stays self.old self.new }
     {
@@ -454,9 +506,10 @@ impl Machine {
     ) -> Result<Built, NoMemory>
         requires base { IsLive self.old.heap base.now }
         requires args { AreLive self.old.heap args.now }
-        ensures run { IfOk result (λ built. (next : Next AnyValue)
-            → by_row (λ heap. method_row heap base.now name.now args.now) (world_of self.old) next
-            ≡ built_run built (world_of self.new) next) }
+        ensures run { IfOk result (λ built. (programs : List ToldProgram) (next : Next AnyValue)
+            → by_row (λ heap. method_row heap base.now name.now args.now)
+            (world_of programs self.old) next
+            ≡ built_run built (world_of programs self.new) next) }
         ensures live { IfOk result (λ built. AreLive self.new.heap (values_of_built built)) }
         ensures stays { Stays self.old self.new }
     {
@@ -467,8 +520,23 @@ impl Machine {
     }
 }
 
+// The place of a name, from 0, where it is one of the locals.
+fn place_among(locals: &[Text], name: &Text) -> Option<u32>
+    requires { length locals.now < 2 ^ 32 }
+    ensures { result ≡ position (is_same name.now) locals.now }
+{
+    let mut place = 0;
+    for local in locals {
+        if name == local {
+            return Some(place);
+        }
+        place += 1;
+    }
+    None
+}
+
 // Gives the first places of the last frame these values, as far as it has places.
-fn set_slots(frames: &mut Frames<Work>, values: Vec<Value>)
+fn set_slots(frames: &mut OpenCalls, values: Vec<Value>)
     requires { length values.items < 2 ^ 32 }
     ensures { frames.new ≡ with_values frames.old 0 values.items }
 {

@@ -2,8 +2,7 @@
 
 ghost use Rattle.std.specs.Prelude.{◌≡◌, ◌≤◌, ◌<◌, ◌+◌, ◌^◌, List, None, length, map, All, IfOk, OnOk};
 ghost use Rattle.std.specs.List.{AllZip};
-ghost use Rattle.es_frames.specs.Frames.{next_item};
-ghost use Rattle.es_reader.specs.Programs.{Tells};
+ghost use Rattle.es_reader.specs.Programs.{Tells, ToldProgram};
 ghost use Rattle.es_reader.specs.Statements.{Item};
 ghost use Rattle.es_reader.specs.declared.programs.FunctionDecl.{FunctionDecl};
 ghost use Rattle.es_values.specs.Objects.{ObjectState};
@@ -13,16 +12,17 @@ ghost use Rattle.es_eval.specs.Endings.{EndsWith, MayEnd};
 ghost use Rattle.es_eval.specs.Evaluation.{global_run, run_at, with_variables};
 ghost use Rattle.es_eval.specs.Worlds.{IsNamedLive};
 ghost use Rattle.es_eval.specs.devices.Machines.{IsNextLive, opened, run_from, told_global_run, told_run, variables_of, with_declared, world_of};
+ghost use Rattle.es_eval.specs.devices.OpenCalls.{next_item};
 ghost use Rattle.es_shapes.specs.Sources.{program_of};
 ghost use Rattle.es_eval.specs.Worlds.{global};
 
 use crate::globals::Globals;
 use crate::machine::Machine;
 use crate::nexts::stopped;
+use crate::open_calls::OpenCalls;
 use crate::outcomes::{Outcome, StopCause};
 use crate::works::Now;
 use bml_bytes::{NoMemory, Text};
-use es_frames::Frames;
 use es_reader::{FunctionDecl, Program};
 use es_shapes::{FIRST_FUNCTION, Listing, Programs, function_count, law_of_told_programs};
 use es_values::{Budget, Heap, Host, Value};
@@ -92,8 +92,8 @@ impl Machine {
         ensures live { All (IsNamedLive heap.new) globals.new }
     {
         let alloc = heap.allocator();
-        let mut frames = Frames::new(alloc);
-        frames.push(&[], Value::Undefined)?;
+        let mut frames = OpenCalls::new(alloc);
+        frames.push(None, 0, Value::Undefined)?;
         let none = Globals::new(alloc)?;
         Ok(Machine {
             globals: mem::replace(globals, none),
@@ -124,8 +124,8 @@ impl Machine {
         requires lowest { length self.old.frames ≡ 1 }
         requires idle { next_item self.old.frames ≡ None }
         ensures ends { IfOk result (λ outcome. MayEnd H.reads H.writes H.calls
-            (told_run programs.old which (world_of self.old)) host.old outcome
-            (world_of self.new) host.new) }
+            (told_run programs.old which (world_of programs.old self.old)) host.old outcome
+            (world_of programs.old self.new) host.new) }
     {
         let list = programs.list();
         self.declare_functions(list, which)?;
@@ -138,8 +138,8 @@ impl Machine {
     fn declare_functions(&mut self, programs: &[Program], which: usize) -> Result<(), NoMemory>
         requires which { which < length programs.now }
         requires functions { length (declared_by programs.now) < 2 ^ 48 }
-        ensures world { OnOk result (world_of self.new
-            ≡ with_declared programs.now which (world_of self.old)) }
+        ensures world { OnOk result (world_of programs.now self.new
+            ≡ with_declared programs.now which (world_of programs.now self.old)) }
         ensures frames { self.new.frames ≡ self.old.frames }
     {
         let functions = programs[which].functions();
@@ -153,8 +153,8 @@ impl Machine {
     // The variables of a program become globals where they are new.
     fn declare_variables(&mut self, programs: &[Program], which: usize) -> Result<(), NoMemory>
         requires which { which < length programs.now }
-        ensures world { OnOk result (world_of self.new
-            ≡ with_variables (variables_of programs.now which) (world_of self.old)) }
+        ensures world { OnOk result (world_of programs.now self.new
+            ≡ with_variables (variables_of programs.now which) (world_of programs.now self.old)) }
         ensures frames { self.new.frames ≡ self.old.frames }
     {
         name_variables(&mut self.globals, programs[which].variables())
@@ -170,8 +170,8 @@ impl Machine {
         requires lowest { length self.old.frames ≡ 1 }
         requires idle { next_item self.old.frames ≡ None }
         ensures ends { IfOk result (λ outcome. MayEnd H.reads H.writes H.calls
-            (told_global_run programs.old name.now (world_of self.old)) host.old outcome
-            (world_of self.new) host.new) }
+            (told_global_run programs.old name.now (world_of programs.old self.old)) host.old
+            outcome (world_of programs.old self.new) host.new) }
     {
         let first = self.call_global(programs, name)?;
         self.run_to_end(programs, host, first)
@@ -182,7 +182,7 @@ impl Machine {
         requires lowest { length self.old.frames ≡ 1 }
         requires idle { next_item self.old.frames ≡ None }
         ensures run { IfOk result (λ first. run_from programs.old self.new first
-            ≡ told_global_run programs.old name.now (world_of self.old)) }
+            ≡ told_global_run programs.old name.now (world_of programs.old self.old)) }
         ensures live { IfOk result (IsNextLive self.new) }
         ensures programs { programs.new ≡ programs.old }
     {
@@ -198,7 +198,8 @@ impl Machine {
 
     // The value of a global.
     fn global(&self, name: &Text) -> Result<Option<Value>, NoMemory>
-        ensures { IfOk result (λ found. found ≡ global (world_of self.now) name.now) }
+        ensures { IfOk result (λ found. (programs : List ToldProgram)
+            → found ≡ global (world_of programs self.now) name.now) }
     {
         match self.globals.get(name) {
             Some(value) => Ok(Some(value.share()?)),

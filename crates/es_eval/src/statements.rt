@@ -175,7 +175,7 @@ impl Machine {
         ensures live { IfOk result (IsNextLive self.new) }
         ensures less { IfOk result (IsLess self.old self.new) }
     {
-        self.write_name(name, given)?;
+        self.write_name(programs, name, given)?;
         self.declare(programs, code, next)
     }
 
@@ -410,7 +410,7 @@ impl Machine {
                 if !self.take_step() {
                     return Ok(stopped(StopCause::Budget));
                 }
-                self.on_place(Use::Visit(name, visit), Place::Name(variable))
+                self.on_place(programs, Use::Visit(name, visit), Place::Name(variable))
             }
         }
     }

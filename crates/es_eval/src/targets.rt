@@ -73,7 +73,7 @@ impl Machine {
         ensures less { IfOk result (IsLittle self.old self.new) }
     {
         match shape {
-            Shape::Name(name) => self.on_place(purpose, Place::Name(name)),
+            Shape::Name(name) => self.on_place(programs, purpose, Place::Name(name)),
             Shape::Index(base, key) => {
                 self.evaluate_then(Work::Target(TargetWork::IndexBase(key, purpose)), base)
             }
@@ -82,21 +82,21 @@ impl Machine {
             }
             other => {
                 discard(other);
-                self.on_no_target(purpose)
+                self.on_no_target(programs, purpose)
             }
         }
     }
 
     // What is no target is a name without codes.
-    fn on_no_target(&mut self, purpose: Use) -> Result<Now, NoMemory>
+    fn on_no_target(&mut self, programs: &[Program], purpose: Use) -> Result<Now, NoMemory>
         requires { AreLive self.old.heap (values_of_use purpose) }
-        ensures run { IfOk result (λ next. (programs : List ToldProgram)
-            → GoesOn programs self.old (use_row programs purpose (NamePlace [])) self.new next) }
+        ensures run { IfOk result (λ next. GoesOn programs.now self.old
+            (use_row programs.now purpose (NamePlace [])) self.new next) }
         ensures live { IfOk result (IsNextLive self.new) }
         ensures less { IfOk result (IsLittle self.old self.new) }
     {
         match Text::of_codes(self.heap.allocator(), &[]) {
-            Ok(name) => self.on_place(purpose, Place::Name(name)),
+            Ok(name) => self.on_place(programs, purpose, Place::Name(name)),
             Err(NoMemory) => {
                 discard(purpose);
                 Err(NoMemory)
@@ -105,11 +105,16 @@ impl Machine {
     }
 
     /// What is done with what a target names.
-    pub fn on_place(&mut self, purpose: Use, place: Place) -> Result<Now, NoMemory>
+    pub fn on_place(
+        &mut self,
+        programs: &[Program],
+        purpose: Use,
+        place: Place,
+    ) -> Result<Now, NoMemory>
         requires purpose { AreLive self.old.heap (values_of_use purpose) }
         requires place { AreLive self.old.heap (values_of_place place) }
-        ensures run { IfOk result (λ next. (programs : List ToldProgram)
-            → GoesOn programs self.old (use_row programs purpose (place_of place)) self.new next) }
+        ensures run { IfOk result (λ next. GoesOn programs.now self.old
+            (use_row programs.now purpose (place_of place)) self.new next) }
         ensures live { IfOk result (IsNextLive self.new) }
         ensures less { IfOk result (IsLittle self.old self.new) }
     {
@@ -117,22 +122,23 @@ impl Machine {
             Use::Assign(right) => {
                 self.evaluate_then(Work::Target(TargetWork::Write(place)), right)
             }
-            Use::Update(operator, right) => self.update_place(operator, right, place),
-            Use::Step(in_front, down) => self.read_to_step(in_front, down, place),
-            Use::Visit(name, visit) => self.visit_place(name, visit, place),
+            Use::Update(operator, right) => self.update_place(programs, operator, right, place),
+            Use::Step(in_front, down) => self.read_to_step(programs, in_front, down, place),
+            Use::Visit(name, visit) => self.visit_place(programs, name, visit, place),
         }
     }
 
     // The value before an operator with assignment is read, behind which its right side follows.
     fn update_place(
         &mut self,
+        programs: &[Program],
         operator: Operator,
         right: Code,
         place: Place,
     ) -> Result<Now, NoMemory>
         requires { AreLive self.old.heap (values_of_place place) }
-        ensures run { IfOk result (λ next. (programs : List ToldProgram)
-            → GoesOn programs self.old (use_row programs (UpdateUse operator right)
+        ensures run { IfOk result (λ next. GoesOn programs.now self.old
+            (use_row programs.now (UpdateUse operator right)
             (place_of place)) self.new next) }
         ensures live { IfOk result (IsNextLive self.new) }
         ensures less { IfOk result (IsLittle self.old self.new) }
@@ -145,7 +151,7 @@ impl Machine {
             }
         };
         match self.put(Work::Target(TargetWork::UpdateRead(operator, there, right))) {
-            Ok(()) => self.read_place(place),
+            Ok(()) => self.read_place(programs, place),
             Err(NoMemory) => {
                 discard(place);
                 Err(NoMemory)
@@ -154,10 +160,16 @@ impl Machine {
     }
 
     // The value before `++` or `--` is read.
-    fn read_to_step(&mut self, in_front: bool, down: bool, place: Place) -> Result<Now, NoMemory>
+    fn read_to_step(
+        &mut self,
+        programs: &[Program],
+        in_front: bool,
+        down: bool,
+        place: Place,
+    ) -> Result<Now, NoMemory>
         requires { AreLive self.old.heap (values_of_place place) }
-        ensures run { IfOk result (λ next. (programs : List ToldProgram)
-            → GoesOn programs self.old (use_row programs (StepUse in_front down)
+        ensures run { IfOk result (λ next. GoesOn programs.now self.old
+            (use_row programs.now (StepUse in_front down)
             (place_of place)) self.new next) }
         ensures live { IfOk result (IsNextLive self.new) }
         ensures less { IfOk result (IsLittle self.old self.new) }
@@ -170,7 +182,7 @@ impl Machine {
             }
         };
         match self.put(Work::Target(TargetWork::StepRead(in_front, down, there))) {
-            Ok(()) => self.read_place(place),
+            Ok(()) => self.read_place(programs, place),
             Err(NoMemory) => {
                 discard(place);
                 Err(NoMemory)
@@ -179,17 +191,23 @@ impl Machine {
     }
 
     // The name that is visited is written, and then the body runs.
-    fn visit_place(&mut self, name: Text, visit: Visit, place: Place) -> Result<Now, NoMemory>
+    fn visit_place(
+        &mut self,
+        programs: &[Program],
+        name: Text,
+        visit: Visit,
+        place: Place,
+    ) -> Result<Now, NoMemory>
         requires visit { visit.object < length self.old.heap }
         requires place { AreLive self.old.heap (values_of_place place) }
-        ensures run { IfOk result (λ next. (programs : List ToldProgram)
-            → GoesOn programs self.old (use_row programs (VisitUse name visit)
+        ensures run { IfOk result (λ next. GoesOn programs.now self.old
+            (use_row programs.now (VisitUse name visit)
             (place_of place)) self.new next) }
         ensures live { IfOk result (IsNextLive self.new) }
         ensures less { IfOk result (IsLittle self.old self.new) }
     {
         match self.put(Work::Target(TargetWork::Visited(visit))) {
-            Ok(()) => self.write_place(place, Value::Str(name)),
+            Ok(()) => self.write_place(programs, place, Value::Str(name)),
             Err(NoMemory) => {
                 discard(place);
                 Err(NoMemory)
@@ -198,11 +216,16 @@ impl Machine {
     }
 
     /// What is done with a part of a target, or with what was written to one.
-    pub fn on_target(&mut self, item: TargetWork, given: Value) -> Result<Now, NoMemory>
+    pub fn on_target(
+        &mut self,
+        programs: &[Program],
+        item: TargetWork,
+        given: Value,
+    ) -> Result<Now, NoMemory>
         requires item { IsWorkLive self.old.heap (TargetItem item) }
         requires given { IsLive self.old.heap given }
-        ensures run { IfOk result (λ next. (programs : List ToldProgram)
-            → GoesOn programs self.old (target_row programs item given) self.new next) }
+        ensures run { IfOk result (λ next. GoesOn programs.now self.old
+            (target_row programs.now item given) self.new next) }
         ensures live { IfOk result (IsNextLive self.new) }
         ensures less { IfOk result (IsLessAfter (TargetItem item) self.old self.new) }
     {
@@ -210,20 +233,20 @@ impl Machine {
             TargetWork::IndexBase(key, purpose) => {
                 self.evaluate_then(Work::Target(TargetWork::IndexKey(given, purpose)), key)
             }
-            TargetWork::IndexKey(base, purpose) => self.on_key(base, purpose, &given),
+            TargetWork::IndexKey(base, purpose) => self.on_key(programs, base, purpose, &given),
             TargetWork::MemberBase(name, purpose) => {
-                self.on_place(purpose, Place::Member(given, name))
+                self.on_place(programs, purpose, Place::Member(given, name))
             }
-            TargetWork::Write(place) => self.write_place(place, given),
+            TargetWork::Write(place) => self.write_place(programs, place, given),
             TargetWork::UpdateRead(operator, place, right) => self.evaluate_then(
                 Work::Target(TargetWork::UpdateRight(operator, place, given)),
                 right,
             ),
             TargetWork::UpdateRight(operator, place, before) => {
-                self.write_updated(operator, place, &before, &given)
+                self.write_updated(programs, operator, place, &before, &given)
             }
             TargetWork::StepRead(in_front, down, place) => {
-                self.step_place(in_front, down, place, &given)
+                self.step_place(programs, in_front, down, place, &given)
             }
             TargetWork::Visited(visit) => {
                 let body = visit.body;
@@ -233,12 +256,18 @@ impl Machine {
     }
 
     // The key of a target is there, and becomes a text.
-    fn on_key(&mut self, base: Value, purpose: Use, key: &Value) -> Result<Now, NoMemory>
+    fn on_key(
+        &mut self,
+        programs: &[Program],
+        base: Value,
+        purpose: Use,
+        key: &Value,
+    ) -> Result<Now, NoMemory>
         requires base { IsLive self.old.heap base }
         requires purpose { AreLive self.old.heap (values_of_use purpose) }
         requires key { IsLive self.old.heap key.now }
-        ensures run { IfOk result (λ next. (programs : List ToldProgram)
-            → GoesOn programs self.old (target_row programs (IndexKey base purpose) key.now)
+        ensures run { IfOk result (λ next. GoesOn programs.now self.old
+            (target_row programs.now (IndexKey base purpose) key.now)
             self.new next) }
         ensures live { IfOk result (IsNextLive self.new) }
         ensures less { IfOk result (IsLittle self.old self.new) }
@@ -251,7 +280,7 @@ impl Machine {
             }
         };
         match found {
-            Some(key) => self.on_place(purpose, Place::Member(base, key)),
+            Some(key) => self.on_place(programs, purpose, Place::Member(base, key)),
             None => {
                 discard(purpose);
                 Ok(stopped(StopCause::Budget))
@@ -262,6 +291,7 @@ impl Machine {
     // What an operator with assignment gives is written.
     fn write_updated(
         &mut self,
+        programs: &[Program],
         operator: Operator,
         place: Place,
         before: &Value,
@@ -270,9 +300,8 @@ impl Machine {
         requires place { AreLive self.old.heap (values_of_place place) }
         requires before { IsLive self.old.heap before.now }
         requires given { IsLive self.old.heap given.now }
-        ensures run { IfOk result (λ next. (programs : List ToldProgram)
-            → GoesOn programs self.old
-            (target_row programs (UpdateRight operator place before.now) given.now) self.new
+        ensures run { IfOk result (λ next. GoesOn programs.now self.old
+            (target_row programs.now (UpdateRight operator place before.now) given.now) self.new
             next) }
         ensures live { IfOk result (IsNextLive self.new) }
         ensures less { IfOk result (IsLess self.old self.new) }
@@ -285,7 +314,7 @@ impl Machine {
             }
         };
         match found {
-            Some(behind) => self.write_place(place, behind),
+            Some(behind) => self.write_place(programs, place, behind),
             None => {
                 discard(place);
                 Ok(stopped(StopCause::Budget))
@@ -296,6 +325,7 @@ impl Machine {
     // Writes one more or one less than a value, and gives the number behind or before that.
     fn step_place(
         &mut self,
+        programs: &[Program],
         in_front: bool,
         down: bool,
         place: Place,
@@ -303,8 +333,7 @@ impl Machine {
     ) -> Result<Now, NoMemory>
         requires place { AreLive self.old.heap (values_of_place place) }
         requires before { IsLive self.old.heap before.now }
-        ensures run { IfOk result (λ next. (programs : List ToldProgram)
-            → GoesOn programs self.old
+        ensures run { IfOk result (λ next. GoesOn programs.now self.old
             (as_value (steps_from in_front down (place_of place) before.now)) self.new next) }
         ensures live { IfOk result (IsNextLive self.new) }
         ensures less { IfOk result (λ next. weight self.new next ≤ burden self.old + 14) }
@@ -317,7 +346,7 @@ impl Machine {
             }
         };
         match found {
-            Some(number) => self.write_step(in_front, down, place, number),
+            Some(number) => self.write_step(programs, in_front, down, place, number),
             None => {
                 discard(place);
                 Ok(stopped(StopCause::Budget))
@@ -328,14 +357,15 @@ impl Machine {
     // Writes one more or one less than a number, and gives the number behind or before that.
     fn write_step(
         &mut self,
+        programs: &[Program],
         in_front: bool,
         down: bool,
         place: Place,
         number: Num,
     ) -> Result<Now, NoMemory>
         requires { AreLive self.old.heap (values_of_place place) }
-        ensures run { IfOk result (λ next. (programs : List ToldProgram)
-            → GoesOn programs self.old (as_value (and_then
+        ensures run { IfOk result (λ next. GoesOn programs.now self.old
+            (as_value (and_then
             (spec_write_place (place_of place) (Number (spec_stepped down number)))
             (gives (Number (if in_front then spec_stepped down number else number))))) self.new
             next) }
@@ -345,7 +375,7 @@ impl Machine {
         let behind = stepped(down, number);
         let given = if_in_front(in_front, behind, number);
         match self.put(Work::Operand(OperandWork::Instead(Value::Number(given)))) {
-            Ok(()) => self.write_place(place, Value::Number(behind)),
+            Ok(()) => self.write_place(programs, place, Value::Number(behind)),
             Err(NoMemory) => {
                 discard(place);
                 Err(NoMemory)
@@ -354,46 +384,51 @@ impl Machine {
     }
 
     /// The value of what a target names.
-    fn read_place(&mut self, place: Place) -> Result<Now, NoMemory>
+    fn read_place(&mut self, programs: &[Program], place: Place) -> Result<Now, NoMemory>
         requires { AreLive self.old.heap (values_of_place place) }
-        ensures run { IfOk result (λ next. (programs : List ToldProgram)
-            → GoesOn programs self.old (as_value (spec_read_place (place_of place))) self.new
+        ensures run { IfOk result (λ next. GoesOn programs.now self.old
+            (as_value (spec_read_place (place_of place))) self.new
             next) }
         ensures live { IfOk result (IsNextLive self.new) }
         ensures less { IfOk result (IsLess self.old self.new) }
     {
         match place {
-            Place::Name(name) => self.name_value(&name),
+            Place::Name(name) => self.name_value(programs, &name),
             Place::Member(base, key) => self.read_member(base, key),
         }
     }
 
     /// The value of a name, where something has it.
-    pub fn name_value(&mut self, name: &Text) -> Result<Now, NoMemory>
-        ensures run { IfOk result (λ next. (programs : List ToldProgram)
-            → GoesOn programs self.old (as_value (spec_read_name name.now)) self.new next) }
+    pub fn name_value(&mut self, programs: &[Program], name: &Text) -> Result<Now, NoMemory>
+        ensures run { IfOk result (λ next. GoesOn programs.now self.old
+            (as_value (spec_read_name name.now)) self.new next) }
         ensures live { IfOk result (IsNextLive self.new) }
         ensures less { IfOk result (IsLess self.old self.new) }
     {
-        match self.read_name(name)? {
+        match self.read_name(programs, name)? {
             Some(found) => Ok(value(found)),
             None => Ok(stopped(StopCause::Unresolved)),
         }
     }
 
     /// Writes a value to what a target names, and gives it.
-    fn write_place(&mut self, place: Place, given: Value) -> Result<Now, NoMemory>
+    fn write_place(
+        &mut self,
+        programs: &[Program],
+        place: Place,
+        given: Value,
+    ) -> Result<Now, NoMemory>
         requires place { AreLive self.old.heap (values_of_place place) }
         requires given { IsLive self.old.heap given }
-        ensures run { IfOk result (λ next. (programs : List ToldProgram)
-            → GoesOn programs self.old (as_value (spec_write_place (place_of place) given))
+        ensures run { IfOk result (λ next. GoesOn programs.now self.old
+            (as_value (spec_write_place (place_of place) given))
             self.new next) }
         ensures live { IfOk result (IsNextLive self.new) }
         ensures less { IfOk result (IsLess self.old self.new) }
     {
         match place {
             Place::Name(name) => {
-                self.write_name(&name, given.share()?)?;
+                self.write_name(programs, &name, given.share()?)?;
                 Ok(value(given))
             }
             Place::Member(base, key) => self.write_member(base, key, given),

@@ -1,7 +1,7 @@
 //! The frames of calls, one operation after the other.
 
 use crate::lines::Line;
-use bml_bytes::{NoMemory, Text, read_decimal};
+use bml_bytes::{NoMemory, read_decimal};
 use es_frames::Frames;
 use es_values::{Num, Value};
 use std::alloc::Global;
@@ -27,19 +27,11 @@ fn push_number(number: Option<u32>, out: &mut Line) {
     }
 }
 
-// Adds a frame with the names `b` and `a`.
-fn call(alloc: Global, frames: &mut Frames<u32>, this: u32) -> Result<(), NoMemory> {
-    let mut names = Vec::new(alloc);
-    push_names(alloc, &mut names)?;
-    if names.len() <= 2 && frames.depth() <= 64 {
-        frames.push(&names, number_value(this))?;
+// Adds a frame with two values.
+fn call(frames: &mut Frames<u32>, this: u32) -> Result<(), NoMemory> {
+    if frames.depth() <= 64 {
+        frames.push(2, number_value(this))?;
     }
-    Ok(())
-}
-
-fn push_names(alloc: Global, names: &mut Vec<Text>) -> Result<(), NoMemory> {
-    names.push(Text::of_bytes(alloc, b"b")?)?;
-    names.push(Text::of_bytes(alloc, b"a")?)?;
     Ok(())
 }
 
@@ -56,30 +48,18 @@ fn set(frames: &mut Frames<u32>, place: u32, number: u32, out: &mut Line) {
     out.word(if there { b"yes" } else { b"no" });
 }
 
-fn find(alloc: Global, frames: &Frames<u32>, name: &[u8], out: &mut Line) -> Result<(), NoMemory> {
-    let name = Text::of_bytes(alloc, name)?;
-    push_number(frames.find(&name), out);
-    Ok(())
-}
-
 // Does what a word says: `c` and a `this` is a call, which adds a frame, and `r` takes it; `p` and
 // an item puts it, and `t` takes one; `s` and `z`, each with a number, give the places 1 and 2
-// another value. Appends what is asked for: `d` for the depth, `h` for the `this`, `f` and a name
-// for its place, `v` and a place for its value.
-fn act(
-    alloc: Global,
-    frames: &mut Frames<u32>,
-    word: &[u8],
-    out: &mut Line,
-) -> Result<(), NoMemory> {
+// another value. Appends what is asked for: `d` for the depth, `h` for the `this`, `v` and a place
+// for its value.
+fn act(frames: &mut Frames<u32>, word: &[u8], out: &mut Line) -> Result<(), NoMemory> {
     let Some((kind, rest)) = word.split_first() else {
         return Ok(());
     };
     let number = read_decimal(rest).unwrap_or(0);
     match *kind {
-        b'c' => call(alloc, frames, number),
+        b'c' => call(frames, number),
         b'p' => put(frames, number),
-        b'f' => find(alloc, frames, rest, out),
         _ => {
             answer(frames, *kind, number, out);
             Ok(())
@@ -103,18 +83,13 @@ fn answer(frames: &mut Frames<u32>, kind: u8, number: u32, out: &mut Line) {
 /// Appends what frames answer to words.
 pub fn push_told(alloc: Global, words: &[u8], out: &mut Line) -> Result<(), NoMemory> {
     let mut frames = Frames::new(alloc);
-    push_acts(alloc, &mut frames, words, out)
+    push_acts(&mut frames, words, out)
 }
 
-fn push_acts(
-    alloc: Global,
-    frames: &mut Frames<u32>,
-    words: &[u8],
-    out: &mut Line,
-) -> Result<(), NoMemory> {
+fn push_acts(frames: &mut Frames<u32>, words: &[u8], out: &mut Line) -> Result<(), NoMemory> {
     for word in words.split(|code| *code == b' ') {
         let before = out.told().len();
-        act(alloc, frames, word, out)?;
+        act(frames, word, out)?;
         if out.told().len() > before {
             out.byte(b' ');
         }

@@ -1,10 +1,9 @@
 -- The evaluator's state, and the rest of the run that it stands for. (A device of the proofs.)
-use Rattle.std.specs.Prelude.{ℕ, ◌+◌, ◌*◌, ◌-◌, ◌≤◌, List, [], ◌∷◌, ◌++◌, length, map, take, slice_get, Option, All, ◌≡◌}
+use Rattle.std.specs.Prelude.{ℕ, ◌+◌, ◌*◌, ◌-◌, ◌≤◌, List, [], ◌∷◌, ◌++◌, length, map, take, slice_get, Option, None, All, ◌≡◌}
 use Rattle.std.specs.List.{sum_by}
 use Rattle.std.specs.Option.{option_map_or}
 use Rattle.es_builtins.specs.declared.built.Built.{Built}
 use Rattle.es_builtins.specs.declared.built.Built.TheVariants as built
-use Rattle.es_frames.specs.Frames.{Frame, new_frame, slots_of}
 use Rattle.es_reader.specs.Programs.{ToldProgram}
 use Rattle.es_values.specs.declared.hosts.HostAnswer.{HostAnswer}
 use Rattle.es_values.specs.declared.hosts.HostAnswer.TheVariants as host
@@ -47,6 +46,7 @@ use Rattle.es_eval.specs.Evaluation.{ends_normally, with_functions, with_variabl
 use Rattle.es_eval.specs.Rows.{statements}
 use Rattle.es_shapes.specs.Syntax.{Function}
 use Rattle.es_eval.specs.Unbounded.{called}
+use Rattle.es_eval.specs.devices.OpenCalls.{Call, locals_of}
 use Rattle.es_eval.specs.devices.Works.{completed, does, evaluates, executes, runs}
 use Rattle.es_eval.specs.Worlds.{IsNamedLive, World, Run, global}
 use Rattle.es_eval.specs.Worlds.Run.{Over, Reads, Writes, Calls}
@@ -55,21 +55,22 @@ use Rattle.es_eval.specs.Worlds.Run.{Over, Reads, Writes, Calls}
 pub record MachineState : Type 0 where
   pub globals : List (List ℕ × Value)
   pub heap : List ObjectState
-  pub frames : List (Frame Work)
+  pub frames : List Call
   pub left : ℕ
 
-abbrev pub this_in : List (Frame Work) → Value
+abbrev pub this_in : List Call → Value
 this_in [] = Undefined
 this_in (last ∷ below) = last.this
 
 -- the lowest frame is the program's own
-abbrev pub depth_of : List (Frame Work) → ℕ
+abbrev pub depth_of : List Call → ℕ
 depth_of frames = length frames - 1
 
-abbrev pub world_of : MachineState → World
-world_of m = record {
+-- the locals of the call that runs are its values, by the names that its function declares
+abbrev pub world_of : List ToldProgram → MachineState → World
+world_of programs m = record {
   globals = m.globals;
-  locals = slots_of m.frames;
+  locals = locals_of programs m.frames;
   this = this_in m.frames;
   depth = depth_of m.frames;
   heap = m.heap;
@@ -89,9 +90,9 @@ items_rest programs (item ∷ items) behind =
     λ handed w. does programs item handed w (items_rest programs items behind)
 
 -- in the frame below again
-abbrev pub outside_of : List (Frame Work) → World → World
-outside_of below w = record w {
-  locals = slots_of below;
+abbrev pub outside_of : List ToldProgram → List Call → World → World
+outside_of programs below w = record w {
+  locals = locals_of programs below;
   this = this_in below;
   depth = depth_of below;
 }
@@ -99,17 +100,17 @@ outside_of below w = record w {
 -- The items of the last frame; then what its call gives goes to the frame below. Behind the lowest frame
 -- the script is at its end.
 unfoldable mutual
-  pub rest : List ToldProgram → List (Frame Work) → Next Given
+  pub rest : List ToldProgram → List Call → Next Given
   rest programs [] = λ handed w. Over AtEnd w
   rest programs (last ∷ below) = items_rest programs last.items (behind_frame programs below)
 
-  pub behind_frame : List ToldProgram → List (Frame Work) → Next Given
+  pub behind_frame : List ToldProgram → List Call → Next Given
   behind_frame programs [] = λ handed w. Over AtEnd w
   behind_frame programs (caller ∷ below) = λ handed w.
       items_rest programs caller.items (behind_frame programs below) (value_of_call handed)
-      (outside_of (caller ∷ below) w)
+      (outside_of programs (caller ∷ below) w)
 
-abbrev pub value_rest : List ToldProgram → List (Frame Work) → Next Value
+abbrev pub value_rest : List ToldProgram → List Call → Next Value
 value_rest programs frames = λ value w. rest programs frames (given.Value value) w
 
 -- what comes next, and then the rest
@@ -130,7 +131,7 @@ next_run programs (now.Over outcome) w next = Over outcome w
 
 -- the run that is left where this comes next
 abbrev pub run_from : List ToldProgram → MachineState → Now → Run
-run_from programs m next = next_run programs next (world_of m) (rest programs m.frames)
+run_from programs m next = next_run programs next (world_of programs m) (rest programs m.frames)
 
 -- ---- values that are held
 
@@ -203,9 +204,9 @@ AreLive heap values = All (IsLive heap) values
 abbrev pub IsWorkLive : List ObjectState → Work → Type 0
 IsWorkLive heap item = AreLive heap (values_of_work item)
 
-abbrev pub IsFrameLive : List ObjectState → Frame Work → Type 0
+abbrev pub IsFrameLive : List ObjectState → Call → Type 0
 IsFrameLive heap frame =
-    IsLive heap frame.this × All (IsNamedLive heap) frame.slots × All (IsWorkLive heap) frame.items
+    IsLive heap frame.this × AreLive heap frame.values × All (IsWorkLive heap) frame.items
 
 -- ---- what each machine keeps
 
@@ -225,7 +226,7 @@ turns_of (work.Target (target.MemberBase name purpose)) = 3
 turns_of (work.Target (target.StepRead in_front down place)) = 2
 turns_of other = 1
 
-abbrev pub items_of : Frame Work → ℕ
+abbrev pub items_of : Call → ℕ
 items_of frame = sum_by turns_of frame.items
 
 -- each step pays for what is put on the stack
@@ -251,6 +252,12 @@ Carries {A} action before found after =
     (next : Next A) → action before next
     ≡ option_map_or (λ x. next x after) found (Over (Stopped Budget) after)
 
+-- the same of the worlds that two machines stand for, whichever the programs are
+abbrev pub CarriesOn : {A : Type 0} → Action A → MachineState → Option A → MachineState → Type 0
+CarriesOn {A} action old found new =
+    (programs : List ToldProgram)
+    → Carries action (world_of programs old) found (world_of programs new)
+
 -- what comes behind the last frame's next item stays, and no more is to be done
 pub record Stays (old new : MachineState) : Type 0 where
   pub rest : (programs : List ToldProgram) → rest programs new.frames ≡ rest programs old.frames
@@ -268,7 +275,7 @@ names_in object =
 -- the run that is left is that of this action, with what comes behind the last item
 abbrev pub GoesOn : List ToldProgram → MachineState → Action Given → MachineState → Now → Type 0
 GoesOn programs old action new next =
-    run_from programs new next ≡ action (world_of old) (rest programs old.frames)
+    run_from programs new next ≡ action (world_of programs old) (rest programs old.frames)
 
 abbrev pub IsNextLive : MachineState → Now → Type 0
 IsNextLive m next = AreLive m.heap (values_of_next next)
@@ -309,7 +316,7 @@ abbrev pub opened : List (List ℕ × Value) → List ObjectState → ℕ → Ma
 opened globals heap left = record {
   globals = globals;
   heap = heap;
-  frames = new_frame [] Undefined ∷ [];
+  frames = record { function = None; this = Undefined; values = []; items = [] } ∷ [];
   left = left;
 }
 

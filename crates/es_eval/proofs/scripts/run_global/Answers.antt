@@ -6,7 +6,7 @@ pub returns-clause-ends : goal.returns-clause-ends
 returns-clause-ends g c =
     let ended = c.run_global-ended in
     IfOk-weaker ended.result _ _
-    (λ outcome ends sources tells. ends-with g.H.Host.reads g.H.Host.writes g.H.Host.calls _ _
+    (λ outcome ends sources tells. ends-with g.H.Host.reads g.H.Host.writes g.H.Host.calls c.new.result _ _
     c.args.host.now ended.new.host outcome ended.new.self c.give_back.new.globals
     c.give_back.new.heap
     (source-global sources c.args.programs.now c.new.result c.args.globals.now c.args.heap.now

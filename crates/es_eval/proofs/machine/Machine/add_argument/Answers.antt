@@ -31,4 +31,4 @@ returns-clause-run c =
     let programs = c.args.programs.now in
     IfOk-weaker c.go_on.result _ _ (λ next on. on
     ∙ ap (λ given. as_value (calls_with programs call.callee given call.call call.next)
-    (world_of c.args.self.now) (rest programs c.args.self.now.frames)) items) c.go_on.ensures.run
+    (world_of programs c.args.self.now) (rest programs c.args.self.now.frames)) items) c.go_on.ensures.run

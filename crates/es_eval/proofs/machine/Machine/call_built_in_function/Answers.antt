@@ -18,8 +18,8 @@ returns-clause-run c =
       left = c.self.inside.steps.left;
     } in
     rw (← c.self.view_is)
-    (IfOk-weaker c.call_function.result _ _ (λ built answers next.
-    answered-row m (function_row c.self.inside.heap c.args.number c.args.args.now) built
+    (IfOk-weaker c.call_function.result _ _ (λ built answers programs next.
+    answered-row programs m (function_row c.self.inside.heap c.args.number c.args.args.now) built
     c.call_function.new.heap c.call_function.new.budget.left next answers) c.call_function.ensures.row)
 
 pub returns-clause-live : goal.returns-clause-live

@@ -19,8 +19,8 @@ returns-clause-run c =
       left = c.self.inside.steps.left;
     } in
     rw (← c.self.view_is)
-    (IfOk-weaker c.call_method.result _ _ (λ built answers next.
-    answered-row m
+    (IfOk-weaker c.call_method.result _ _ (λ built answers programs next.
+    answered-row programs m
     (method_row c.self.inside.heap c.args.base.now c.args.name.now c.args.args.now) built
     c.call_method.new.heap c.call_method.new.budget.left next answers) c.call_method.ensures.row)
 

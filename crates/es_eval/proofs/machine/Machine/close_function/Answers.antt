@@ -1,6 +1,6 @@
 use Rattle.std.proofs.Common.{◌≡◌, ◌+◌, ◌≤◌, length, subst, sym, arith}
 use Rattle.std.specs.Prelude.{None}
-use Rattle.es_frames.specs.Frames.{next_item}
+use Rattle.es_eval.specs.devices.OpenCalls.{next_item}
 use Rattle.es_eval.specs.declared.outcomes.Outcome.TheVariants.{Normal as AtEnd}
 use Rattle.es_eval.specs.declared.works.Now.TheVariants.{Gives}
 use Rattle.es_eval.specs.devices.Machines.{MachineState, burden, run_from, value_of_call, world_of}
@@ -11,7 +11,7 @@ use Rattle.es_eval.proofs.machine.Machine.close_function.Goals as goal
 pub invariant_of-self : goal.invariant_of-self
 invariant_of-self c =
     let more : 2 ≤ length c.self.inside.frames = grind arith in
-    closed-machine _ c.pop.new.self c.pop.ensures.below more c.self.invariant
+    closed-machine _ c.pop.new.self c.pop.ensures more c.self.invariant
 
 pub returns-then-depth-gt1-clause-run : goal.returns-then-depth-gt1-clause-run
 returns-then-depth-gt1-clause-run c programs handed none =
@@ -25,7 +25,7 @@ returns-then-depth-gt1-clause-run c programs handed none =
     subst
     (λ m. run_from programs m (Gives handed) ≡ run_from programs closed (Gives (value_of_call handed)))
     c.self.view_is
-    (closed-run _ c.pop.new.self c.pop.ensures.below more programs handed
+    (closed-run _ c.pop.new.self c.pop.ensures more programs handed
     (subst (λ m. next_item m.frames ≡ None) (sym c.self.view_is) none))
 
 pub returns-then-depth-gt1-clause-less : goal.returns-then-depth-gt1-clause-less
@@ -38,10 +38,10 @@ returns-then-depth-gt1-clause-less c is =
       left = c.self.inside.steps.left;
     } in
     subst (λ m. burden closed + 1 ≤ burden m) c.self.view_is
-    (closed-less _ c.pop.new.self c.pop.ensures.below more)
+    (closed-less _ c.pop.new.self c.pop.ensures more)
 
 pub returns-else-depth-gt1-clause-run : goal.returns-else-depth-gt1-clause-run
 returns-else-depth-gt1-clause-run c programs handed none =
     let one : length c.self.inside.frames ≡ 1 = grind arith in
-    subst (λ m. run_from programs m (Gives handed) ≡ Over AtEnd (world_of m)) c.self.view_is
+    subst (λ m. run_from programs m (Gives handed) ≡ Over AtEnd (world_of programs m)) c.self.view_is
     (ends programs _ handed (subst (λ m. next_item m.frames ≡ None) (sym c.self.view_is) none) one)

@@ -18,8 +18,8 @@ returns-clause-run c =
       left = c.self.inside.steps.left;
     } in
     rw (← c.self.view_is)
-    (IfOk-weaker c.construct.result _ _ (λ built answers next.
-    answered-row m (construction_row c.self.inside.heap c.args.number c.args.args.now) built
+    (IfOk-weaker c.construct.result _ _ (λ built answers programs next.
+    answered-row programs m (construction_row c.self.inside.heap c.args.number c.args.args.now) built
     c.construct.new.heap c.construct.new.budget.left next answers) c.construct.ensures.row)
 
 pub returns-clause-live : goal.returns-clause-live

@@ -1,7 +1,8 @@
-use Rattle.std.proofs.Common.{◌≤◌, ◌<◌, length, arith}
+use Rattle.std.proofs.Common.{◌≡◌, ◌-◌, ◌≤◌, ◌<◌, length, ap, arith}
 use Rattle.std.proofs.lemmas.Result.{IfOk-weaker}
 use Rattle.es_shapes.specs.Codes.{declared_by}
 use Rattle.es_eval.specs.Unbounded.{called}
+use Rattle.es_eval.specs.Worlds.{World}
 use Rattle.es_eval.proofs.CallArms.{construct-run, deep-construct, empty-construct, on_named}
 use Rattle.es_eval.proofs.machine.Machine.construct_declared.Goals as goal
 
@@ -17,8 +18,17 @@ returns-in_default-clause-run c function at =
     let some : 1 ≤ length c.args.self.now.frames = rw (← c.self.view_is) c.self.invariant.some in
     empty-construct c.args.programs.now c.args.self.now function c.args.args.items shallow some
     c.add_object.new.self c.in_ok-object.object c.args.declared c.value.result
-    c.in_ok-object.ensures.world.0 c.in_ok-object.ensures.world.1 c.add_object.ensures.stays at
+    c.in_ok-object.ensures.world.0 (c.in_ok-object.ensures.world.1 c.args.programs.now) c.add_object.ensures.stays at
     (rw c.list.ensures at c.in_default.ensures) c.value.ensures
+
+pub enter_at-requires-clause-depth : goal.enter_at-requires-clause-depth
+enter_at-requires-clause-depth c =
+    let shallow : length c.args.self.now.frames ≤ 64 = rw (← c.self.view_is) (omega arith) in
+    let made : length c.add_object.new.self.frames - 1 ≡ length c.args.self.now.frames - 1 =
+    ap (λ (w : World). w.depth) (c.in_ok-object.ensures.world.1 c.args.programs.now) in
+    let same : length c.put.new.self.frames - 1 ≡ length c.add_object.new.self.frames - 1 =
+    ap (λ (w : World). w.depth) (c.in_ok-put.ensures.world c.args.programs.now) in
+    omega arith
 
 pub returns-clause-run : goal.returns-clause-run
 returns-clause-run c =
@@ -27,7 +37,7 @@ returns-clause-run c =
     IfOk-weaker c.enter_at.result _ _ (λ next on function at.
     construct-run c.args.programs.now c.args.self.now function c.args.args.items shallow some
     c.add_object.new.self c.put.new.self c.enter_at.new.self c.in_ok-object.object next
-    c.in_ok-object.ensures.world.0 c.in_ok-object.ensures.world.1 c.add_object.ensures.stays
-    c.in_ok-put.ensures.world (c.in_ok-put.ensures.rest c.args.programs.now)
+    c.in_ok-object.ensures.world.0 (c.in_ok-object.ensures.world.1 c.args.programs.now) c.add_object.ensures.stays
+    (c.in_ok-put.ensures.world c.args.programs.now) (c.in_ok-put.ensures.rest c.args.programs.now)
     (on_named c.args.programs.now c.list-2.result.now c.put.new.self c.enter_at.new.self
     c.args.declared _ c.args.args.items next c.list-2.ensures on function at)) c.enter_at.ensures.run

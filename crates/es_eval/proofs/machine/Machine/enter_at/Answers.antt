@@ -17,5 +17,7 @@ returns-clause-run c =
     entered-run programs c.args.self.now c.open_function.new.self c.execute_then.new.self
     c.args.declared told c.args.first function c.args.this c.args.args.items next
     (is_declared programs c.args.declared told function c.in-Some.ensures at)
-    some c.requires.first c.in_ok-open_function.ensures.world
+    some c.requires.first
+    (c.in_ok-open_function.ensures.world programs
+    (is_declared programs c.args.declared told function c.in-Some.ensures at).names)
     (c.in_ok-open_function.ensures.rest programs) (on programs)) c.execute_then.ensures.run

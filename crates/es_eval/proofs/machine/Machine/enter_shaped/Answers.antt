@@ -17,4 +17,4 @@ returns-in_default-clause-run c =
     c.on_no_target.new.self next)
     (sym (target-other programs c.args.code c.args.shape c.in_default.not-Name
     c.in_default.not-Index c.in_default.not-Member))
-    (run programs)) c.on_no_target.ensures.run
+    run) c.on_no_target.ensures.run

@@ -41,4 +41,4 @@ returns-in-Name-clause-run c =
     (as_value (expression_row functions (called functions) (enters programs) (Typeof e)))
     c.typeof_name.new.self next)
     (sym (c.in_ok-name.ensures ∙ ap (shaped programs c.args.operand) c.in-Name.is))
-    (run programs)) c.typeof_name.ensures.run
+    run) c.typeof_name.ensures.run

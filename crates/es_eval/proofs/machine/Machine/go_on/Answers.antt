@@ -17,14 +17,14 @@ returns-in-Some-clause-run c =
     } in
     IfOk-weaker c.evaluate_then.result _ _ (λ next on. on c.args.programs.now
     ∙ argument-run c.args.programs.now whole call.next c.in-Some.argument
-    (world_of c.args.self.now) (rest c.args.programs.now c.args.self.now.frames) refl
+    (world_of c.args.programs.now c.args.self.now) (rest c.args.programs.now c.args.self.now.frames) refl
     (rw c.list.ensures at c.in-Some.ensures.part)) c.evaluate_then.ensures.run
 
 pub returns-in-Value-clause-run : goal.returns-in-Value-clause-run
 returns-in-Value-clause-run c =
     let call = c.args.opened in
     let programs = c.args.programs.now in
-    let w = world_of c.args.self.now in
+    let w = world_of c.args.programs.now c.args.self.now in
     let next = rest programs c.args.self.now.frames in
     IfOk-weaker c.call_value.result _ _ (λ found on. on
     ∙ ap (λ callee. as_value (calls_callee programs callee call.given.items) w next) (sym c.in-Value.is)
@@ -35,7 +35,7 @@ pub returns-in-Constructor-clause-run : goal.returns-in-Constructor-clause-run
 returns-in-Constructor-clause-run c =
     let call = c.args.opened in
     let programs = c.args.programs.now in
-    let w = world_of c.args.self.now in
+    let w = world_of c.args.programs.now c.args.self.now in
     let next = rest programs c.args.self.now.frames in
     IfOk-weaker c.construct_value.result _ _ (λ found on. on
     ∙ ap (λ callee. as_value (calls_callee programs callee call.given.items) w next)
@@ -47,7 +47,7 @@ pub returns-in-Member-clause-run : goal.returns-in-Member-clause-run
 returns-in-Member-clause-run c =
     let call = c.args.opened in
     let programs = c.args.programs.now in
-    let w = world_of c.args.self.now in
+    let w = world_of c.args.programs.now c.args.self.now in
     let next = rest programs c.args.self.now.frames in
     IfOk-weaker c.call_member.result _ _ (λ found on. on
     ∙ ap (λ callee. as_value (calls_callee programs callee call.given.items) w next) (sym c.in-Member.is)

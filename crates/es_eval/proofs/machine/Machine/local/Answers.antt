@@ -1,5 +1,5 @@
 use Rattle.std.proofs.Common.{◌≡◌, Some, arith}
-use Rattle.es_frames.specs.Frames.{value_at}
+use Rattle.es_eval.specs.devices.OpenCalls.{value_at}
 use Rattle.es_eval.proofs.NameLemmas.{live_at}
 use Rattle.es_eval.proofs.machine.Machine.local.Goals as goal
 

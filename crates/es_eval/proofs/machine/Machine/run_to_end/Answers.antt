@@ -1,13 +1,19 @@
-use Rattle.std.proofs.Common.{◌∙◌}
-use Rattle.es_eval.specs.devices.Machines.{run_from}
+use Rattle.std.proofs.Common.{◌∙◌, List, subst}
+use Rattle.es_reader.specs.Programs.{ToldProgram}
+use Rattle.es_eval.specs.devices.Machines.{run_from, world_of}
+use Rattle.es_eval.specs.Endings.{MayEnd}
 use Rattle.es_eval.proofs.HostLemmas.{leads-behind, leads-in, leads-over}
 use Rattle.es_eval.proofs.machine.Machine.run_to_end.Goals as goal
 
 pub returns-in-Over : goal.returns-in-Over
 returns-in-Over g c = record {
-  ends = leads-over g.H.Host.reads g.H.Host.writes g.H.Host.calls c.script.programs c.script.self
+  ends = subst (λ (programs : List ToldProgram). MayEnd g.H.Host.reads g.H.Host.writes
+      g.H.Host.calls (run_from c.args.programs.now c.args.self.now c.args.first) c.args.host.now
+      c.in-Over.outcome (world_of programs c.script.self) c.script.host)
+      c.script.invariant.programs
+      (leads-over g.H.Host.reads g.H.Host.writes g.H.Host.calls c.script.programs c.script.self
       c.script.now _ c.script.host c.args.host.now c.script.invariant.leads c.in-Over.outcome
-      c.in-Over.is;
+      c.in-Over.is);
 }
 
 pub script-preserved : goal.script-preserved

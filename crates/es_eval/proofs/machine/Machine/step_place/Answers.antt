@@ -9,7 +9,8 @@ use Rattle.es_eval.proofs.ArmLemmas.{carried-run, stopped-run}
 use Rattle.es_eval.proofs.machine.Machine.step_place.Goals as goal
 
 pub returns-in-None-clause-run : goal.returns-in-None-clause-run
-returns-in-None-clause-run c programs =
+returns-in-None-clause-run c =
+    let programs = c.args.programs.now in
     let place = place_of c.args.place in
     stopped-run programs c.args.self.now c.to_number.new.self (as_number c.args.before.now)
     (λ number. as_value (and_then (write_place place (Number (stepped c.args.down number)))
@@ -18,11 +19,12 @@ returns-in-None-clause-run c programs =
 
 pub returns-in-Some-clause-run : goal.returns-in-Some-clause-run
 returns-in-Some-clause-run c =
+    let programs = c.args.programs.now in
     let place = place_of c.args.place in
     IfOk-weaker c.write_step.result _ _
-    (λ next run programs. carried-run programs c.args.self.now c.to_number.new.self
+    (λ next run. carried-run programs c.args.self.now c.to_number.new.self
     c.write_step.new.self (as_number c.args.before.now)
     (λ number. as_value (and_then (write_place place (Number (stepped c.args.down number)))
     (gives (Number (if c.args.in_front then stepped c.args.down number else number)))))
     c.in-Ok.found c.in-Some.number next c.in-Ok.ensures.number c.in-Some.is
-    c.in-Ok.ensures.stays (run programs)) c.write_step.ensures.run
+    c.in-Ok.ensures.stays run) c.write_step.ensures.run

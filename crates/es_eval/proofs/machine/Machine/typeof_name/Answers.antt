@@ -10,13 +10,15 @@ use Rattle.es_eval.proofs.ShapeRows.{typeof-run}
 use Rattle.es_eval.proofs.machine.Machine.typeof_name.Goals as goal
 
 pub returns-then-not-take_step-clause-run : goal.returns-then-not-take_step-clause-run
-returns-then-not-take_step-clause-run c programs =
+returns-then-not-take_step-clause-run c =
+    let programs = c.args.programs.now in
     unstepped-run programs c.args.self.now c.take_step.new.self c.take_step.result
     (as_value (typeof_name c.args.name.now)) c.stopped.result c.take_step.ensures.step
     c.if-not-take_step.true c.stopped.ensures
 
 pub returns-clause-run : goal.returns-clause-run
-returns-clause-run c programs =
+returns-clause-run c =
+    let programs = c.args.programs.now in
     stepped-run programs c.args.self.now c.take_step.new.self c.take_step.new.self
     c.take_step.result (as_value (typeof_name c.args.name.now)) c.value.result
     c.take_step.ensures.step c.if-not-take_step.false c.take_step.ensures.stays

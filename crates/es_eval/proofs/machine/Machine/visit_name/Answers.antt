@@ -32,5 +32,5 @@ returns-else-not-take_step-clause-run c =
     c.in-VisitVar.variable more next (sym c.in_ok-target.ensures ∙ c.in-VisitVar.is)
     (stepped-run c.args.programs.now c.args.self.now c.take_step.new.self c.on_place.new.self
     c.take_step.result (more (NamePlace c.in-VisitVar.variable)) next c.take_step.ensures.step
-    c.if-not-take_step.false c.take_step.ensures.stays (on c.args.programs.now)))
+    c.if-not-take_step.false c.take_step.ensures.stays on))
     c.on_place.ensures.run

@@ -11,8 +11,8 @@ invariant-names l = record {
   machine : l.self ≡ l.fn.self;
   object : l.visit.object ≡ l.fn.visit.object;
   run : (next : Next Completion)
-      → turns l.programs (visit_task l.programs l.visit) (world_of l.self) next
-      ≡ turns l.programs (visit_task l.programs l.fn.visit) (world_of l.self) next;
+      → turns l.programs (visit_task l.programs l.visit) (world_of l.programs l.self) next
+      ≡ turns l.programs (visit_task l.programs l.fn.visit) (world_of l.programs l.self) next;
 }
 
 abbrev pub decreases-names : goal.decreases-names

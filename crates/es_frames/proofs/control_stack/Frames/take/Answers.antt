@@ -10,32 +10,32 @@ pub returns-then-len-first_item-clause-item : goal.returns-then-len-first_item-c
 returns-then-len-first_item-clause-item g c =
     let marks = c.self.inside.marks.items in
     let last : slice_get marks (length marks - 1) ≡ Some c.in-Some.mark.now = sym (c.in-Some.ensures.value ∙ ap (λ (xs : List Mark). slice_get xs (length xs - 1)) c.deref.ensures.value) in
-    let taken = frames-taken marks c.in-Some.mark.now (reverse (take (length marks - 1) marks)) c.self.inside.slots.items c.self.inside.items.items c.pop.new.self.items c.pop.result (reverse-from_last marks c.in-Some.mark.now last) c.pop.ensures.items (c.pop.ensures.variant.1 (omega arith)) (omega arith) c.self.invariant.nested in
+    let taken = frames-taken marks c.in-Some.mark.now (reverse (take (length marks - 1) marks)) c.self.inside.values.items c.self.inside.items.items c.pop.new.self.items c.pop.result (reverse-from_last marks c.in-Some.mark.now last) c.pop.ensures.items (c.pop.ensures.variant.1 (omega arith)) (omega arith) c.self.invariant.nested in
     taken.0 ∙ ap next_item c.self.view_is
 
 pub returns-then-len-first_item-clause-without : goal.returns-then-len-first_item-clause-without
 returns-then-len-first_item-clause-without g c =
     let marks = c.self.inside.marks.items in
     let last : slice_get marks (length marks - 1) ≡ Some c.in-Some.mark.now = sym (c.in-Some.ensures.value ∙ ap (λ (xs : List Mark). slice_get xs (length xs - 1)) c.deref.ensures.value) in
-    let taken = frames-taken marks c.in-Some.mark.now (reverse (take (length marks - 1) marks)) c.self.inside.slots.items c.self.inside.items.items c.pop.new.self.items c.pop.result (reverse-from_last marks c.in-Some.mark.now last) c.pop.ensures.items (c.pop.ensures.variant.1 (omega arith)) (omega arith) c.self.invariant.nested in
+    let taken = frames-taken marks c.in-Some.mark.now (reverse (take (length marks - 1) marks)) c.self.inside.values.items c.self.inside.items.items c.pop.new.self.items c.pop.result (reverse-from_last marks c.in-Some.mark.now last) c.pop.ensures.items (c.pop.ensures.variant.1 (omega arith)) (omega arith) c.self.invariant.nested in
     taken.1 ∙ ap without_item c.self.view_is
 
 pub returns-else-len-first_item-clause-item : goal.returns-else-len-first_item-clause-item
 returns-else-len-first_item-clause-item g c =
     let marks = c.self.inside.marks.items in
-    let slots = c.self.inside.slots.items in
+    let values = c.self.inside.values.items in
     let items = c.self.inside.items.items in
     let last : slice_get marks (length marks - 1) ≡ Some c.in-Some.mark.now = sym (c.in-Some.ensures.value ∙ ap (λ (xs : List Mark). slice_get xs (length xs - 1)) c.deref.ensures.value) in
     let below = reverse (take (length marks - 1) marks) in
-    sym (next-no_item c.in-Some.mark.now below slots items (omega arith))
-    ∙ ap next_item (ap (λ ms. frames_in ms slots items) (sym (reverse-from_last marks c.in-Some.mark.now last)) ∙ c.self.view_is)
+    sym (next-no_item c.in-Some.mark.now below values items (omega arith))
+    ∙ ap next_item (ap (λ ms. frames_in ms values items) (sym (reverse-from_last marks c.in-Some.mark.now last)) ∙ c.self.view_is)
 
 pub returns-else-len-first_item-clause-without : goal.returns-else-len-first_item-clause-without
 returns-else-len-first_item-clause-without g c =
     let marks = c.self.inside.marks.items in
-    let slots = c.self.inside.slots.items in
+    let values = c.self.inside.values.items in
     let items = c.self.inside.items.items in
     let last : slice_get marks (length marks - 1) ≡ Some c.in-Some.mark.now = sym (c.in-Some.ensures.value ∙ ap (λ (xs : List Mark). slice_get xs (length xs - 1)) c.deref.ensures.value) in
     let below = reverse (take (length marks - 1) marks) in
-    let is = ap (λ ms. frames_in ms slots items) (sym (reverse-from_last marks c.in-Some.mark.now last)) ∙ c.self.view_is in
-    sym is ∙ (frames-no_item c.in-Some.mark.now below slots items (omega arith) ∙ ap without_item is)
+    let is = ap (λ ms. frames_in ms values items) (sym (reverse-from_last marks c.in-Some.mark.now last)) ∙ c.self.view_is in
+    sym is ∙ (frames-no_item c.in-Some.mark.now below values items (omega arith) ∙ ap without_item is)
