@@ -1,6 +1,6 @@
--- The calls that are open: of each its function, from which the names of its locals are known, the values
--- of these, its `this`, and the items that it still has. The last one stands in front. (A device of the
--- proofs.)
+-- A device of the proofs: the calls that are open. Of each it has its function, from which the names of
+-- its locals are known, the values of these, its `this`, and the items that it still has. The last one
+-- stands in front.
 use Rattle.std.specs.Prelude.{ℕ, List, [], ◌∷◌, Option, Some, None, slice_get}
 use Rattle.std.specs.Option.{option_and_then, option_map_or}
 use Rattle.es_frames.specs.Frames.{Frame, behind_first, with_value_in}
