@@ -1,9 +1,9 @@
 -- What is read of a node after writes: the last one to it, or what was there before.
-use Rattle.std.proofs.Common.{◌≡◌, ◌∙◌, ℕ, Bool, true, false, List, [], ◌∷◌, Option, Some, None, refl, sym, ap, subst, eqb-true}
-use Rattle.std.specs.Prelude.{◌==◌, ◌&&◌, ◌≢◌, IsFalse, IsSome, codes, if◌then◌else◌, is_some, option_and_then, slice_get, unwrap_or}
+use Rattle.std.proofs.Common.{◌≡◌, ◌∙◌, ℕ, Bool, true, false, List, [], ◌∷◌, Option, Some, None, refl, sym, ap, eqb-true}
+use Rattle.std.specs.Prelude.{◌==◌, ◌&&◌, ◌≢◌, IsFalse, codes, if◌then◌else◌, is_some, option_and_then, slice_get, unwrap_or}
 use Rattle.std.specs.Option.{option_map_or, option_or}
 use Rattle.std.proofs.lemmas.Slice.Eq.{bytes_eq-Decides}
-use Rattle.std.proofs.lemmas.Bool.{eq-eqb, eqb-false, ne_eqb}
+use Rattle.std.proofs.lemmas.Bool.{eqb-false}
 use Rattle.bml_bytes.specs.Words.{is_same}
 use Rattle.dom_tree.specs.Items.{Content, Element, Text, Item, tag_in, text_in, IsElement, IsText, attributes_of, changed_at, tag_of, text_of, value_in, value_of, with_attribute, with_text}
 use Rattle.dom_tree.specs.Walks.{KeepsPlaces}

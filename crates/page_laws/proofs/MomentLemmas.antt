@@ -1,8 +1,7 @@
 -- What comes to a page changes the nodes of its document by the writes of scripts alone.
-use Rattle.std.proofs.Common.{◌≡◌, ◌∙◌, ℕ, Bool, true, List, [], ◌∷◌, ◌++◌, Option, Some, None, refl, sym, ap, subst}
+use Rattle.std.proofs.Common.{◌≡◌, ◌∙◌, true, List, [], ◌∷◌, Option, Some, None, refl, sym, ap, subst}
 use Rattle.std.specs.Prelude.{IfSome, is_some, option_and_then, option_map}
 use Rattle.std.specs.Option.{option_map_or, option_or}
-use Rattle.carousel_blocks.specs.declared.changes.Change.{Change}
 use Rattle.multipart_entities.specs.declared.paths.Path.{Path}
 use Rattle.event_queue.specs.Queues.{first_of}
 use Rattle.event_queue.specs.declared.events.Event.{Event}
@@ -15,7 +14,7 @@ use Rattle.page.specs.Loading.{wanted_path}
 use Rattle.page.specs.State.{State, Step, Wanted, scene_in, stays_or_goes, step_behind, step_of, still}
 use Rattle.page.specs.State.Wanted.{NoDocument}
 use Rattle.page_laws.specs.Moments.{Moment, Dispatches, HasChange, HasMessage, HasKey, IsDue, HasClock, HasRandom, HasModules, Lasts, after, after_all, writes_in, writes_since, writes_by_first}
-use Rattle.page_laws.specs.Nodes.{Write, Nodes, event_writes, nodes_of, with_writes}
+use Rattle.page_laws.specs.Nodes.{Nodes, event_writes, nodes_of, with_writes}
 use Rattle.page_laws.specs.Soundness.{IsSound}
 use Rattle.page_laws.proofs.NodeRunLemmas.{change-nodes, due-nodes, event-writes, key-nodes, message-nodes, nodes_in, writes-then}
 

@@ -25,7 +25,7 @@ use Rattle.event_queue.specs.declared.events.Event.{Event}
 use Rattle.event_queue.specs.declared.events.Event.TheVariants as events
 use Rattle.event_items.specs.EventItems.{EventItem}
 use Rattle.event_items.specs.Subscriptions.{fires_for_message}
-use Rattle.browser_objects.specs.Calls.{BrowserParts, CallOutcome, call_of}
+use Rattle.browser_objects.specs.Calls.{CallOutcome, call_of}
 use Rattle.browser_objects.specs.declared.effects.Effect as of_browser
 use Rattle.browser_objects.specs.declared.effects.Effect.TheVariants as effects
 use Rattle.document_stages.specs.Acting.{Acting, Answered, acted, button_posts, button_post, change_posts, each_item, element_call, fired, focus_on, focused, has_room, is_unload, key_posts, launch, left_by, lock_posts, lock_post, message_posts, message_post, module_post, moved_to, posted, posted_for, posted_where, pressed, update_posts, with_browser, with_focus, acting_with_timers, timer_fired, timers_fired, due_posted}

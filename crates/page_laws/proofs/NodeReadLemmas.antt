@@ -1,5 +1,5 @@
 -- What scripts read of the nodes.
-use Rattle.std.proofs.Common.{◌≡◌, ◌∙◌, ◌++◌, ℕ, List, [], Option, Some, None, refl, sym, ap, ap₂}
+use Rattle.std.proofs.Common.{◌≡◌, ◌∙◌, ◌++◌, ℕ, List, [], Option, Some, refl, ap, ap₂}
 use Rattle.std.specs.Prelude.{codes, unwrap_or}
 use Rattle.std.specs.Option.{option_map_or}
 use Rattle.dom_tree.specs.Items.{Item, tag_of, text_of, value_of}
@@ -14,7 +14,7 @@ use Rattle.es_values.specs.Conversions as texts
 use Rattle.es_values.specs.Objects.{ObjectState}
 use Rattle.es_values.specs.declared.values.HostRef.{HostRef}
 use Rattle.page_laws.specs.Moments.{HasLast, HasWritten, Lasts, Moment, after_all, writes_since}
-use Rattle.page_laws.specs.Nodes.{Nodes, last_to, nodes_of, with_writes, write_made}
+use Rattle.page_laws.specs.Nodes.{Nodes, last_to, nodes_of, write_made}
 use Rattle.page_laws.proofs.LastWriteLemmas.{ChangeLaws, all-texts, no-tag, tag-after, values-after}
 use Rattle.page_laws.proofs.NodeRunLemmas.{one-write}
 use Rattle.page_laws.proofs.MomentLemmas.{HasDocument, all-moments}

@@ -24,11 +24,11 @@ use Rattle.event_queue.specs.declared.events.Event.{Event}
 use Rattle.event_queue.specs.declared.events.Event.TheVariants as events
 use Rattle.dom_objects.specs.Writes.{change_of}
 use Rattle.dom_objects.specs.declared.current_events.CurrentEvent.{CurrentEvent}
-use Rattle.document_stages.specs.Acting.{Acting, acted, change_posts, due_posted, is_subscription, key_posts, message_posts, node_written, read_by, text_written, written}
+use Rattle.document_stages.specs.Acting.{Acting, acted, is_subscription, key_posts, read_by, text_written, written}
 use Rattle.document_stages.specs.Hosting.{Hosted, called}
-use Rattle.acting_documents.specs.Documents.{Document, handler_in, passes}
+use Rattle.acting_documents.specs.Documents.{handler_in, passes}
 use Rattle.acting_documents.specs.Handling.{body_in, change_effect, deactivated, due_effect, focus_of, handled, handled_at, key_effect, kind_of, message_effect, released, run_handler, timer_effect, timer_taken}
-use Rattle.acting_documents.specs.Runs.{Effect, Scene, acting_in, done, ended, hosted_in, most_steps, no_event, nothing_done, run_function, run_program}
+use Rattle.acting_documents.specs.Runs.{Scene, acting_in, done, ended, hosted_in, most_steps, no_event, nothing_done, run_function, run_program}
 use Rattle.page_laws.specs.Nodes.{Nodes, Write, event_writes, function_writes, handler_writes, nodes_of, program_writes, timer_writes, with_write, with_writes, write_made, writes_at, writes_of}
 use Rattle.page_laws.proofs.NodeActingLemmas.{acted-stay, called-stay, changes-stay, due-stay, keys-stay, messages-stay}
 

@@ -1,14 +1,12 @@
 -- What a sound document has of a node is the number of one that is there.
-use Rattle.std.proofs.Common.{◌≡◌, ◌∙◌, ℕ, Bool, true, List, length, inl, inr, Option, Some, None, refl, sym, ap}
-use Rattle.std.specs.Prelude.{IfSome, is_some, nat_lt, option_and_then, slice_get}
-use Rattle.std.specs.Option.{option_map_or}
+use Rattle.std.proofs.Common.{◌≡◌, ◌∙◌, ℕ, true, List, length, inl, inr, Option, Some, None, refl, sym, ap}
+use Rattle.std.specs.Prelude.{is_some, option_and_then, slice_get}
 use Rattle.std.proofs.lemmas.Bool.{lt-ltb}
 use Rattle.std.proofs.lemmas.Option.{slice_get_within}
 use Rattle.std.proofs.lemmas.List.Elements.{All-contains}
-use Rattle.dom_tree.specs.Items.{Item, tag_in, tag_of}
+use Rattle.dom_tree.specs.Items.{Item, tag_in}
 use Rattle.dom_tree.specs.NodeNumbers.{number_of}
 use Rattle.es_values.specs.declared.values.Value.{Value}
-use Rattle.es_values.specs.Objects.{ObjectState}
 use Rattle.event_queue.specs.declared.events.Event.{Event}
 use Rattle.event_queue.specs.declared.events.Event.TheVariants as events
 use Rattle.script_laws.specs.Passing.{ObjectPasses}

@@ -1,11 +1,5 @@
-use Rattle.std.proofs.Common.{◌≡◌, refl, ap, subst}
-use Rattle.std.specs.Prelude.{IfSome, Option}
-use Rattle.acting_documents.specs.Documents.{Document}
-use Rattle.page.specs.State.{State}
-use Rattle.page.specs.State.Wanted.{NoDocument}
-use Rattle.page_laws.specs.Soundness.{IsSound}
 use Rattle.page_laws.proofs.LastWriteLemmas.{ChangeLaws}
-use Rattle.page_laws.proofs.MomentLemmas.{HasDocument, sound-document}
+use Rattle.page_laws.proofs.MomentLemmas.{sound-document}
 use Rattle.page_laws.proofs.NodeReadLemmas.{later-input, later-nodes, later-object, later-text, text-at-once}
 use Rattle.page_laws.proofs.nodes.law_of_written_nodes.Goals as goal
 
