@@ -95,7 +95,7 @@ def nodes():
     tag = "t" * 300_000
     tagged = "".join(f"{tag if number == 0 else 'p'}.c{number:x}{{top:0}}" for number in range(50_000))
     named = " ".join(f"c{number:x}" for number in range(100_000))
-    yield Styled("a tag of 300,000 letters and 100,000 classes", tagged, f'<{tag} class="{named}"/>', PLAIN_BOX * 2)
+    yield Styled("a tag of 300,000 letters and 100,000 classes", tagged, f'<{tag} class="{named}"/>', PLAIN_BOX)
     many = " ".join(f"c{number:x}" for number in range(100_000))
     around = f'<p class="{many}">{"<p/>" * (rest - 1)}</p>'
     yield Styled("a node of 100,000 classes round all others", numbered(100_000, ".c{0:x}{{top:0}}")[: MOST_BYTES // 12 * 12], around, PLAIN_BOX * (rest + 1))

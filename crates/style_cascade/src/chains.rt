@@ -1,6 +1,6 @@
 //! Chains of rules, one for each selector.
 
-ghost use Rattle.std.specs.Prelude.{◌≡◌, ℕ, ◌≤◌, ◌⊎◌, true, false, Contains, IfOk, IsTrue, OnOk, None, cond};
+ghost use Rattle.std.specs.Prelude.{◌≡◌, ℕ, ◌⊎◌, true, false, Contains, IfOk, IsTrue, OnOk, None, cond};
 ghost use Rattle.indexmap.specs.IndexMap.{get};
 ghost use Rattle.style_reader.specs.declared.properties.Property.{Property};
 ghost use Rattle.style_reader.specs.declared.selectors.Selector.{Selector};
