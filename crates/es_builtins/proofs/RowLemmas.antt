@@ -4,6 +4,7 @@ use Rattle.std.specs.Prelude.{All, Option, Some, None, option_map, slice_get, �
 use Rattle.std.specs.Option.{option_map_or}
 use Rattle.std.specs.List.{list_any}
 use Rattle.std.proofs.Math.ListN.{length-set}
+use Rattle.std.proofs.lemmas.Bool.{or_cases, or_left, or_parts, or_right}
 use Rattle.std.proofs.lemmas.List.Elements.{All-cons, All-nil}
 use Rattle.std.proofs.lemmas.List.Folds.{list_any_none}
 use Rattle.es_values.specs.declared.numbers.Num.{Num}
@@ -42,21 +43,6 @@ pub record HeapLaws : Type 0 where
   pub turned : (heap : List ObjectState) (object : ℕ) → IsSound heap → IsSound (with_object heap object (turned_object (object_at heap object)))
   pub turned_functions : (heap : List ObjectState) (object number : ℕ) → holds_function number (with_object heap object (turned_object (object_at heap object))) ≡ true → holds_function number heap ≡ true
 
-or-left : (a b : Bool) → a ≡ true → (a || b) ≡ true
-or-left a b h = ap (λ t. t || b) h
-
-or-right : (a b : Bool) → b ≡ true → (a || b) ≡ true
-or-right true b h = refl
-or-right false b h = h
-
-or-cases : (a b : Bool) → (a || b) ≡ true → (a ≡ true) ⊎ (b ≡ true)
-or-cases true b h = inl refl
-or-cases false b h = inr h
-
-or-false : (a b : Bool) → (a || b) ≡ false → (a ≡ false) × (b ≡ false)
-or-false true b h = absurd (cc h)
-or-false false b h = (refl, h)
-
 otherwise : (a b : Bool) → (a ≡ false → b ≡ false) → b ≡ true → a ≡ true
 otherwise true b f h = refl
 otherwise false b f h = absurd (cc (sym (f refl) ∙ h))
@@ -64,7 +50,7 @@ otherwise false b f h = absurd (cc (sym (f refl) ∙ h))
 none-any : (p : Value → Bool) (vs : List Value) → list_any p vs ≡ false → All (λ v. p v ≡ false) vs
 none-any p [] h = All-nil (λ v. p v ≡ false)
 none-any p (v ∷ vs) h =
-    let parts = or-false (p v) (list_any p vs) h in
+    let parts = or_parts (p v) (list_any p vs) h in
     All-cons (λ w. p w ≡ false) v vs parts.0 (none-any p vs parts.1)
 
 -- what is among values in order is among the values
@@ -87,7 +73,7 @@ module _ (laws : HeapLaws) (heap : List ObjectState) (sound : IsSound heap) wher
   NoFunctions given = (number : ℕ) → holds_function number given ≡ true → holds_function number heap ≡ true
 
   no-functions : (handed : List Value) (given : List ObjectState) → NoFunctions given → FunctionsKept handed given
-  no-functions handed given h = λ number k. or-left (holds_function number heap) (list_any (is_function number) handed) (h number k)
+  no-functions handed given h = λ number k. or_left (holds_function number heap) (list_any (is_function number) handed) (h number k)
 
   -- the heap stays
   kept-value : (handed : List Value) (v : Value) → IsLive heap v → ((number : ℕ) → is_function number v ≡ true → ⊥) → GivesKept heap handed v heap
@@ -112,7 +98,7 @@ module _ (laws : HeapLaws) (heap : List ObjectState) (sound : IsSound heap) wher
     keeps = record { objects = omega arith; functions = no-functions (base ∷ arguments) heap (λ number h. h) };
     sound = sound;
     live = live;
-    known = λ number h. or-right (holds_function number heap) (list_any (is_function number) (base ∷ arguments)) (or-left (is_function number base) (list_any (is_function number) arguments) h);
+    known = λ number h. or_right (holds_function number heap) (list_any (is_function number) (base ∷ arguments)) (or_left (is_function number base) (list_any (is_function number) arguments) h);
   }
 
   -- an object is added
@@ -140,7 +126,7 @@ module _ (laws : HeapLaws) (heap : List ObjectState) (sound : IsSound heap) wher
   arguments-sound arguments live = laws.made heap arguments sound live
 
   arguments-functions : (arguments : List Value) → FunctionsKept arguments (heap ++ array_of_arguments arguments ∷ [])
-  arguments-functions (Number size ∷ []) number h = or-left (holds_function number heap) (list_any (is_function number) (Number size ∷ [])) (laws.empty_functions heap number size h)
+  arguments-functions (Number size ∷ []) number h = or_left (holds_function number heap) (list_any (is_function number) (Number size ∷ [])) (laws.empty_functions heap number size h)
   arguments-functions arguments number h = laws.made_functions heap number arguments h
 
   pub call-kept : (arguments : List Value) → All (IsLive heap) arguments → (f : BuiltIn) → RowKeeps heap arguments (call_row heap arguments f)
@@ -180,7 +166,7 @@ module _ (laws : HeapLaws) (heap : List ObjectState) (sound : IsSound heap) wher
       let values = map (λ part. Str part) parts in
       kept-added handed (array_of values) (laws.made heap values sound (texts-live parts))
       (no-functions handed (heap ++ array_of values ∷ []) (λ number h.
-      elim (or-cases (holds_function number heap) (list_any (is_function number) values) (laws.made_functions heap number values h)) [
+      elim (or_cases (holds_function number heap) (list_any (is_function number) values) (laws.made_functions heap number values h)) [
         | inl held ↦ held
         | inr among ↦ absurd (cc (sym (texts-none number parts) ∙ among))
       ]))
@@ -209,7 +195,7 @@ module _ (laws : HeapLaws) (heap : List ObjectState) (sound : IsSound heap) wher
   sort-functions : (number : ℕ) → NoFunctions (with_object heap number (sorted_object heap (object_at heap number)))
   sort-functions number n h =
       let elements = elements_of (object_at heap number) in
-      elim (or-cases (holds_function n heap) (list_any (is_function n) (sorted heap elements)) (laws.set_functions heap number n (sorted heap elements) h)) [
+      elim (or_cases (holds_function n heap) (list_any (is_function n) (sorted heap elements)) (laws.set_functions heap number n (sorted heap elements) h)) [
         | inl held ↦ held
         | inr among ↦ laws.element_functions heap number n (sorted-any heap (is_function n) elements among)
       ]

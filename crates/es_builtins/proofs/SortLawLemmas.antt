@@ -5,7 +5,7 @@ use Rattle.std.specs.Cmp.{IsStrictWeakOrder}
 use Rattle.std.specs.Cmp.Lexicographic.{slice_cmp}
 use Rattle.std.specs.Ordering.{is_lt, nat_cmp}
 use Rattle.std.specs.List.Sorted.{IsPermutation, IsSortedByKey, IsStableByKey}
-use Rattle.std.proofs.lemmas.Bool.{cond-true, cond-false, cases_Bool}
+use Rattle.std.proofs.lemmas.Bool.{cond-true, cond-false, cases_Bool, not-true}
 use Rattle.std.proofs.lemmas.Cmp.{nat_list_cmp_total}
 use Rattle.std.proofs.lemmas.List.Elements.{All-head, All-tail, filter_passes}
 use Rattle.std.proofs.lemmas.List.Sorted.{ranks_by}
@@ -15,10 +15,6 @@ use Rattle.es_values.specs.Objects.{ObjectState}
 use Rattle.es_builtins.specs.Arrays.{by_text, comes_after, is_undefined, put_among, sorted}
 use Rattle.es_builtins.specs.Sorting.{sort_key}
 use Rattle.es_builtins.proofs.SortLemmas.{by_text-all, filter-inserted, inserted, inserted-from_sort, less-is, permutation-inserted, put, put-behind, put-first, sorted-inserted}
-
-back : (a : Bool) → not a ≡ true → a ≡ false
-back true h = absurd (cc h)
-back false h = refl
 
 module _ (heap : List ObjectState) where
   abbrev is_below : Value → Value → Bool
@@ -81,7 +77,7 @@ module _ (heap : List ObjectState) where
   texts_of vs = filter (λ value. not (is_undefined value)) vs
 
   all-texts : (vs : List Value) → All (λ w. is_undefined w ≡ false) (by_text heap (texts_of vs))
-  all-texts vs = by_text-all (λ w. is_undefined w ≡ false) heap (texts_of vs) (λ k d below. back _ (filter_passes (λ value. not (is_undefined value)) vs k d below))
+  all-texts vs = by_text-all (λ w. is_undefined w ≡ false) heap (texts_of vs) (λ k d below. not-true _ (filter_passes (λ value. not (is_undefined value)) vs k d below))
 
   inserted-is : (vs : List Value) → inserted is_below order vs ≡ by_text heap (texts_of vs) ++ filter is_undefined vs
   unfolding inserted

@@ -7,7 +7,7 @@ use Rattle.std.specs.Ordering.{is_lt, nat_cmp}
 use Rattle.std.specs.declared.cmp.Ordering.{Ordering}
 use Rattle.std.specs.declared.cmp.Ordering.TheVariants.{Less, Equal, Greater}
 use Rattle.std.specs.List.Sorted.{ties, IsPermutation, IsSortedBy, IsStableBy}
-use Rattle.std.proofs.lemmas.Bool.{cond-true, cond-false, cases_Bool}
+use Rattle.std.proofs.lemmas.Bool.{cond-true, cond-false, cases_Bool, and_parts, not-true}
 use Rattle.std.proofs.lemmas.Cmp.{nat_list_cmp_total}
 use Rattle.std.proofs.lemmas.List.Elements.{All-append, All-cons, All-filter, All-head, All-nil, All-tail}
 use Rattle.std.proofs.lemmas.List.Sorted.{ranks_by, sorted_far, IsPermutation-cons, IsPermutation-refl, IsPermutation-swap, IsPermutation-trans}
@@ -19,21 +19,12 @@ use Rattle.es_builtins.specs.Arrays.{by_text, comes_after, is_less, is_undefined
 
 -- Two lists that ascend, and in which those that tie stand alike, are the same
 
-and-parts : (a b : Bool) → (a && b) ≡ true → (a ≡ true) × (b ≡ true)
-and-parts true true h = (refl, refl)
-and-parts true false h = absurd (cc h)
-and-parts false b h = absurd (cc h)
-
-not-true : (a : Bool) → not a ≡ true → a ≡ false
-not-true true h = absurd (cc h)
-not-true false h = refl
-
 module _ {A : Type 0} (lt : A → A → Bool) (order : IsStrictWeakOrder lt) where
   tied : (x y : A) → lt x y ≡ false → lt y x ≡ false → ties lt x y ≡ true
   tied x y h k = ap (λ b. not b && not (lt y x)) h ∙ ap not k
 
   tie-parts : (x y : A) → ties lt x y ≡ true → (lt x y ≡ false) × (lt y x ≡ false)
-  tie-parts x y h = let parts = and-parts (not (lt x y)) (not (lt y x)) h in (not-true (lt x y) parts.0, not-true (lt y x) parts.1)
+  tie-parts x y h = let parts = and_parts (not (lt x y)) (not (lt y x)) h in (not-true (lt x y) parts.0, not-true (lt y x) parts.1)
 
   not-below-itself : (x : A) → lt x x ≡ false
   not-below-itself x = by (lt x x) refl

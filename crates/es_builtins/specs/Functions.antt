@@ -1,6 +1,6 @@
 -- The built-in functions by their rows (ECMA-262 second edition, 15.1 to 15.7; their numbers and what
 -- they are charged are this project's own).
-use Rattle.std.specs.Prelude.{ℕ, ◌+◌, ◌==◌, Bool, false, if◌then◌else◌, pos, List, [], ◌∷◌, ◌++◌, length, map, Option, Some, None, codes}
+use Rattle.std.specs.Prelude.{ℕ, ◌+◌, ◌==◌, Bool, false, if◌then◌else◌, pos, List, [], ◌∷◌, ◌++◌, find, length, map, Option, Some, None, codes}
 use Rattle.std.specs.List.{sum_by}
 use Rattle.std.specs.Option.{option_map_or}
 use Rattle.bml_bytes.specs.Words.{is_same}
@@ -46,14 +46,13 @@ abbrev pub all_functions : List BuiltIn
 all_functions =
     the.Object ∷ the.Array ∷ the.String ∷ the.Number ∷ the.Boolean ∷ the.IsNan ∷ the.ParseInt ∷ []
 
-abbrev pub first_with : (BuiltIn → Bool) → List BuiltIn → Option BuiltIn
-first_with test [] = None
-first_with test (function ∷ functions) =
-    if test function then Some function else first_with test functions
-
 -- the function of a number, where there is one
 abbrev pub function_of : ℕ → Option BuiltIn
-function_of number = first_with (λ function. number == function_number function) all_functions
+function_of number = find (λ function. number == function_number function) all_functions
+
+-- the function of a name, where there is one
+abbrev pub function_named : List ℕ → Option BuiltIn
+function_named name = find (λ function. is_same name (function_name function)) all_functions
 
 -- what a built-in name means: a function, NaN, or what the host keeps
 abbrev pub other_named : List ℕ → Option Value
@@ -64,8 +63,7 @@ other_named name =
 
 abbrev pub value_named : List ℕ → Option Value
 value_named name =
-    option_map_or (λ function. Some (Function (function_number function)))
-    (first_with (λ function. is_same name (function_name function)) all_functions)
+    option_map_or (λ function. Some (Function (function_number function))) (function_named name)
     (other_named name)
 
 -- a member of a function that is read: `Number` has three, and no other function has any
@@ -76,7 +74,8 @@ number_member name =
     else (if is_same name (codes "MIN_VALUE") then Number (Whole (pos 1)) else Undefined))
 
 abbrev pub function_member : ℕ → List ℕ → Value
-function_member number name = if number == 3 then number_member name else Undefined
+function_member number name =
+    if number == function_number the.Number then number_member name else Undefined
 
 -- ---- rows
 

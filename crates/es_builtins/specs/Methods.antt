@@ -1,7 +1,7 @@
 -- The built-in methods by their rows: those of texts, numbers, arrays and the function String, and the
 -- two of nearly every value (ECMA-262 second edition, 15.2 to 15.7; what they are charged is this
 -- project's own).
-use Rattle.std.specs.Prelude.{ℕ, ◌+◌, ◌*◌, ◌==◌, max, if◌then◌else◌, List, [], ◌∷◌, length, map, Option, Some, None, option_map, codes, slice_get}
+use Rattle.std.specs.Prelude.{ℕ, ◌+◌, ◌*◌, ◌==◌, max, if◌then◌else◌, List, [], ◌∷◌, find, length, map, Option, Some, None, option_map, codes, slice_get}
 use Rattle.std.specs.List.{sum_by}
 use Rattle.std.specs.Option.{option_map_or}
 use Rattle.es_values.specs.declared.numbers.Num.{Num}
@@ -12,11 +12,12 @@ use Rattle.es_values.specs.Charges.{begun_sixteens, conversion_charge, join_char
 use Rattle.es_values.specs.Conversions.{join_of, number_of, text_of}
 use Rattle.es_values.specs.Heaps.{object_at, with_object}
 use Rattle.es_values.specs.Objects.{ObjectState}
+use Rattle.es_builtins.specs.declared.functions.BuiltIn.TheVariants as built
 use Rattle.es_builtins.specs.declared.methods.Method.{Method}
 use Rattle.es_builtins.specs.declared.methods.Method.TheVariants as the
 use Rattle.bml_bytes.specs.Words.{is_same}
 use Rattle.es_builtins.specs.Arrays.{sorted_object}
-use Rattle.es_builtins.specs.Functions.{codes_row, gives_object}
+use Rattle.es_builtins.specs.Functions.{codes_row, function_number, gives_object}
 use Rattle.es_builtins.specs.Numerals.{base_or_ten, number_text_in}
 use Rattle.es_builtins.specs.Rows.{Row, argument_charge, number_argument, text_argument}
 use Rattle.es_builtins.specs.Rows.Row.{NoRow, Gives}
@@ -43,14 +44,9 @@ all_methods =
     the.CharAt ∷ the.CharCodeAt ∷ the.IndexOf ∷ the.LastIndexOf ∷ the.Substring ∷ the.Split
     ∷ the.FromCharCode ∷ the.Join ∷ the.Reverse ∷ the.Sort ∷ the.ToText ∷ the.ValueOf ∷ []
 
-abbrev pub first_named : List ℕ → List Method → Option Method
-first_named name [] = None
-first_named name (method ∷ methods) =
-    if is_same name (method_name method) then Some method else first_named name methods
-
 -- the method of a name, where there is one
 abbrev pub method_of : List ℕ → Option Method
-method_of name = first_named name all_methods
+method_of name = find (λ method. is_same name (method_name method)) all_methods
 
 -- ---- texts
 
@@ -159,7 +155,7 @@ object_row heap number object arguments method =
 -- of the functions `String` has one more
 abbrev pub function_method_row : List ObjectState → ℕ → List Value → Method → Row
 function_method_row heap number arguments the.FromCharCode =
-    if number == 2 then codes_row heap arguments else NoRow
+    if number == function_number built.String then codes_row heap arguments else NoRow
 function_method_row heap number arguments method = plain_row heap (Function number) method
 
 -- ---- all

@@ -1,8 +1,7 @@
 //! The built-in functions, and the names of what is built in.
 
 ghost use Rattle.std.specs.Prelude.{◌≡◌, IfOk};
-ghost use Rattle.bml_bytes.specs.Words.{is_same};
-ghost use Rattle.es_builtins.specs.Functions.{all_functions, first_with, function_member as spec_function_member, function_name, function_number, function_of, number_member as spec_number_member, other_named as spec_other_named, value_named as spec_value_named};
+ghost use Rattle.es_builtins.specs.Functions.{all_functions, function_member as spec_function_member, function_name, function_named, function_number, function_of, number_member as spec_number_member, other_named as spec_other_named, value_named as spec_value_named};
 
 use bml_bytes::Text;
 use es_values::{HostRef, Num, Value};
@@ -20,44 +19,39 @@ pub enum BuiltIn {
 }
 
 impl BuiltIn {
+    /// All of them.
+    fn all() -> [BuiltIn; 7]
+        ensures { result ≡ all_functions }
+    {
+        [
+            BuiltIn::Object,
+            BuiltIn::Array,
+            BuiltIn::String,
+            BuiltIn::Number,
+            BuiltIn::Boolean,
+            BuiltIn::IsNan,
+            BuiltIn::ParseInt,
+        ]
+    }
+
     /// The function of a number, where there is one: 0 to 6.
     pub fn of_number(number: u64) -> Option<BuiltIn>
         ensures { result ≡ function_of number }
     {
-        match number {
-            0 => Some(BuiltIn::Object),
-            1 => Some(BuiltIn::Array),
-            2 => Some(BuiltIn::String),
-            3 => Some(BuiltIn::Number),
-            4 => Some(BuiltIn::Boolean),
-            5 => Some(BuiltIn::IsNan),
-            6 => Some(BuiltIn::ParseInt),
-            _ => None,
-        }
+        BuiltIn::all()
+            .iter()
+            .copied()
+            .find(|function| number == function.number())
     }
 
     /// The function of a name, where there is one.
     pub fn of_name(name: &Text) -> Option<BuiltIn>
-        ensures { result ≡ first_with (λ function. is_same name.now (function_name function))
-            all_functions }
+        ensures { result ≡ function_named name.now }
     {
-        if name.is_word("Object") {
-            Some(BuiltIn::Object)
-        } else if name.is_word("Array") {
-            Some(BuiltIn::Array)
-        } else if name.is_word("String") {
-            Some(BuiltIn::String)
-        } else if name.is_word("Number") {
-            Some(BuiltIn::Number)
-        } else if name.is_word("Boolean") {
-            Some(BuiltIn::Boolean)
-        } else if name.is_word("isNaN") {
-            Some(BuiltIn::IsNan)
-        } else if name.is_word("parseInt") {
-            Some(BuiltIn::ParseInt)
-        } else {
-            None
-        }
+        BuiltIn::all()
+            .iter()
+            .copied()
+            .find(|function| name.is_word(function.name()))
     }
 
     /// Its number.
@@ -72,6 +66,21 @@ impl BuiltIn {
             BuiltIn::Boolean => 4,
             BuiltIn::IsNan => 5,
             BuiltIn::ParseInt => 6,
+        }
+    }
+
+    /// Its name, as scripts write it.
+    fn name(self) -> &'static str
+        ensures { result.now ≡ function_name self }
+    {
+        match self {
+            BuiltIn::Object => "Object",
+            BuiltIn::Array => "Array",
+            BuiltIn::String => "String",
+            BuiltIn::Number => "Number",
+            BuiltIn::Boolean => "Boolean",
+            BuiltIn::IsNan => "isNaN",
+            BuiltIn::ParseInt => "parseInt",
         }
     }
 }
@@ -106,9 +115,10 @@ fn other_named(name: &Text) -> Option<Value>
 pub fn function_member(number: u64, name: &Text) -> Value
     ensures { result ≡ spec_function_member number name.now }
 {
-    match BuiltIn::of_number(number) {
-        Some(BuiltIn::Number) => number_member(name),
-        _ => Value::Undefined,
+    if number == BuiltIn::Number.number() {
+        number_member(name)
+    } else {
+        Value::Undefined
     }
 }
 

@@ -1,7 +1,7 @@
 //! The names of the built-in methods.
 
 ghost use Rattle.std.specs.Prelude.{◌≡◌};
-ghost use Rattle.es_builtins.specs.Methods.{method_of};
+ghost use Rattle.es_builtins.specs.Methods.{all_methods, method_name, method_of};
 
 use bml_bytes::Text;
 
@@ -23,36 +23,53 @@ pub enum Method {
 }
 
 impl Method {
+    /// All of them.
+    fn all() -> [Method; 12]
+        ensures { result ≡ all_methods }
+    {
+        [
+            Method::CharAt,
+            Method::CharCodeAt,
+            Method::IndexOf,
+            Method::LastIndexOf,
+            Method::Substring,
+            Method::Split,
+            Method::FromCharCode,
+            Method::Join,
+            Method::Reverse,
+            Method::Sort,
+            Method::ToText,
+            Method::ValueOf,
+        ]
+    }
+
+    /// Its name, as scripts write it.
+    fn name(self) -> &'static str
+        ensures { result.now ≡ method_name self }
+    {
+        match self {
+            Method::CharAt => "charAt",
+            Method::CharCodeAt => "charCodeAt",
+            Method::IndexOf => "indexOf",
+            Method::LastIndexOf => "lastIndexOf",
+            Method::Substring => "substring",
+            Method::Split => "split",
+            Method::FromCharCode => "fromCharCode",
+            Method::Join => "join",
+            Method::Reverse => "reverse",
+            Method::Sort => "sort",
+            Method::ToText => "toString",
+            Method::ValueOf => "valueOf",
+        }
+    }
+
     /// The method of a name, where there is one.
     pub fn of_name(name: &Text) -> Option<Method>
         ensures { result ≡ method_of name.now }
     {
-        if name.is_word("charAt") {
-            Some(Method::CharAt)
-        } else if name.is_word("charCodeAt") {
-            Some(Method::CharCodeAt)
-        } else if name.is_word("indexOf") {
-            Some(Method::IndexOf)
-        } else if name.is_word("lastIndexOf") {
-            Some(Method::LastIndexOf)
-        } else if name.is_word("substring") {
-            Some(Method::Substring)
-        } else if name.is_word("split") {
-            Some(Method::Split)
-        } else if name.is_word("fromCharCode") {
-            Some(Method::FromCharCode)
-        } else if name.is_word("join") {
-            Some(Method::Join)
-        } else if name.is_word("reverse") {
-            Some(Method::Reverse)
-        } else if name.is_word("sort") {
-            Some(Method::Sort)
-        } else if name.is_word("toString") {
-            Some(Method::ToText)
-        } else if name.is_word("valueOf") {
-            Some(Method::ValueOf)
-        } else {
-            None
-        }
+        Method::all()
+            .iter()
+            .copied()
+            .find(|method| name.is_word(method.name()))
     }
 }

@@ -16,7 +16,7 @@ use Rattle.es_values.specs.Operators.{adds_texts, addition_of, with_put}
 use Rattle.es_values.specs.Values.{IsLiveAmong, truth_of}
 use Rattle.es_builtins.specs.declared.functions.BuiltIn.{BuiltIn}
 use Rattle.es_builtins.specs.declared.functions.BuiltIn.TheVariants as built
-use Rattle.es_builtins.specs.Functions.{all_functions, first_with, function_member, function_name, function_number, other_named, value_named}
+use Rattle.es_builtins.specs.Functions.{function_member, function_named, function_number, other_named, value_named}
 use Rattle.es_shapes.specs.declared.operators.Operator.{Operator}
 use Rattle.es_shapes.specs.declared.operators.Operator.TheVariants as the
 use Rattle.es_shapes.specs.declared.operators.Sign.{Sign}
@@ -73,7 +73,7 @@ module _ (s : Setting) where
 
   built_in-known : (count : ℕ) (name : List ℕ) → IfKnown s count (value_named name)
   built_in-known count name =
-      go (first_with (λ function. is_same name (function_name function)) all_functions)
+      go (function_named name)
     where
       go : (found : Option BuiltIn) → IfKnown s count
           (option_map_or (λ function. Some (Function (function_number function))) found
