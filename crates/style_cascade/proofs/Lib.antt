@@ -15,3 +15,7 @@ pub mod CascadeLaws
 pub mod TreeLaws
 pub mod KeptLemmas
 pub mod SaidLemmas
+pub mod OwedLemmas
+pub mod GetLemmas
+pub mod ForgetLemmas
+pub mod SetLemmas

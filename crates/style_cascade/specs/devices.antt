@@ -6,3 +6,4 @@ pub mod Kept
 pub mod Indexing
 pub mod Rows
 pub mod Searching
+pub mod Getting
