@@ -10,6 +10,7 @@ pub mod FurtherLemmas
 pub mod UnboundedLemmas
 pub mod MachineLemmas
 pub mod ArmLemmas
+pub mod LeafLemmas
 pub mod ShapeRows
 pub mod TargetLemmas
 pub mod NameLemmas

@@ -56,12 +56,8 @@ impl Machine {
             Shape::Number(number) => Ok(value(Value::Number(Num::Whole(number)))),
             Shape::Text(text) => Ok(value(Value::Str(text))),
             Shape::Name(name) => self.name_value(programs, &name),
-            Shape::Index(base, key) => {
-                self.evaluate_then(Work::Member(MemberWork::IndexBase(key)), base)
-            }
-            Shape::Member(base, name) => {
-                self.evaluate_then(Work::Member(MemberWork::MemberBase(name)), base)
-            }
+            Shape::Index(base, key) => self.enter_index(programs, base, key),
+            Shape::Member(base, name) => self.enter_member(programs, base, name),
             Shape::Call(callee) => self.enter_callee(programs, code, callee),
             Shape::New(callee) => {
                 self.evaluate_then(Work::Call(CallWork::Constructor(code)), callee)
@@ -76,7 +72,7 @@ impl Machine {
                 self.enter_target(programs, target, Use::Step(in_front, down))
             }
             Shape::Binary(operator, left, right) => {
-                self.evaluate_then(Work::Operand(OperandWork::Left(operator, right)), left)
+                self.enter_left(programs, operator, left, right)
             }
             Shape::And(left, right) => {
                 self.evaluate_then(Work::Operand(OperandWork::And(right)), left)

@@ -24,6 +24,7 @@ mod evaluator;
 mod expressions;
 mod globals;
 mod laws;
+mod leaves;
 mod machine;
 mod members;
 mod nexts;

@@ -6,17 +6,19 @@ ghost use Rattle.es_values.specs.declared.values.Value.TheVariants.{Number};
 ghost use Rattle.es_values.specs.Heaps.{IsLive};
 ghost use Rattle.es_eval.specs.declared.works.Work.TheVariants.{Operand as OperandItem};
 ghost use Rattle.es_eval.specs.devices.Machines.{GoesOn, IsLess, IsNextLive, IsWorkLive};
-ghost use Rattle.es_eval.specs.Actions.{gives};
+ghost use Rattle.es_eval.specs.Actions.{behind, gives};
 ghost use Rattle.es_eval.specs.Operations.{operates, signs};
 ghost use Rattle.es_shapes.specs.Operators.{signed_number, type_text as spec_type_text};
 ghost use Rattle.es_eval.specs.Rows.{last_value};
-ghost use Rattle.es_shapes.specs.devices.Parts.{parts_from};
-ghost use Rattle.es_eval.specs.devices.Works.{as_value, enters, operand_row};
+ghost use Rattle.es_shapes.specs.devices.Parts.{expression_at, parts_from};
+ghost use Rattle.es_eval.specs.devices.Leaves.{leaf_expression};
+ghost use Rattle.es_eval.specs.devices.Works.{as_value, enters, evaluates, operand_row};
 
+use crate::leaves::{Found, Leaf, leaf_at};
 use crate::machine::Machine;
 use crate::nexts::{stopped, value};
 use crate::outcomes::StopCause;
-use crate::works::{Now, OperandWork, Work};
+use crate::works::{Now, OperandWork, Work, discard};
 use bml_bytes::{NoMemory, Text};
 use es_reader::Program;
 use es_shapes::{Code, Operator, Sign, part};
@@ -39,7 +41,7 @@ impl Machine {
     {
         match item {
             OperandWork::Left(operator, right) => {
-                self.evaluate_then(Work::Operand(OperandWork::Right(operator, given)), right)
+                self.enter_right(programs, operator, given, right)
             }
             OperandWork::Right(operator, left) => self.operates(operator, &left, &given),
             OperandWork::And(right) => Ok(if given.truth() {
@@ -62,6 +64,99 @@ impl Machine {
             OperandWork::Typeof => self.typed(&given),
             OperandWork::Void => Ok(value(Value::Undefined)),
             OperandWork::Instead(other) => Ok(value(other)),
+        }
+    }
+
+    /// The operands of an operator, from the left one on. A leaf's value is there at once.
+    pub fn enter_left(
+        &mut self,
+        programs: &[Program],
+        operator: Operator,
+        left: Code,
+        right: Code,
+    ) -> Result<Now, NoMemory>
+        ensures run { IfOk result (λ next. GoesOn programs.now self.old
+            (as_value (behind (evaluates programs.now left) (λ value. behind
+            (evaluates programs.now right) (operates operator value)))) self.new next) }
+        ensures live { IfOk result (IsNextLive self.new) }
+        ensures less { IfOk result (IsLess self.old self.new) }
+    {
+        match leaf_at(programs, left)? {
+            Some(leaf) => self.left_leaf(programs, operator, &leaf, right),
+            None => { self.evaluate_then(Work::Operand(OperandWork::Left(operator, right)), left) }
+        }
+    }
+
+    // The same, where the left one is a leaf.
+    fn left_leaf(
+        &mut self,
+        programs: &[Program],
+        operator: Operator,
+        leaf: &Leaf,
+        right: Code,
+    ) -> Result<Now, NoMemory>
+        ensures run { IfOk result (λ next. (code : Code)
+            → expression_at programs.now code ≡ leaf_expression leaf.now
+            → GoesOn programs.now self.old
+            (as_value (behind (evaluates programs.now code) (λ value. behind
+            (evaluates programs.now right) (operates operator value)))) self.new next) }
+        ensures live { IfOk result (IsNextLive self.new) }
+        ensures less { IfOk result (IsLess self.old self.new) }
+    {
+        match self.leaf_value(programs, leaf)? {
+            Found::Value(given) => self.enter_right(programs, operator, given, right),
+            Found::Stopped(cause) => Ok(stopped(cause)),
+        }
+    }
+
+    // The right operand, once the left one's value is there.
+    fn enter_right(
+        &mut self,
+        programs: &[Program],
+        operator: Operator,
+        left: Value,
+        right: Code,
+    ) -> Result<Now, NoMemory>
+        requires { IsLive self.old.heap left }
+        ensures run { IfOk result (λ next. GoesOn programs.now self.old
+            (as_value (behind (evaluates programs.now right) (operates operator left)))
+            self.new next) }
+        ensures live { IfOk result (IsNextLive self.new) }
+        ensures less { IfOk result (IsLess self.old self.new) }
+    {
+        let found = match leaf_at(programs, right) {
+            Ok(found) => found,
+            Err(NoMemory) => {
+                discard(left);
+                return Err(NoMemory);
+            }
+        };
+        match found {
+            Some(leaf) => self.operates_on_leaf(programs, operator, &left, &leaf),
+            None => { self.evaluate_then(Work::Operand(OperandWork::Right(operator, left)), right) }
+        }
+    }
+
+    // What an operator gives of a value and a leaf.
+    fn operates_on_leaf(
+        &mut self,
+        programs: &[Program],
+        operator: Operator,
+        left: &Value,
+        leaf: &Leaf,
+    ) -> Result<Now, NoMemory>
+        requires { IsLive self.old.heap left.now }
+        ensures run { IfOk result (λ next. (code : Code)
+            → expression_at programs.now code ≡ leaf_expression leaf.now
+            → GoesOn programs.now self.old
+            (as_value (behind (evaluates programs.now code) (operates operator left.now)))
+            self.new next) }
+        ensures live { IfOk result (IsNextLive self.new) }
+        ensures less { IfOk result (IsLess self.old self.new) }
+    {
+        match self.leaf_value(programs, leaf)? {
+            Found::Value(given) => self.operates(operator, left, &given),
+            Found::Stopped(cause) => Ok(stopped(cause)),
         }
     }
 

@@ -1,0 +1,93 @@
+//! Leaves: names, literals and `this`. They have no parts, so their values are there behind their
+//! step, and no item waits for them.
+
+ghost use Rattle.std.specs.Prelude.{◌≡◌, List, IfOk, IfSome};
+ghost use Rattle.es_values.specs.declared.values.Value.{Value as AnyValue};
+ghost use Rattle.es_eval.specs.Actions.{Next};
+ghost use Rattle.es_eval.specs.Calls.{Body};
+ghost use Rattle.es_eval.specs.Rows.{Evaluation, expression_row};
+ghost use Rattle.es_shapes.specs.Syntax.{Function as AnyFunction};
+ghost use Rattle.es_shapes.specs.devices.Parts.{expression_at};
+ghost use Rattle.es_eval.specs.devices.Leaves.{GivesAt, IsRowAt, leaf_expression, values_of_found};
+ghost use Rattle.es_eval.specs.devices.Machines.{AreLive, Stays, world_of};
+
+use crate::laws::law_of_unfolding;
+use crate::machine::Machine;
+use crate::outcomes::StopCause;
+use bml_bytes::{NoMemory, Text};
+use es_reader::Program;
+use es_shapes::{Code, Shape, expression};
+use es_values::{Num, Value};
+
+/// An expression that has no parts.
+#[derive(Drop)]
+pub enum Leaf {
+    This,
+    Null,
+    Truth(bool),
+    Number(i32),
+    Text(Text),
+    Name(Text),
+}
+
+/// What a leaf gives, or why the script is stopped there.
+#[derive(Drop)]
+pub enum Found {
+    Value(Value),
+    Stopped(StopCause),
+}
+
+/// The leaf at a node, and None where the node has parts.
+#[tactic(auto, unfolding(es_shapes::specs::devices::Shapes::shaped))]
+pub fn leaf_at(programs: &[Program], code: Code) -> Result<Option<Leaf>, NoMemory>
+    ensures { IfOk result (λ found. IfSome found
+        (λ leaf. expression_at programs.now code ≡ leaf_expression leaf)) }
+{
+    match expression(programs, code)? {
+        Shape::This => Ok(Some(Leaf::This)),
+        Shape::Null => Ok(Some(Leaf::Null)),
+        Shape::Truth(truth) => Ok(Some(Leaf::Truth(truth))),
+        Shape::Number(number) => Ok(Some(Leaf::Number(number))),
+        Shape::Text(text) => Ok(Some(Leaf::Text(text))),
+        Shape::Name(name) => Ok(Some(Leaf::Name(name))),
+        _ => Ok(None),
+    }
+}
+
+impl Machine {
+    /// What a leaf gives, behind its step.
+    pub fn leaf_value(&mut self, programs: &[Program], leaf: &Leaf) -> Result<Found, NoMemory>
+        ensures gives { IfOk result (λ found. (code : Code)
+            → expression_at programs.now code ≡ leaf_expression leaf.now
+            → GivesAt programs.now code self.old found self.new) }
+        ensures live { IfOk result (λ found. AreLive self.new.heap (values_of_found found)) }
+        ensures stays { Stays self.old self.new }
+    {
+        if !self.take_step() {
+            return Ok(Found::Stopped(StopCause::Budget));
+        }
+        law_of_unfolding();
+        self.value_of_leaf(programs, leaf)
+    }
+
+    // The same, where the step is taken.
+    fn value_of_leaf(&self, programs: &[Program], leaf: &Leaf) -> Result<Found, NoMemory>
+        ensures row { IfOk result (λ found. (functions : List AnyFunction) (body : Body)
+            (ev : Evaluation) (next : Next AnyValue)
+            → IsRowAt functions body ev (leaf_expression leaf.now)
+            (world_of programs.now self.now) found next) }
+        ensures live { IfOk result (λ found. AreLive self.now.heap (values_of_found found)) }
+    {
+        match leaf {
+            Leaf::This => Ok(Found::Value(self.this()?)),
+            Leaf::Null => Ok(Found::Value(Value::Null)),
+            Leaf::Truth(truth) => Ok(Found::Value(Value::Bool(*truth))),
+            Leaf::Number(number) => Ok(Found::Value(Value::Number(Num::Whole(*number)))),
+            Leaf::Text(text) => Ok(Found::Value(Value::Str(text.share()?))),
+            Leaf::Name(name) => match self.read_name(programs, name)? {
+                Some(value) => Ok(Found::Value(value)),
+                None => Ok(Found::Stopped(StopCause::Unresolved)),
+            },
+        }
+    }
+}
