@@ -31,18 +31,18 @@ use Rattle.event_queue.specs.declared.events.Event.TheVariants as events
 use Rattle.document_load.specs.Scripts.{HandlerState, unnamed_places}
 use Rattle.browser_objects.specs.Calls.{BrowserParts}
 use Rattle.dom_objects.specs.declared.current_events.CurrentEvent.{CurrentEvent}
-use Rattle.document_stages.specs.Acting.{Acting, change_posts, due_posted, key_posts, message_posts}
-use Rattle.acting_documents.specs.Handling.{change_effect, due_effect, key_effect, kind_of, message_effect, run_handler, timer_effect, timer_taken}
+use Rattle.document_stages.specs.Acting.{Acting, change_posts, with_due_events, key_posts, message_posts}
+use Rattle.acting_documents.specs.Handling.{change_effect, due_effect, key_effect, kind_of, message_effect, run_handler, timer_effect, with_timer_taken}
 use Rattle.display_list.specs.Bodies.{body_of}
 use Rattle.acting_documents.specs.Documents.{Document, handler_in, passes}
 use Rattle.acting_documents.specs.devices.Doings.{Changes, Does, DoesApart, HasDone, IsScene, lent_modules}
 use Rattle.acting_documents.specs.devices.Kept.{IsDocument, KeptDocument}
 use Rattle.acting_documents.specs.Notices.{notice_effect}
-use Rattle.acting_documents.specs.devices.Posting.{post_effect, posted_by, takes}
+use Rattle.acting_documents.specs.devices.Posting.{post_effect, with_notice, takes}
 use Rattle.acting_documents.specs.declared.notices.Notice.{Notice}
 use Rattle.acting_documents.specs.declared.notices.Notice.TheVariants as notices
 use Rattle.acting_documents.specs.Beginnings.{run_scripts, script_places}
-use Rattle.acting_documents.specs.Runs.{Effect, End, Scene, acting_in, and_then, done, effect_behind, effect_of_end, ended, hosted_in, most_steps, no_event, nothing_done, run_function, run_program, unless_launched}
+use Rattle.acting_documents.specs.Runs.{Effect, End, Scene, acting_in, and_then, effect_of_change, effect_behind, effect_of_end, end_of_run, host_parts_in, most_steps, no_event, no_effect, run_function, run_program, unless_launched}
 use Rattle.document_stages.specs.Calling.{HasCalled, HasRead, HasWritten}
 use Rattle.document_stages.specs.Stages.{StageState}
 use Rattle.document_stages.specs.declared.script_hosts.ScriptHost.{ScriptHost}
@@ -291,7 +291,7 @@ left_done old new s last modules globals heap text k stays left stands globals_a
 pub does_done : (change : Acting → Acting) (old new : KeptDocument) (first last : Acting) (before after : List ℕ)
     → first ≡ acting_of old no_event → last ≡ change first → ((a : Acting) → stays_of (change a) ≡ stays_of a)
     → Leaves old.programs old.handlers old.body new last → new.modules ≡ old.modules → new.globals ≡ old.globals → new.heap ≡ old.heap
-    → after ≡ before ++ last.text → Does (done change) old new before after
+    → after ≡ before ++ last.text → Does (effect_of_change change) old new before after
 does_done change old new first last before after is becomes keeps left modules globals heap printed = record {
   text = last.text;
   printed = printed;
@@ -309,7 +309,7 @@ does_done change old new first last before after is becomes keeps left modules g
 -- the run of the programs, the globals, the objects and so many steps, for the event of this name
 abbrev pub run_effect : (List (List ProgramItem) → List (List ℕ × Value) → List ObjectState → ℕ → Run) → List ℕ → CurrentEvent → Scene → Effect
 run_effect run name event s =
-    effect_of_end name s (ended (run s.document.programs s.document.globals s.document.heap most_steps) (hosted_in event s))
+    effect_of_end name s (end_of_run (run s.document.programs s.document.globals s.document.heap most_steps) (host_parts_in event s))
 
 -- an end is that of what was acted on then
 end_in : (e : End) (outcome : Outcome) (w : World) (last : ScriptHost) → EndsAs e outcome w last → e ≡ record { outcome = outcome; world = w; hosted = record { acting = last.stage.acting; modules = e.hosted.modules } }
@@ -323,16 +323,16 @@ end_in e outcome w last x = same e.outcome outcome e.world w e.hosted.acting las
 
 run_done : (run : Run) (name : List ℕ) (event : CurrentEvent) (old new : KeptDocument) (s : Scene) (w : World) (outcome : Outcome) (last : ScriptHost)
     → IsScene old s
-    → EndsAs (ended run (hosted_in event s)) outcome w last
+    → EndsAs (end_of_run run (host_parts_in event s)) outcome w last
     → w.globals ≡ new.globals → w.heap ≡ new.heap → Leaves old.programs old.handlers old.body new last.stage.acting
     → new.modules ≡ last.modules
-    → HasDone new (last.stage.acting.text ++ stop_lines outcome name) (effect_of_end name s (ended run (hosted_in event s)))
+    → HasDone new (last.stage.acting.text ++ stop_lines outcome name) (effect_of_end name s (end_of_run run (host_parts_in event s)))
 run_done run name event old new s w outcome last k e globals heap left modules =
-    let end = ended run (hosted_in event s) in
+    let end = end_of_run run (host_parts_in event s) in
     let text = last.stage.acting.text ++ stop_lines outcome name in
     subst (λ (x : End). HasDone new text (effect_of_end name s x)) (sym (end_in end outcome w last e))
     (left_done old new s last.stage.acting end.hosted.modules w.globals w.heap text k
-    (sym (ap stays_of e.acting_is) ∙ ended-stays run (hosted_in event s)) left
+    (sym (ap stays_of e.acting_is) ∙ ended-stays run (host_parts_in event s)) left
     (subst (λ (m : ModulesState). StandsFor m end.hosted.modules) (sym modules) e.modules) (sym globals) (sym heap))
 
 run_in : (run : List (List ProgramItem) → List (List ℕ × Value) → List ObjectState → ℕ → Run) (sources : List (List ProgramItem)) (budget : ℕ) (old : KeptDocument) (d : Document) (P : Run → Type 0)
@@ -357,8 +357,8 @@ does_run run name event budget old new first last outcome before between after i
       let d = s.document in
       let ends = runs d.programs k.is.programs in
       run_done (run d.programs d.globals d.heap most_steps) name event old new s ends.0 outcome last k
-      (run_in run d.programs budget old d (λ r. EndsAs (ended r (hosted_in event s)) outcome ends.0 last) (parts_of_kept old d k.is) steps
-      (ends_as (run d.programs old.globals old.heap budget) first outcome ends.0 last (hosted_in event s) ends.3 (is ∙ acting_is old event s k)
+      (run_in run d.programs budget old d (λ r. EndsAs (end_of_run r (host_parts_in event s)) outcome ends.0 last) (parts_of_kept old d k.is) steps
+      (ends_as (run d.programs old.globals old.heap budget) first outcome ends.0 last (host_parts_in event s) ends.3 (is ∙ acting_is old event s k)
       (subst (λ (m : ModulesState). StandsFor m s.modules) (sym lends) k.modules)))
       ends.1 ends.2 left modules;
 }
@@ -392,15 +392,15 @@ no_program [] place h = refl
 no_program (x ∷ xs) zero h = absurd (omega (arith, h))
 no_program (x ∷ xs) (suc place) h = no_program xs place (omega (arith, h))
 
-pub does_no_program : (name : List ℕ) (event : CurrentEvent) (place : ℕ) (old new : KeptDocument) (before : List ℕ) → length old.programs ≤ place → Does nothing_done old new before before → Does (run_program name event place) old new before before
-unfolding run_program run_at ended
-does_no_program name event place old new before h x = does_as nothing_done (run_program name event place) old new before before
+pub does_no_program : (name : List ℕ) (event : CurrentEvent) (place : ℕ) (old new : KeptDocument) (before : List ℕ) → length old.programs ≤ place → Does no_effect old new before before → Does (run_program name event place) old new before before
+unfolding run_program run_at end_of_run
+does_no_program name event place old new before h x = does_as no_effect (run_program name event place) old new before before
     (λ s k. nothing s (no_program s.document.programs place (subst (λ (n : ℕ). n ≤ place) (AllZip-long Tells s.document.programs old.programs k.is.programs) h))) x
   where
-    nothing : (s : Scene) → slice_get (map program_of s.document.programs) place ≡ None → run_program name event place s ≡ nothing_done s
+    nothing : (s : Scene) → slice_get (map program_of s.document.programs) place ≡ None → run_program name event place s ≡ no_effect s
     nothing s none =
         let d = s.document in
-        ap (λ (o : Option Program). effect_of_end name s (ended (option_map_or (λ program. program_run (map program_of d.programs) (take place (map program_of d.programs)) program d.globals d.heap most_steps) o (Over AtEnd (world d.globals d.heap most_steps))) (hosted_in event s))) none
+        ap (λ (o : Option Program). effect_of_end name s (end_of_run (option_map_or (λ program. program_run (map program_of d.programs) (take place (map program_of d.programs)) program d.globals d.heap most_steps) o (Over AtEnd (world d.globals d.heap most_steps))) (host_parts_in event s))) none
 
 -- ---- scripts
 
@@ -408,7 +408,7 @@ and_then-same : (f g : Scene → Effect) (s : Scene) (o : Option Path) (text : L
 and_then-same f g s None text same = ap (effect_behind text) (same s)
 and_then-same f g s (Some path) text same = refl
 
-and_then-nothing : (s : Scene) (o : Option Path) (text : List ℕ) → (let e : Effect = record { scene = s; launched = o; text = text } in and_then nothing_done e ≡ e)
+and_then-nothing : (s : Scene) (o : Option Path) (text : List ℕ) → (let e : Effect = record { scene = s; launched = o; text = text } in and_then no_effect e ≡ e)
 and_then-nothing s None text = ap (λ (t : List ℕ). let e : Effect = record { scene = s; launched = None; text = t } in e) (append-nil text)
 and_then-nothing s (Some path) text = refl
 
@@ -467,7 +467,7 @@ done_in : (change : Acting → Acting) (stage first last given : StageState) (mo
     → ((a : Acting) → stays_of (change a) ≡ stays_of a)
     → given.acting ≡ record last.acting { text = [] }
     → after ≡ before ++ last.acting.text
-    → Does (done change) (kept_in stage modules programs handlers globals heap body) (kept_in given modules programs handlers globals heap body) before after
+    → Does (effect_of_change change) (kept_in stage modules programs handlers globals heap body) (kept_in given modules programs handlers globals heap body) before after
 done_in change stage first last given modules programs handlers globals heap body before after begins becomes keeps left printed =
     does_done change (kept_in stage modules programs handlers globals heap body) (kept_in given modules programs handlers globals heap body) first.acting last.acting before after begins becomes keeps
     (leaves_in given modules last.acting programs handlers globals heap body left) refl refl refl printed
@@ -479,9 +479,9 @@ pub gives : {T E : Type 0} (r : Result T E) (change : Acting → Acting) (old : 
     → ((a : Acting) → stays_of (change a) ≡ stays_of a)
     → OnOk r (given.acting ≡ record last.acting { text = [] })
     → OnOk r (after ≡ before ++ last.acting.text)
-    → OnOk r (Does (done change) old (kept_in given modules programs handlers globals heap body) before after)
+    → OnOk r (Does (effect_of_change change) old (kept_in given modules programs handlers globals heap body) before after)
 gives (Ok x) change old stage first last given modules programs handlers globals heap body before after is begins becomes keeps left printed =
-    subst (λ (k : KeptDocument). Does (done change) k (kept_in given modules programs handlers globals heap body) before after) is
+    subst (λ (k : KeptDocument). Does (effect_of_change change) k (kept_in given modules programs handlers globals heap body) before after) is
     (done_in change stage first last given modules programs handlers globals heap body before after begins becomes keeps left printed)
 gives (Err e) change old stage first last given modules programs handlers globals heap body before after is begins becomes keeps left printed = tt
 
@@ -493,9 +493,9 @@ gives_apart : {T E : Type 0} (r : Result T E) (change : Acting → Acting) (old 
     → ((a : Acting) → stays_of (change a) ≡ stays_of a)
     → OnOk r (given.acting ≡ record last.acting { text = [] })
     → OnOk r (after ≡ before ++ last.acting.text)
-    → OnOk r (DoesApart (done change) old (kept_in given modules programs handlers globals heap body) before after)
+    → OnOk r (DoesApart (effect_of_change change) old (kept_in given modules programs handlers globals heap body) before after)
 gives_apart (Ok x) change old stage first last given modules programs handlers globals heap body before after is begins becomes keeps left printed =
-    subst (λ (k : KeptDocument). DoesApart (done change) k (kept_in given modules programs handlers globals heap body) before after) is
+    subst (λ (k : KeptDocument). DoesApart (effect_of_change change) k (kept_in given modules programs handlers globals heap body) before after) is
     (λ others. done_in change stage first last given others programs handlers globals heap body before after begins becomes keeps left printed)
 gives_apart (Err e) change old stage first last given modules programs handlers globals heap body before after is begins becomes keeps left printed = tt
 
@@ -507,13 +507,13 @@ gives_later : {T E : Type 0} (r : Result T E) (moment : ℕ) (change : Acting �
     → ((a : Acting) → stays_of (change a) ≡ stays_of a)
     → OnOk r (given.acting ≡ record last.acting { text = [] })
     → OnOk r (after ≡ before ++ last.acting.text)
-    → OnOk r (DoesApart (λ s. done change (record s { now = moment })) old (kept_in given modules programs handlers globals heap body) before after)
+    → OnOk r (DoesApart (λ s. effect_of_change change (record s { now = moment })) old (kept_in given modules programs handlers globals heap body) before after)
 gives_later (Ok x) moment change old stage first last given modules programs handlers globals heap body before after is begins becomes keeps left printed =
-    subst (λ (k : KeptDocument). DoesApart (λ s. done change (record s { now = moment })) k (kept_in given modules programs handlers globals heap body) before after) is
+    subst (λ (k : KeptDocument). DoesApart (λ s. effect_of_change change (record s { now = moment })) k (kept_in given modules programs handlers globals heap body) before after) is
     (λ others.
     let new = kept_in given others programs handlers globals heap body in
     let kept = kept_in stage others programs handlers globals heap body in
-    does_later moment (done change) kept new before after
+    does_later moment (effect_of_change change) kept new before after
     (does_done change (record kept { now = moment }) new (record first.acting { now = moment }) last.acting before after
     (ap (λ (a : Acting). record a { now = moment }) begins) becomes keeps
     (leaves_in given others last.acting programs handlers globals heap body left) refl refl refl printed))
@@ -531,31 +531,31 @@ does_grows effect old new before after x = subst (λ (t : List ℕ). take (lengt
 -- ---- handlers and timers
 
 -- a node that has no handler
-pub does_no_handler : (event : Event) (node : ℕ) (old new : KeptDocument) (before : List ℕ) → option_and_then (handler_in old.handlers node) (kind_of event) ≡ None → Does nothing_done old new before before → Does (run_handler event node) old new before before
+pub does_no_handler : (event : Event) (node : ℕ) (old new : KeptDocument) (before : List ℕ) → option_and_then (handler_in old.handlers node) (kind_of event) ≡ None → Does no_effect old new before before → Does (run_handler event node) old new before before
 does_no_handler event node old new before none x =
-    does_as nothing_done (run_handler event node) old new before before
-    (λ s k. ap (λ (o : Option ℕ). option_map_or (λ place. run_program (name_of event) (record { event = Some event; target = node }) place s) o (nothing_done s))
+    does_as no_effect (run_handler event node) old new before before
+    (λ s k. ap (λ (o : Option ℕ). option_map_or (λ place. run_program (name_of event) (record { event = Some event; target = node }) place s) o (no_effect s))
     (ap (λ (h : List HandlerState). option_and_then (handler_in h node) (kind_of event)) (sym (parts_of_kept old s.document k.is).handlers) ∙ none)) x
 
 -- there is no timer of the number
-pub does_no_timer : (number : ℕ) (old new : KeptDocument) (before : List ℕ) → option_map (λ timer. timer.function) (timer_of number old.lent.timers) ≡ None → Does nothing_done old new before before → Does (timer_effect number) old new before before
+pub does_no_timer : (number : ℕ) (old new : KeptDocument) (before : List ℕ) → option_map (λ timer. timer.function) (timer_of number old.lent.timers) ≡ None → Does no_effect old new before before → Does (timer_effect number) old new before before
 does_no_timer number old new before none x =
-    does_as nothing_done (timer_effect number) old new before before (λ s k. go s (timer_of number s.browser.timers) (sym (ap (λ (b : BrowserParts). option_map (λ timer. timer.function) (timer_of number b.timers)) k.lent_is) ∙ none)) x
+    does_as no_effect (timer_effect number) old new before before (λ s k. go s (timer_of number s.browser.timers) (sym (ap (λ (b : BrowserParts). option_map (λ timer. timer.function) (timer_of number b.timers)) k.lent_is) ∙ none)) x
   where
-    go : (s : Scene) (timer : Option Timer) → option_map (λ timer. timer.function) timer ≡ None → option_map_or (λ timer. run_function (name_of (events.Timer number)) timer.function (timer_taken number s)) timer (nothing_done s) ≡ nothing_done s
+    go : (s : Scene) (timer : Option Timer) → option_map (λ timer. timer.function) timer ≡ None → option_map_or (λ timer. run_function (name_of (events.Timer number)) timer.function (with_timer_taken number s)) timer (no_effect s) ≡ no_effect s
     go s None e = refl
     go s (Some timer) e = absurd (cc e)
 
 -- there is one, whose event was taken
-pub does_timer : (number : ℕ) (function : List ℕ) (old middle new : KeptDocument) (before after : List ℕ) → option_map (λ timer. timer.function) (timer_of number old.lent.timers) ≡ Some function → Changes (timer_taken number) old middle → Does (run_function (name_of (events.Timer number)) function) middle new before after → Does (timer_effect number) old new before after
+pub does_timer : (number : ℕ) (function : List ℕ) (old middle new : KeptDocument) (before after : List ℕ) → option_map (λ timer. timer.function) (timer_of number old.lent.timers) ≡ Some function → Changes (with_timer_taken number) old middle → Does (run_function (name_of (events.Timer number)) function) middle new before after → Does (timer_effect number) old new before after
 does_timer number function old middle new before after is taken x =
-    does_as (λ s. run_function (name_of (events.Timer number)) function (timer_taken number s)) (timer_effect number) old new before after
+    does_as (λ s. run_function (name_of (events.Timer number)) function (with_timer_taken number s)) (timer_effect number) old new before after
     (λ s k. go s (timer_of number s.browser.timers) (sym (ap (λ (b : BrowserParts). option_map (λ timer. timer.function) (timer_of number b.timers)) k.lent_is) ∙ is))
-    (does_changed (timer_taken number) (run_function (name_of (events.Timer number)) function) old middle new before after taken x)
+    (does_changed (with_timer_taken number) (run_function (name_of (events.Timer number)) function) old middle new before after taken x)
   where
-    go : (s : Scene) (timer : Option Timer) → option_map (λ timer. timer.function) timer ≡ Some function → option_map_or (λ timer. run_function (name_of (events.Timer number)) timer.function (timer_taken number s)) timer (nothing_done s) ≡ run_function (name_of (events.Timer number)) function (timer_taken number s)
+    go : (s : Scene) (timer : Option Timer) → option_map (λ timer. timer.function) timer ≡ Some function → option_map_or (λ timer. run_function (name_of (events.Timer number)) timer.function (with_timer_taken number s)) timer (no_effect s) ≡ run_function (name_of (events.Timer number)) function (with_timer_taken number s)
     go s None e = absurd (cc e)
-    go s (Some timer) e = ap (λ (f : List ℕ). run_function (name_of (events.Timer number)) f (timer_taken number s)) (cc e)
+    go s (Some timer) e = ap (λ (f : List ℕ). run_function (name_of (events.Timer number)) f (with_timer_taken number s)) (cc e)
 
 -- ---- keys
 
@@ -634,7 +634,7 @@ of_lent modules old d k =
 pub gives_posted : {T E : Type 0} (r : Result T E) (notice : Notice) (old : KeptDocument) (stage first last given : StageState) (modules : ModulesState) (programs : List ToldProgram) (handlers : List HandlerState) (globals : List (List ℕ × Value)) (heap : List ObjectState) (body : Option NodeId) (before after : List ℕ)
     → kept_in stage modules programs handlers globals heap body ≡ old
     → first.acting ≡ record stage.acting { event = no_event; launched = None; text = [] }
-    → last.acting ≡ posted_by notice first.acting
+    → last.acting ≡ with_notice notice first.acting
     → OnOk r (given.acting ≡ record last.acting { text = [] })
     → OnOk r (after ≡ before ++ last.acting.text)
     → OnOk r (DoesApart (post_effect notice) old (kept_in given modules programs handlers globals heap body) before after)
@@ -646,18 +646,18 @@ gives_posted r (notices.Message component message) old stage first last given mo
 gives_posted r (notices.Change component change) old stage first last given modules programs handlers globals heap body before after is begins becomes left printed =
     gives_apart r (change_posts component change.now) old stage first last given modules programs handlers globals heap body before after is begins becomes (change_posts-stays component change.now) left printed
 gives_posted r (notices.Moment moment) old stage first last given modules programs handlers globals heap body before after is begins becomes left printed =
-    gives_later r moment (due_posted moment) old stage first last given modules programs handlers globals heap body before after is begins becomes (due_posted-stays moment) left printed
+    gives_later r moment (with_due_events moment) old stage first last given modules programs handlers globals heap body before after is begins becomes (due_posted-stays moment) left printed
 
 -- it comes to the document or not
-told_or_not : (notice : Notice) (s : Scene) → notice_effect notice s ≡ (if takes notice s.document then post_effect notice s else nothing_done s)
+told_or_not : (notice : Notice) (s : Scene) → notice_effect notice s ≡ (if takes notice s.document then post_effect notice s else no_effect s)
 unfolding key_effect message_effect change_effect
 told_or_not (notices.Key key down) s = refl
 told_or_not (notices.Message component message) s = refl
 told_or_not (notices.Change component change) s = refl
 told_or_not (notices.Moment moment) s = refl
 
-pub does_notice : (notice : Notice) (taken : Bool) (old new : KeptDocument) (before after : List ℕ) → ((d : Document) → IsDocument old d → taken ≡ takes notice d) → DoesApart (λ s. if taken then post_effect notice s else nothing_done s) old new before after
+pub does_notice : (notice : Notice) (taken : Bool) (old new : KeptDocument) (before after : List ℕ) → ((d : Document) → IsDocument old d → taken ≡ takes notice d) → DoesApart (λ s. if taken then post_effect notice s else no_effect s) old new before after
     → DoesApart (notice_effect notice) old new before after
 does_notice notice taken old new before after is x modules =
-    does_as (λ s. if taken then post_effect notice s else nothing_done s) (notice_effect notice) (lent_modules modules old) (lent_modules modules new) before after
-    (λ s k. told_or_not notice s ∙ ap (λ (b : Bool). if b then post_effect notice s else nothing_done s) (sym (is s.document (of_lent modules old s.document k.is)))) (x modules)
+    does_as (λ s. if taken then post_effect notice s else no_effect s) (notice_effect notice) (lent_modules modules old) (lent_modules modules new) before after
+    (λ s k. told_or_not notice s ∙ ap (λ (b : Bool). if b then post_effect notice s else no_effect s) (sym (is s.document (of_lent modules old s.document k.is)))) (x modules)

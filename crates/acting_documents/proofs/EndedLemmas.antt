@@ -34,10 +34,10 @@ use Rattle.browser_objects.specs.Calls.{CallOutcome, call_of, number}
 use Rattle.browser_objects.specs.declared.effects.Effect as of_browser
 use Rattle.browser_objects.specs.declared.effects.Effect.TheVariants as effects
 use Rattle.dom_objects.specs.Writes.{change_of}
-use Rattle.document_stages.specs.Acting.{Acting, Answered, acted, acting_with_timers, begun, button_post, button_posts, change_posts, due_posted, each_item, element_call, fired, focus_on, focused, focused_node, gives, has_focus, has_room, is_subscription, is_unload, key_posts, launch, left_by, lock_post, lock_posts, message_post, message_posts, module_post, moved_to, no_focus, node_written, posted, posted_for, posted_where, pressed, read_by, refused, text_written, timer_fired, timer_posted, timer_settled, timers_fired, update_posts, with_browser, with_focus, written}
-use Rattle.document_stages.specs.Hosting.{Hosted, browser_done, called, done_for, lock_answered}
+use Rattle.document_stages.specs.Acting.{Acting, CallAnswer, with_action, acting_with_timers, with_first_events, button_post, button_posts, change_posts, with_due_events, each_item, element_call, with_item_fired, focus_on, with_focus_asked, focused_node, gives, has_focus, has_room, is_subscription, is_unload, key_posts, launch, without_focus_of, lock_post, lock_posts, message_post, message_posts, module_post, with_focus_moved, no_focus, with_node_written, with_event, with_event_for, with_event_where, with_press, member_value, gives_nan, with_text_written, with_timer_fired, with_timer_event, with_timer_settled, with_timers_fired, update_posts, with_browser, with_focus, with_member_set}
+use Rattle.document_stages.specs.Hosting.{HostParts, reply_of_outcome, reply_of_call, reply_of_effect, answer_of_lock}
 use Rattle.display_list.specs.Bodies.{body_of}
-use Rattle.acting_documents.specs.Runs.{End, ended}
+use Rattle.acting_documents.specs.Runs.{End, end_of_run}
 use Rattle.document_stages.specs.Calling.{HasCalled, HasRead, HasWritten, Replies}
 use Rattle.document_stages.specs.declared.script_hosts.ScriptHost.{ScriptHost}
 use Rattle.module_locks.specs.Locks.{lock_answer, lock_on}
@@ -58,31 +58,31 @@ stays_of a = record { path = a.path; now = a.now; body = body_of a.tree.items }
 
 -- ---- by moves of the focus, and launches
 
-moved_to-stays : (node : ℕ) (a : Acting) → stays_of (moved_to node a) ≡ stays_of a
-unfolding moved_to
+moved_to-stays : (node : ℕ) (a : Acting) → stays_of (with_focus_moved node a) ≡ stays_of a
+unfolding with_focus_moved
 moved_to-stays node a = go (has_focus node a) (focused_node a)
   where
-    go : (has : Bool) (before : Option ℕ) → stays_of (if has then a else posted (events.Focus node) (posted_for events.Blur before (with_focus (focus_on node) a))) ≡ stays_of a
+    go : (has : Bool) (before : Option ℕ) → stays_of (if has then a else with_event (events.Focus node) (with_event_for events.Blur before (with_focus (focus_on node) a))) ≡ stays_of a
     go true before = refl
     go false None = refl
     go false (Some other) = refl
 
-left_by-stays : (node : ℕ) (a : Acting) → stays_of (left_by node a) ≡ stays_of a
-unfolding left_by
+left_by-stays : (node : ℕ) (a : Acting) → stays_of (without_focus_of node a) ≡ stays_of a
+unfolding without_focus_of
 left_by-stays node a = go (has_focus node a)
   where
-    go : (has : Bool) → stays_of (if has then posted (events.Blur node) (with_focus no_focus a) else a) ≡ stays_of a
+    go : (has : Bool) → stays_of (if has then with_event (events.Blur node) (with_focus no_focus a) else a) ≡ stays_of a
     go true = refl
     go false = refl
 
-chosen : (b : Bool) (x y : Answered) (s : Stays) → stays_of x.acting ≡ s → stays_of y.acting ≡ s → stays_of (if b then x else y).acting ≡ s
+chosen : (b : Bool) (x y : CallAnswer) (s : Stays) → stays_of x.acting ≡ s → stays_of y.acting ≡ s → stays_of (if b then x else y).acting ≡ s
 chosen true x y s e f = e
 chosen false x y s e f = f
 
-focused-stays : (node : ℕ) (a : Acting) → stays_of (focused node a) ≡ stays_of a
+focused-stays : (node : ℕ) (a : Acting) → stays_of (with_focus_asked node a) ≡ stays_of a
 focused-stays node a = go (can_have_focus a.tree node)
   where
-    go : (can : Bool) → stays_of (if can then moved_to node a else a) ≡ stays_of a
+    go : (can : Bool) → stays_of (if can then with_focus_moved node a else a) ≡ stays_of a
     go true = moved_to-stays node a
     go false = refl
 
@@ -96,27 +96,27 @@ launch-stays path a heap = chosen (is_unload a.event.event) _ _ (stays_of a) ref
 
 -- ---- by writes
 
-text_written-stays : (a : Acting) (base : HostRef) (name text : List ℕ) → stays_of (text_written a base name text) ≡ stays_of a
+text_written-stays : (a : Acting) (base : HostRef) (name text : List ℕ) → stays_of (with_text_written a base name text) ≡ stays_of a
 text_written-stays a host.Ureg name text = refl
 text_written-stays a host.Greg name text = refl
 text_written-stays a base name text =
     ap (λ (b : Option ℕ). let s : Stays = record { path = a.path; now = a.now; body = b } in s)
     (body-changed (change_of a.tree.items base name text) a.tree.items)
 
-node_written-stays : (a : Acting) (node : ℕ) (name : List ℕ) (value : Value) (heap : List ObjectState) → stays_of (node_written a node name value heap) ≡ stays_of a
+node_written-stays : (a : Acting) (node : ℕ) (name : List ℕ) (value : Value) (heap : List ObjectState) → stays_of (with_node_written a node name value heap) ≡ stays_of a
 node_written-stays a node name value heap = go (is_subscription a node name)
   where
-    go : (subscription : Bool) → stays_of (if subscription then record a { items = with_subscribed node (truth_of value) a.items } else text_written a (host.Node node) name (text_of heap value)) ≡ stays_of a
+    go : (subscription : Bool) → stays_of (if subscription then record a { items = with_subscribed node (truth_of value) a.items } else with_text_written a (host.Node node) name (text_of heap value)) ≡ stays_of a
     go true = refl
     go false = text_written-stays a (host.Node node) name (text_of heap value)
 
-written-stays : (a : Acting) (base : HostRef) (name : List ℕ) (value : Value) (heap : List ObjectState) → stays_of (written a base name value heap) ≡ stays_of a
+written-stays : (a : Acting) (base : HostRef) (name : List ℕ) (value : Value) (heap : List ObjectState) → stays_of (with_member_set a base name value heap) ≡ stays_of a
 written-stays a (host.Node node) name value heap = node_written-stays a node name value heap
 written-stays a base name value heap = text_written-stays a base name (text_of heap value)
 
 -- ---- by what event items are told
 
-posted_where-stays : (test : Bool) (event : Event) (a : Acting) → stays_of (posted_where test event a) ≡ stays_of a
+posted_where-stays : (test : Bool) (event : Event) (a : Acting) → stays_of (with_event_where test event a) ≡ stays_of a
 posted_where-stays true event a = refl
 posted_where-stays false event a = refl
 
@@ -124,17 +124,17 @@ items-stay : (step : EventItem → Acting → Acting) → ((item : EventItem) (a
 items-stay step keeps [] a = refl
 items-stay step keeps (item ∷ items) a = items-stay step keeps items (step item a) ∙ keeps item a
 
-fired-stays : (component : ℕ) (message : Message) (node : ℕ) (a : Acting) → stays_of (fired component message node a) ≡ stays_of a
+fired-stays : (component : ℕ) (message : Message) (node : ℕ) (a : Acting) → stays_of (with_item_fired component message node a) ≡ stays_of a
 fired-stays component message node a = go (has_room a)
   where
-    go : (room : Bool) → stays_of (let after = posted (events.Fired node component message) a in if room then record after { items = with_firing node message a.items } else after) ≡ stays_of a
+    go : (room : Bool) → stays_of (let after = with_event (events.Fired node component message) a in if room then record after { items = with_firing node message a.items } else after) ≡ stays_of a
     go true = refl
     go false = refl
 
 message_post-stays : (component : ℕ) (message : Message) (item : EventItem) (a : Acting) → stays_of (message_post component message item a) ≡ stays_of a
 message_post-stays component message item a = go (fires_for_message component message a.items item)
   where
-    go : (fires_now : Bool) → stays_of (if fires_now then fired component message item.node a else a) ≡ stays_of a
+    go : (fires_now : Bool) → stays_of (if fires_now then with_item_fired component message item.node a else a) ≡ stays_of a
     go true = fired-stays component message item.node a
     go false = refl
 
@@ -175,66 +175,66 @@ button_posts-stays a = items-stay button_post (λ item a. posted_where-stays (fi
 pub key_posts-stays : (down : Bool) (key : ℕ) (a : Acting) → stays_of (key_posts down key a) ≡ stays_of a
 key_posts-stays true key a = go (eqb key (key_number Data))
   where
-    go : (data_button : Bool) → stays_of (if data_button then button_posts (pressed key a) else pressed key a) ≡ stays_of a
-    go true = button_posts-stays (pressed key a)
+    go : (data_button : Bool) → stays_of (if data_button then button_posts (with_press key a) else with_press key a) ≡ stays_of a
+    go true = button_posts-stays (with_press key a)
     go false = refl
 key_posts-stays false key a = refl
 
-pub acted-stays : (action : Action) (a : Acting) → stays_of (acted action a) ≡ stays_of a
+pub acted-stays : (action : Action) (a : Acting) → stays_of (with_action action a) ≡ stays_of a
 acted-stays NoAction a = refl
 acted-stays (Moves node) a = moved_to-stays node a
 acted-stays (Activates node) a = refl
 acted-stays (Accesses node) a = moved_to-stays node a
 
-pub begun-stays : (first : Option ℕ) (a : Acting) → stays_of (begun first a) ≡ stays_of a
+pub begun-stays : (first : Option ℕ) (a : Acting) → stays_of (with_first_events first a) ≡ stays_of a
 begun-stays None a = refl
 begun-stays (Some node) a = refl
 
-timer_posted-stays : (number : ℕ) (a : Acting) → stays_of (timer_posted number a) ≡ stays_of a
+timer_posted-stays : (number : ℕ) (a : Acting) → stays_of (with_timer_event number a) ≡ stays_of a
 timer_posted-stays number a = go (nat_lt (length a.queue) most_events)
   where
-    go : (place : Bool) → stays_of (if place then posted (events.Timer number) a else timer_settled number (posted (events.Timer number) a)) ≡ stays_of a
+    go : (place : Bool) → stays_of (if place then with_event (events.Timer number) a else with_timer_settled number (with_event (events.Timer number) a)) ≡ stays_of a
     go true = refl
     go false = refl
 
-timers_fired-stays : (n moment : ℕ) (a : Acting) → stays_of (timers_fired n moment a) ≡ stays_of a
-unfolding timers_fired
+timers_fired-stays : (n moment : ℕ) (a : Acting) → stays_of (with_timers_fired n moment a) ≡ stays_of a
+unfolding with_timers_fired
 timers_fired-stays zero moment a = refl
 timers_fired-stays (suc more) moment a = go (timers_fired-stays more moment) (first_due moment a.browser.timers)
   where
-    go : ((b : Acting) → stays_of (timers_fired more moment b) ≡ stays_of b) → (due : Option ℕ) → stays_of (option_map_or (λ number. timers_fired more moment (timer_fired moment number a)) due a) ≡ stays_of a
+    go : ((b : Acting) → stays_of (with_timers_fired more moment b) ≡ stays_of b) → (due : Option ℕ) → stays_of (option_map_or (λ number. with_timers_fired more moment (with_timer_fired moment number a)) due a) ≡ stays_of a
     go others None = refl
     go others (Some number) =
-        others (timer_fired moment number a)
+        others (with_timer_fired moment number a)
         ∙ timer_posted-stays number (acting_with_timers (with_fired moment a.browser.timers) a)
 
-pub due_posted-stays : (moment : ℕ) (a : Acting) → stays_of (due_posted moment a) ≡ stays_of a
+pub due_posted-stays : (moment : ℕ) (a : Acting) → stays_of (with_due_events moment a) ≡ stays_of a
 due_posted-stays moment a = timers_fired-stays most_timers moment a
 
 -- ---- by calls of scripts
 
-lock_answered-stays : (answer : LockAnswer) (path : Path) (a : Acting) (heap : List ObjectState) → stays_of (lock_answered answer path a heap).acting ≡ stays_of a
+lock_answered-stays : (answer : LockAnswer) (path : Path) (a : Acting) (heap : List ObjectState) → stays_of (answer_of_lock answer path a heap).acting ≡ stays_of a
 lock_answered-stays answers.Kept path a heap = lock_posts-stays path.component path.«module» a
 lock_answered-stays answers.Had path a heap = refl
 lock_answered-stays answers.Wanted path a heap = refl
 lock_answered-stays answers.NoEntry path a heap = refl
 lock_answered-stays answers.Full path a heap = refl
 
-done_for-stays : (effect : of_browser.Effect) (value : Value) (h : Hosted) (heap : List ObjectState) → stays_of (done_for effect value h heap).hosted.acting ≡ stays_of h.acting
+done_for-stays : (effect : of_browser.Effect) (value : Value) (h : HostParts) (heap : List ObjectState) → stays_of (reply_of_effect effect value h heap).hosted.acting ≡ stays_of h.acting
 done_for-stays effects.Nothing value h heap = refl
 done_for-stays (effects.Sound sound) value h heap = refl
 done_for-stays (effects.Kept slot size) value h heap = refl
 done_for-stays (effects.Launch path) value h heap = launch-stays path h.acting heap
 done_for-stays (effects.Lock path) value h heap = lock_answered-stays (lock_answer path.component path.«module» h.modules) path h.acting heap
 done_for-stays (effects.Unlock path) value h heap =
-    chosen (is_some (lock_on h.modules.locks path.component path.«module»)) (gives (number 1) h.acting heap) (refused h.acting heap) (stays_of h.acting) refl refl
+    chosen (is_some (lock_on h.modules.locks path.component path.«module»)) (gives (number 1) h.acting heap) (gives_nan h.acting heap) (stays_of h.acting) refl refl
 
-browser_done-stays : (outcome : CallOutcome) (h : Hosted) → stays_of (browser_done outcome h).hosted.acting ≡ stays_of h.acting
+browser_done-stays : (outcome : CallOutcome) (h : HostParts) → stays_of (reply_of_outcome outcome h).hosted.acting ≡ stays_of h.acting
 browser_done-stays outcome h =
     done_for-stays outcome.called.effect outcome.called.value (record h { acting = with_browser outcome.called.state h.acting }) outcome.heap
 
-called-stays : (h : Hosted) (base : HostRef) (name : List ℕ) (arguments : List Value) (heap : List ObjectState) → stays_of (called h base name arguments heap).hosted.acting ≡ stays_of h.acting
-unfolding called
+called-stays : (h : HostParts) (base : HostRef) (name : List ℕ) (arguments : List Value) (heap : List ObjectState) → stays_of (reply_of_call h base name arguments heap).hosted.acting ≡ stays_of h.acting
+unfolding reply_of_call
 called-stays h host.Document name arguments heap = chosen (is_same name (codes "getElementById")) _ _ (stays_of h.acting) refl refl
 called-stays h (host.Node node) name arguments heap = chosen (is_some (tag_of h.acting.tree.items node)) _ _ (stays_of h.acting) (element_call-stays h.acting node name heap) refl
 called-stays h host.Browser name arguments heap = browser_done-stays (call_of name h.acting.path h.acting.now arguments heap h.acting.browser) h
@@ -242,14 +242,14 @@ called-stays h _ name arguments heap = refl
 
 -- ---- by runs
 
-pub ended-stays : (run : Run) (h : Hosted) → stays_of (ended run h).hosted.acting ≡ stays_of h.acting
-unfolding ended
+pub ended-stays : (run : Run) (h : HostParts) → stays_of (end_of_run run h).hosted.acting ≡ stays_of h.acting
+unfolding end_of_run
 ended-stays (Over outcome w) h = refl
-ended-stays (Reads base name go) h = ended-stays (go (read_by h.acting base name)) h
+ended-stays (Reads base name go) h = ended-stays (go (member_value h.acting base name)) h
 ended-stays (Writes base name value heap go) h =
-    ended-stays go (record h { acting = written h.acting base name value heap }) ∙ written-stays h.acting base name value heap
+    ended-stays go (record h { acting = with_member_set h.acting base name value heap }) ∙ written-stays h.acting base name value heap
 ended-stays (Calls base name arguments heap go) h =
-    ended-stays (go (called h base name arguments heap).answer (called h base name arguments heap).heap) (called h base name arguments heap).hosted
+    ended-stays (go (reply_of_call h base name arguments heap).answer (reply_of_call h base name arguments heap).heap) (reply_of_call h base name arguments heap).hosted
     ∙ called-stays h base name arguments heap
 
 -- ---- each end of a run with a host is that of the rows
@@ -261,8 +261,8 @@ pub record EndsAs (e : End) (outcome : Outcome) (w : World) (last : ScriptHost) 
   pub acting_is : e.hosted.acting ≡ last.stage.acting
   pub modules : StandsFor last.modules e.hosted.modules
 
-pub ends_as : (run : Run) (h : ScriptHost) (outcome : Outcome) (w : World) (last : ScriptHost) (s : Hosted) → MayEnd HasRead HasWritten HasCalled run h outcome w last → h.stage.acting ≡ s.acting → StandsFor h.modules s.modules → EndsAs (ended run s) outcome w last
-unfolding MayEnd ended
+pub ends_as : (run : Run) (h : ScriptHost) (outcome : Outcome) (w : World) (last : ScriptHost) (s : HostParts) → MayEnd HasRead HasWritten HasCalled run h outcome w last → h.stage.acting ≡ s.acting → StandsFor h.modules s.modules → EndsAs (end_of_run run s) outcome w last
+unfolding MayEnd end_of_run
 ends_as (Over o v) h outcome w last s m e stands = record {
   outcome_is = m.0;
   world_is = m.1;
@@ -270,19 +270,19 @@ ends_as (Over o v) h outcome w last s m e stands = record {
   modules = subst (λ (x : ScriptHost). StandsFor x.modules s.modules) m.2 stands;
 }
 ends_as (Reads base name go) h outcome w last s m e stands =
-    subst (λ (v : Value). EndsAs (ended (go v) s) outcome w last)
-    (m.2.value_is ∙ ap (λ (x : Acting). read_by x base name) e)
+    subst (λ (v : Value). EndsAs (end_of_run (go v) s) outcome w last)
+    (m.2.value_is ∙ ap (λ (x : Acting). member_value x base name) e)
     (ends_as (go m.0) m.1 outcome w last s m.4 (m.2.same ∙ e)
     (subst (λ (x : ModulesState). StandsFor x s.modules) (sym m.2.modules) stands))
 ends_as (Writes base name value heap go) h outcome w last s m e stands =
-    ends_as go m.0 outcome w last (record s { acting = written s.acting base name value heap }) m.2
-    (m.1.acting_is ∙ ap (λ (x : Acting). written x base name value heap) e)
+    ends_as go m.0 outcome w last (record s { acting = with_member_set s.acting base name value heap }) m.2
+    (m.1.acting_is ∙ ap (λ (x : Acting). with_member_set x base name value heap) e)
     (subst (λ (x : ModulesState). StandsFor x s.modules) (sym m.1.modules) stands)
 ends_as (Calls base name arguments heap go) h outcome w last s m e stands =
-    let told = called s base name arguments heap in
+    let told = reply_of_call s base name arguments heap in
     let replies : Replies m.1 m.0 m.2 told =
-    subst (λ (x : Acting). Replies m.1 m.0 m.2 (called (record { acting = x; modules = s.modules }) base name arguments heap)) e
+    subst (λ (x : Acting). Replies m.1 m.0 m.2 (reply_of_call (record { acting = x; modules = s.modules }) base name arguments heap)) e
     (m.3 s.modules stands) in
-    subst (λ (v : HostAnswer). EndsAs (ended (go v told.heap) told.hosted) outcome w last) replies.answer_is
-    (subst (λ (left : List ObjectState). EndsAs (ended (go m.0 left) told.hosted) outcome w last) replies.heap_is
+    subst (λ (v : HostAnswer). EndsAs (end_of_run (go v told.heap) told.hosted) outcome w last) replies.answer_is
+    (subst (λ (left : List ObjectState). EndsAs (end_of_run (go m.0 left) told.hosted) outcome w last) replies.heap_is
     (ends_as (go m.0 m.2) m.1 outcome w last told.hosted m.7 replies.acting_is replies.modules_stand))

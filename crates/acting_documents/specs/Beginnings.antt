@@ -3,10 +3,10 @@
 use Rattle.std.specs.Prelude.{ℕ, List, [], ◌∷◌, length, codes}
 use Rattle.document_load.specs.Scripts.{unnamed_places}
 use Rattle.event_queue.specs.declared.events.Event.TheVariants as events
-use Rattle.document_stages.specs.Acting.{begun, first_focus, with_timers}
+use Rattle.document_stages.specs.Acting.{with_first_events, first_focus, with_timers}
 use Rattle.acting_documents.specs.Documents.{Document}
-use Rattle.acting_documents.specs.Handling.{handled}
-use Rattle.acting_documents.specs.Runs.{Effect, Scene, and_then, done, no_event, nothing_done, run_program}
+use Rattle.acting_documents.specs.Handling.{event_effect}
+use Rattle.acting_documents.specs.Runs.{Effect, Scene, and_then, effect_of_change, no_event, no_effect, run_program}
 
 -- ---- its scripts
 
@@ -16,7 +16,7 @@ script_places d = unnamed_places (length d.programs) d.handlers
 
 -- they run one behind the other
 abbrev pub run_scripts : List ℕ → Scene → Effect
-run_scripts [] s = nothing_done s
+run_scripts [] s = no_effect s
 run_scripts (place ∷ places) s =
     and_then (run_scripts places) (run_program (codes "script") no_event place s)
 
@@ -25,7 +25,7 @@ run_scripts (place ∷ places) s =
 -- Where no script gave the focus to an element, that with the nav-index 0 gets it; then its `load` waits, and
 -- the `focus` of that element.
 abbrev pub begin : Scene → Effect
-begin s = done (λ a. begun (first_focus a) a) s
+begin s = effect_of_change (λ a. with_first_events (first_focus a) a) s
 
 unfoldable pub load_effect : Scene → Effect
 load_effect s = and_then begin (run_scripts (script_places s.document) s)
@@ -42,4 +42,4 @@ without_waiting s =
 
 -- What waits is dropped, and then its body's handler of `unload` runs.
 unfoldable pub unload_effect : Scene → Effect
-unload_effect s = handled events.Unload (without_waiting s)
+unload_effect s = event_effect events.Unload (without_waiting s)

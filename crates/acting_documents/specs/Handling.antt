@@ -16,9 +16,9 @@ use Rattle.event_queue.specs.Events.{name_of}
 use Rattle.event_queue.specs.declared.events.Event.{Event}
 use Rattle.event_queue.specs.declared.events.Event.TheVariants as events
 use Rattle.event_queue.specs.Timers.{timer_of, with_settled}
-use Rattle.document_stages.specs.Acting.{acted, change_posts, due_posted, key_posts, message_posts, with_timers}
+use Rattle.document_stages.specs.Acting.{with_action, change_posts, with_due_events, key_posts, message_posts, with_timers}
 use Rattle.acting_documents.specs.Documents.{Document, handler_in, passes}
-use Rattle.acting_documents.specs.Runs.{Effect, Scene, done, nothing_done, run_function, run_program}
+use Rattle.acting_documents.specs.Runs.{Effect, Scene, effect_of_change, no_effect, run_function, run_program}
 
 -- the kind of the handlers of an event; there is none for `default` and for timers
 abbrev pub kind_of : Event → Option HandlerKind
@@ -41,12 +41,12 @@ abbrev pub run_handler : Event → ℕ → Scene → Effect
 run_handler event node s =
     option_map_or
     (λ place. run_program (name_of event) (record { event = Some event; target = node }) place s)
-    (option_and_then (handler_in s.document.handlers node) (kind_of event)) (nothing_done s)
+    (option_and_then (handler_in s.document.handlers node) (kind_of event)) (no_effect s)
 
 -- the same at a target that may be absent
-abbrev pub handled_at : Option ℕ → Event → Scene → Effect
-handled_at None event s = nothing_done s
-handled_at (Some node) event s = run_handler event node s
+abbrev pub event_effect_at : Option ℕ → Event → Scene → Effect
+event_effect_at None event s = no_effect s
+event_effect_at (Some node) event s = run_handler event node s
 
 -- the element that has the focus
 abbrev pub focus_of : Scene → Option ℕ
@@ -57,13 +57,13 @@ body_in s = body_of s.document.tree.items
 
 -- the default action of a key
 abbrev pub default_action : ℕ → Scene → Effect
-default_action key s = done (acted (action_of s.document.tree key)) s
+default_action key s = effect_of_change (with_action (action_of s.document.tree key)) s
 
 -- ---- timers
 
 -- an event of the timer of a number was taken
-abbrev pub timer_taken : ℕ → Scene → Scene
-timer_taken number s =
+abbrev pub with_timer_taken : ℕ → Scene → Scene
+with_timer_taken number s =
     record s { browser = with_timers (with_settled number s.browser.timers) s.browser }
 
 -- The function of a timer is called. A timer that goes on no more ends before that, so its number and its place are
@@ -71,12 +71,12 @@ timer_taken number s =
 abbrev pub timer_effect : ℕ → Scene → Effect
 timer_effect number s =
     option_map_or
-    (λ timer. run_function (name_of (events.Timer number)) timer.function (timer_taken number s))
-    (timer_of number s.browser.timers) (nothing_done s)
+    (λ timer. run_function (name_of (events.Timer number)) timer.function (with_timer_taken number s))
+    (timer_of number s.browser.timers) (no_effect s)
 
 -- All timers that are due at a moment, which is the time then, post their events.
 unfoldable pub due_effect : ℕ → Scene → Effect
-due_effect moment s = done (due_posted moment) (record s { now = moment })
+due_effect moment s = effect_of_change (with_due_events moment) (record s { now = moment })
 
 -- ---- events
 
@@ -85,46 +85,46 @@ abbrev pub without_first : Scene → Scene
 without_first s = record s { document = record s.document { queue = drop 1 s.document.queue } }
 
 -- no element is active any more
-abbrev pub deactivated : Document → Document
-deactivated d =
+abbrev pub without_active : Document → Document
+without_active d =
     record d { tree = record d.tree { focus = record d.tree.focus { active = None } } }
 
 -- `keyup` of enter ends the active state before its handler runs
-abbrev pub released : ℕ → Scene → Scene
-released key s =
-    if key == key_number Enter then record s { document = deactivated s.document } else s
+abbrev pub with_key_released : ℕ → Scene → Scene
+with_key_released key s =
+    if key == key_number Enter then record s { document = without_active s.document } else s
 
 -- Events of the focus, clicks and what items are told go to the node that they name, those of keys to the focus as it is
 -- now, and those of a document to its body.
-unfoldable pub handled : Event → Scene → Effect
-handled events.Load s = handled_at (body_in s) events.Load s
-handled events.Unload s = handled_at (body_in s) events.Unload s
-handled (events.Focus node) s = run_handler (events.Focus node) node s
-handled (events.Blur node) s = run_handler (events.Blur node) node s
-handled (events.Click node) s = run_handler (events.Click node) node s
-handled (events.KeyDown key) s = handled_at (focus_of s) (events.KeyDown key) s
-handled (events.KeyUp key) s = handled_at (focus_of s) (events.KeyUp key) (released key s)
-handled (events.Default key) s = default_action key s
-handled (events.Timer number) s = timer_effect number s
-handled (events.Fired item component message) s =
+unfoldable pub event_effect : Event → Scene → Effect
+event_effect events.Load s = event_effect_at (body_in s) events.Load s
+event_effect events.Unload s = event_effect_at (body_in s) events.Unload s
+event_effect (events.Focus node) s = run_handler (events.Focus node) node s
+event_effect (events.Blur node) s = run_handler (events.Blur node) node s
+event_effect (events.Click node) s = run_handler (events.Click node) node s
+event_effect (events.KeyDown key) s = event_effect_at (focus_of s) (events.KeyDown key) s
+event_effect (events.KeyUp key) s = event_effect_at (focus_of s) (events.KeyUp key) (with_key_released key s)
+event_effect (events.Default key) s = default_action key s
+event_effect (events.Timer number) s = timer_effect number s
+event_effect (events.Fired item component message) s =
     run_handler (events.Fired item component message) item s
-handled (events.Updated item status) s = run_handler (events.Updated item status) item s
-handled (events.Locked item status) s = run_handler (events.Locked item status) item s
-handled (events.Button item) s = run_handler (events.Button item) item s
+event_effect (events.Updated item status) s = run_handler (events.Updated item status) item s
+event_effect (events.Locked item status) s = run_handler (events.Locked item status) item s
+event_effect (events.Button item) s = run_handler (events.Button item) item s
 
 -- ---- messages and modules
 
 -- a message of a component comes to the event items
 unfoldable pub message_effect : ℕ → Message → Scene → Effect
-message_effect component message s = done (message_posts component message) s
+message_effect component message s = effect_of_change (message_posts component message) s
 
 -- so does a change in a module of a component
 unfoldable pub change_effect : ℕ → Change → Scene → Effect
-change_effect component change s = done (change_posts component change) s
+change_effect component change s = effect_of_change (change_posts component change) s
 
 -- ---- keys
 
 -- a key that passes posts what it does; no other does anything
 unfoldable pub key_effect : ℕ → Bool → Scene → Effect
 key_effect key down s =
-    if passes key s.document then done (key_posts down key) s else nothing_done s
+    if passes key s.document then effect_of_change (key_posts down key) s else no_effect s

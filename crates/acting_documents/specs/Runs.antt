@@ -9,8 +9,8 @@ use Rattle.es_eval.specs.Worlds.Run.{Over, Reads, Writes, Calls}
 use Rattle.multipart_entities.specs.declared.paths.Path.{Path}
 use Rattle.dom_objects.specs.declared.current_events.CurrentEvent.{CurrentEvent}
 use Rattle.browser_objects.specs.Calls.{BrowserParts}
-use Rattle.document_stages.specs.Acting.{Acting, read_by, written}
-use Rattle.document_stages.specs.Hosting.{Hosted, called}
+use Rattle.document_stages.specs.Acting.{Acting, member_value, with_member_set}
+use Rattle.document_stages.specs.Hosting.{HostParts, reply_of_call}
 use Rattle.module_locks.specs.Locks.{Modules}
 use Rattle.acting_documents.specs.Documents.{Document}
 use Rattle.acting_documents.specs.StopLines.{stop_lines}
@@ -19,16 +19,16 @@ use Rattle.acting_documents.specs.StopLines.{stop_lines}
 pub record End : Type 0 where
   pub outcome : Outcome
   pub world : World
-  pub hosted : Hosted
+  pub hosted : HostParts
 
-unfoldable pub ended : Run → Hosted → End
-ended (Over outcome w) h = record { outcome = outcome; world = w; hosted = h }
-ended (Reads base name go) h = ended (go (read_by h.acting base name)) h
-ended (Writes base name value heap go) h =
-    ended go (record h { acting = written h.acting base name value heap })
-ended (Calls base name arguments heap go) h =
-    ended (go (called h base name arguments heap).answer (called h base name arguments heap).heap)
-    (called h base name arguments heap).hosted
+unfoldable pub end_of_run : Run → HostParts → End
+end_of_run (Over outcome w) h = record { outcome = outcome; world = w; hosted = h }
+end_of_run (Reads base name go) h = end_of_run (go (member_value h.acting base name)) h
+end_of_run (Writes base name value heap go) h =
+    end_of_run go (record h { acting = with_member_set h.acting base name value heap })
+end_of_run (Calls base name arguments heap go) h =
+    end_of_run (go (reply_of_call h base name arguments heap).answer (reply_of_call h base name arguments heap).heap)
+    (reply_of_call h base name arguments heap).hosted
 
 -- ---- in a document
 
@@ -46,8 +46,8 @@ pub record Effect : Type 0 where
   pub launched : Option Path
   pub text : List ℕ
 
-abbrev pub nothing_done : Scene → Effect
-nothing_done s = record { scene = s; launched = None; text = [] }
+abbrev pub no_effect : Scene → Effect
+no_effect s = record { scene = s; launched = None; text = [] }
 
 -- the effect, with what was printed before it
 abbrev pub effect_behind : List ℕ → Effect → Effect
@@ -85,11 +85,11 @@ with_acting a s =
     }
 
 -- the same with the modules, for its scripts
-abbrev pub hosted_in : CurrentEvent → Scene → Hosted
-hosted_in event s = record { acting = acting_in event s; modules = s.modules }
+abbrev pub host_parts_in : CurrentEvent → Scene → HostParts
+host_parts_in event s = record { acting = acting_in event s; modules = s.modules }
 
-abbrev pub with_hosted : Hosted → Scene → Scene
-with_hosted h s = record (with_acting h.acting s) { modules = h.modules }
+abbrev pub with_host_parts : HostParts → Scene → Scene
+with_host_parts h s = record (with_acting h.acting s) { modules = h.modules }
 
 abbrev pub with_world : World → Scene → Scene
 with_world w s =
@@ -103,7 +103,7 @@ most_steps = 100000
 abbrev pub effect_of_end : List ℕ → Scene → End → Effect
 effect_of_end name s e =
     record {
-      scene = with_world e.world (with_hosted e.hosted s);
+      scene = with_world e.world (with_host_parts e.hosted s);
       launched = e.hosted.acting.launched;
       text = e.hosted.acting.text ++ stop_lines e.outcome name;
     }
@@ -113,8 +113,8 @@ unfoldable pub run_program : List ℕ → CurrentEvent → ℕ → Scene → Eff
 run_program name event place s =
     let d = s.document in
     effect_of_end name s
-    (ended (run_at (map program_of d.programs) place d.globals d.heap most_steps)
-    (hosted_in event s))
+    (end_of_run (run_at (map program_of d.programs) place d.globals d.heap most_steps)
+    (host_parts_in event s))
 
 -- outside of handlers there is no current event
 abbrev pub no_event : CurrentEvent
@@ -125,11 +125,11 @@ unfoldable pub run_function : List ℕ → List ℕ → Scene → Effect
 run_function name function s =
     let d = s.document in
     effect_of_end name s
-    (ended (global_run (map program_of d.programs) function d.globals d.heap most_steps)
-    (hosted_in no_event s))
+    (end_of_run (global_run (map program_of d.programs) function d.globals d.heap most_steps)
+    (host_parts_in no_event s))
 
 -- something is done to what handlers act on, outside of them
-abbrev pub done : (Acting → Acting) → Scene → Effect
-done change s =
+abbrev pub effect_of_change : (Acting → Acting) → Scene → Effect
+effect_of_change change s =
     let a = change (acting_in no_event s) in
     record { scene = with_acting a s; launched = a.launched; text = a.text }

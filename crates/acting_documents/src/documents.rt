@@ -10,8 +10,8 @@ ghost use Rattle.module_locks.specs.Standing.{ModulesState};
 ghost use Rattle.acting_documents.specs.Beginnings.{begin as spec_begin, load_effect, run_scripts as spec_run_scripts, script_places, unload_effect, without_waiting};
 ghost use Rattle.acting_documents.specs.Documents.{Document as TheDocument, document_lines};
 ghost use Rattle.acting_documents.specs.devices.Doings.{Changes, Does, DoesApart, lent_modules};
-ghost use Rattle.acting_documents.specs.devices.Kept.{IsDocument, kept_first, staged_first};
-ghost use Rattle.acting_documents.specs.Runs.{nothing_done, run_function as spec_run_function, run_program as spec_run_program};
+ghost use Rattle.acting_documents.specs.devices.Kept.{IsDocument, kept_first, first_stage};
+ghost use Rattle.acting_documents.specs.Runs.{no_effect, run_function as spec_run_function, run_program as spec_run_program};
 
 mod events;
 mod posts;
@@ -291,9 +291,9 @@ impl ActingDocument {
 
     // Nothing is done, and so nothing is launched.
     fn do_nothing(&mut self)
-        ensures does { (before : List ℕ) → Does nothing_done self.old self.new before before }
+        ensures does { (before : List ℕ) → Does no_effect self.old self.new before before }
         ensures apart { (before : List ℕ)
-            → DoesApart nothing_done self.old self.new before before }
+            → DoesApart no_effect self.old self.new before before }
     {
         self.host.stage.prepare(CurrentEvent::none());
     }
@@ -351,7 +351,7 @@ fn parts_of(
     handlers: Vec<Handler>,
 ) -> Result<(Stage, Handlers, Globals), NoMemory>
     ensures stage { IfOk result (λ made. made.0
-        ≡ staged_first path tree rules made.0.acting.browser made.0.acting.now) }
+        ≡ first_stage path tree rules made.0.acting.browser made.0.acting.now) }
     ensures handlers { IfOk result (λ made. made.1 ≡ map told_handler handlers.items) }
     ensures globals { IfOk result (λ made. made.2 ≡ []) }
 {
@@ -391,7 +391,7 @@ fn handlers_of(alloc: Global, handlers: Vec<Handler>) -> Result<(Handlers, Globa
 // What a document that was read acts on.
 fn stage_of(alloc: Global, path: Path, tree: Tree, rules: Rules) -> Result<Stage, NoMemory>
     ensures { IfOk result (λ stage. stage
-        ≡ staged_first path tree rules stage.acting.browser stage.acting.now) }
+        ≡ first_stage path tree rules stage.acting.browser stage.acting.now) }
 {
     match Items::new(alloc, &path, &tree) {
         Ok(items) => stage_with(alloc, path, tree, rules, items),
@@ -412,7 +412,7 @@ fn stage_with(
 ) -> Result<Stage, NoMemory>
     requires { items ≡ first_items path tree }
     ensures { IfOk result (λ stage. stage
-        ≡ staged_first path tree rules stage.acting.browser stage.acting.now) }
+        ≡ first_stage path tree rules stage.acting.browser stage.acting.now) }
 {
     match Styles::new(alloc, &tree, rules) {
         Ok(styles) => Ok(Stage::new(alloc, path, tree, styles, items)),

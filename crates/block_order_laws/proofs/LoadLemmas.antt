@@ -13,7 +13,7 @@ use Rattle.module_locks.specs.Locks.{Modules, look_up, start_path}
 use Rattle.module_store.specs.Resources.{Resource}
 use Rattle.module_store.specs.Resources.Resource.{Found, Waiting, Missing}
 use Rattle.page.specs.Dispatches.{dispatch, load_at, next_load}
-use Rattle.page.specs.Loading.{are_settled, given_draft, is_settled, load, loadable_reading, once_settled, reading_in, text_at, text_found, wanted_path}
+use Rattle.page.specs.Loading.{are_settled, given_draft, is_settled, load, loadable_reading, reading_if_settled, reading_in, text_at, text_found, wanted_path}
 use Rattle.page.specs.State.{State, Step, Wanted}
 use Rattle.page.specs.State.Wanted.{StartDocument, DocumentAt, NoDocument}
 use Rattle.block_order_laws.specs.Loads.{IsNextLoad, Load, given_to, needs_in, needs_of_bytes, read_in}
@@ -48,7 +48,7 @@ module _ (modules : Modules) (path : Path) where
   reading_is = by (look_up modules path) where
     -- by what is read of the bytes
     by_items : (bytes : List ℕ) (r : Result (List Item) DocFault) → reading_of bytes ≡ r
-        → once_settled modules path r
+        → reading_if_settled modules path r
         ≡ option_map read_in (if are_settled modules (needs_in path r) then Some (load_of path bytes (map (look_up modules) (needs_in path r))) else None)
     by_items bytes (Err fault) e = ap (λ r. Some (given_to (load_of path bytes []) r)) (sym e)
     by_items bytes (Ok items) e = settled (are_settled modules (needs_of path items)) where

@@ -15,7 +15,7 @@ use Rattle.persistent_arrays.specs.declared.kinds.FieldKind.{FieldKind}
 use Rattle.persistent_arrays.specs.Arrays.{array_in}
 use Rattle.persistent_arrays.specs.Reading.{unpacked}
 use Rattle.browser_objects.specs.ArrayCalls.{field_of, fields_of, value_of_field, values_at_places}
-use Rattle.browser_objects.specs.Calls.{BrowserParts, CallOutcome, array_read, over, read_array, refused, with_names}
+use Rattle.browser_objects.specs.Calls.{BrowserParts, CallOutcome, give_array, over, read_array, gives_nan, with_names}
 
 -- the values of fields in an object's places from one on, for as many fields
 abbrev pub fields_from : List ObjectState → ObjectState → ℕ → List FieldKind → Option (List Field)
@@ -57,13 +57,13 @@ fields-live heap (fields.Words text ∷ found) = All-cons (IsLive heap) (value_o
 -- what is done with what they name, where it was found
 abbrev IsNamed : List Value → List ObjectState → Option (ℕ × List FieldKind) → Type 0
 IsNamed arguments heap found = (call : ℕ → List FieldKind → CallOutcome) (s : BrowserParts)
-    → with_names call arguments heap s ≡ option_map_or (λ names. call names.0 names.1) found (over heap (refused s))
+    → with_names call arguments heap s ≡ option_map_or (λ names. call names.0 names.1) found (over heap (gives_nan s))
 
 module _ (arguments : List Value) (heap : List ObjectState) (found : Option (ℕ × List FieldKind)) (slot : ℕ) (kinds : List FieldKind) (named : IsNamed arguments heap found) (is : found ≡ Some (slot, kinds)) where
   call-named : (call : ℕ → List FieldKind → CallOutcome) (s : BrowserParts) → with_names call arguments heap s ≡ call slot kinds
-  call-named call s = named call s ∙ ap (λ (names : Option (ℕ × List FieldKind)). option_map_or (λ names. call names.0 names.1) names (over heap (refused s))) is
+  call-named call s = named call s ∙ ap (λ (names : Option (ℕ × List FieldKind)). option_map_or (λ names. call names.0 names.1) names (over heap (gives_nan s))) is
 
-  pub read-named : (area : List ℕ) (s : BrowserParts) → area ≡ s.area → read_array arguments heap s ≡ array_read (unpacked kinds (array_in area slot)) heap s
+  pub read-named : (area : List ℕ) (s : BrowserParts) → area ≡ s.area → read_array arguments heap s ≡ give_array (unpacked kinds (array_in area slot)) heap s
   read-named area s e =
-      call-named (λ slot kinds. array_read (unpacked kinds (array_in s.area slot)) heap s) s
-      ∙ ap (λ (area : List ℕ). array_read (unpacked kinds (array_in area slot)) heap s) (sym e)
+      call-named (λ slot kinds. give_array (unpacked kinds (array_in s.area slot)) heap s) s
+      ∙ ap (λ (area : List ℕ). give_array (unpacked kinds (array_in area slot)) heap s) (sym e)

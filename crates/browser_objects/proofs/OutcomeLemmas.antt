@@ -25,18 +25,18 @@ use Rattle.browser_objects.specs.declared.calls.BrowserCall.TheVariants as the
 use Rattle.browser_objects.specs.declared.effects.Effect.TheVariants.{Sound, Launch, Lock, Unlock}
 use Rattle.browser_objects.specs.ArrayCalls.{value_of_field, values_of_array, with_array_of}
 use Rattle.browser_objects.specs.Functions.{named_function}
-use Rattle.browser_objects.specs.Calls.{BrowserParts, Called, CallOutcome, argument, array_read, array_written, call_named, call_of, called_of, clear_timer, cleared, count_argument, drawn, gives, hands_on, interval_of, number, over, packed_values, path_argument, play_sound, random_called, refused, set_interval, sound_of, text_argument, timer_called, whole_argument, with_interval, with_named, with_path}
+use Rattle.browser_objects.specs.Calls.{BrowserParts, CallResult, CallOutcome, argument, give_array, write_bytes, call_named, call_of, outcome_of_call, clear_timer, end_timer, count_argument, draw_up_to, gives, hands_on, interval_of, number, over, packed_values, path_argument, play_sound, draw_random, gives_nan, set_interval, sound_of, text_argument, begin_timer, whole_argument, with_interval, with_named, with_path}
 
 -- ---- calls whose value is neither an object nor a function
 
-abbrev IsPlain : Called → Type 0
+abbrev IsPlain : CallResult → Type 0
 IsPlain called = is_plain called.value ≡ true
 
-either : (test : Bool) (one other : Called) → IsPlain one → IsPlain other → IsPlain (cond test one other)
+either : (test : Bool) (one other : CallResult) → IsPlain one → IsPlain other → IsPlain (cond test one other)
 either true one other p q = p
 either false one other p q = q
 
-mapped : {X : Type 0} (make : X → Called) (found : Option X) (other : Called) → ((x : X) → IsPlain (make x)) → IsPlain other
+mapped : {X : Type 0} (make : X → CallResult) (found : Option X) (other : CallResult) → ((x : X) → IsPlain (make x)) → IsPlain other
     → IsPlain (option_map_or make found other)
 mapped make None other p q = q
 mapped make (Some x) other p q = p x
@@ -46,13 +46,13 @@ with-interval : (now : ℕ) (function : List ℕ) (interval turns : ℕ) (s : Br
 with-interval now function interval turns s = either (has_place s.timers) _ _ refl refl
 
 timer : (now : ℕ) (function : Option (List ℕ)) (interval : Option ℤ) (turns : Option ℕ) (s : BrowserParts)
-    → IsPlain (timer_called now function interval turns s)
+    → IsPlain (begin_timer now function interval turns s)
 timer now None interval turns s = refl
 timer now (Some function) None turns s = refl
 timer now (Some function) (Some interval) None s = refl
 timer now (Some function) (Some interval) (Some turns) s = with-interval now function (interval_of interval) turns s
 
-written : (slot : ℕ) (bytes : Option (List ℕ)) (s : BrowserParts) → IsPlain (array_written slot bytes s)
+written : (slot : ℕ) (bytes : Option (List ℕ)) (s : BrowserParts) → IsPlain (write_bytes slot bytes s)
 written slot None s = refl
 written slot (Some bytes) s = refl
 
@@ -73,7 +73,7 @@ plain-answer heap (values.Object object) e = absurd cc
 plain-answer heap (values.Function function) e = absurd cc
 plain-answer heap (values.Host reference) e = (refl, tt)
 
-plain : (heap : List ObjectState) (called : Called) → IsPlain called → IsGiven heap (over heap called)
+plain : (heap : List ObjectState) (called : CallResult) → IsPlain called → IsGiven heap (over heap called)
 plain heap called e = record { answer = plain-answer heap called.value e; objects = inl refl }
 
 named : (heap : List ObjectState) (call : ℕ → List FieldKind → CallOutcome) (slot : Option ℕ) (kinds : Option (List FieldKind)) (wrong : CallOutcome)
@@ -85,52 +85,52 @@ named heap call (Some slot) (Some kinds) wrong p q = p slot kinds
 one-more : (heap : List ObjectState) (object : ObjectState) → length heap < length (heap ++ object ∷ [])
 one-more heap object = let l = length-append heap (object ∷ []) in omega arith
 
-read : (found : Option (List Field)) (heap : List ObjectState) (s : BrowserParts) → IsGiven heap (array_read found heap s)
+read : (found : Option (List Field)) (heap : List ObjectState) (s : BrowserParts) → IsGiven heap (give_array found heap s)
 read None heap s = plain heap (gives values.Null s) refl
 read (Some found) heap s = record { answer = (refl, one-more heap (array_of (map value_of_field found))); objects = inr (found, refl) }
 
 table : (call : BrowserCall) (base : Path) (now : ℕ) (arguments : List Value) (heap : List ObjectState) (s : BrowserParts)
-    → IsGiven heap (called_of call base now arguments heap s)
+    → IsGiven heap (outcome_of_call call base now arguments heap s)
 table the.SetInterval base now arguments heap s =
     plain heap (set_interval now arguments heap s)
     (timer now (named_function (text_argument heap arguments 0)) (whole_argument heap arguments 1) (count_argument heap arguments 2) s)
 table the.ClearTimer base now arguments heap s =
     plain heap (clear_timer arguments heap s)
-    (mapped (λ n. cleared n s) (count_argument heap arguments 0) (refused s)
+    (mapped (λ n. end_timer n s) (count_argument heap arguments 0) (gives_nan s)
     (λ n. either (is_some (timer_of n s.timers)) _ _ refl refl) refl)
 table the.LaunchDocument base now arguments heap s =
     plain heap (with_path (λ path. Launch path) (path_argument base arguments heap) s)
-    (mapped (λ path. hands_on (Launch path) s) (path_argument base arguments heap) (refused s) (λ path. refl) refl)
+    (mapped (λ path. hands_on (Launch path) s) (path_argument base arguments heap) (gives_nan s) (λ path. refl) refl)
 table the.LockModuleOnMemory base now arguments heap s =
     plain heap (with_path (λ path. Lock path) (path_argument base arguments heap) s)
-    (mapped (λ path. hands_on (Lock path) s) (path_argument base arguments heap) (refused s) (λ path. refl) refl)
+    (mapped (λ path. hands_on (Lock path) s) (path_argument base arguments heap) (gives_nan s) (λ path. refl) refl)
 table the.UnlockModuleOnMemory base now arguments heap s =
     plain heap (with_path (λ path. Unlock path) (path_argument base arguments heap) s)
-    (mapped (λ path. hands_on (Unlock path) s) (path_argument base arguments heap) (refused s) (λ path. refl) refl)
+    (mapped (λ path. hands_on (Unlock path) s) (path_argument base arguments heap) (gives_nan s) (λ path. refl) refl)
 table the.ReadPersistentArray base now arguments heap s =
-    named heap (λ slot kinds. array_read (unpacked kinds (array_in s.area slot)) heap s) (array_named (text_argument heap arguments 0))
-    (structure_spelled (text_argument heap arguments 1)) (over heap (refused s))
-    (λ slot kinds. read (unpacked kinds (array_in s.area slot)) heap s) (plain heap (refused s) refl)
+    named heap (λ slot kinds. give_array (unpacked kinds (array_in s.area slot)) heap s) (array_named (text_argument heap arguments 0))
+    (structure_spelled (text_argument heap arguments 1)) (over heap (gives_nan s))
+    (λ slot kinds. read (unpacked kinds (array_in s.area slot)) heap s) (plain heap (gives_nan s) refl)
 table the.WritePersistentArray base now arguments heap s =
-    named heap (λ slot kinds. over heap (array_written slot (packed_values heap kinds (values_of_array heap (argument arguments 2))) s))
-    (array_named (text_argument heap arguments 0)) (structure_spelled (text_argument heap arguments 1)) (over heap (refused s))
-    (λ slot kinds. plain heap (array_written slot (packed_values heap kinds (values_of_array heap (argument arguments 2))) s)
+    named heap (λ slot kinds. over heap (write_bytes slot (packed_values heap kinds (values_of_array heap (argument arguments 2))) s))
+    (array_named (text_argument heap arguments 0)) (structure_spelled (text_argument heap arguments 1)) (over heap (gives_nan s))
+    (λ slot kinds. plain heap (write_bytes slot (packed_values heap kinds (values_of_array heap (argument arguments 2))) s)
     (written slot (packed_values heap kinds (values_of_array heap (argument arguments 2))) s))
-    (plain heap (refused s) refl)
+    (plain heap (gives_nan s) refl)
 table the.Random base now arguments heap s =
-    plain heap (random_called arguments heap s)
-    (mapped (λ n. drawn n s) (count_argument heap arguments 0) (refused s) (λ n. either (nat_le 1 n) _ _ refl refl) refl)
+    plain heap (draw_random arguments heap s)
+    (mapped (λ n. draw_up_to n s) (count_argument heap arguments 0) (gives_nan s) (λ n. either (nat_le 1 n) _ _ refl refl) refl)
 table the.PlayRomSound base now arguments heap s =
     plain heap (play_sound arguments heap s)
     (mapped (λ sound. record { value = number 1; effect = Sound sound; state = s })
-    (sound_of (text_argument heap arguments 0)) (refused s) (λ sound. refl) refl)
+    (sound_of (text_argument heap arguments 0)) (gives_nan s) (λ sound. refl) refl)
 
 given : (name : List ℕ) (base : Path) (now : ℕ) (arguments : List Value) (heap : List ObjectState) (s : BrowserParts)
     → IsGiven heap (call_of name base now arguments heap s)
 given name base now arguments heap s = by (call_named name)
   where
-    by : (call : Option BrowserCall) → IsGiven heap (option_map_or (λ call. called_of call base now arguments heap s) call (over heap (refused s)))
-    by None = plain heap (refused s) refl
+    by : (call : Option BrowserCall) → IsGiven heap (option_map_or (λ call. outcome_of_call call base now arguments heap s) call (over heap (gives_nan s)))
+    by None = plain heap (gives_nan s) refl
     by (Some call) = table call base now arguments heap s
 
 pub always-answer : (name : List ℕ) (base : Path) (now : ℕ) (arguments : List Value) (heap : List ObjectState) (s : BrowserParts)

@@ -39,18 +39,18 @@ pub record BrowserParts : Type 0 where
   pub random : List ℕ
 
 -- what a call gives, what the page has to do, and what it leaves
-pub record Called : Type 0 where
+pub record CallResult : Type 0 where
   pub value : Value
   pub effect : Effect
   pub state : BrowserParts
 
 -- a call with the objects that it leaves
 pub record CallOutcome : Type 0 where
-  pub called : Called
+  pub called : CallResult
   pub heap : List ObjectState
 
 -- a call answered so, and left this
-pub record Answers (called : Called) (answer : Value × Effect) (left : BrowserParts) : Type 0 where
+pub record Answers (called : CallResult) (answer : Value × Effect) (left : BrowserParts) : Type 0 where
   pub value : answer.0 ≡ called.value
   pub effect : answer.1 ≡ called.effect
   pub state : left ≡ called.state
@@ -82,15 +82,15 @@ call_named name = find (λ call. is_same name (name_of_call call)) all_calls
 abbrev pub number : ℕ → Value
 number n = Number (Whole (pos n))
 
-abbrev pub gives : Value → BrowserParts → Called
+abbrev pub gives : Value → BrowserParts → CallResult
 gives value s = record { value = value; effect = Nothing; state = s }
 
 -- an unknown name, or arguments of a wrong form: NaN, and nothing else
-abbrev pub refused : BrowserParts → Called
-refused s = gives (Number NotANumber) s
+abbrev pub gives_nan : BrowserParts → CallResult
+gives_nan s = gives (Number NotANumber) s
 
 -- The page does this, and the value is what it comes to: that which stands here is never given.
-abbrev pub hands_on : Effect → BrowserParts → Called
+abbrev pub hands_on : Effect → BrowserParts → CallResult
 hands_on effect s = record { value = Undefined; effect = effect; state = s }
 
 -- ---- arguments
@@ -130,37 +130,37 @@ interval_of (pos n) = if nat_le least_interval n then n else least_interval
 interval_of (negsuc n) = least_interval
 
 -- a timer of this function, with this interval and so many firings: its number
-abbrev pub with_interval : ℕ → List ℕ → ℕ → ℕ → BrowserParts → Called
+abbrev pub with_interval : ℕ → List ℕ → ℕ → ℕ → BrowserParts → CallResult
 with_interval now function interval turns s =
     if has_place s.timers
     then gives (number s.timers.next)
     (record s {
       timers = with_timer (timer_set s.timers.next function interval turns now) s.timers;
     })
-    else refused s
+    else gives_nan s
 
 -- a timer of these arguments, if each is of its form
-abbrev pub timer_called : ℕ → Option (List ℕ) → Option ℤ → Option ℕ → BrowserParts → Called
-timer_called now (Some function) (Some interval) (Some turns) s =
+abbrev pub begin_timer : ℕ → Option (List ℕ) → Option ℤ → Option ℕ → BrowserParts → CallResult
+begin_timer now (Some function) (Some interval) (Some turns) s =
     with_interval now function (interval_of interval) turns s
-timer_called now None interval turns s = refused s
-timer_called now (Some function) None turns s = refused s
-timer_called now (Some function) (Some interval) None s = refused s
+begin_timer now None interval turns s = gives_nan s
+begin_timer now (Some function) None turns s = gives_nan s
+begin_timer now (Some function) (Some interval) None s = gives_nan s
 
-abbrev pub set_interval : ℕ → List Value → List ObjectState → BrowserParts → Called
+abbrev pub set_interval : ℕ → List Value → List ObjectState → BrowserParts → CallResult
 set_interval now arguments heap s =
-    timer_called now (named_function (text_argument heap arguments 0))
+    begin_timer now (named_function (text_argument heap arguments 0))
     (whole_argument heap arguments 1) (count_argument heap arguments 2) s
 
 -- the timer of this number ends
-abbrev pub cleared : ℕ → BrowserParts → Called
-cleared n s =
+abbrev pub end_timer : ℕ → BrowserParts → CallResult
+end_timer n s =
     if is_some (timer_of n s.timers)
-    then gives (number 1) (record s { timers = without_timer n s.timers }) else refused s
+    then gives (number 1) (record s { timers = without_timer n s.timers }) else gives_nan s
 
-abbrev pub clear_timer : List Value → List ObjectState → BrowserParts → Called
+abbrev pub clear_timer : List Value → List ObjectState → BrowserParts → CallResult
 clear_timer arguments heap s =
-    option_map_or (λ n. cleared n s) (count_argument heap arguments 0) (refused s)
+    option_map_or (λ n. end_timer n s) (count_argument heap arguments 0) (gives_nan s)
 
 -- ---- paths
 
@@ -168,8 +168,8 @@ abbrev pub path_argument : Path → List Value → List ObjectState → Option P
 path_argument base arguments heap = path_of_text (text_argument heap arguments 0) base
 
 -- what is done with a path, where there is one
-abbrev pub with_path : (Path → Effect) → Option Path → BrowserParts → Called
-with_path effect path s = option_map_or (λ path. hands_on (effect path) s) path (refused s)
+abbrev pub with_path : (Path → Effect) → Option Path → BrowserParts → CallResult
+with_path effect path s = option_map_or (λ path. hands_on (effect path) s) path (gives_nan s)
 
 -- ---- random numbers
 
@@ -183,15 +183,15 @@ other_words [] = []
 other_words (word ∷ words) = words
 
 -- from 1 to n, by the next random word
-abbrev pub drawn : ℕ → BrowserParts → Called
-drawn n s =
+abbrev pub draw_up_to : ℕ → BrowserParts → CallResult
+draw_up_to n s =
     if nat_le 1 n
     then gives (number (1 + first_word s.random % n)) (record s { random = other_words s.random })
-    else refused s
+    else gives_nan s
 
-abbrev pub random_called : List Value → List ObjectState → BrowserParts → Called
-random_called arguments heap s =
-    option_map_or (λ n. drawn n s) (count_argument heap arguments 0) (refused s)
+abbrev pub draw_random : List Value → List ObjectState → BrowserParts → CallResult
+draw_random arguments heap s =
+    option_map_or (λ n. draw_up_to n s) (count_argument heap arguments 0) (gives_nan s)
 
 -- ---- sounds
 
@@ -205,15 +205,15 @@ sound_of text =
     if nat_le 11 (length text) && is_same (take 11 text) sound_front
     then decimal_field (drop 11 text) else None
 
-abbrev pub play_sound : List Value → List ObjectState → BrowserParts → Called
+abbrev pub play_sound : List Value → List ObjectState → BrowserParts → CallResult
 play_sound arguments heap s =
     option_map_or (λ sound. record { value = number 1; effect = Sound sound; state = s })
-    (sound_of (text_argument heap arguments 0)) (refused s)
+    (sound_of (text_argument heap arguments 0)) (gives_nan s)
 
 -- ---- persistent arrays
 
 -- a call that makes no object
-abbrev pub over : List ObjectState → Called → CallOutcome
+abbrev pub over : List ObjectState → CallResult → CallOutcome
 over heap called = record { called = called; heap = heap }
 
 -- What is done with the array and the fields that the first two arguments name. Where one of them
@@ -228,24 +228,24 @@ abbrev pub with_names : (ℕ → List FieldKind → CallOutcome) → List Value 
     → BrowserParts → CallOutcome
 with_names call arguments heap s =
     with_named call (array_named (text_argument heap arguments 0))
-    (structure_spelled (text_argument heap arguments 1)) (over heap (refused s))
+    (structure_spelled (text_argument heap arguments 1)) (over heap (gives_nan s))
 
 -- a new array of what was read, and Null where a field passes the end of the persistent array
-abbrev pub array_read : Option (List Field) → List ObjectState → BrowserParts → CallOutcome
-array_read None heap s = over heap (gives Null s)
-array_read (Some values) heap s =
+abbrev pub give_array : Option (List Field) → List ObjectState → BrowserParts → CallOutcome
+give_array None heap s = over heap (gives Null s)
+give_array (Some values) heap s =
     record { called = gives (Object (length heap)) s; heap = with_array_of heap values }
 
 abbrev pub read_array : List Value → List ObjectState → BrowserParts → CallOutcome
 read_array arguments heap s =
-    with_names (λ slot kinds. array_read (unpacked kinds (array_in s.area slot)) heap s) arguments
+    with_names (λ slot kinds. give_array (unpacked kinds (array_in s.area slot)) heap s) arguments
     heap s
 
 -- The number of the bytes that are written, which the page tells; where none can be, the form is
 -- wrong.
-abbrev pub array_written : ℕ → Option (List ℕ) → BrowserParts → Called
-array_written slot None s = refused s
-array_written slot (Some bytes) s = record {
+abbrev pub write_bytes : ℕ → Option (List ℕ) → BrowserParts → CallResult
+write_bytes slot None s = gives_nan s
+write_bytes slot (Some bytes) s = record {
   value = number (length bytes);
   effect = Kept slot (length bytes);
   state = record s { area = with_array s.area slot bytes };
@@ -258,29 +258,29 @@ packed_values heap kinds values =
 
 abbrev pub write_array : List Value → List ObjectState → BrowserParts → CallOutcome
 write_array arguments heap s =
-    with_names (λ slot kinds. over heap (array_written slot
+    with_names (λ slot kinds. over heap (write_bytes slot
     (packed_values heap kinds (values_of_array heap (argument arguments 2))) s)) arguments heap s
 
 -- ---- the table
 
-abbrev pub called_of : BrowserCall → Path → ℕ → List Value → List ObjectState → BrowserParts
+abbrev pub outcome_of_call : BrowserCall → Path → ℕ → List Value → List ObjectState → BrowserParts
     → CallOutcome
-called_of the.SetInterval base now arguments heap s = over heap (set_interval now arguments heap s)
-called_of the.ClearTimer base now arguments heap s = over heap (clear_timer arguments heap s)
-called_of the.LaunchDocument base now arguments heap s =
+outcome_of_call the.SetInterval base now arguments heap s = over heap (set_interval now arguments heap s)
+outcome_of_call the.ClearTimer base now arguments heap s = over heap (clear_timer arguments heap s)
+outcome_of_call the.LaunchDocument base now arguments heap s =
     over heap (with_path Launch (path_argument base arguments heap) s)
-called_of the.LockModuleOnMemory base now arguments heap s =
+outcome_of_call the.LockModuleOnMemory base now arguments heap s =
     over heap (with_path Lock (path_argument base arguments heap) s)
-called_of the.UnlockModuleOnMemory base now arguments heap s =
+outcome_of_call the.UnlockModuleOnMemory base now arguments heap s =
     over heap (with_path Unlock (path_argument base arguments heap) s)
-called_of the.ReadPersistentArray base now arguments heap s = read_array arguments heap s
-called_of the.WritePersistentArray base now arguments heap s = write_array arguments heap s
-called_of the.Random base now arguments heap s = over heap (random_called arguments heap s)
-called_of the.PlayRomSound base now arguments heap s = over heap (play_sound arguments heap s)
+outcome_of_call the.ReadPersistentArray base now arguments heap s = read_array arguments heap s
+outcome_of_call the.WritePersistentArray base now arguments heap s = write_array arguments heap s
+outcome_of_call the.Random base now arguments heap s = over heap (draw_random arguments heap s)
+outcome_of_call the.PlayRomSound base now arguments heap s = over heap (play_sound arguments heap s)
 
 -- the call of this name, which has to be one of these
 abbrev pub call_of : List ℕ → Path → ℕ → List Value → List ObjectState → BrowserParts
     → CallOutcome
 call_of name base now arguments heap s =
-    option_map_or (λ call. called_of call base now arguments heap s) (call_named name)
-    (over heap (refused s))
+    option_map_or (λ call. outcome_of_call call base now arguments heap s) (call_named name)
+    (over heap (gives_nan s))

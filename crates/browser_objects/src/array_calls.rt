@@ -11,8 +11,8 @@ ghost use Rattle.persistent_arrays.specs.Structures.{structure_spelled};
 ghost use Rattle.persistent_arrays.specs.declared.kinds.FieldKind.{FieldKind as Kind};
 ghost use Rattle.browser_objects.specs.ArrayCalls.{values_of_array};
 ghost use Rattle.browser_objects.specs.Calls.{Answers, BrowserParts, CallOutcome, argument};
-ghost use Rattle.browser_objects.specs.Calls.{array_read, array_written, over, packed_values};
-ghost use Rattle.browser_objects.specs.Calls.{read_array, refused};
+ghost use Rattle.browser_objects.specs.Calls.{give_array, write_bytes, over, packed_values};
+ghost use Rattle.browser_objects.specs.Calls.{read_array, gives_nan};
 ghost use Rattle.browser_objects.specs.Calls.{text_argument as spec_text_argument, with_names};
 ghost use Rattle.browser_objects.specs.Calls.{write_array};
 
@@ -54,9 +54,9 @@ fn read_fields(
     heap: &mut Heap,
 ) -> Result<(Value, Effect), NoMemory>
     requires { slot < 16 }
-    ensures answers { (s : BrowserParts) → IfOk result (λ answer. Answers (array_read
+    ensures answers { (s : BrowserParts) → IfOk result (λ answer. Answers (give_array
         (unpacked structure.now (array_in area.now slot)) heap.old s).called answer s) }
-    ensures objects { (s : BrowserParts) → OnOk result (heap.new ≡ (array_read
+    ensures objects { (s : BrowserParts) → OnOk result (heap.new ≡ (give_array
         (unpacked structure.now (array_in area.now slot)) heap.old s).heap) }
     ensures err { OnErr result (heap.new ≡ heap.old) }
 {
@@ -101,7 +101,7 @@ fn write_argument(
 ) -> Result<(Value, Effect), NoMemory>
     requires args { All (IsLive heap.now) args.now }
     requires slot { slot < 16 }
-    ensures answers { IfOk result (λ answer. Answers (array_written slot (packed_values heap.now
+    ensures answers { IfOk result (λ answer. Answers (write_bytes slot (packed_values heap.now
         structure.now (values_of_array heap.now (argument args.now 2))) state.old)
         answer state.new) }
     ensures err { OnErr result (state.new ≡ state.old) }
@@ -120,7 +120,7 @@ fn write_fields(
     fields: &[Field],
 ) -> (Value, Effect)
     requires { slot < 16 }
-    ensures { Answers (array_written slot (packed_in_array structure.now fields.now) state.old)
+    ensures { Answers (write_bytes slot (packed_in_array structure.now fields.now) state.old)
         result state.new }
 {
     match pack(structure, fields, &mut state.area, slot) {
@@ -134,7 +134,7 @@ fn named(alloc: Global, args: &[Value], heap: &Heap) -> Result<Option<(u8, Struc
     requires { All (IsLive heap.now) args.now }
     ensures names { IfOk result (λ found. (call : ℕ → List Kind → CallOutcome) (s : BrowserParts)
         → with_names call args.now heap.now s
-        ≡ option_map_or (λ names. call names.0 names.1) found (over heap.now (refused s))) }
+        ≡ option_map_or (λ names. call names.0 names.1) found (over heap.now (gives_nan s))) }
     ensures bound { IfOk result (λ found. IfSome found (λ names. names.0 < 16)) }
 {
     let Some(slot) = slot_argument(args, heap)? else {

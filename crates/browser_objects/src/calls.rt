@@ -2,7 +2,7 @@
 
 ghost use Rattle.std.specs.Prelude.{◌≡◌, ◌<◌, ◌^◌, All, IfOk, OnErr, OnOk};
 ghost use Rattle.es_values.specs.Heaps.{IsLive};
-ghost use Rattle.browser_objects.specs.Calls.{Answers, all_calls, call_named, call_of, called_of, name_of_call};
+ghost use Rattle.browser_objects.specs.Calls.{Answers, all_calls, call_named, call_of, outcome_of_call, name_of_call};
 
 use crate::array_calls::{read_persistent_array, write_persistent_array};
 use crate::effects::{Effect, refusal};
@@ -114,9 +114,9 @@ fn called(
     requires args { All (IsLive heap.old) args.now }
     requires now { now < 2 ^ 62 }
     ensures answers { IfOk result (λ answer. Answers
-        (called_of call base.now now args.now heap.old state.old).called answer state.new) }
+        (outcome_of_call call base.now now args.now heap.old state.old).called answer state.new) }
     ensures objects { OnOk result (heap.new
-        ≡ (called_of call base.now now args.now heap.old state.old).heap) }
+        ≡ (outcome_of_call call base.now now args.now heap.old state.old).heap) }
     ensures err { OnErr result ((state.new ≡ state.old) × (heap.new ≡ heap.old)) }
 {
     match call {

@@ -2,7 +2,7 @@
 
 ghost use Rattle.std.specs.Prelude.{◌≡◌, ◌<◌, All, IfOk, OnErr};
 ghost use Rattle.es_values.specs.Heaps.{IsLive};
-ghost use Rattle.browser_objects.specs.Calls.{Answers, drawn, first_word, other_words, random_called};
+ghost use Rattle.browser_objects.specs.Calls.{Answers, draw_up_to, first_word, other_words, draw_random};
 
 use crate::arguments::count_argument;
 use crate::effects::{Effect, refusal, whole};
@@ -19,7 +19,7 @@ pub fn random(
 ) -> Result<(Value, Effect), NoMemory>
     requires args { All (IsLive heap.now) args.now }
     ensures answers { IfOk result (λ answer. Answers
-        (random_called args.now heap.now state.old) answer state.new) }
+        (draw_random args.now heap.now state.old) answer state.new) }
     ensures err { OnErr result (state.new ≡ state.old) }
 {
     match count_argument(heap, args, 0)? {
@@ -30,7 +30,7 @@ pub fn random(
 
 fn draw(state: &mut BrowserState, most: u32) -> (Value, Effect)
     requires { most < 2147483648 }
-    ensures { Answers (drawn most state.old) result state.new }
+    ensures { Answers (draw_up_to most state.old) result state.new }
 {
     if most == 0 {
         return refusal();

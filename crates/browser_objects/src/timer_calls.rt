@@ -2,7 +2,7 @@
 
 ghost use Rattle.std.specs.Prelude.{◌≡◌, ◌<◌, ◌≤◌, ◌^◌, All, IfOk, OnErr};
 ghost use Rattle.es_values.specs.Heaps.{IsLive};
-ghost use Rattle.browser_objects.specs.Calls.{Answers, clear_timer as spec_clear_timer, cleared as spec_cleared, interval_of as spec_interval_of, set_interval as spec_set_interval, text_argument as spec_text_argument, timer_called, with_interval};
+ghost use Rattle.browser_objects.specs.Calls.{Answers, clear_timer as spec_clear_timer, end_timer as spec_end_timer, interval_of as spec_interval_of, set_interval as spec_set_interval, text_argument as spec_text_argument, begin_timer, with_interval};
 ghost use Rattle.browser_objects.specs.Functions.{named_function as spec_named_function};
 
 use crate::arguments::{count_argument, text_argument, whole_argument};
@@ -61,7 +61,7 @@ fn set_timer(
     turns: Option<u32>,
 ) -> (Value, Effect)
     requires { now < 2 ^ 62 }
-    ensures { Answers (timer_called now function interval turns state.old) result state.new }
+    ensures { Answers (begin_timer now function interval turns state.old) result state.new }
 {
     match (function, interval, turns) {
         (Some(function), Some(interval), Some(turns)) => {
@@ -119,7 +119,7 @@ pub fn clear_timer(
 
 #[tactic(auto, using(crate::proofs::TimerLemmas::none_goes))]
 fn clear(state: &mut BrowserState, number: u32) -> (Value, Effect)
-    ensures { Answers (spec_cleared number state.old) result state.new }
+    ensures { Answers (spec_end_timer number state.old) result state.new }
 {
     if state.timers.clear(number) {
         (whole(1), Effect::Nothing)

@@ -12,12 +12,12 @@ use Rattle.multipart_entities.specs.declared.paths.Path.{Path}
 use Rattle.browser_objects.specs.declared.effects.Effect.{Effect}
 use Rattle.browser_objects.specs.declared.effects.Effect.TheVariants as effects
 use Rattle.module_locks.specs.Standing.{ForModules}
-use Rattle.document_stages.specs.Acting.{Acting, Answered, is_unload, launch, node_call}
+use Rattle.document_stages.specs.Acting.{Acting, CallAnswer, is_unload, launch, node_call}
 use Rattle.document_stages.specs.Calling.{HasCalled, Replies}
-use Rattle.document_stages.specs.Hosting.{called, done_for, reply_with}
+use Rattle.document_stages.specs.Hosting.{reply_of_call, reply_of_effect, reply_with}
 use Rattle.document_stages.specs.declared.script_hosts.ScriptHost.{ScriptHost}
 
-either-heap : (test : Bool) (x y : Answered) (heap : List ObjectState) → x.heap ≡ heap → y.heap ≡ heap → (if test then x else y).heap ≡ heap
+either-heap : (test : Bool) (x y : CallAnswer) (heap : List ObjectState) → x.heap ≡ heap → y.heap ≡ heap → (if test then x else y).heap ≡ heap
 either-heap true x y heap e f = e
 either-heap false x y heap e f = f
 
@@ -34,16 +34,16 @@ launch-heap : (path : Path) (a : Acting) (heap : List ObjectState) → (launch p
 launch-heap path a heap = either-heap (is_unload a.event.event) _ _ heap refl refl
 
 -- a call that leaves the modules
-left-modules : {E : Type 0} (r : Result HostAnswer E) (old new : ScriptHost) (answered : Answered) (heap : List ObjectState) → IfOk r (λ (answer : HostAnswer). answer ≡ answered.answer) → OnOk r (new.stage.acting ≡ answered.acting) → new.modules ≡ old.modules → answered.heap ≡ heap → IfOk r (λ (answer : HostAnswer). ForModules old.modules (λ modules. Replies new answer heap (reply_with modules answered)))
+left-modules : {E : Type 0} (r : Result HostAnswer E) (old new : ScriptHost) (answered : CallAnswer) (heap : List ObjectState) → IfOk r (λ (answer : HostAnswer). answer ≡ answered.answer) → OnOk r (new.stage.acting ≡ answered.acting) → new.modules ≡ old.modules → answered.heap ≡ heap → IfOk r (λ (answer : HostAnswer). ForModules old.modules (λ modules. Replies new answer heap (reply_with modules answered)))
 left-modules (Ok answer) old new answered heap gave left same kept =
     λ modules stand. record { answer_is = gave; acting_is = left; modules_stand = rw same stand; heap_is = sym kept }
 left-modules (Err e) old new answered heap gave left same kept = gave
 
-pub launch-done : {E : Type 0} (r : Result HostAnswer E) (old new : ScriptHost) (effect : Effect) (value : Value) (path : Path) (heap : List ObjectState) → effect ≡ effects.Launch path → IfOk r (λ (answer : HostAnswer). answer ≡ (launch path old.stage.acting heap).answer) → OnOk r (new.stage.acting ≡ (launch path old.stage.acting heap).acting) → new.modules ≡ old.modules → IfOk r (λ (answer : HostAnswer). ForModules old.modules (λ modules. Replies new answer heap (done_for effect value (record { acting = old.stage.acting; modules = modules }) heap)))
+pub launch-done : {E : Type 0} (r : Result HostAnswer E) (old new : ScriptHost) (effect : Effect) (value : Value) (path : Path) (heap : List ObjectState) → effect ≡ effects.Launch path → IfOk r (λ (answer : HostAnswer). answer ≡ (launch path old.stage.acting heap).answer) → OnOk r (new.stage.acting ≡ (launch path old.stage.acting heap).acting) → new.modules ≡ old.modules → IfOk r (λ (answer : HostAnswer). ForModules old.modules (λ modules. Replies new answer heap (reply_of_effect effect value (record { acting = old.stage.acting; modules = modules }) heap)))
 launch-done r old new effect value path heap is gave left same =
     rw is (left-modules r old new (launch path old.stage.acting heap) heap gave left same (launch-heap path old.stage.acting heap))
 
 pub node-called : {E : Type 0} (r : Result HostAnswer E) (old new : ScriptHost) (base : HostRef) (node : ℕ) (name : List ℕ) (arguments : List Value) (heap : List ObjectState) → base ≡ Node node → IfOk r (λ (answer : HostAnswer). answer ≡ (node_call old.stage.acting node name heap).answer) → OnOk r (new.stage.acting ≡ (node_call old.stage.acting node name heap).acting) → new.modules ≡ old.modules → IfOk r (λ (answer : HostAnswer). HasCalled old base name arguments heap answer new heap)
-unfolding called
+unfolding reply_of_call
 node-called r old new base node name arguments heap is gave left same =
     rw is (left-modules r old new (node_call old.stage.acting node name heap) heap gave left same (node-heap old.stage.acting node name heap))

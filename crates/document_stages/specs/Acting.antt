@@ -60,8 +60,8 @@ abbrev pub with_timers : TimersState → BrowserParts → BrowserParts
 with_timers timers browser = record browser { timers = timers }
 
 -- one random word more
-abbrev pub word_added : ℕ → BrowserParts → BrowserParts
-word_added word browser = record browser { random = browser.random ++ word ∷ [] }
+abbrev pub with_word : ℕ → BrowserParts → BrowserParts
+with_word word browser = record browser { random = browser.random ++ word ∷ [] }
 
 -- what handlers and default actions act on
 pub record Acting : Type 0 where
@@ -111,33 +111,33 @@ abbrev pub has_room : Acting → Bool
 has_room a = nat_lt (length a.queue) most_events
 
 -- an event that is posted waits behind the others; where no place is left it is lost, which is told
-abbrev pub told_loss : Event → List Event → List ℕ
-told_loss event queue = if nat_lt (length queue) most_events then [] else lost_line event
+abbrev pub loss_line : Event → List Event → List ℕ
+loss_line event queue = if nat_lt (length queue) most_events then [] else lost_line event
 
-abbrev pub posted : Event → Acting → Acting
-posted event a =
-    record a { queue = with_posted event a.queue; text = a.text ++ told_loss event a.queue }
+abbrev pub with_event : Event → Acting → Acting
+with_event event a =
+    record a { queue = with_posted event a.queue; text = a.text ++ loss_line event a.queue }
 
 -- the element has the focus and is not active
 abbrev pub focus_on : ℕ → Focus
 focus_on node = record { focus = Some (node_id node); active = None }
 
-abbrev pub posted_for : (ℕ → Event) → Option ℕ → Acting → Acting
-posted_for event None a = a
-posted_for event (Some node) a = posted (event node) a
+abbrev pub with_event_for : (ℕ → Event) → Option ℕ → Acting → Acting
+with_event_for event None a = a
+with_event_for event (Some node) a = with_event (event node) a
 
 -- The focus moves to an element: that which had it is told by `blur`, and then this one by `focus`. No element
 -- is active behind it. A move to the element that has the focus does nothing.
-unfoldable pub moved_to : ℕ → Acting → Acting
-moved_to node a =
+unfoldable pub with_focus_moved : ℕ → Acting → Acting
+with_focus_moved node a =
     if has_focus node a then a
-    else posted (events.Focus node)
-    (posted_for events.Blur (focused_node a) (with_focus (focus_on node) a))
+    else with_event (events.Focus node)
+    (with_event_for events.Blur (focused_node a) (with_focus (focus_on node) a))
 
 -- The focus is given up by the element that has it, which `blur` tells; no other element can give it up.
-unfoldable pub left_by : ℕ → Acting → Acting
-left_by node a =
-    if has_focus node a then posted (events.Blur node) (with_focus no_focus a) else a
+unfoldable pub without_focus_of : ℕ → Acting → Acting
+without_focus_of node a =
+    if has_focus node a then with_event (events.Blur node) (with_focus no_focus a) else a
 
 -- ---- timers
 
@@ -146,33 +146,33 @@ abbrev pub acting_with_timers : TimersState → Acting → Acting
 acting_with_timers timers a = record a { browser = with_timers timers a.browser }
 
 -- An event of the timer of a number was dispatched or lost: the timer ends there where it goes on no more.
-abbrev pub timer_settled : ℕ → Acting → Acting
-timer_settled number a =
+abbrev pub with_timer_settled : ℕ → Acting → Acting
+with_timer_settled number a =
     acting_with_timers (with_settled number a.browser.timers) a
 
 -- a timer fired: its event is posted, and where it is lost it is no longer out
-abbrev pub timer_posted : ℕ → Acting → Acting
-timer_posted number a =
-    if has_room a then posted (events.Timer number) a
-    else timer_settled number (posted (events.Timer number) a)
+abbrev pub with_timer_event : ℕ → Acting → Acting
+with_timer_event number a =
+    if has_room a then with_event (events.Timer number) a
+    else with_timer_settled number (with_event (events.Timer number) a)
 
 -- the first timer that is due at a moment fires
-abbrev pub timer_fired : ℕ → ℕ → Acting → Acting
-timer_fired moment number a =
-    timer_posted number
+abbrev pub with_timer_fired : ℕ → ℕ → Acting → Acting
+with_timer_fired moment number a =
+    with_timer_event number
     (acting_with_timers (with_fired moment a.browser.timers) a)
 
 -- as long as a timer is due at the moment, the first of them fires, so many times at most
-unfoldable pub timers_fired : ℕ → ℕ → Acting → Acting
-timers_fired zero moment a = a
-timers_fired (suc more) moment a =
-    option_map_or (λ number. timers_fired more moment (timer_fired moment number a))
+unfoldable pub with_timers_fired : ℕ → ℕ → Acting → Acting
+with_timers_fired zero moment a = a
+with_timers_fired (suc more) moment a =
+    option_map_or (λ number. with_timers_fired more moment (with_timer_fired moment number a))
     (first_due moment a.browser.timers) a
 
 -- All timers that are due at a moment fire, in ascending number. Each fires once, since its next moment comes later, and
 -- there are no more than so many.
-abbrev pub due_posted : ℕ → Acting → Acting
-due_posted moment a = timers_fired most_timers moment a
+abbrev pub with_due_events : ℕ → Acting → Acting
+with_due_events moment a = with_timers_fired most_timers moment a
 
 -- ---- event items
 
@@ -180,20 +180,20 @@ due_posted moment a = timers_fired most_timers moment a
 abbrev pub each_item : (EventItem → Acting → Acting) → Acting → Acting
 each_item step a = fold (λ acting item. step item acting) a a.items.items
 
-abbrev pub posted_where : Bool → Event → Acting → Acting
-posted_where test event a = if test then posted event a else a
+abbrev pub with_event_where : Bool → Event → Acting → Acting
+with_event_where test event a = if test then with_event event a else a
 
 -- An item fires for a message: its event is posted, and where it is not lost the firing is noted.
-abbrev pub fired : ℕ → Message → ℕ → Acting → Acting
-fired component message node a =
-    let after = posted (events.Fired node component message) a in
+abbrev pub with_item_fired : ℕ → Message → ℕ → Acting → Acting
+with_item_fired component message node a =
+    let after = with_event (events.Fired node component message) a in
     if has_room a then record after { items = with_firing node message a.items } else after
 
 -- EventMessageFired for an item, where it fires for the message of a component
 abbrev pub message_post : ℕ → Message → EventItem → Acting → Acting
 message_post component message item a =
     if fires_for_message component message a.items item
-    then fired component message item.node a else a
+    then with_item_fired component message item.node a else a
 
 -- and for each item of the document
 unfoldable pub message_posts : ℕ → Message → Acting → Acting
@@ -203,7 +203,7 @@ message_posts component message a = each_item (message_post component message) a
 -- appeared
 abbrev pub module_post : ℕ → ℕ → ℕ → EventItem → Acting → Acting
 module_post component number status item a =
-    posted_where (fires_for_module kinds.ModuleUpdated component number a.items item)
+    with_event_where (fires_for_module kinds.ModuleUpdated component number a.items item)
     (events.Updated item.node status) a
 
 -- and for each item; by a change without a status only the module's last block came, and nothing is posted
@@ -214,7 +214,7 @@ update_posts component number status a =
 -- ModuleLocked for an item, with status 0: a lock on its module keeps it from now on
 abbrev pub lock_post : ℕ → ℕ → EventItem → Acting → Acting
 lock_post component number item a =
-    posted_where (fires_for_module kinds.ModuleLocked component number a.items item)
+    with_event_where (fires_for_module kinds.ModuleLocked component number a.items item)
     (events.Locked item.node 0) a
 
 -- and for each item
@@ -230,7 +230,7 @@ change_posts component change a =
 
 -- DataButtonPressed for an item
 abbrev pub button_post : EventItem → Acting → Acting
-button_post item a = posted_where (fires_for_button a.items item) (events.Button item.node) a
+button_post item a = with_event_where (fires_for_button a.items item) (events.Button item.node) a
 
 unfoldable pub button_posts : Acting → Acting
 button_posts a = each_item button_post a
@@ -238,28 +238,28 @@ button_posts a = each_item button_post a
 -- ---- default actions, keys and the first focus
 
 -- what has the focus becomes active, and `click` is posted for it
-abbrev pub activated : ℕ → Acting → Acting
-activated node a =
-    posted (events.Click node)
+abbrev pub with_active : ℕ → Acting → Acting
+with_active node a =
+    with_event (events.Click node)
     (with_focus (record a.tree.focus { active = Some (node_id node) }) a)
 
 -- The focus moves; or what has it becomes active, and `click` is posted for it; or an element is given the focus, and
 -- `click` is posted for it.
-abbrev pub acted : Action → Acting → Acting
-acted NoAction a = a
-acted (Moves node) a = moved_to node a
-acted (Activates node) a = activated node a
-acted (Accesses node) a = posted (events.Click node) (moved_to node a)
+abbrev pub with_action : Action → Acting → Acting
+with_action NoAction a = a
+with_action (Moves node) a = with_focus_moved node a
+with_action (Activates node) a = with_active node a
+with_action (Accesses node) a = with_event (events.Click node) (with_focus_moved node a)
 
 -- A key that is pressed posts `keydown` and then `default`, and the data button then DataButtonPressed for its items. A
 -- key that is released posts `keyup`.
-abbrev pub pressed : ℕ → Acting → Acting
-pressed key a = posted (events.Default key) (posted (events.KeyDown key) a)
+abbrev pub with_press : ℕ → Acting → Acting
+with_press key a = with_event (events.Default key) (with_event (events.KeyDown key) a)
 
 abbrev pub key_posts : Bool → ℕ → Acting → Acting
 key_posts true key a =
-    if key == key_number Data then button_posts (pressed key a) else pressed key a
-key_posts false key a = posted (events.KeyUp key) a
+    if key == key_number Data then button_posts (with_press key a) else with_press key a
+key_posts false key a = with_event (events.KeyUp key) a
 
 -- where no element has the focus, that with the nav-index 0 gets it first
 abbrev pub first_focus : Acting → Option ℕ
@@ -267,10 +267,10 @@ first_focus a =
     if is_some a.tree.focus.focus then None else nav_target_of a.tree (pos 0)
 
 -- a document that begins posts `load`, and then `focus` for the first focus
-abbrev pub begun : Option ℕ → Acting → Acting
-begun None a = posted events.Load a
-begun (Some node) a =
-    posted (events.Focus node) (posted events.Load (with_focus (focus_on node) a))
+abbrev pub with_first_events : Option ℕ → Acting → Acting
+with_first_events None a = with_event events.Load a
+with_first_events (Some node) a =
+    with_event (events.Focus node) (with_event events.Load (with_focus (focus_on node) a))
 
 -- ---- what scripts read and write
 
@@ -291,55 +291,55 @@ is_subscription a node name =
     is_same name (codes "subscribe")
     && option_map_or is_event_item (slice_get a.tree.items node) false
 
-abbrev pub node_read : Acting → ℕ → List ℕ → Value
-node_read a node name =
+abbrev pub node_member : Acting → ℕ → List ℕ → Value
+node_member a node name =
     if is_subscription a node name then Truth (is_subscribed node a.items)
     else read_value (parts_of a) (Node node) name
 
-abbrev pub read_by : Acting → HostRef → List ℕ → Value
-read_by a Browser name = browser_value name
-read_by a Ureg name = register_value a.browser.ureg name
-read_by a Greg name = register_value a.browser.greg name
-read_by a (Node node) name = node_read a node name
-read_by a other name = read_value (parts_of a) other name
+abbrev pub member_value : Acting → HostRef → List ℕ → Value
+member_value a Browser name = browser_value name
+member_value a Ureg name = register_value a.browser.ureg name
+member_value a Greg name = register_value a.browser.greg name
+member_value a (Node node) name = node_member a node name
+member_value a other name = read_value (parts_of a) other name
 
 abbrev pub with_browser : BrowserParts → Acting → Acting
 with_browser browser a = record a { browser = browser }
 
 -- a text is written under a name of a reference
-abbrev pub text_written : Acting → HostRef → List ℕ → List ℕ → Acting
-text_written a Ureg name text =
+abbrev pub with_text_written : Acting → HostRef → List ℕ → List ℕ → Acting
+with_text_written a Ureg name text =
     let browser = a.browser in
     with_browser (record browser { ureg = with_register name text browser.ureg }) a
-text_written a Greg name text =
+with_text_written a Greg name text =
     let browser = a.browser in
     with_browser (record browser { greg = with_register name text browser.greg }) a
-text_written a base name text =
+with_text_written a base name text =
     record a { tree = changed_tree (change_of a.tree.items base name text) a.tree }
 
 -- a subscription is written as a truth, and all else as text
-abbrev pub node_written : Acting → ℕ → List ℕ → Value → List ObjectState → Acting
-node_written a node name value heap =
+abbrev pub with_node_written : Acting → ℕ → List ℕ → Value → List ObjectState → Acting
+with_node_written a node name value heap =
     if is_subscription a node name
     then record a { items = with_subscribed node (truth_of value) a.items }
-    else text_written a (Node node) name (text_of heap value)
+    else with_text_written a (Node node) name (text_of heap value)
 
-abbrev pub written : Acting → HostRef → List ℕ → Value → List ObjectState → Acting
-written a (Node node) name value heap = node_written a node name value heap
-written a base name value heap = text_written a base name (text_of heap value)
+abbrev pub with_member_set : Acting → HostRef → List ℕ → Value → List ObjectState → Acting
+with_member_set a (Node node) name value heap = with_node_written a node name value heap
+with_member_set a base name value heap = with_text_written a base name (text_of heap value)
 
 -- ---- what scripts call
 
 -- the answer, what is acted on behind the call, and the objects behind it
-pub record Answered : Type 0 where
+pub record CallAnswer : Type 0 where
   pub answer : HostAnswer
   pub acting : Acting
   pub heap : List ObjectState
 
-abbrev pub gives : Value → Acting → List ObjectState → Answered
+abbrev pub gives : Value → Acting → List ObjectState → CallAnswer
 gives value a heap = record { answer = Answer value; acting = a; heap = heap }
 
-abbrev pub not_callable : Acting → List ObjectState → Answered
+abbrev pub not_callable : Acting → List ObjectState → CallAnswer
 not_callable a heap = record { answer = NotCallable; acting = a; heap = heap }
 
 -- an absent argument is Undefined
@@ -348,24 +348,24 @@ first_argument [] = Undefined
 first_argument (value ∷ arguments) = value
 
 -- `getElementById` gives the first element in document order that has the id, or Null
-abbrev pub document_call : Acting → List ℕ → List ℕ → List ObjectState → Answered
+abbrev pub document_call : Acting → List ℕ → List ℕ → List ObjectState → CallAnswer
 document_call a name id heap =
     if is_same name (codes "getElementById")
     then gives (node_value (node_of_id a.tree.items id)) a heap
     else not_callable a heap
 
 -- `focus` moves the focus to the element where it can have it
-abbrev pub focused : ℕ → Acting → Acting
-focused node a = if can_have_focus a.tree node then moved_to node a else a
+abbrev pub with_focus_asked : ℕ → Acting → Acting
+with_focus_asked node a = if can_have_focus a.tree node then with_focus_moved node a else a
 
-abbrev pub element_call : Acting → ℕ → List ℕ → List ObjectState → Answered
+abbrev pub element_call : Acting → ℕ → List ℕ → List ObjectState → CallAnswer
 element_call a node name heap =
-    if is_same name (codes "focus") then gives Undefined (focused node a) heap
-    else if is_same name (codes "blur") then gives Undefined (left_by node a) heap
+    if is_same name (codes "focus") then gives Undefined (with_focus_asked node a) heap
+    else if is_same name (codes "blur") then gives Undefined (without_focus_of node a) heap
     else not_callable a heap
 
 -- a text has nothing that can be called
-abbrev pub node_call : Acting → ℕ → List ℕ → List ObjectState → Answered
+abbrev pub node_call : Acting → ℕ → List ℕ → List ObjectState → CallAnswer
 node_call a node name heap =
     if is_some (tag_of a.tree.items node) then element_call a node name heap
     else not_callable a heap
@@ -376,8 +376,8 @@ abbrev pub with_line : List ℕ → Acting → Acting
 with_line line a = record a { text = a.text ++ line }
 
 -- NaN, and nothing is done
-abbrev pub refused : Acting → List ObjectState → Answered
-refused a heap = gives (Number NotANumber) a heap
+abbrev pub gives_nan : Acting → List ObjectState → CallAnswer
+gives_nan a heap = gives (Number NotANumber) a heap
 
 -- the handler of `unload` runs: for it alone that event is the current one
 abbrev pub is_unload : Option Event → Bool
@@ -385,9 +385,9 @@ is_unload (Some events.Unload) = true
 is_unload other = false
 
 -- A launch is told and ends the handler. The handler of `unload` cannot launch another document.
-abbrev pub launch : Path → Acting → List ObjectState → Answered
+abbrev pub launch : Path → Acting → List ObjectState → CallAnswer
 launch path a heap =
-    if is_unload a.event.event then refused a heap
+    if is_unload a.event.event then gives_nan a heap
     else record {
       answer = Ended;
       acting = record (with_line (launch_line path) a) { launched = Some path };

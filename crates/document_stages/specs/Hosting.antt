@@ -14,22 +14,22 @@ use Rattle.es_values.specs.Objects.{ObjectState}
 use Rattle.browser_objects.specs.Calls.{CallOutcome, call_of, number}
 use Rattle.browser_objects.specs.declared.effects.Effect.{Effect}
 use Rattle.browser_objects.specs.declared.effects.Effect.TheVariants as effects
-use Rattle.document_stages.specs.Acting.{Acting, Answered, document_call, first_argument, gives, launch, lock_posts, node_call, not_callable, refused, with_browser, with_line}
+use Rattle.document_stages.specs.Acting.{Acting, CallAnswer, document_call, first_argument, gives, launch, lock_posts, node_call, not_callable, gives_nan, with_browser, with_line}
 use Rattle.document_stages.specs.EventLines.{kept_line, sound_line}
 
 -- what scripts act on: the document with what it is lent, and the modules
-pub record Hosted : Type 0 where
+pub record HostParts : Type 0 where
   pub acting : Acting
   pub modules : Modules
 
 -- the answer of a call, what is acted on behind it, and the objects behind it
 pub record Reply : Type 0 where
   pub answer : HostAnswer
-  pub hosted : Hosted
+  pub hosted : HostParts
   pub heap : List ObjectState
 
 -- the answer of a call that has these modules behind it
-abbrev pub reply_with : Modules → Answered → Reply
+abbrev pub reply_with : Modules → CallAnswer → Reply
 reply_with modules answered =
     record {
       answer = answered.answer;
@@ -41,61 +41,61 @@ reply_with modules answered =
 
 -- 1 where the module is kept, or will be from when it is held; NaN where it has no unskipped entry, also where a lock stands
 -- on it, or no place is left for a lock. The items are told of a module that is kept from now on.
-abbrev pub lock_answered : LockAnswer → Path → Acting → List ObjectState → Answered
-lock_answered answers.Kept path a heap =
+abbrev pub answer_of_lock : LockAnswer → Path → Acting → List ObjectState → CallAnswer
+answer_of_lock answers.Kept path a heap =
     gives (number 1) (lock_posts path.component path.«module» a) heap
-lock_answered answers.Had path a heap = gives (number 1) a heap
-lock_answered answers.Wanted path a heap = gives (number 1) a heap
-lock_answered answers.NoEntry path a heap = refused a heap
-lock_answered answers.Full path a heap = refused a heap
+answer_of_lock answers.Had path a heap = gives (number 1) a heap
+answer_of_lock answers.Wanted path a heap = gives (number 1) a heap
+answer_of_lock answers.NoEntry path a heap = gives_nan a heap
+answer_of_lock answers.Full path a heap = gives_nan a heap
 
 -- `lockModuleOnMemory`, at a path; a name in it doesn't count
-abbrev pub lock : Path → Hosted → List ObjectState → Reply
+abbrev pub lock : Path → HostParts → List ObjectState → Reply
 lock path h heap =
     reply_with (with_lock path.component path.«module» h.modules)
-    (lock_answered (lock_answer path.component path.«module» h.modules) path h.acting heap)
+    (answer_of_lock (lock_answer path.component path.«module» h.modules) path h.acting heap)
 
 -- 1, and NaN where no lock stood on the module
-abbrev pub unlock_answered : Bool → Acting → List ObjectState → Answered
-unlock_answered stood a heap = if stood then gives (number 1) a heap else refused a heap
+abbrev pub answer_of_unlock : Bool → Acting → List ObjectState → CallAnswer
+answer_of_unlock stood a heap = if stood then gives (number 1) a heap else gives_nan a heap
 
 -- `unlockModuleOnMemory`
-abbrev pub unlock : Path → Hosted → List ObjectState → Reply
+abbrev pub unlock : Path → HostParts → List ObjectState → Reply
 unlock path h heap =
     reply_with (without_lock path.component path.«module» h.modules)
-    (unlock_answered (is_some (lock_on h.modules.locks path.component path.«module»)) h.acting heap)
+    (answer_of_unlock (is_some (lock_on h.modules.locks path.component path.«module»)) h.acting heap)
 
 -- ---- calls of the browser object
 
 -- What is done for a call: a line is printed, a document is launched, or a module is locked or unlocked. The value is the
 -- answer of a call for which nothing is to be asked then; launches, locks and unlocks have answers of their own.
-abbrev pub done_for : Effect → Value → Hosted → List ObjectState → Reply
-done_for effects.Nothing value h heap = reply_with h.modules (gives value h.acting heap)
-done_for (effects.Sound sound) value h heap =
+abbrev pub reply_of_effect : Effect → Value → HostParts → List ObjectState → Reply
+reply_of_effect effects.Nothing value h heap = reply_with h.modules (gives value h.acting heap)
+reply_of_effect (effects.Sound sound) value h heap =
     reply_with h.modules (gives value (with_line (sound_line sound) h.acting) heap)
-done_for (effects.Kept slot size) value h heap =
+reply_of_effect (effects.Kept slot size) value h heap =
     reply_with h.modules (gives value (with_line (kept_line slot size) h.acting) heap)
-done_for (effects.Launch path) value h heap = reply_with h.modules (launch path h.acting heap)
-done_for (effects.Lock path) value h heap = lock path h heap
-done_for (effects.Unlock path) value h heap = unlock path h heap
+reply_of_effect (effects.Launch path) value h heap = reply_with h.modules (launch path h.acting heap)
+reply_of_effect (effects.Lock path) value h heap = lock path h heap
+reply_of_effect (effects.Unlock path) value h heap = unlock path h heap
 
-abbrev pub browser_done : CallOutcome → Hosted → Reply
-browser_done outcome h =
-    done_for outcome.called.effect outcome.called.value
+abbrev pub reply_of_outcome : CallOutcome → HostParts → Reply
+reply_of_outcome outcome h =
+    reply_of_effect outcome.called.effect outcome.called.value
     (record h { acting = with_browser outcome.called.state h.acting }) outcome.heap
 
-abbrev pub browser_call : Hosted → List ℕ → List Value → List ObjectState → Reply
+abbrev pub browser_call : HostParts → List ℕ → List Value → List ObjectState → Reply
 browser_call h name arguments heap =
-    browser_done (call_of name h.acting.path h.acting.now arguments heap h.acting.browser) h
+    reply_of_outcome (call_of name h.acting.path h.acting.now arguments heap h.acting.browser) h
 
 -- ---- all calls
 
 -- what a call of a member of a reference answers and does
-unfoldable pub called : Hosted → HostRef → List ℕ → List Value → List ObjectState → Reply
-called h Document name arguments heap =
+unfoldable pub reply_of_call : HostParts → HostRef → List ℕ → List Value → List ObjectState → Reply
+reply_of_call h Document name arguments heap =
     reply_with h.modules
     (document_call h.acting name (text_of heap (first_argument arguments)) heap)
-called h (Node node) name arguments heap =
+reply_of_call h (Node node) name arguments heap =
     reply_with h.modules (node_call h.acting node name heap)
-called h Browser name arguments heap = browser_call h name arguments heap
-called h other name arguments heap = reply_with h.modules (not_callable h.acting heap)
+reply_of_call h Browser name arguments heap = browser_call h name arguments heap
+reply_of_call h other name arguments heap = reply_with h.modules (not_callable h.acting heap)

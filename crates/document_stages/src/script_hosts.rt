@@ -7,7 +7,7 @@ ghost use Rattle.es_values.specs.declared.hosts.HostAnswer.TheVariants.{Value as
 ghost use Rattle.browser_objects.specs.Calls.{number};
 ghost use Rattle.module_locks.specs.Standing.{ForModules};
 ghost use Rattle.document_stages.specs.Calling.{HasCalled, HasRead, HasWritten, Replies};
-ghost use Rattle.document_stages.specs.Hosting.{browser_call, done_for, lock as spec_lock, unlock as spec_unlock};
+ghost use Rattle.document_stages.specs.Hosting.{browser_call, reply_of_effect, lock as spec_lock, unlock as spec_unlock};
 
 use crate::stages::{Stage, refusal};
 use bml_bytes::{NoMemory, Text};
@@ -45,7 +45,7 @@ impl Host for ScriptHost {
         self.stage.write(base, name, value, heap)
     }
 
-    #[tactic(auto, unfolding(crate::specs::Hosting::called))]
+    #[tactic(auto, unfolding(crate::specs::Hosting::reply_of_call))]
     fn call(
         &mut self,
         base: HostRef,
@@ -95,7 +95,7 @@ impl ScriptHost {
     ) -> Result<HostAnswer, NoMemory>
         requires { IsAnswer heap.now (Answer value) }
         ensures replies { IfOk result (λ answer. ForModules self.old.modules (λ modules.
-            Replies self.new answer heap.now (done_for effect value
+            Replies self.new answer heap.now (reply_of_effect effect value
             (record { acting = self.old.stage.acting; modules = modules }) heap.now))) }
         ensures safe { IfOk result (λ answer. IsAnswer heap.now answer) }
     {

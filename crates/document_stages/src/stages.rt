@@ -15,7 +15,7 @@ ghost use Rattle.focus_keys.specs.Targets.{normal_value};
 ghost use Rattle.style_reader.specs.declared.properties.Property.TheVariants as property;
 ghost use Rattle.event_queue.specs.Queues.{first_of};
 ghost use Rattle.event_queue.specs.Timers.{first_due, timer_of};
-ghost use Rattle.document_stages.specs.Acting.{activated, acted, begun, due_posted, first_focus, focused, has_focus as spec_has_focus, has_room, key_posts, left_by, moved_to, no_focus, posted, timer_fired, timer_posted, timer_settled, with_focus, with_timers};
+ghost use Rattle.document_stages.specs.Acting.{with_active, with_action, with_first_events, with_due_events, first_focus, with_focus_asked, has_focus as spec_has_focus, has_room, key_posts, without_focus_of, with_focus_moved, no_focus, with_event, with_timer_fired, with_timer_event, with_timer_settled, with_focus, with_timers};
 ghost use Rattle.document_stages.specs.Displays.{tree_lines};
 ghost use Rattle.document_stages.specs.Stages.{IsElementOf};
 
@@ -140,7 +140,7 @@ impl Stage {
 
     /// Posts an event. Where 256 wait it is lost, and a line tells that.
     pub fn post(&mut self, event: Event) -> Result<(), NoMemory>
-        ensures posted { OnOk result (self.new.acting ≡ posted event self.old.acting) }
+        ensures posted { OnOk result (self.new.acting ≡ with_event event self.old.acting) }
         ensures worked { self.new.worked ≡ self.old.worked }
     {
         self.post_or_lose(event)?;
@@ -149,7 +149,7 @@ impl Stage {
 
     // The same, and tells whether it was posted.
     fn post_or_lose(&mut self, event: Event) -> Result<bool, NoMemory>
-        ensures posted { OnOk result (self.new.acting ≡ posted event self.old.acting) }
+        ensures posted { OnOk result (self.new.acting ≡ with_event event self.old.acting) }
         ensures kept { IfOk result (λ kept. kept ≡ has_room self.old.acting) }
         ensures worked { self.new.worked ≡ self.old.worked }
     {
@@ -163,10 +163,10 @@ impl Stage {
 
     /// Moves the focus to an element: `blur` tells that which had it, and then `focus` this one. No
     /// element is active behind it. A move to the element that has the focus does nothing.
-    #[tactic(auto, unfolding(crate::specs::Acting::moved_to))]
+    #[tactic(auto, unfolding(crate::specs::Acting::with_focus_moved))]
     pub fn move_focus(&mut self, node: NodeId) -> Result<(), NoMemory>
         requires element { IsElement self.old.acting.tree.items node.0 }
-        ensures moved { OnOk result (self.new.acting ≡ moved_to node.0 self.old.acting) }
+        ensures moved { OnOk result (self.new.acting ≡ with_focus_moved node.0 self.old.acting) }
         ensures worked { self.new.worked ≡ self.old.worked }
     {
         if self.has_focus(node) {
@@ -186,7 +186,7 @@ impl Stage {
     /// Moves the focus to an element where it can have it.
     pub fn focus_on(&mut self, node: NodeId) -> Result<(), NoMemory>
         requires element { IsElement self.old.acting.tree.items node.0 }
-        ensures focused { OnOk result (self.new.acting ≡ focused node.0 self.old.acting) }
+        ensures focused { OnOk result (self.new.acting ≡ with_focus_asked node.0 self.old.acting) }
     {
         if is_focusable(&self.tree, &mut self.styles, &self.focus, node) {
             self.move_focus(node)?;
@@ -195,9 +195,9 @@ impl Stage {
     }
 
     /// Gives the focus up, where this element has it, and posts `blur`.
-    #[tactic(auto, unfolding(crate::specs::Acting::left_by))]
+    #[tactic(auto, unfolding(crate::specs::Acting::without_focus_of))]
     pub fn leave_focus(&mut self, node: NodeId) -> Result<(), NoMemory>
-        ensures left { OnOk result (self.new.acting ≡ left_by node.0 self.old.acting) }
+        ensures left { OnOk result (self.new.acting ≡ without_focus_of node.0 self.old.acting) }
         ensures worked { self.new.worked ≡ self.old.worked }
     {
         if !self.has_focus(node) {
@@ -292,7 +292,7 @@ impl Stage {
 
     /// An event of the timer of a number was taken or lost: it ends where it goes on no more.
     pub fn settle_timer(&mut self, number: u32)
-        ensures acting { self.new.acting ≡ timer_settled number self.old.acting }
+        ensures acting { self.new.acting ≡ with_timer_settled number self.old.acting }
         ensures worked { self.new.worked ≡ self.old.worked }
     {
         self.browser.timers.settle(number);
@@ -303,7 +303,7 @@ impl Stage {
     pub fn post_due(&mut self, moment: u64) -> Result<(), NoMemory>
         requires { moment < 2 ^ 62 }
         ensures posted { OnOk result (self.new.acting
-            ≡ due_posted moment (record self.old.acting { now = moment })) }
+            ≡ with_due_events moment (record self.old.acting { now = moment })) }
         ensures worked { self.new.worked ≡ self.old.worked }
     {
         self.time = moment;
@@ -321,7 +321,7 @@ impl Stage {
         ensures there { IfOk result (λ there. there
             ≡ is_some (first_due moment self.old.acting.browser.timers)) }
         ensures fired { OnOk result (self.new.acting
-            ≡ option_map_or (λ number. timer_fired moment number self.old.acting)
+            ≡ option_map_or (λ number. with_timer_fired moment number self.old.acting)
             (first_due moment self.old.acting.browser.timers) self.old.acting) }
         ensures worked { self.new.worked ≡ self.old.worked }
     {
@@ -334,7 +334,7 @@ impl Stage {
 
     // Posts the event of a timer that fired, which is settled where it is lost.
     fn post_timer(&mut self, number: u32) -> Result<(), NoMemory>
-        ensures posted { OnOk result (self.new.acting ≡ timer_posted number self.old.acting) }
+        ensures posted { OnOk result (self.new.acting ≡ with_timer_event number self.old.acting) }
         ensures worked { self.new.worked ≡ self.old.worked }
     {
         if !self.post_or_lose(Event::Timer(number))? {
@@ -379,7 +379,7 @@ impl Stage {
     /// an element is given it and clicked.
     pub fn act_by_default(&mut self, key: u8) -> Result<(), NoMemory>
         ensures acted { OnOk result (self.new.acting
-            ≡ acted (action_of self.old.acting.tree key) self.old.acting) }
+            ≡ with_action (action_of self.old.acting.tree key) self.old.acting) }
     {
         match default_of(key, &self.tree, &mut self.styles, &self.focus) {
             KeyDefault::Nothing => Ok(()),
@@ -395,7 +395,7 @@ impl Stage {
     // The element is active, and is clicked.
     fn activate(&mut self, node: NodeId) -> Result<(), NoMemory>
         requires element { IsElement self.old.acting.tree.items node.0 }
-        ensures activated { OnOk result (self.new.acting ≡ activated node.0 self.old.acting) }
+        ensures activated { OnOk result (self.new.acting ≡ with_active node.0 self.old.acting) }
         ensures worked { self.new.worked ≡ self.old.worked }
     {
         self.set_focus(Focus {
@@ -409,7 +409,7 @@ impl Stage {
     /// the nav-index 0 gets it; `load` is posted, and then that element's `focus`.
     pub fn begin(&mut self) -> Result<(), NoMemory>
         ensures begun { OnOk result (self.new.acting
-            ≡ begun (first_focus self.old.acting) self.old.acting) }
+            ≡ with_first_events (first_focus self.old.acting) self.old.acting) }
     {
         let first = self.first_focus();
         if let Some(node) = first {

@@ -11,7 +11,7 @@ use Rattle.event_queue.specs.Timers.{first_due, most_timers, with_fired}
 use Rattle.event_queue.specs.declared.events.Event.{Event}
 use Rattle.event_queue.specs.declared.events.Event.TheVariants as events
 use Rattle.event_queue.specs.declared.item_kinds.ItemKind.TheVariants as kinds
-use Rattle.document_stages.specs.Acting.{Acting, acting_with_timers, button_posts, button_post, change_posts, fired, has_room, key_posts, lock_post, lock_posts, message_posts, message_post, module_post, posted, posted_where, pressed, timer_fired, timer_settled, timers_fired, update_posts}
+use Rattle.document_stages.specs.Acting.{Acting, acting_with_timers, button_posts, button_post, change_posts, with_item_fired, has_room, key_posts, lock_post, lock_posts, message_posts, message_post, module_post, with_event, with_event_where, with_press, with_timer_fired, with_timer_settled, with_timers_fired, update_posts}
 use Rattle.acting_documents.specs.Handling.{change_effect, due_effect, key_effect, message_effect}
 use Rattle.acting_documents.specs.Notices.{notice_effect}
 use Rattle.acting_documents.specs.declared.notices.Notice.{Notice}
@@ -20,7 +20,7 @@ use Rattle.browser_objects.specs.Calls.{BrowserParts}
 use Rattle.acting_documents.specs.devices.Doings.{DoesApart, IsScene, lent_modules}
 use Rattle.acting_documents.specs.Documents.{Document, passes}
 use Rattle.acting_documents.specs.devices.Kept.{IsDocument, KeptDocument}
-use Rattle.acting_documents.specs.Runs.{Effect, Scene, acting_in, done, no_event, nothing_done}
+use Rattle.acting_documents.specs.Runs.{Effect, Scene, acting_in, effect_of_change, no_event, no_effect}
 use Rattle.module_locks.specs.Standing.{ModulesState}
 use Rattle.page.specs.devices.Acts.{ActsApart}
 
@@ -30,7 +30,7 @@ items_launch : (step : EventItem → Acting → Acting) → ((item : EventItem) 
 items_launch step keeps [] a = refl
 items_launch step keeps (item ∷ items) a = items_launch step keeps items (step item a) ∙ keeps item a
 
-where_launches : (test : Bool) (event : Event) (a : Acting) → (posted_where test event a).launched ≡ a.launched
+where_launches : (test : Bool) (event : Event) (a : Acting) → (with_event_where test event a).launched ≡ a.launched
 where_launches true event a = refl
 where_launches false event a = refl
 
@@ -40,17 +40,17 @@ either_launches false one other same = refl
 
 -- ---- messages
 
-firing_launches : (component : ℕ) (message : Message) (node : ℕ) (a : Acting) → (fired component message node a).launched ≡ a.launched
+firing_launches : (component : ℕ) (message : Message) (node : ℕ) (a : Acting) → (with_item_fired component message node a).launched ≡ a.launched
 firing_launches component message node a = by (has_room a)
   where
-    by : (b : Bool) → (let after = posted (events.Fired node component message) a in cond b (record after { items = with_firing node message a.items }) after).launched ≡ a.launched
+    by : (b : Bool) → (let after = with_event (events.Fired node component message) a in cond b (record after { items = with_firing node message a.items }) after).launched ≡ a.launched
     by true = refl
     by false = refl
 
 told_launches : (component : ℕ) (message : Message) (item : EventItem) (a : Acting) → (message_post component message item a).launched ≡ a.launched
 told_launches component message item a = by (fires_for_message component message a.items item)
   where
-    by : (b : Bool) → (cond b (fired component message item.node a) a).launched ≡ a.launched
+    by : (b : Bool) → (cond b (with_item_fired component message item.node a) a).launched ≡ a.launched
     by true = firing_launches component message item.node a
     by false = refl
 
@@ -91,35 +91,35 @@ unfolding button_posts
 button_launches a = items_launch button_post (λ item a. where_launches (fires_for_button a.items item) (events.Button item.node) a) a.items.items a
 
 key_posts_launch : (down : Bool) (key : ℕ) (a : Acting) → (key_posts down key a).launched ≡ a.launched
-key_posts_launch true key a = either_launches _ (button_posts (pressed key a)) (pressed key a) (button_launches (pressed key a))
+key_posts_launch true key a = either_launches _ (button_posts (with_press key a)) (with_press key a) (button_launches (with_press key a))
 key_posts_launch false key a = refl
 
 key_launches : (key : ℕ) (down : Bool) (s : Scene) → (key_effect key down s).launched ≡ None
 unfolding key_effect
 key_launches key down s = by (passes key s.document)
   where
-    by : (b : Bool) → (cond b (done (key_posts down key) s) (nothing_done s)).launched ≡ None
+    by : (b : Bool) → (cond b (effect_of_change (key_posts down key) s) (no_effect s)).launched ≡ None
     by true = key_posts_launch down key (acting_in no_event s)
     by false = refl
 
 -- ---- timers
 
-post_launches : (number : ℕ) (b : Bool) (a : Acting) → (cond b (posted (events.Timer number) a) (timer_settled number (posted (events.Timer number) a))).launched ≡ a.launched
+post_launches : (number : ℕ) (b : Bool) (a : Acting) → (cond b (with_event (events.Timer number) a) (with_timer_settled number (with_event (events.Timer number) a))).launched ≡ a.launched
 post_launches number true a = refl
 post_launches number false a = refl
 
-fired_launches : (moment number : ℕ) (a : Acting) → (timer_fired moment number a).launched ≡ a.launched
+fired_launches : (moment number : ℕ) (a : Acting) → (with_timer_fired moment number a).launched ≡ a.launched
 fired_launches moment number a =
     let b = acting_with_timers (with_fired moment a.browser.timers) a in
     post_launches number (nat_lt (length b.queue) most_events) b
 
-all_launch : (left moment : ℕ) (a : Acting) → (timers_fired left moment a).launched ≡ a.launched
-unfolding timers_fired
+all_launch : (left moment : ℕ) (a : Acting) → (with_timers_fired left moment a).launched ≡ a.launched
+unfolding with_timers_fired
 all_launch zero moment a = refl
-all_launch (suc more) moment a = by (first_due moment a.browser.timers) (λ number. all_launch more moment (timer_fired moment number a))
+all_launch (suc more) moment a = by (first_due moment a.browser.timers) (λ number. all_launch more moment (with_timer_fired moment number a))
   where
-    by : (o : Option ℕ) → ((number : ℕ) → (timers_fired more moment (timer_fired moment number a)).launched ≡ (timer_fired moment number a).launched)
-        → (option_map_or (λ number. timers_fired more moment (timer_fired moment number a)) o a).launched ≡ a.launched
+    by : (o : Option ℕ) → ((number : ℕ) → (with_timers_fired more moment (with_timer_fired moment number a)).launched ≡ (with_timer_fired moment number a).launched)
+        → (option_map_or (λ number. with_timers_fired more moment (with_timer_fired moment number a)) o a).launched ≡ a.launched
     by None rest = refl
     by (Some number) rest = rest number ∙ fired_launches moment number a
 

@@ -20,13 +20,13 @@ use Rattle.multipart_entities.specs.declared.paths.Path.{Path}
 use Rattle.acting_documents.specs.Beginnings.{load_effect}
 use Rattle.acting_documents.specs.Documents.{Document, document_lines}
 use Rattle.acting_documents.specs.devices.Doings.{IsScene}
-use Rattle.acting_documents.specs.Handling.{change_effect, due_effect, handled, without_first}
+use Rattle.acting_documents.specs.Handling.{change_effect, due_effect, event_effect, without_first}
 use Rattle.acting_documents.specs.devices.Kept.{IsDocument, KeptDocument}
 use Rattle.acting_documents.specs.Runs.{Effect, Scene}
-use Rattle.page.specs.devices.Acts.{Acts, ActsApart, HasActed, HasStayed, Lent, lent_to}
+use Rattle.page.specs.devices.Acts.{Acts, ActsApart, HasActed, HasStayed, Lent, with_lent}
 use Rattle.page.specs.Dispatches.{dispatch, dispatches, event_in, load_at, most_dispatches, next_and, next_event, next_load, turn}
 use Rattle.page.specs.Inputs.{change_step, display_of, document_step, due_step, with_clock}
-use Rattle.page.specs.Loading.{load, loadable_reading, opened, wanted_path}
+use Rattle.page.specs.Loading.{load, loadable_reading, document_of_draft, wanted_path}
 use Rattle.page.specs.devices.Pendings.{Loads, loading_behind, wanted_at, wanted_of}
 use Rattle.page.specs.Standing.{AreDocuments, Begins, HasMade, HasMadeAmid, HasMadeOf, IsAlone, Makes, MakesAmid, MakesWith, MayMake, PageState, Posts, StandsAmid, StandsFor, TakesLoad, behind_launch, with_document}
 use Rattle.page.specs.State.{State, Step, Wanted, scene_in, stays_or_goes, step_behind, step_of, still}
@@ -118,9 +118,9 @@ abbrev pub lent_by : PageState → ModulesState → Lent
 lent_by page modules = record { browser = page.browser; modules = modules }
 
 -- the document that is lent it is that of the state, with what it acts on
-pub scene_of : (page : PageState) (modules : ModulesState) (changes : List (ℕ × Change)) (s : State) (k : KeptDocument) (d : Document) → StandsAmid page modules changes s → IsDocument k d → IsScene (lent_to k (lent_by page modules) page.clock) (scene_in s d)
+pub scene_of : (page : PageState) (modules : ModulesState) (changes : List (ℕ × Change)) (s : State) (k : KeptDocument) (d : Document) → StandsAmid page modules changes s → IsDocument k d → IsScene (with_lent k (lent_by page modules) page.clock) (scene_in s d)
 scene_of page modules changes s k d stands is = record {
-  is = record { programs = is.programs; others = ap (λ (x : KeptDocument). lent_to x (lent_by page modules) page.clock) is.others };
+  is = record { programs = is.programs; others = ap (λ (x : KeptDocument). with_lent x (lent_by page modules) page.clock) is.others };
   lent_is = stands.browser;
   now_is = stands.clock;
   modules = stands.modules_are;
@@ -391,9 +391,9 @@ displayed_with {A} {E} old page new k shown before between after left called res
 
 -- ---- events
 
-event_there : (s : State) (d : Document) (event : Event) → s.document ≡ Some d → first_of d.queue ≡ Some event → next_event s ≡ Some (step_of s (handled event (without_first (scene_in s d))))
+event_there : (s : State) (d : Document) (event : Event) → s.document ≡ Some d → first_of d.queue ≡ Some event → next_event s ≡ Some (step_of s (event_effect event (without_first (scene_in s d))))
 event_there s d event there first =
-    ap (option_and_then (event_in s)) there ∙ ap (option_map (λ event. step_of s (handled event (without_first (scene_in s d))))) first
+    ap (option_and_then (event_in s)) there ∙ ap (option_map (λ event. step_of s (event_effect event (without_first (scene_in s d))))) first
 
 -- without its first event
 abbrev pub queue_taken : KeptDocument → KeptDocument
@@ -409,7 +409,7 @@ same_queue : (k : KeptDocument) (d : Document) → IsDocument k d → k.queue �
 same_queue k d is = ap (λ (x : KeptDocument). x.queue) is.others
 
 event_made : (event : Event) (launched : Option Path) (lent given_back : ModulesState) (page : PageState) (k new : KeptDocument) (browser : BrowserParts) (before after : List ℕ) → page.document ≡ Some k → page.loading ≡ kept.Nothing → first_of k.queue ≡ Some event
-    → Acts (handled event) launched page.clock (queue_taken k) new (lent_by page lent) (record { browser = browser; modules = given_back }) before after → MayMake true lent given_back next_event page (behind_launch launched (with_document new browser page)) before after
+    → Acts (event_effect event) launched page.clock (queue_taken k) new (lent_by page lent) (record { browser = browser; modules = given_back }) before after → MayMake true lent given_back next_event page (behind_launch launched (with_document new browser page)) before after
 event_made event launched lent given_back page k new browser before after is none first acts = record {
   text = acts.text;
   printed = acts.printed;
@@ -417,7 +417,7 @@ event_made event launched lent given_back page k new browser before after is non
       let there = document_there page s k is stands.document in
       let scene = without_first (scene_in s there.0) in
       let acted = acts.acts scene (scene_of page lent [] s (queue_taken k) (taken_of there.0) stands (taken_is k there.0 there.2)) in
-      let made = made_of launched page lent given_back s new browser acts.text (handled event scene) none stands acted in
+      let made = made_of launched page lent given_back s new browser acts.text (event_effect event scene) none stands acted in
       subst (HasMadeOf true (behind_launch launched (with_document new browser page)) given_back acts.text s)
       (sym (event_there s there.0 event there.1 (ap first_of (sym (same_queue k there.0 there.2)) ∙ first))) (record { stands = made.stands; text_is = made.text_is });
 }
@@ -434,7 +434,7 @@ no_document : (s : State) → s.document ≡ None → next_event s ≡ None
 no_document s e = ap (option_and_then (event_in s)) e
 
 no_event : (s : State) (d : Document) → s.document ≡ Some d → first_of d.queue ≡ None → next_event s ≡ None
-no_event s d there none = ap (option_and_then (event_in s)) there ∙ ap (option_map (λ event. step_of s (handled event (without_first (scene_in s d))))) none
+no_event s d there none = ap (option_and_then (event_in s)) there ∙ ap (option_map (λ event. step_of s (event_effect event (without_first (scene_in s d))))) none
 
 pub no_document_acts : (modules : ModulesState) (old page : PageState) (before : List ℕ) → page ≡ old → page.document ≡ None → MayMake false modules modules next_event old page before before
 no_document_acts modules old page before view is =
@@ -470,13 +470,13 @@ no_event_waits modules old page k taken before view is none e =
     })
 
 pub event_handled : (event : Event) (launched : Option Path) (lent given_back : ModulesState) (old page now : PageState) (k taken new : KeptDocument) (browser : BrowserParts) (before after : List ℕ) → page ≡ old → page.document ≡ Some k → page.loading ≡ kept.Nothing
-    → Some event ≡ first_of k.queue → taken ≡ queue_taken k → Acts (handled event) launched page.clock taken new (lent_by page lent) (record { browser = browser; modules = given_back }) before after
+    → Some event ≡ first_of k.queue → taken ≡ queue_taken k → Acts (event_effect event) launched page.clock taken new (lent_by page lent) (record { browser = browser; modules = given_back }) before after
     → now ≡ behind_launch launched (with_document new browser page) → MayMake true lent given_back next_event old now before after
 event_handled event launched lent given_back old page now k taken new browser before after view is none first taken_as acts same =
     subst (λ (p : PageState). MayMake true lent given_back next_event p now before after) view
     (subst (λ (p : PageState). MayMake true lent given_back next_event page p before after) (sym same)
     (event_made event launched lent given_back page k new browser before after is none (sym first)
-    (subst (λ (x : KeptDocument). Acts (handled event) launched page.clock x new (lent_by page lent) (record { browser = browser; modules = given_back }) before after) taken_as acts)))
+    (subst (λ (x : KeptDocument). Acts (event_effect event) launched page.clock x new (lent_by page lent) (record { browser = browser; modules = given_back }) before after) taken_as acts)))
 
 -- ---- dispatches
 
@@ -631,7 +631,7 @@ load_made lent given_back page now k before between after wanted loads begins =
       makes = λ s stands.
           let at = path_wanted page.loading wanted s.modules in
           let has = loads.loads s.modules stands.modules_are stands.current at.0 at.1 s.read stands.reader in
-          let d = opened s.read at.0 has.draft in
+          let d = document_of_draft s.read at.0 has.draft in
           let acted = acts.acts (scene_in s d) (scene_of page lent [] s k d stands has.document_is) in
           let made = made_of begins.launched (with_loading kept.Nothing page) lent given_back (unwanting s) begins.document begins.browser acts.text (load_effect (scene_in s d)) refl (nothing_wanted page lent s stands) acted in
           subst (λ (p : PageState). HasMadeOf true p given_back (loads.text ++ acts.text) s (next_load s)) (sym begins.new_is)

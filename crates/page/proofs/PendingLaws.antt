@@ -25,7 +25,7 @@ use Rattle.page.specs.devices.Gifts.{IsFinished}
 use Rattle.acting_documents.specs.Documents.{Document}
 use Rattle.acting_documents.specs.devices.Kept.{IsDocument, KeptDocument, kept_as, kept_first}
 use Rattle.page.specs.Lines.{load_lines}
-use Rattle.page.specs.Loading.{are_settled, is_settled, loadable_reading, reading_in, once_settled, opened, text_at, wanted_path}
+use Rattle.page.specs.Loading.{are_settled, is_settled, loadable_reading, reading_in, reading_if_settled, document_of_draft, text_at, wanted_path}
 use Rattle.page.specs.devices.PendingStates.{IsFound, IsStartPath, PendingState}
 use Rattle.page.specs.devices.Pendings.{Loads, LoadsAs, LoadsUnread, WaitsAt, wanted_at, wanted_of}
 use Rattle.page.specs.State.{Wanted}
@@ -38,7 +38,7 @@ abbrev reading_now : Modules → DraftState → Option (Result DraftState DocFau
 reading_now modules draft = cond (are_settled modules draft.needs) (Some (Ok (given_now modules draft))) None
 
 reading_pending : (modules : Modules) (pending : PendingState) → IsFound modules pending → loadable_reading modules pending.path ≡ reading_now modules pending.draft
-reading_pending modules pending is = ap (reading_in modules pending.path) is.found ∙ ap (once_settled modules pending.path) is.reading_is ∙ ap (reading_now modules) (sym is.draft_is)
+reading_pending modules pending is = ap (reading_in modules pending.path) is.found ∙ ap (reading_if_settled modules pending.path) is.reading_is ∙ ap (reading_now modules) (sym is.draft_is)
 
 -- the path of what is wanted is that at which it was read
 path_wanted : (is_start : Bool) (modules : Modules) (own path : Path) → IsStartPath is_start modules own → wanted_path (wanted_at is_start own) modules ≡ Some path → own ≡ path
@@ -117,7 +117,7 @@ goes_on state pending place before w = record {
 -- it is the one that the draft opens
 opened_as : (read : Reader) (path : Path) (draft : DraftState) (items : List Item) (rules : List Rule) (programs : List ToldProgram) (handlers : List HandlerState) (bad : List ℕ) (document : KeptDocument)
     → document ≡ kept_first path items rules programs handlers document.lent document.now document.modules → items ≡ draft.items → rules ≡ document_rules draft → AreScripts read (sources_of draft) programs handlers bad
-    → IsDocument document (opened read path draft)
+    → IsDocument document (document_of_draft read path draft)
 opened_as read path draft items rules programs handlers bad document is items_are rules_are scripts = record {
   programs = subst (λ (told : List ToldProgram). AllZip Tells (programs_by read (sources_of draft)) told) (sym (ap (λ (d : KeptDocument). d.programs) is)) scripts.programs_are;
   others =
@@ -125,7 +125,7 @@ opened_as read path draft items rules programs handlers bad document is items_ar
       ∙ ap (λ (i : List Item). kept_first path i rules programs handlers document.lent document.now document.modules) items_are
       ∙ ap (λ (r : List Rule). kept_first path draft.items r programs handlers document.lent document.now document.modules) rules_are
       ∙ ap (λ (h : List HandlerState). kept_first path draft.items (document_rules draft) programs h document.lent document.now document.modules) scripts.handlers_are
-      ∙ same_beside document (opened read path draft) programs (ap (λ (d : KeptDocument). d.programs) is) (ap (λ (d : KeptDocument). d.worked) is) (ap (λ (d : KeptDocument). d.launched) is);
+      ∙ same_beside document (document_of_draft read path draft) programs (ap (λ (d : KeptDocument). d.programs) is) (ap (λ (d : KeptDocument). d.worked) is) (ap (λ (d : KeptDocument). d.launched) is);
 }
   where
     -- what is kept beside the document is the same

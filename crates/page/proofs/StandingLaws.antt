@@ -19,18 +19,18 @@ use Rattle.module_store.specs.Staying.{tells_of, is_gone}
 use Rattle.module_store.specs.Store.{gone_by}
 use Rattle.page.specs.declared.loading.Loading.{Loading}
 use Rattle.page.specs.declared.loading.Loading.TheVariants as kept
-use Rattle.page.specs.devices.Pendings.{IsCurrent, loading_behind, loading_behind_all, unread, wanted_at, wanted_of}
+use Rattle.page.specs.devices.Pendings.{IsCurrent, loading_behind, loading_behind_all, unread_loading, wanted_at, wanted_of}
 use Rattle.page.specs.devices.PendingStates.{IsFound, IsStartPath, PendingState}
 use Rattle.page.specs.Standing.{PageState, StandsAmid, StandsFor}
 use Rattle.page.specs.State.{State, with_modules}
 
 -- ---- what is wanted stays so
 
-wanted_unread : (is_start : Bool) (path : Path) → wanted_of (unread is_start path) ≡ wanted_at is_start path
+wanted_unread : (is_start : Bool) (path : Path) → wanted_of (unread_loading is_start path) ≡ wanted_at is_start path
 wanted_unread true path = refl
 wanted_unread false path = refl
 
-wanted_anew : (told : Bool) (pending : PendingState) → wanted_of (cond told (unread pending.is_start pending.path) (kept.Pending pending)) ≡ wanted_of (kept.Pending pending)
+wanted_anew : (told : Bool) (pending : PendingState) → wanted_of (cond told (unread_loading pending.is_start pending.path) (kept.Pending pending)) ≡ wanted_of (kept.Pending pending)
 wanted_anew true pending = wanted_unread pending.is_start pending.path
 wanted_anew false pending = refl
 
@@ -72,11 +72,11 @@ still_nothing : (changes : List (ℕ × Change)) → loading_behind_all changes 
 still_nothing [] = refl
 still_nothing (change ∷ changes) = still_nothing changes
 
-still_unread : (is_start : Bool) (path : Path) (changes : List (ℕ × Change)) → loading_behind_all changes (unread is_start path) ≡ unread is_start path
+still_unread : (is_start : Bool) (path : Path) (changes : List (ℕ × Change)) → loading_behind_all changes (unread_loading is_start path) ≡ unread_loading is_start path
 still_unread true path changes = still_start changes
 still_unread false path changes = still_at path changes
 
-unread_current : (is_start : Bool) (path : Path) (modules : Modules) → IsCurrent modules (unread is_start path)
+unread_current : (is_start : Bool) (path : Path) (modules : Modules) → IsCurrent modules (unread_loading is_start path)
 unread_current true path modules = tt
 unread_current false path modules = tt
 
@@ -86,7 +86,7 @@ is_told component number changes = list_any (λ change. eqb component change.0 &
 
 -- what is left of a document that was read
 abbrev left_of : Bool → PendingState → Loading
-left_of told pending = cond told (unread pending.is_start pending.path) (kept.Pending pending)
+left_of told pending = cond told (unread_loading pending.is_start pending.path) (kept.Pending pending)
 
 -- it is forgotten exactly where one of them is of its module
 pending_behind_all : (changes : List (ℕ × Change)) (pending : PendingState) → loading_behind_all changes (kept.Pending pending) ≡ left_of (is_told pending.path.component pending.path.«module» changes) pending

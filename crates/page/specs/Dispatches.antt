@@ -5,7 +5,7 @@ use Rattle.std.specs.Option.{option_or}
 use Rattle.multipart_entities.specs.declared.paths.Path.{Path}
 use Rattle.event_queue.specs.Queues.{first_of}
 use Rattle.acting_documents.specs.Documents.{Document}
-use Rattle.acting_documents.specs.Handling.{handled, without_first}
+use Rattle.acting_documents.specs.Handling.{event_effect, without_first}
 use Rattle.page.specs.Loading.{load, loadable_reading, wanted_path}
 use Rattle.page.specs.State.{State, Step, scene_in, step_behind, step_of}
 
@@ -18,7 +18,7 @@ next_load s = option_and_then (load_at s) (wanted_path s.wanted s.modules)
 
 abbrev pub event_in : State → Document → Option Step
 event_in s d =
-    option_map (λ event. step_of s (handled event (without_first (scene_in s d))))
+    option_map (λ event. step_of s (event_effect event (without_first (scene_in s d))))
     (first_of d.queue)
 
 abbrev pub next_event : State → Option Step

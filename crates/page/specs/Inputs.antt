@@ -7,7 +7,7 @@ use Rattle.display_list.specs.Show.{clock_line}
 use Rattle.event_messages.specs.declared.messages.Message.{Message}
 use Rattle.acting_documents.specs.Documents.{document_lines}
 use Rattle.event_queue.specs.Timers.{least_moment}
-use Rattle.document_stages.specs.Acting.{word_added}
+use Rattle.document_stages.specs.Acting.{with_word}
 use Rattle.acting_documents.specs.Handling.{change_effect, due_effect, key_effect, message_effect}
 use Rattle.acting_documents.specs.Runs.{Effect, Scene}
 use Rattle.module_store.specs.Lines.{line_of_change}
@@ -60,7 +60,7 @@ due_step moment s =
 
 -- one random word more
 abbrev pub with_random : ℕ → State → State
-with_random word s = record s { browser = word_added word s.browser }
+with_random word s = record s { browser = with_word word s.browser }
 
 -- the display list of the document as it is now, behind the line of the clock; without a document it is that
 -- line alone

@@ -48,15 +48,15 @@ given_draft modules path items =
     with_gifts (map (text_at modules) (needs_of path items)) (draft_of path items)
 
 -- A document can be loaded once none of its needs is waited for, and one that is refused has no needs.
-abbrev pub once_settled : Modules → Path → Result (List Item) DocFault
+abbrev pub reading_if_settled : Modules → Path → Result (List Item) DocFault
     → Option (Result DraftState DocFault)
-once_settled modules path (Ok items) =
+reading_if_settled modules path (Ok items) =
     if are_settled modules (needs_of path items) then Some (Ok (given_draft modules path items))
     else None
-once_settled modules path (Err fault) = Some (Err fault)
+reading_if_settled modules path (Err fault) = Some (Err fault)
 
 abbrev pub reading_in : Modules → Path → Resource → Option (Result DraftState DocFault)
-reading_in modules path (Found bytes) = once_settled modules path (reading_of bytes)
+reading_in modules path (Found bytes) = reading_if_settled modules path (reading_of bytes)
 reading_in modules path Waiting = None
 reading_in modules path Missing = None
 
@@ -72,8 +72,8 @@ wanted_path NoDocument modules = None
 
 -- ---- the document, before its scripts run
 
-abbrev pub opened : Reader → Path → DraftState → Document
-opened read path draft =
+abbrev pub document_of_draft : Reader → Path → DraftState → Document
+document_of_draft read path draft =
     record {
       path = path;
       tree = first_tree draft.items (document_rules draft);
@@ -88,15 +88,15 @@ opened read path draft =
 -- ---- the load
 
 -- none is wanted while its scripts run; they may launch another
-abbrev pub loaded : State → Path → DraftState → Step
-loaded s path draft =
+abbrev pub load_step : State → Path → DraftState → Step
+load_step s path draft =
     step_behind (load_lines path (bad_numbers s.read (sources_of draft)))
     (step_of (record s { wanted = NoDocument })
-    (load_effect (scene_in s (opened s.read path draft))))
+    (load_effect (scene_in s (document_of_draft s.read path draft))))
 
 -- behind a document that is refused there is none, and none is wanted
 abbrev pub load : State → Path → Result DraftState DocFault → Step
-load s path (Ok draft) = loaded s path draft
+load s path (Ok draft) = load_step s path draft
 load s path (Err fault) =
     record {
       state = record s { document = None; wanted = NoDocument };

@@ -79,8 +79,8 @@ goes_on s scene =
     }
 
 -- Behind a document that ended there is none: its timers end with it, and this one is wanted. The locks stay.
-abbrev pub gone_for : Path → State → Scene → State
-gone_for path s scene =
+abbrev pub without_document_for : Path → State → Scene → State
+without_document_for path s scene =
     record s {
       document = None;
       wanted = DocumentAt path;
@@ -92,7 +92,7 @@ gone_for path s scene =
 abbrev pub gives_way : Path → State → Scene → Step
 gives_way path s scene =
     let e = unload_effect scene in
-    record { state = gone_for path s e.scene; text = e.text }
+    record { state = without_document_for path s e.scene; text = e.text }
 
 -- what becomes of a document that goes on or has launched another
 abbrev pub stays_or_goes : Option Path → State → Scene → Step

@@ -5,7 +5,7 @@ ghost use Rattle.std.specs.Io.{StartsWith};
 ghost use Rattle.std.specs.Prelude.{◌≡◌, ◌<◌, ◌^◌, IfOk, OnOk};
 ghost use Rattle.acting_documents.specs.Notices.{IsInTime, notice_effect};
 ghost use Rattle.acting_documents.specs.devices.Doings.{Does};
-ghost use Rattle.page.specs.devices.Acts.{Acts, ActsApart, ActsLent, GivesWay, lent_to, task_effect};
+ghost use Rattle.page.specs.devices.Acts.{Acts, ActsApart, ActsLent, GivesWay, with_lent, task_effect};
 
 use acting_documents::{ActingDocument, Notice};
 use bml_bytes::NoMemory;
@@ -52,7 +52,7 @@ fn exchange(
     clock: u64,
 )
     requires { clock < 2 ^ 62 }
-    ensures lent { document.new ≡ lent_to document.old
+    ensures lent { document.new ≡ with_lent document.old
         (record { browser = browser.old; modules = modules.old }) clock }
     ensures browser { browser.new ≡ document.old.lent }
     ensures modules { modules.new ≡ document.old.modules }

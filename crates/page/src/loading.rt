@@ -5,7 +5,7 @@ ghost use Rattle.std.specs.Prelude.{◌≡◌, ◌++◌, IfOk, OnOk};
 ghost use Rattle.page.specs.Lines.{refuse_line};
 ghost use Rattle.page.specs.declared.loading.Load.TheVariants as came;
 ghost use Rattle.page.specs.declared.loading.Loading.TheVariants as kept;
-ghost use Rattle.page.specs.devices.Pendings.{KnowsItsPlace, Loads, LoadsUnread, is_told_by as told_by, loading_behind, unread, wanted_anew};
+ghost use Rattle.page.specs.devices.Pendings.{KnowsItsPlace, Loads, LoadsUnread, is_told_by as told_by, loading_behind, unread_loading, wanted_anew};
 
 use crate::lines::push_refuse_line;
 use crate::pending::Pending;
@@ -46,7 +46,7 @@ impl Loading {
     /// The document is wanted that is to be read at a path: the start document, or one that a
     /// script launched.
     pub fn unread(is_start: bool, path: Path) -> Loading
-        ensures { result ≡ unread is_start path }
+        ensures { result ≡ unread_loading is_start path }
     {
         if is_start {
             Loading::Start

@@ -10,7 +10,7 @@ ghost use Rattle.page.specs.Loading.{are_settled};
 ghost use Rattle.page.specs.declared.loading.Loading.TheVariants as kept;
 ghost use Rattle.page.specs.Lines.{load_lines};
 ghost use Rattle.page.specs.devices.Gifts.{GivesFound, IsFinished, with_found};
-ghost use Rattle.page.specs.devices.Pendings.{KnowsItsPlace, Loads, LoadsSettled, WaitsAt, unread};
+ghost use Rattle.page.specs.devices.Pendings.{KnowsItsPlace, Loads, LoadsSettled, WaitsAt, unread_loading};
 
 use crate::lines::push_load_lines;
 use crate::loading::{Load, Loading};
@@ -74,7 +74,7 @@ impl Pending {
 
     /// The same document is wanted, and is to be read once more.
     pub fn anew(self) -> Loading
-        ensures { result ≡ unread self.is_start self.path }
+        ensures { result ≡ unread_loading self.is_start self.path }
     {
         let Pending { is_start, path, .. } = self;
         Loading::unread(is_start, path)

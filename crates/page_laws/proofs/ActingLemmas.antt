@@ -34,7 +34,7 @@ use Rattle.dom_objects.specs.Reads.{read_value}
 use Rattle.dom_objects.specs.Writes.{Change, change_of, changed_items, changed_tree}
 use Rattle.dom_objects.specs.Writes.Change.{NoChange, ChangesText, ChangesAttribute, ChangesStyle}
 use Rattle.dom_objects.specs.declared.current_events.CurrentEvent.{CurrentEvent}
-use Rattle.document_stages.specs.Acting.{Acting, Answered, acted, acting_with_timers, activated, begun, browser_value, document_call, due_posted, element_call, first_focus, focus_on, focused, gives, is_subscription, is_unload, launch, left_by, moved_to, no_focus, node_id, node_read, node_written, not_callable, parts_of, posted, posted_for, read_by, register_value, text_written, timer_fired, timer_posted, timer_settled, timers_fired, with_browser, with_focus, with_line, written}
+use Rattle.document_stages.specs.Acting.{Acting, CallAnswer, with_action, acting_with_timers, with_active, with_first_events, browser_value, document_call, with_due_events, element_call, first_focus, focus_on, with_focus_asked, gives, is_subscription, is_unload, launch, without_focus_of, with_focus_moved, no_focus, node_id, node_member, with_node_written, not_callable, parts_of, with_event, with_event_for, member_value, register_value, with_text_written, with_timer_fired, with_timer_event, with_timer_settled, with_timers_fired, with_browser, with_focus, with_line, with_member_set}
 use Rattle.document_stages.specs.EventLines.{launch_line}
 use Rattle.page_laws.specs.Soundness.{AreTimers, has_element, has_node, is_good, is_good_event, is_good_place, names_well}
 use Rattle.page_laws.proofs.EventItemLemmas.{AreGoodItems, subscribed-good}
@@ -85,7 +85,7 @@ IsGivenAnswer items Ended = Unit {0}
 IsGivenAnswer items NotCallable = Unit {0}
 
 -- and what is acted on behind it is sound, and these are the objects
-pub record IsSoundAnswer (items : List Item) (heap : List ObjectState) (r : Answered)
+pub record IsSoundAnswer (items : List Item) (heap : List ObjectState) (r : CallAnswer)
     : Type 0 where
   pub answer : IsGivenAnswer items r.answer
   pub acting : IsSoundActing items r.acting
@@ -150,7 +150,7 @@ module _ (laws : TreeLaws) (items : List Item) where
   -- ---- posts
 
   pub posted-sound : (event : Event) (a : Acting) → is_good_event items event ≡ true
-      → IsSoundActing items a → IsSoundActing items (posted event a)
+      → IsSoundActing items a → IsSoundActing items (with_event event a)
   posted-sound event a h s = record {
     nodes = s.nodes;
     focus = s.focus;
@@ -179,20 +179,20 @@ module _ (laws : TreeLaws) (items : List Item) where
   on-good node h = record { has = h; active = refl }
 
   blur-sound : (node : Option ℕ) (a : Acting) → is_good_place items node ≡ true
-      → IsSoundActing items a → IsSoundActing items (posted_for events.Blur node a)
+      → IsSoundActing items a → IsSoundActing items (with_event_for events.Blur node a)
   blur-sound None a h s = s
   blur-sound (Some node) a h s = posted-sound (events.Blur node) a h s
 
   -- ---- moves of the focus
 
   pub moved-sound : (node : ℕ) (a : Acting) → has_element items node ≡ true
-      → IsSoundActing items a → IsSoundActing items (moved_to node a)
-  unfolding moved_to
+      → IsSoundActing items a → IsSoundActing items (with_focus_moved node a)
+  unfolding with_focus_moved
   moved-sound node a h s = by (is_node node a.tree.focus.focus)
     where
       by : (has : Bool) → IsSoundActing items (if has then a
-          else posted (events.Focus node)
-          (posted_for events.Blur (number_of a.tree.focus.focus) (with_focus (focus_on node) a)))
+          else with_event (events.Focus node)
+          (with_event_for events.Blur (number_of a.tree.focus.focus) (with_focus (focus_on node) a)))
       by true = s
       by false =
           posted-sound (events.Focus node) _ h
@@ -206,12 +206,12 @@ module _ (laws : TreeLaws) (items : List Item) where
       subst (λ (n : ℕ). has_element items n ≡ true) (eqb-true found.0 node e) h
 
   left-sound : (node : ℕ) (a : Acting) → IsSoundActing items a
-      → IsSoundActing items (left_by node a)
-  unfolding left_by
+      → IsSoundActing items (without_focus_of node a)
+  unfolding without_focus_of
   left-sound node a s = by (is_node node a.tree.focus.focus) refl
     where
       by : (has : Bool) → is_node node a.tree.focus.focus ≡ has → IsSoundActing items
-          (if has then posted (events.Blur node) (with_focus no_focus a) else a)
+          (if has then with_event (events.Blur node) (with_focus no_focus a) else a)
       by true e =
           posted-sound (events.Blur node) (with_focus no_focus a)
           (has-element node a.tree.focus.focus e s.focus.has)
@@ -219,19 +219,19 @@ module _ (laws : TreeLaws) (items : List Item) where
       by false e = s
 
   activated-sound : (node : ℕ) (a : Acting) → has_element items node ≡ true
-      → IsSoundActing items a → IsSoundActing items (activated node a)
+      → IsSoundActing items a → IsSoundActing items (with_active node a)
   activated-sound node a h s =
       posted-sound (events.Click node) _ h
       (focus-sound (record a.tree.focus { active = Some (node_id node) }) a
       (record { has = s.focus.has; active = h }) s)
 
   pub acted-sound : (action : Action) (a : Acting) → IsGoodAction items action
-      → IsSoundActing items a → IsSoundActing items (acted action a)
+      → IsSoundActing items a → IsSoundActing items (with_action action a)
   acted-sound NoAction a h s = s
   acted-sound (Moves node) a h s = moved-sound node a h s
   acted-sound (Activates node) a h s = activated-sound node a h s
   acted-sound (Accesses node) a h s =
-      posted-sound (events.Click node) (moved_to node a) h (moved-sound node a h s)
+      posted-sound (events.Click node) (with_focus_moved node a) h (moved-sound node a h s)
 
   -- ---- timers
 
@@ -247,38 +247,38 @@ module _ (laws : TreeLaws) (items : List Item) where
   }
 
   timer_posted-sound : (number : ℕ) (a : Acting) → IsSoundActing items a
-      → IsSoundActing items (timer_posted number a)
+      → IsSoundActing items (with_timer_event number a)
   timer_posted-sound number a s = by (nat_lt (length a.queue) most_events)
     where
       event : Event
       event = events.Timer number
 
       by : (room : Bool) → IsSoundActing items
-          (if room then posted event a else timer_settled number (posted event a))
+          (if room then with_event event a else with_timer_settled number (with_event event a))
       by true = posted-sound event a refl s
       by false =
-          timers-sound (with_settled number a.browser.timers) (posted event a)
+          timers-sound (with_settled number a.browser.timers) (with_event event a)
           (with_settled-sound number a.browser.timers s.timers) (posted-sound event a refl s)
 
   fired-sound : (more moment : ℕ) (a : Acting) → IsSoundActing items a
-      → IsSoundActing items (timers_fired more moment a)
-  unfolding timers_fired
+      → IsSoundActing items (with_timers_fired more moment a)
+  unfolding with_timers_fired
   fired-sound zero moment a s = s
   fired-sound (suc more) moment a s =
       by (fired-sound more moment) (first_due moment a.browser.timers)
     where
-      by : ((a : Acting) → IsSoundActing items a → IsSoundActing items (timers_fired more moment a))
+      by : ((a : Acting) → IsSoundActing items a → IsSoundActing items (with_timers_fired more moment a))
           → (number : Option ℕ) → IsSoundActing items (option_map_or
-          (λ number. timers_fired more moment (timer_fired moment number a)) number a)
+          (λ number. with_timers_fired more moment (with_timer_fired moment number a)) number a)
       by rest None = s
       by rest (Some number) =
-          rest (timer_fired moment number a)
+          rest (with_timer_fired moment number a)
           (timer_posted-sound number _
           (timers-sound (with_fired moment a.browser.timers) a
           (with_fired-sound moment a.browser.timers s.timers) s))
 
   pub due-sound : (moment : ℕ) (a : Acting) → IsSoundActing items a
-      → IsSoundActing items (due_posted moment a)
+      → IsSoundActing items (with_due_events moment a)
   due-sound moment a s = fired-sound most_timers moment a s
 
   -- ---- the first focus
@@ -295,14 +295,14 @@ module _ (laws : TreeLaws) (items : List Item) where
           ∙ nav-element a.tree (pos 0)
 
   begun-by : (node : Option ℕ) (a : Acting) → is_good_place items node ≡ true
-      → IsSoundActing items a → IsSoundActing items (begun node a)
+      → IsSoundActing items a → IsSoundActing items (with_first_events node a)
   begun-by None a h s = posted-sound events.Load a refl s
   begun-by (Some node) a h s =
       posted-sound (events.Focus node) _ h
       (posted-sound events.Load _ refl (focus-sound (focus_on node) a (on-good node h) s))
 
   pub begun-sound : (a : Acting) → IsSoundActing items a
-      → IsSoundActing items (begun (first_focus a) a)
+      → IsSoundActing items (with_first_events (first_focus a) a)
   begun-sound a s = begun-by (first_focus a) a (first-good a s) s
 
   -- ---- what scripts read and write
@@ -334,13 +334,13 @@ module _ (laws : TreeLaws) (items : List Item) where
       by (Some text) = refl
 
   node_read-given : (a : Acting) → IsSoundActing items a → (node : ℕ) (name : List ℕ)
-      → IsGiven items (node_read a node name)
+      → IsGiven items (node_member a node name)
   node_read-given a s node name =
       either-given (is_subscription a node name) (Truth (is_subscribed node a.items))
       (read_value (parts_of a) (ref.Node node) name) refl (part-given a s (ref.Node node) name)
 
   pub read-given : (a : Acting) → IsSoundActing items a → (base : HostRef) (name : List ℕ)
-      → IsGiven items (read_by a base name)
+      → IsGiven items (member_value a base name)
   read-given a s ref.Browser name = browser-given name
   read-given a s ref.Ureg name = register-given a.browser.ureg name
   read-given a s ref.Greg name = register-given a.browser.greg name
@@ -392,7 +392,7 @@ module _ (laws : TreeLaws) (items : List Item) where
   }
 
   text-sound : (a : Acting) → IsSoundActing items a → (base : HostRef) (name text : List ℕ)
-      → IsSoundActing items (text_written a base name text)
+      → IsSoundActing items (with_text_written a base name text)
   text-sound a s ref.Ureg name text = browser-sound _ a s.timers s
   text-sound a s ref.Greg name text = browser-sound _ a s.timers s
   text-sound a s ref.Browser name text = tree-sound a s ref.Browser name text
@@ -415,18 +415,18 @@ module _ (laws : TreeLaws) (items : List Item) where
 
   node-sound : (a : Acting) → IsSoundActing items a → (node : ℕ) (name : List ℕ)
       (value : Value) (heap : List ObjectState)
-      → IsSoundActing items (node_written a node name value heap)
+      → IsSoundActing items (with_node_written a node name value heap)
   node-sound a s node name value heap = by (is_subscription a node name)
     where
       by : (t : Bool) → IsSoundActing items
           (if t then record a { items = with_subscribed node (truth_of value) a.items }
-          else text_written a (ref.Node node) name (text_of heap value))
+          else with_text_written a (ref.Node node) name (text_of heap value))
       by true = subscribed-sound node (truth_of value) a s
       by false = text-sound a s (ref.Node node) name (text_of heap value)
 
   pub written-sound : (a : Acting) → IsSoundActing items a → (base : HostRef) (name : List ℕ)
       (value : Value) (heap : List ObjectState)
-      → IsSoundActing items (written a base name value heap)
+      → IsSoundActing items (with_member_set a base name value heap)
   written-sound a s (ref.Node node) name value heap = node-sound a s node name value heap
   written-sound a s ref.Ureg name value heap =
       text-sound a s ref.Ureg name (text_of heap value)
@@ -444,12 +444,12 @@ module _ (laws : TreeLaws) (items : List Item) where
   -- ---- what scripts call
 
   focused-sound : (node : ℕ) (a : Acting) → IsSoundActing items a
-      → IsSoundActing items (focused node a)
+      → IsSoundActing items (with_focus_asked node a)
   focused-sound node a s =
       by (can_have_focus a.tree node) refl
     where
       by : (can : Bool) → can_have_focus a.tree node ≡ can
-          → IsSoundActing items (if can then moved_to node a else a)
+          → IsSoundActing items (if can then with_focus_moved node a else a)
       by true e =
           moved-sound node a
           (sym (element-same items a.tree.items s.nodes node)
@@ -457,7 +457,7 @@ module _ (laws : TreeLaws) (items : List Item) where
       by false e = s
 
   module _ (heap : List ObjectState) where
-    pub chosen-sound : (t : Bool) (one other : Answered) → IsSoundAnswer items heap one
+    pub chosen-sound : (t : Bool) (one other : CallAnswer) → IsSoundAnswer items heap one
         → IsSoundAnswer items heap other → IsSoundAnswer items heap (if t then one else other)
     chosen-sound true one other h more = h
     chosen-sound false one other h more = more
@@ -482,9 +482,9 @@ module _ (laws : TreeLaws) (items : List Item) where
         → IsSoundAnswer items heap (element_call a node name heap)
     element-sound a s node name =
         chosen-sound (is_same name (codes "focus")) _ _
-        (gives-sound Undefined (focused node a) refl (focused-sound node a s))
+        (gives-sound Undefined (with_focus_asked node a) refl (focused-sound node a s))
         (chosen-sound (is_same name (codes "blur")) _ _
-        (gives-sound Undefined (left_by node a) refl (left-sound node a s)) (none-sound a s))
+        (gives-sound Undefined (without_focus_of node a) refl (left-sound node a s)) (none-sound a s))
 
     -- ---- launches
 

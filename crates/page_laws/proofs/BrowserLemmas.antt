@@ -17,7 +17,7 @@ use Rattle.persistent_arrays.specs.declared.fields.Field.{Field}
 use Rattle.persistent_arrays.specs.declared.kinds.FieldKind.{FieldKind}
 use Rattle.event_queue.specs.Timers.{TimersState, has_place, timer_of, timer_set, with_timer, without_timer}
 use Rattle.browser_objects.specs.ArrayCalls.{values_of_array}
-use Rattle.browser_objects.specs.Calls.{BrowserParts, CallOutcome, Called, argument, array_read, array_written, call_named, call_of, called_of, cleared, count_argument, drawn, first_word, gives, interval_of, least_interval, number, other_words, over, packed_values, path_argument, play_sound, refused, sound_of, text_argument, timer_called, whole_argument, with_interval, with_named, with_path}
+use Rattle.browser_objects.specs.Calls.{BrowserParts, CallOutcome, CallResult, argument, give_array, write_bytes, call_named, call_of, outcome_of_call, end_timer, count_argument, draw_up_to, first_word, gives, interval_of, least_interval, number, other_words, over, packed_values, path_argument, play_sound, gives_nan, sound_of, text_argument, begin_timer, whole_argument, with_interval, with_named, with_path}
 use Rattle.browser_objects.specs.Functions.{named_function}
 use Rattle.browser_objects.specs.declared.calls.BrowserCall.{BrowserCall}
 use Rattle.browser_objects.specs.declared.calls.BrowserCall.TheVariants as the
@@ -38,7 +38,7 @@ bare-good items limit (Function number) h = absurd (cc h)
 bare-good items limit (Host reference) h = absurd (cc h)
 bare-good items limit _ h = refl
 
-pub record IsGoodCall (Good : TimersState → Type 0) (c : Called) : Type 0 where
+pub record IsGoodCall (Good : TimersState → Type 0) (c : CallResult) : Type 0 where
   pub value : is_bare c.value ≡ true
   pub timers : Good c.state.timers
 
@@ -53,19 +53,19 @@ interval-least (pos n) = by (nat_le least_interval n) refl
 
 module _ (Good : TimersState → Type 0) (now : ℕ) (s : BrowserParts)
     (holds : HoldsOfTimers Good now s.timers) where
-  abbrev Holds : Called → Type 0
+  abbrev Holds : CallResult → Type 0
   Holds c = IsGoodCall Good c
 
-  refused-good : Holds (refused s)
+  refused-good : Holds (gives_nan s)
   refused-good = record { value = refl; timers = holds.stays }
 
-  chosen-good : (t : Bool) (one : Called) → (t ≡ true → Holds one)
-      → Holds (if t then one else refused s)
+  chosen-good : (t : Bool) (one : CallResult) → (t ≡ true → Holds one)
+      → Holds (if t then one else gives_nan s)
   chosen-good true one good = good refl
   chosen-good false one good = refused-good
 
-  may-good : {A : Type 0} (f : A → Called) (o : Option A) → ((x : A) → Holds (f x))
-      → Holds (option_map_or f o (refused s))
+  may-good : {A : Type 0} (f : A → CallResult) (o : Option A) → ((x : A) → Holds (f x))
+      → Holds (option_map_or f o (gives_nan s))
   may-good f None good = refused-good
   may-good f (Some x) good = good x
 
@@ -84,14 +84,14 @@ module _ (Good : TimersState → Type 0) (now : ℕ) (s : BrowserParts)
       })
 
   timer-good : (function : Option (List ℕ)) (interval : Option ℤ) (turns : Option ℕ)
-      → Holds (timer_called now function interval turns s)
+      → Holds (begin_timer now function interval turns s)
   timer-good None interval turns = refused-good
   timer-good (Some function) None turns = refused-good
   timer-good (Some function) (Some interval) None = refused-good
   timer-good (Some function) (Some interval) (Some turns) =
       set-good function (interval_of interval) turns (interval-least interval)
 
-  cleared-good : (n : ℕ) → Holds (cleared n s)
+  cleared-good : (n : ℕ) → Holds (end_timer n s)
   cleared-good n =
       chosen-good (is_some (timer_of n s.timers))
       (gives (number 1) (record s { timers = without_timer n s.timers }))
@@ -102,7 +102,7 @@ module _ (Good : TimersState → Type 0) (now : ℕ) (s : BrowserParts)
   path-good : (effect : Path → Effect) (path : Option Path) → Holds (with_path effect path s)
   path-good effect path = may-good _ path (λ path. record { value = refl; timers = holds.stays })
 
-  drawn-good : (n : ℕ) → Holds (drawn n s)
+  drawn-good : (n : ℕ) → Holds (draw_up_to n s)
   drawn-good n =
       chosen-good (nat_le 1 n)
       (gives (number (1 + first_word s.random % n))
@@ -120,24 +120,24 @@ module _ (Good : TimersState → Type 0) (now : ℕ) (s : BrowserParts)
   named-good : (call : ℕ → List FieldKind → CallOutcome) (heap : List ObjectState)
       → ((slot : ℕ) (kinds : List FieldKind) → Holds (call slot kinds).called)
       → (slot : Option ℕ) (kinds : Option (List FieldKind))
-      → Holds (with_named call slot kinds (over heap (refused s))).called
+      → Holds (with_named call slot kinds (over heap (gives_nan s))).called
   named-good call heap good (Some slot) (Some kinds) = good slot kinds
   named-good call heap good None kinds = refused-good
   named-good call heap good (Some slot) None = refused-good
 
   read-good : (values : Option (List Field)) (heap : List ObjectState)
-      → Holds (array_read values heap s).called
+      → Holds (give_array values heap s).called
   read-good None heap = record { value = refl; timers = holds.stays }
   read-good (Some values) heap = record { value = refl; timers = holds.stays }
 
-  written-good : (slot : ℕ) (bytes : Option (List ℕ)) → Holds (array_written slot bytes s)
+  written-good : (slot : ℕ) (bytes : Option (List ℕ)) → Holds (write_bytes slot bytes s)
   written-good slot None = refused-good
   written-good slot (Some bytes) = record { value = refl; timers = holds.stays }
 
   -- ---- the table
 
   one-good : (call : BrowserCall) (base : Path) (arguments : List Value)
-      (heap : List ObjectState) → Holds (called_of call base now arguments heap s).called
+      (heap : List ObjectState) → Holds (outcome_of_call call base now arguments heap s).called
   one-good the.SetInterval base arguments heap =
       timer-good (named_function (text_argument heap arguments 0))
       (whole_argument heap arguments 1) (count_argument heap arguments 2)
@@ -169,6 +169,6 @@ module _ (Good : TimersState → Type 0) (now : ℕ) (s : BrowserParts)
   call-good name base arguments heap = by (call_named name)
     where
       by : (call : Option BrowserCall) → Holds (option_map_or
-          (λ call. called_of call base now arguments heap s) call (over heap (refused s))).called
+          (λ call. outcome_of_call call base now arguments heap s) call (over heap (gives_nan s))).called
       by None = refused-good
       by (Some call) = one-good call base arguments heap

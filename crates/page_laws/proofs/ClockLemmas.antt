@@ -9,11 +9,11 @@ use Rattle.event_queue.specs.declared.events.Event.{Event}
 use Rattle.document_load.specs.Drafts.{DraftState}
 use Rattle.acting_documents.specs.Beginnings.{load_effect}
 use Rattle.acting_documents.specs.Documents.{Document}
-use Rattle.acting_documents.specs.Handling.{due_effect, handled, without_first}
+use Rattle.acting_documents.specs.Handling.{due_effect, event_effect, without_first}
 use Rattle.acting_documents.specs.Runs.{Effect}
 use Rattle.page.specs.Dispatches.{dispatch, dispatches, event_in, load_at, most_dispatches, next_and, next_event, next_load, turn}
 use Rattle.page.specs.Inputs.{due_step, with_clock}
-use Rattle.page.specs.Loading.{load, loadable_reading, opened, wanted_path}
+use Rattle.page.specs.Loading.{load, loadable_reading, document_of_draft, wanted_path}
 use Rattle.page.specs.State.{State, Step, scene_in, stays_or_goes, step_of, still}
 use Rattle.page.specs.State.Wanted.{NoDocument}
 use Rattle.page_laws.proofs.ServiceLemmas.{handled-service, load-service, unload-service}
@@ -36,7 +36,7 @@ load-clock : (s : State) (path : Path) (reading : Option (Result DraftState DocF
 load-clock s path None = tt
 load-clock s path (Some (Ok draft)) =
     step-clock (record s { wanted = NoDocument })
-    (load_effect (scene_in s (opened s.read path draft)))
+    (load_effect (scene_in s (document_of_draft s.read path draft)))
 load-clock s path (Some (Err fault)) = refl
 
 next_load-clock : (s : State) → MayLeave s (next_load s)
@@ -51,9 +51,9 @@ next_event-clock : (s : State) → MayLeave s (next_event s)
 next_event-clock s = by s.document
   where
     of : (d : Document) (event : Option Event) → MayLeave s (option_map
-        (λ event. step_of s (handled event (without_first (scene_in s d)))) event)
+        (λ event. step_of s (event_effect event (without_first (scene_in s d)))) event)
     of d None = tt
-    of d (Some event) = step-clock s (handled event (without_first (scene_in s d)))
+    of d (Some event) = step-clock s (event_effect event (without_first (scene_in s d)))
 
     by : (document : Option Document) → MayLeave s (option_and_then (event_in s) document)
     by None = tt
@@ -118,7 +118,7 @@ load_at-service : (s : State) (path : Path) (reading : Option (Result DraftState
     → MayServe s (option_map (load s path) reading)
 load_at-service s path None = tt
 load_at-service s path (Some (Ok draft)) =
-    let scene = scene_in s (opened s.read path draft) in
+    let scene = scene_in s (document_of_draft s.read path draft) in
     step-service (record s { wanted = NoDocument }) (load_effect scene) (load-service scene)
 load_at-service s path (Some (Err fault)) = refl
 
@@ -134,11 +134,11 @@ next_event-service : (s : State) → MayServe s (next_event s)
 next_event-service s = by s.document
   where
     of : (d : Document) (event : Option Event) → MayServe s (option_map
-        (λ event. step_of s (handled event (without_first (scene_in s d)))) event)
+        (λ event. step_of s (event_effect event (without_first (scene_in s d)))) event)
     of d None = tt
     of d (Some event) =
         let scene = without_first (scene_in s d) in
-        step-service s (handled event scene) (handled-service event scene)
+        step-service s (event_effect event scene) (handled-service event scene)
 
     by : (document : Option Document) → MayServe s (option_and_then (event_in s) document)
     by None = tt

@@ -33,9 +33,9 @@ use Rattle.event_items.specs.Subscriptions.{fires_for_message}
 use Rattle.browser_objects.specs.Calls.{CallOutcome, call_of}
 use Rattle.browser_objects.specs.declared.effects.Effect as of_browser
 use Rattle.browser_objects.specs.declared.effects.Effect.TheVariants as effects
-use Rattle.document_stages.specs.Acting.{Acting, Answered, acted, acting_with_timers, begun, button_posts, button_post, change_posts, each_item, element_call, fired, focus_on, focused, has_room, is_subscription, is_unload, key_posts, launch, left_by, lock_posts, lock_post, message_posts, message_post, module_post, moved_to, no_focus, node_id, node_written, posted, posted_for, posted_where, pressed, read_by, text_written, timer_fired, timer_settled, timers_fired, update_posts, with_browser, with_focus, written}
-use Rattle.document_stages.specs.Hosting.{Hosted, Reply, browser_call, called, done_for, lock_answered}
-use Rattle.acting_documents.specs.Runs.{ended}
+use Rattle.document_stages.specs.Acting.{Acting, CallAnswer, with_action, acting_with_timers, with_first_events, button_posts, button_post, change_posts, each_item, element_call, with_item_fired, focus_on, with_focus_asked, has_room, is_subscription, is_unload, key_posts, launch, without_focus_of, lock_posts, lock_post, message_posts, message_post, module_post, with_focus_moved, no_focus, node_id, with_node_written, with_event, with_event_for, with_event_where, with_press, member_value, with_text_written, with_timer_fired, with_timer_settled, with_timers_fired, update_posts, with_browser, with_focus, with_member_set}
+use Rattle.document_stages.specs.Hosting.{HostParts, Reply, browser_call, reply_of_call, reply_of_effect, answer_of_lock}
+use Rattle.acting_documents.specs.Runs.{end_of_run}
 use Rattle.page_laws.proofs.BrowserLemmas.{call-good}
 use Rattle.page_laws.proofs.CountLemmas.{IsApart, IsCounted, calls-counted, fired-counted, posted-counted}
 use Rattle.page_laws.proofs.EventItemLemmas.{told_in_turn}
@@ -53,7 +53,7 @@ either P false one other h more = more
 
 -- of an event that is none of a timer
 post-counted : (event : Event) (a : Acting) → IsApart event → ActsCounted a
-    → ActsCounted (posted event a)
+    → ActsCounted (with_event event a)
 post-counted event a apart h = posted-counted event a.queue a.browser.timers apart h
 
 -- ---- event items
@@ -74,16 +74,16 @@ each-counted : (step : EventItem → Acting → Acting) → KeepsCounted step �
 each-counted step keeps a h = in_turn-counted step keeps a.items.items a h
 
 where-counted : (t : Bool) (event : Event) (a : Acting) → IsApart event → ActsCounted a
-    → ActsCounted (posted_where t event a)
+    → ActsCounted (with_event_where t event a)
 where-counted t event a apart h =
-    either ActsCounted t (posted event a) a (post-counted event a apart h) h
+    either ActsCounted t (with_event event a) a (post-counted event a apart h) h
 
 told-counted : (component : ℕ) (message : Message)
     → KeepsCounted (message_post component message)
 told-counted component message item a h =
     let after = post-counted (events.Fired item.node component message) a (λ n. refl) h in
     either ActsCounted (fires_for_message component message a.items item)
-    (fired component message item.node a) a
+    (with_item_fired component message item.node a) a
     (either ActsCounted (has_room a) _ _ after after) h
 
 pub messages-counted : (component : ℕ) (message : Message) (a : Acting) → ActsCounted a
@@ -124,60 +124,60 @@ button-counted a h =
 -- ---- the focus, default actions, keys and beginnings
 
 blur-counted : (node : Option ℕ) (a : Acting) → ActsCounted a
-    → ActsCounted (posted_for events.Blur node a)
+    → ActsCounted (with_event_for events.Blur node a)
 blur-counted None a h = h
 blur-counted (Some node) a h = post-counted (events.Blur node) a (λ n. refl) h
 
-moved-counted : (node : ℕ) (a : Acting) → ActsCounted a → ActsCounted (moved_to node a)
-unfolding moved_to
+moved-counted : (node : ℕ) (a : Acting) → ActsCounted a → ActsCounted (with_focus_moved node a)
+unfolding with_focus_moved
 moved-counted node a h =
     let before : Acting =
-    posted_for events.Blur (number_of a.tree.focus.focus) (with_focus (focus_on node) a) in
-    either ActsCounted (is_node node a.tree.focus.focus) a (posted (events.Focus node) before) h
+    with_event_for events.Blur (number_of a.tree.focus.focus) (with_focus (focus_on node) a) in
+    either ActsCounted (is_node node a.tree.focus.focus) a (with_event (events.Focus node) before) h
     (post-counted (events.Focus node) before (λ n. refl)
     (blur-counted (number_of a.tree.focus.focus) (with_focus (focus_on node) a) h))
 
-left-counted : (node : ℕ) (a : Acting) → ActsCounted a → ActsCounted (left_by node a)
-unfolding left_by
+left-counted : (node : ℕ) (a : Acting) → ActsCounted a → ActsCounted (without_focus_of node a)
+unfolding without_focus_of
 left-counted node a h =
     either ActsCounted (is_node node a.tree.focus.focus)
-    (posted (events.Blur node) (with_focus no_focus a)) a
+    (with_event (events.Blur node) (with_focus no_focus a)) a
     (post-counted (events.Blur node) (with_focus no_focus a) (λ n. refl) h) h
 
-focused-counted : (node : ℕ) (a : Acting) → ActsCounted a → ActsCounted (focused node a)
+focused-counted : (node : ℕ) (a : Acting) → ActsCounted a → ActsCounted (with_focus_asked node a)
 focused-counted node a h =
     either ActsCounted (can_have_focus a.tree node) _ a (moved-counted node a h) h
 
-pub acted-counted : (action : Action) (a : Acting) → ActsCounted a → ActsCounted (acted action a)
+pub acted-counted : (action : Action) (a : Acting) → ActsCounted a → ActsCounted (with_action action a)
 acted-counted NoAction a h = h
 acted-counted (Moves node) a h = moved-counted node a h
 acted-counted (Activates node) a h =
     post-counted (events.Click node)
     (with_focus (record a.tree.focus { active = Some (node_id node) }) a) (λ n. refl) h
 acted-counted (Accesses node) a h =
-    post-counted (events.Click node) (moved_to node a) (λ n. refl) (moved-counted node a h)
+    post-counted (events.Click node) (with_focus_moved node a) (λ n. refl) (moved-counted node a h)
 
 pub keys-counted : (down : Bool) (key : ℕ) (a : Acting) → ActsCounted a
     → ActsCounted (key_posts down key a)
 keys-counted true key a h =
-    let after : ActsCounted (pressed key a) =
-    post-counted (events.Default key) (posted (events.KeyDown key) a) (λ n. refl)
+    let after : ActsCounted (with_press key a) =
+    post-counted (events.Default key) (with_event (events.KeyDown key) a) (λ n. refl)
     (post-counted (events.KeyDown key) a (λ n. refl) h) in
-    either ActsCounted (key == key_number Data) (button_posts (pressed key a)) (pressed key a)
-    (button-counted (pressed key a) after) after
+    either ActsCounted (key == key_number Data) (button_posts (with_press key a)) (with_press key a)
+    (button-counted (with_press key a) after) after
 keys-counted false key a h = post-counted (events.KeyUp key) a (λ n. refl) h
 
-pub begun-counted : (node : Option ℕ) (a : Acting) → ActsCounted a → ActsCounted (begun node a)
+pub begun-counted : (node : Option ℕ) (a : Acting) → ActsCounted a → ActsCounted (with_first_events node a)
 begun-counted None a h = post-counted events.Load a (λ n. refl) h
 begun-counted (Some node) a h =
     let first : Acting = with_focus (focus_on node) a in
-    post-counted (events.Focus node) (posted events.Load first) (λ n. refl)
+    post-counted (events.Focus node) (with_event events.Load first) (λ n. refl)
     (post-counted events.Load first (λ n. refl) h)
 
 -- ---- what scripts write
 
 text-counted : (a : Acting) (base : HostRef) (name text : List ℕ) → ActsCounted a
-    → ActsCounted (text_written a base name text)
+    → ActsCounted (with_text_written a base name text)
 text-counted a ref.Ureg name text h = h
 text-counted a ref.Greg name text h = h
 text-counted a ref.Browser name text h = h
@@ -188,13 +188,13 @@ text-counted a (ref.Style node state) name text h = h
 
 node-counted : (a : Acting) (node : ℕ) (name : List ℕ) (value : Value)
     (heap : List ObjectState) → ActsCounted a
-    → ActsCounted (node_written a node name value heap)
+    → ActsCounted (with_node_written a node name value heap)
 node-counted a node name value heap h =
     either ActsCounted (is_subscription a node name) _ _ h h
 
 written-counted : (a : Acting) (base : HostRef) (name : List ℕ) (value : Value)
     (heap : List ObjectState) → ActsCounted a
-    → ActsCounted (written a base name value heap)
+    → ActsCounted (with_member_set a base name value heap)
 written-counted a (ref.Node node) name value heap h = node-counted a node name value heap h
 written-counted a ref.Ureg name value heap h =
     text-counted a ref.Ureg name (text_of heap value) h
@@ -211,7 +211,7 @@ written-counted a (ref.Style node state) name value heap h =
 
 -- ---- what scripts call
 
-abbrev AnswersCounted : Answered → Type 0
+abbrev AnswersCounted : CallAnswer → Type 0
 AnswersCounted r = ActsCounted r.acting
 
 element-counted : (a : Acting) (node : ℕ) (name : List ℕ) (heap : List ObjectState)
@@ -230,16 +230,16 @@ abbrev RepliesCounted : Reply → Type 0
 RepliesCounted r = ActsCounted r.hosted.acting
 
 lock-counted : (answer : LockAnswer) (path : Path) (a : Acting) (heap : List ObjectState)
-    → ActsCounted a → AnswersCounted (lock_answered answer path a heap)
+    → ActsCounted a → AnswersCounted (answer_of_lock answer path a heap)
 lock-counted answers.Kept path a heap h = locks-counted path.component path.«module» a h
 lock-counted answers.Had path a heap h = h
 lock-counted answers.Wanted path a heap h = h
 lock-counted answers.NoEntry path a heap h = h
 lock-counted answers.Full path a heap h = h
 
-done-counted : (effect : of_browser.Effect) (value : Value) (s : Hosted)
+done-counted : (effect : of_browser.Effect) (value : Value) (s : HostParts)
     (heap : List ObjectState) → ActsCounted s.acting
-    → RepliesCounted (done_for effect value s heap)
+    → RepliesCounted (reply_of_effect effect value s heap)
 done-counted effects.Nothing value s heap h = h
 done-counted (effects.Sound sound) value s heap h = h
 done-counted (effects.Kept slot size) value s heap h = h
@@ -249,7 +249,7 @@ done-counted (effects.Lock path) value s heap h =
 done-counted (effects.Unlock path) value s heap h =
     either AnswersCounted (is_some (lock_on s.modules.locks path.component path.«module»)) _ _ h h
 
-browser-counted : (s : Hosted) (name : List ℕ) (arguments : List Value)
+browser-counted : (s : HostParts) (name : List ℕ) (arguments : List Value)
     (heap : List ObjectState) → ActsCounted s.acting
     → RepliesCounted (browser_call s name arguments heap)
 browser-counted s name arguments heap h =
@@ -261,10 +261,10 @@ browser-counted s name arguments heap h =
     done-counted outcome.called.effect outcome.called.value
     (record s { acting = with_browser outcome.called.state a }) outcome.heap good.timers
 
-called-counted : (s : Hosted) (base : HostRef) (name : List ℕ) (arguments : List Value)
+called-counted : (s : HostParts) (base : HostRef) (name : List ℕ) (arguments : List Value)
     (heap : List ObjectState) → ActsCounted s.acting
-    → RepliesCounted (called s base name arguments heap)
-unfolding called
+    → RepliesCounted (reply_of_call s base name arguments heap)
+unfolding reply_of_call
 called-counted s ref.Document name arguments heap h =
     either AnswersCounted (is_same name (codes "getElementById")) _ _ h h
 called-counted s (ref.Node node) name arguments heap h =
@@ -275,23 +275,23 @@ called-counted s _ name arguments heap h = h
 
 -- ---- runs
 
-pub run-counted : (run : Run) (s : Hosted) → ActsCounted s.acting
-    → ActsCounted (ended run s).hosted.acting
-unfolding ended
+pub run-counted : (run : Run) (s : HostParts) → ActsCounted s.acting
+    → ActsCounted (end_of_run run s).hosted.acting
+unfolding end_of_run
 run-counted (Over outcome w) s h = h
-run-counted (Reads base name go) s h = run-counted (go (read_by s.acting base name)) s h
+run-counted (Reads base name go) s h = run-counted (go (member_value s.acting base name)) s h
 run-counted (Writes base name value heap go) s h =
-    run-counted go (record s { acting = written s.acting base name value heap })
+    run-counted go (record s { acting = with_member_set s.acting base name value heap })
     (written-counted s.acting base name value heap h)
 run-counted (Calls base name arguments heap go) s h =
-    let c = called s base name arguments heap in
+    let c = reply_of_call s base name arguments heap in
     run-counted (go c.answer c.heap) c.hosted (called-counted s base name arguments heap h)
 
 -- ---- timers that are due
 
 timer-counted : (moment : ℕ) (first : Timer) (a : Acting)
     → find (is_due moment) a.browser.timers.timers ≡ Some first → ActsCounted a
-    → ActsCounted (timer_fired moment first.number a)
+    → ActsCounted (with_timer_fired moment first.number a)
 timer-counted moment first a e h =
     by (nat_lt (length a.queue) most_events) refl
     (fired-counted moment first a.queue a.browser.timers e h)
@@ -304,8 +304,8 @@ timer-counted moment first a e h =
         → IsCounted (a.queue ++ events.Timer first.number ∷ [])
         (with_fired moment a.browser.timers))
         × IsCounted a.queue (with_settled first.number (with_fired moment a.browser.timers))
-        → ActsCounted (if room then posted (events.Timer first.number) next
-        else timer_settled first.number (posted (events.Timer first.number) next))
+        → ActsCounted (if room then with_event (events.Timer first.number) next
+        else with_timer_settled first.number (with_event (events.Timer first.number) next))
     by true is after =
         subst (λ (t : Bool). IsCounted
         (if t then a.queue ++ events.Timer first.number ∷ [] else a.queue)
@@ -318,17 +318,17 @@ timer-counted moment first a e h =
         (sym is) after.1
 
 pub timers-counted : (more moment : ℕ) (a : Acting) → ActsCounted a
-    → ActsCounted (timers_fired more moment a)
-unfolding timers_fired first_due
+    → ActsCounted (with_timers_fired more moment a)
+unfolding with_timers_fired first_due
 timers-counted zero moment a h = h
 timers-counted (suc more) moment a h =
     by (timers-counted more moment) (find (is_due moment) a.browser.timers.timers) refl
   where
-    by : ((a : Acting) → ActsCounted a → ActsCounted (timers_fired more moment a))
+    by : ((a : Acting) → ActsCounted a → ActsCounted (with_timers_fired more moment a))
         → (found : Option Timer) → find (is_due moment) a.browser.timers.timers ≡ found
         → ActsCounted (option_map_or
-        (λ number. timers_fired more moment (timer_fired moment number a))
+        (λ number. with_timers_fired more moment (with_timer_fired moment number a))
         (option_map (λ timer. timer.number) found) a)
     by rest None e = h
     by rest (Some first) e =
-        rest (timer_fired moment first.number a) (timer-counted moment first a e h)
+        rest (with_timer_fired moment first.number a) (timer-counted moment first a e h)

@@ -12,11 +12,11 @@ use Rattle.event_queue.specs.declared.events.Event.{Event}
 use Rattle.document_load.specs.Drafts.{DraftState}
 use Rattle.acting_documents.specs.Beginnings.{load_effect}
 use Rattle.acting_documents.specs.Documents.{Document}
-use Rattle.acting_documents.specs.Handling.{change_effect, due_effect, handled, key_effect, message_effect, without_first}
+use Rattle.acting_documents.specs.Handling.{change_effect, due_effect, event_effect, key_effect, message_effect, without_first}
 use Rattle.acting_documents.specs.Runs.{Effect, Scene}
 use Rattle.page.specs.Dispatches.{dispatch, dispatches, event_in, load_at, most_dispatches, next_and, next_event, next_load, turn}
 use Rattle.page.specs.Inputs.{change_step, changes_step, document_step, due_step, with_clock}
-use Rattle.page.specs.Loading.{load, loadable_reading, opened, wanted_path}
+use Rattle.page.specs.Loading.{load, loadable_reading, document_of_draft, wanted_path}
 use Rattle.page.specs.State.{State, Step, opening, scene_in, stays_or_goes, step_of, still}
 use Rattle.page.specs.State.Wanted.{NoDocument}
 use Rattle.psi_tables.specs.declared.services.Selection.{Selection}
@@ -98,7 +98,7 @@ load-may : (s : State) (path : Path) (reading : Option (Result DraftState DocFau
     → IsCounted [] s.browser.timers → MayCounted (option_map (load s path) reading)
 load-may s path None h = tt
 load-may s path (Some (Ok draft)) h =
-    let scene : Scene = scene_in s (opened s.read path draft) in
+    let scene : Scene = scene_in s (document_of_draft s.read path draft) in
     step-counted (record s { wanted = NoDocument }) (load_effect scene) refl
     (load-counted scene h)
 load-may s path (Some (Err fault)) h = record { counted = h; wanted = tt }
@@ -129,11 +129,11 @@ next_event-may s h = by s.document refl
   where
     of : (d : Document) → s.document ≡ Some d → (event : Option Event)
         → first_of d.queue ≡ event → MayCounted (option_map
-        (λ event. step_of s (handled event (without_first (scene_in s d)))) event)
+        (λ event. step_of s (event_effect event (without_first (scene_in s d)))) event)
     of d there None e = tt
     of d there (Some event) e =
         let scene : Scene = without_first (scene_in s d) in
-        step-counted s (handled event scene) (none-is-wanted s d there h)
+        step-counted s (event_effect event scene) (none-is-wanted s d there h)
         (handled-counted event scene
         (first-counted event d.queue s.browser.timers e (scene-counted s d there h)))
 

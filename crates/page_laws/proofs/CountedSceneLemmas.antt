@@ -17,11 +17,11 @@ use Rattle.event_queue.specs.Timers.{Timer, most_timers, timer_of}
 use Rattle.event_queue.specs.declared.events.Event.{Event}
 use Rattle.event_queue.specs.declared.events.Event.TheVariants as events
 use Rattle.dom_objects.specs.declared.current_events.CurrentEvent.{CurrentEvent}
-use Rattle.document_stages.specs.Acting.{Acting, acted, begun, change_posts, due_posted, first_focus, key_posts, message_posts}
+use Rattle.document_stages.specs.Acting.{Acting, with_action, with_first_events, change_posts, with_due_events, first_focus, key_posts, message_posts}
 use Rattle.acting_documents.specs.Documents.{Document, handler_in, passes}
-use Rattle.acting_documents.specs.Handling.{body_in, change_effect, deactivated, due_effect, focus_of, handled, handled_at, key_effect, kind_of, message_effect, run_handler, timer_effect, timer_taken}
+use Rattle.acting_documents.specs.Handling.{body_in, change_effect, without_active, due_effect, focus_of, event_effect, event_effect_at, key_effect, kind_of, message_effect, run_handler, timer_effect, with_timer_taken}
 use Rattle.acting_documents.specs.Beginnings.{begin, load_effect, run_scripts, script_places}
-use Rattle.acting_documents.specs.Runs.{Effect, Scene, acting_in, and_then, done, effect_of_end, ended, hosted_in, most_steps, no_event, nothing_done, run_function, run_program, unless_launched}
+use Rattle.acting_documents.specs.Runs.{Effect, Scene, acting_in, and_then, effect_of_change, effect_of_end, end_of_run, host_parts_in, most_steps, no_event, no_effect, run_function, run_program, unless_launched}
 use Rattle.page_laws.proofs.CountLemmas.{IsApart, IsCounted, settled-counted, taken-counted, unknown-counted}
 use Rattle.page_laws.proofs.CountedActingLemmas.{ActsCounted, acted-counted, begun-counted, changes-counted, keys-counted, messages-counted, run-counted, timers-counted}
 
@@ -30,7 +30,7 @@ SceneCounted s = IsCounted s.document.queue s.browser.timers
 
 done-counted : (change : Acting → Acting) (s : Scene)
     → ((a : Acting) → ActsCounted a → ActsCounted (change a)) → SceneCounted s
-    → SceneCounted (done change s).scene
+    → SceneCounted (effect_of_change change s).scene
 done-counted change s keeps h =
     keeps (acting_in no_event s) h
 
@@ -47,9 +47,9 @@ then-counted more keeps e h = by e.launched
 
 end-counted : (name : List ℕ) (event : CurrentEvent) (run : Run) (s : Scene)
     → SceneCounted s
-    → SceneCounted (effect_of_end name s (ended run (hosted_in event s))).scene
+    → SceneCounted (effect_of_end name s (end_of_run run (host_parts_in event s))).scene
 end-counted name event run s h =
-    run-counted run (hosted_in event s) h
+    run-counted run (host_parts_in event s) h
 
 program-counted : (name : List ℕ) (event : CurrentEvent) (place : ℕ) (s : Scene)
     → SceneCounted s → SceneCounted (run_program name event place s).scene
@@ -76,12 +76,12 @@ handler-counted event node s h =
   where
     by : (place : Option ℕ) → SceneCounted (option_map_or
         (λ place. run_program (name_of event) (record { event = Some event; target = node })
-        place s) place (nothing_done s)).scene
+        place s) place (no_effect s)).scene
     by None = h
     by (Some place) = program-counted (name_of event) _ place s h
 
 handled_at-counted : (node : Option ℕ) (event : Event) (s : Scene) → SceneCounted s
-    → SceneCounted (handled_at node event s).scene
+    → SceneCounted (event_effect_at node event s).scene
 handled_at-counted None event s h = h
 handled_at-counted (Some node) event s h = handler-counted event node s h
 
@@ -94,10 +94,10 @@ timer-counted number s h = by (timer_of number s.browser.timers) refl
     by : (timer : Option Timer) → timer_of number s.browser.timers ≡ timer
         → SceneCounted (option_map_or
         (λ timer. run_function (name_of (events.Timer number)) timer.function
-        (timer_taken number s)) timer (nothing_done s)).scene
+        (with_timer_taken number s)) timer (no_effect s)).scene
     by None e = unknown-counted number s.document.queue s.browser.timers e h
     by (Some timer) e =
-        function-counted (name_of (events.Timer number)) timer.function (timer_taken number s)
+        function-counted (name_of (events.Timer number)) timer.function (with_timer_taken number s)
         (settled-counted number s.document.queue s.browser.timers h)
 
 -- an event was taken, which is none of a timer
@@ -108,8 +108,8 @@ others-counted event s apart h = taken-counted event s.document.queue s.browser.
 -- the event that was taken is handled
 pub handled-counted : (event : Event) (s : Scene)
     → IsCounted (event ∷ s.document.queue) s.browser.timers
-    → SceneCounted (handled event s).scene
-unfolding handled
+    → SceneCounted (event_effect event s).scene
+unfolding event_effect
 handled-counted events.Load s h =
     handled_at-counted (body_in s) events.Load s (others-counted events.Load s (λ n. refl) h)
 handled-counted events.Unload s h =
@@ -131,12 +131,12 @@ handled-counted (events.KeyUp key) s h = by (key == key_number Enter)
     after : SceneCounted s
     after = others-counted (events.KeyUp key) s (λ n. refl) h
 
-    by : (enter : Bool) → SceneCounted (handled_at (focus_of s) (events.KeyUp key)
-        (if enter then record s { document = deactivated s.document } else s)).scene
+    by : (enter : Bool) → SceneCounted (event_effect_at (focus_of s) (events.KeyUp key)
+        (if enter then record s { document = without_active s.document } else s)).scene
     by true = handled_at-counted (focus_of s) (events.KeyUp key) _ after
     by false = handled_at-counted (focus_of s) (events.KeyUp key) s after
 handled-counted (events.Default key) s h =
-    done-counted (acted (action_of s.document.tree key)) s
+    done-counted (with_action (action_of s.document.tree key)) s
     (acted-counted (action_of s.document.tree key))
     (others-counted (events.Default key) s (λ n. refl) h)
 handled-counted (events.Timer number) s h = timer-counted number s h
@@ -173,7 +173,7 @@ unfolding key_effect
 key-counted key down s h = by (passes key s.document)
   where
     by : (t : Bool) → SceneCounted
-        (if t then done (key_posts down key) s else nothing_done s).scene
+        (if t then effect_of_change (key_posts down key) s else no_effect s).scene
     by true = done-counted (key_posts down key) s (keys-counted down key) h
     by false = h
 
@@ -181,7 +181,7 @@ pub due-counted : (moment : ℕ) (s : Scene) → SceneCounted s
     → SceneCounted (due_effect moment s).scene
 unfolding due_effect
 due-counted moment s h =
-    done-counted (due_posted moment) (record s { now = moment })
+    done-counted (with_due_events moment) (record s { now = moment })
     (timers-counted most_timers moment) h
 
 -- ---- loads
@@ -195,7 +195,7 @@ scripts-counted (place ∷ places) s h =
 
 begin-counted : (s : Scene) → SceneCounted s → SceneCounted (begin s).scene
 begin-counted s h =
-    done-counted (λ a. begun (first_focus a) a) s (λ a. begun-counted (first_focus a) a) h
+    done-counted (λ a. with_first_events (first_focus a) a) s (λ a. begun-counted (first_focus a) a) h
 
 pub load-counted : (s : Scene) → SceneCounted s → SceneCounted (load_effect s).scene
 unfolding load_effect

@@ -28,14 +28,14 @@ use Rattle.dom_objects.specs.declared.current_events.CurrentEvent.{CurrentEvent}
 use Rattle.es_reader.specs.Readers.{Reader}
 use Rattle.script_laws.specs.Passing.{HeapPasses, ObjectPasses}
 use Rattle.script_laws.specs.Staying.{AreFit, StaysWithin}
-use Rattle.document_stages.specs.Acting.{Acting, acted, begun, change_posts, due_posted, first_focus, key_posts, message_posts}
-use Rattle.document_stages.specs.Hosting.{Hosted}
+use Rattle.document_stages.specs.Acting.{Acting, with_action, with_first_events, change_posts, with_due_events, first_focus, key_posts, message_posts}
+use Rattle.document_stages.specs.Hosting.{HostParts}
 use Rattle.display_list.specs.Bodies.{body_of, is_body}
 use Rattle.acting_documents.specs.Documents.{Document, handler_in, passes}
-use Rattle.acting_documents.specs.Handling.{body_in, change_effect, deactivated, default_action, due_effect, focus_of, handled, handled_at, key_effect, kind_of, message_effect, run_handler, timer_effect, timer_taken}
+use Rattle.acting_documents.specs.Handling.{body_in, change_effect, without_active, default_action, due_effect, focus_of, event_effect, event_effect_at, key_effect, kind_of, message_effect, run_handler, timer_effect, with_timer_taken}
 use Rattle.acting_documents.specs.Beginnings.{begin, load_effect, run_scripts, script_places, unload_effect, without_waiting}
-use Rattle.page.specs.Loading.{opened}
-use Rattle.acting_documents.specs.Runs.{Effect, Scene, acting_in, and_then, done, effect_of_end, ended, hosted_in, most_steps, no_event, nothing_done, run_function, run_program, unless_launched, with_acting, with_hosted, with_world}
+use Rattle.page.specs.Loading.{document_of_draft}
+use Rattle.acting_documents.specs.Runs.{Effect, Scene, acting_in, and_then, effect_of_change, effect_of_end, end_of_run, host_parts_in, most_steps, no_event, no_effect, run_function, run_program, unless_launched, with_acting, with_host_parts, with_world}
 use Rattle.page_laws.specs.Soundness.{AreTimers, IsGoodHandler, IsSoundDocument, is_good, is_good_event, is_good_in, is_good_place, limit_of}
 use Rattle.page_laws.proofs.ActingLemmas.{IsSoundActing, TreeLaws, acted-sound, begun-sound, due-sound, element-same, event-same, good-same, place-same}
 use Rattle.page_laws.proofs.EventItemLemmas.{AreGoodItems, ItemNodes, first-good, moved-good}
@@ -137,9 +137,9 @@ document-left scene a w before s fit =
       objects = fit.fit.sound;
     }
 
-left-sound : (scene : Scene) (h : Hosted) (w : World) → IsSoundScene scene
+left-sound : (scene : Scene) (h : HostParts) (w : World) → IsSoundScene scene
     → IsSoundHosted (items_of scene) h → AreFit (is_good_here scene) 0 w.globals w.heap
-    → IsSoundScene (with_world w (with_hosted h scene))
+    → IsSoundScene (with_world w (with_host_parts h scene))
 left-sound scene h w before s fit = record {
   document = document-left scene h.acting w before.document s.acting fit;
   timers = s.acting.timers;
@@ -157,7 +157,7 @@ acted-left scene a s h =
 done-sound : (change : Acting → Acting) (scene : Scene) → IsSoundScene scene
     → (IsSoundActing (items_of scene) (acting_in no_event scene)
     → IsSoundActing (items_of scene) (change (acting_in no_event scene)))
-    → IsSoundScene (done change scene).scene
+    → IsSoundScene (effect_of_change change scene).scene
 done-sound change scene s h =
     acted-left scene (change (acting_in no_event scene)) s
     (h (acting-first scene no_event s refl))
@@ -174,9 +174,9 @@ then-sound more keeps e s = by e.launched
 
 -- a document before its scripts run
 pub opened-sound : ItemNodes → (read : Reader) (path : Path) (draft : DraftState)
-    → IsTree draft.items → IsSoundDocument (opened read path draft)
+    → IsTree draft.items → IsSoundDocument (document_of_draft read path draft)
 opened-sound law read path draft tree =
-    let d : Document = opened read path draft in
+    let d : Document = document_of_draft read path draft in
     let kept : AreGoodItems draft.items d.items = first-good law path draft.items in
     record {
       tree = tree;
@@ -200,12 +200,12 @@ module _ (laws : TreeLaws) (stay : RunsStay) (hosts : HostLaws) where
   end-sound : (name : List ℕ) (event : CurrentEvent) (run : Run) (scene : Scene)
       → IsSoundScene scene → has_target (items_of scene) event ≡ true
       → StaysWithin (is_good_here scene) 0 run
-      → IsSoundScene (effect_of_end name scene (ended run (hosted_in event scene))).scene
+      → IsSoundScene (effect_of_end name scene (end_of_run run (host_parts_in event scene))).scene
   end-sound name event run scene s h stays =
       let limit = limit_of scene.document in
-      let end = ended run (hosted_in event scene) in
+      let end = end_of_run run (host_parts_in event scene) in
       let ends : EndsSound (items_of scene) limit 0 end =
-      run-sound laws hosts (items_of scene) limit 0 run (hosted_in event scene) stays
+      run-sound laws hosts (items_of scene) limit 0 run (host_parts_in event scene) stays
       (record { acting = acting-first scene event s h; locks = s.locks }) in
       left-sound scene end.hosted end.world s ends.hosted ends.fit
 
@@ -243,7 +243,7 @@ module _ (laws : TreeLaws) (stay : RunsStay) (hosts : HostLaws) where
     where
       by : (place : Option ℕ) → IsSoundScene (option_map_or
           (λ place. run_program (name_of event) (record { event = Some event; target = node })
-          place scene) place (nothing_done scene)).scene
+          place scene) place (no_effect scene)).scene
       by None = s
       by (Some place) =
           program-sound (name_of event) _ place scene s
@@ -251,7 +251,7 @@ module _ (laws : TreeLaws) (stay : RunsStay) (hosts : HostLaws) where
 
   handled_at-sound : (node : Option ℕ) (event : Event) (scene : Scene) → IsSoundScene scene
       → IsBelow (length (items_of scene)) node
-      → IsSoundScene (handled_at node event scene).scene
+      → IsSoundScene (event_effect_at node event scene).scene
   handled_at-sound None event scene s h = s
   handled_at-sound (Some node) event scene s h = handler-sound event node scene s h
 
@@ -265,7 +265,7 @@ module _ (laws : TreeLaws) (stay : RunsStay) (hosts : HostLaws) where
   focus-below scene s = place-below (items_of scene) (focus_of scene) s.document.focus
 
   deactivated-sound : (scene : Scene) → IsSoundScene scene
-      → IsSoundScene (record scene { document = deactivated scene.document })
+      → IsSoundScene (record scene { document = without_active scene.document })
   deactivated-sound scene s = record {
     document = record {
       tree = s.document.tree;
@@ -290,12 +290,12 @@ module _ (laws : TreeLaws) (stay : RunsStay) (hosts : HostLaws) where
       → IsSoundScene (default_action key scene).scene
   default-sound key scene s =
       let tree : StyledTree = scene.document.tree in
-      done-sound (acted (action_of tree key)) scene s
+      done-sound (with_action (action_of tree key)) scene s
       (λ h. acted-sound laws tree.items (action_of tree key)
       (acting_in no_event scene) (action-good tree key s.document.focus) h)
 
   taken-sound : (number : ℕ) (scene : Scene) → IsSoundScene scene
-      → IsSoundScene (timer_taken number scene)
+      → IsSoundScene (with_timer_taken number scene)
   taken-sound number scene s = record {
     document = s.document;
     timers = with_settled-sound number scene.browser.timers s.timers;
@@ -308,11 +308,11 @@ module _ (laws : TreeLaws) (stay : RunsStay) (hosts : HostLaws) where
     where
       by : (timer : Option Timer) → IsSoundScene (option_map_or
           (λ timer. run_function (name_of (events.Timer number)) timer.function
-          (timer_taken number scene)) timer (nothing_done scene)).scene
+          (with_timer_taken number scene)) timer (no_effect scene)).scene
       by None = s
       by (Some timer) =
           function-sound (name_of (events.Timer number)) timer.function
-          (timer_taken number scene) (taken-sound number scene s)
+          (with_timer_taken number scene) (taken-sound number scene s)
 
   -- the node that an event names
   named-node : (scene : Scene) (node : ℕ) → is_good_place (items_of scene) (Some node) ≡ true
@@ -320,8 +320,8 @@ module _ (laws : TreeLaws) (stay : RunsStay) (hosts : HostLaws) where
   named-node scene node h = place-below (items_of scene) (Some node) h
 
   pub handled-sound : (event : Event) (scene : Scene) → IsSoundScene scene
-      → is_good_event (items_of scene) event ≡ true → IsSoundScene (handled event scene).scene
-  unfolding handled
+      → is_good_event (items_of scene) event ≡ true → IsSoundScene (event_effect event scene).scene
+  unfolding event_effect
   handled-sound events.Load scene s h =
       handled_at-sound (body_in scene) events.Load scene s (body-below (items_of scene))
   handled-sound events.Unload scene s h =
@@ -336,8 +336,8 @@ module _ (laws : TreeLaws) (stay : RunsStay) (hosts : HostLaws) where
       handled_at-sound (focus_of scene) (events.KeyDown key) scene s (focus-below scene s)
   handled-sound (events.KeyUp key) scene s h = by (key == key_number Enter)
     where
-      by : (enter : Bool) → IsSoundScene (handled_at (focus_of scene) (events.KeyUp key)
-          (if enter then record scene { document = deactivated scene.document } else scene)).scene
+      by : (enter : Bool) → IsSoundScene (event_effect_at (focus_of scene) (events.KeyUp key)
+          (if enter then record scene { document = without_active scene.document } else scene)).scene
       by true =
           handled_at-sound (focus_of scene) (events.KeyUp key) _ (deactivated-sound scene s)
           (focus-below scene s)
@@ -375,7 +375,7 @@ module _ (laws : TreeLaws) (stay : RunsStay) (hosts : HostLaws) where
   key-sound key down scene s = by (passes key scene.document)
     where
       by : (t : Bool) → IsSoundScene
-          (if t then done (key_posts down key) scene else nothing_done scene).scene
+          (if t then effect_of_change (key_posts down key) scene else no_effect scene).scene
       by true =
           done-sound (key_posts down key) scene s
           (λ h. keys-sound laws (items_of scene) down key (acting_in no_event scene) h)
@@ -386,7 +386,7 @@ module _ (laws : TreeLaws) (stay : RunsStay) (hosts : HostLaws) where
   unfolding due_effect
   due_effect-sound moment scene s =
       let later : Scene = record scene { now = moment } in
-      done-sound (due_posted moment) later
+      done-sound (with_due_events moment) later
       (record { document = s.document; timers = s.timers; locks = s.locks })
       (λ h. due-sound laws (items_of scene) moment (acting_in no_event later) h)
 
@@ -401,7 +401,7 @@ module _ (laws : TreeLaws) (stay : RunsStay) (hosts : HostLaws) where
 
   begin-sound : (scene : Scene) → IsSoundScene scene → IsSoundScene (begin scene).scene
   begin-sound scene s =
-      done-sound (λ a. begun (first_focus a) a) scene s
+      done-sound (λ a. with_first_events (first_focus a) a) scene s
       (λ h. begun-sound laws (items_of scene) (acting_in no_event scene) h)
 
   pub load_effect-sound : (scene : Scene) → IsSoundScene scene
@@ -435,7 +435,7 @@ module _ (laws : TreeLaws) (stay : RunsStay) (hosts : HostLaws) where
 
   pub unload_effect-sound : (scene : Scene) → IsSoundScene scene
       → IsSoundScene (unload_effect scene).scene
-  unfolding unload_effect handled
+  unfolding unload_effect event_effect
   unload_effect-sound scene s =
       handled_at-sound (body_in scene) events.Unload (without_waiting scene)
       (waiting-sound scene s) (body-below (items_of scene))

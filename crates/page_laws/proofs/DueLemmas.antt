@@ -8,7 +8,7 @@ use Rattle.event_queue.specs.Queues.{most_events}
 use Rattle.event_queue.specs.Timers.{Timer, after_firing, first_due, goes_on, has_number, is_due, is_firing, least_moment, lesser, most_timers, replaced, after_settling, left_after_settling, with_fired}
 use Rattle.event_queue.specs.declared.events.Event.TheVariants as events
 use Rattle.browser_objects.specs.Calls.{least_interval}
-use Rattle.document_stages.specs.Acting.{Acting, acting_with_timers, posted, timer_fired, timer_posted, timer_settled, timers_fired}
+use Rattle.document_stages.specs.Acting.{Acting, acting_with_timers, with_event, with_timer_fired, with_timer_event, with_timer_settled, with_timers_fired}
 use Rattle.acting_documents.specs.Handling.{due_effect}
 use Rattle.acting_documents.specs.Runs.{Scene, acting_in, no_event}
 use Rattle.page_laws.specs.Times.{IsLater}
@@ -264,21 +264,21 @@ abbrev timers_of : Acting → List Timer
 timers_of a = a.browser.timers.timers
 
 posted-near : (moment number : ℕ) (a : Acting) → AreNear moment (timers_of a)
-    → AreNear moment (timers_of (timer_posted number a))
+    → AreNear moment (timers_of (with_timer_event number a))
 posted-near moment number a all = by (nat_lt (length a.queue) most_events)
   where
-    by : (room : Bool) → AreNear moment (timers_of (if room then posted (events.Timer number) a
-        else timer_settled number (posted (events.Timer number) a)))
+    by : (room : Bool) → AreNear moment (timers_of (if room then with_event (events.Timer number) a
+        else with_timer_settled number (with_event (events.Timer number) a)))
     by true = all
     by false = settled-near moment number (timers_of a) all
 
 posted-fewer : (moment number : ℕ) (a : Acting)
-    → due_count moment (timers_of (timer_posted number a)) ≤ due_count moment (timers_of a)
+    → due_count moment (timers_of (with_timer_event number a)) ≤ due_count moment (timers_of a)
 posted-fewer moment number a = by (nat_lt (length a.queue) most_events)
   where
     by : (room : Bool)
-        → due_count moment (timers_of (if room then posted (events.Timer number) a
-        else timer_settled number (posted (events.Timer number) a)))
+        → due_count moment (timers_of (if room then with_event (events.Timer number) a
+        else with_timer_settled number (with_event (events.Timer number) a)))
         ≤ due_count moment (timers_of a)
     by true = omega arith
     by false = settled-fewer moment number (timers_of a)
@@ -286,23 +286,23 @@ posted-fewer moment number a = by (nat_lt (length a.queue) most_events)
 -- As many firings as there are timers that are due are enough.
 all-fire : (more moment : ℕ) (a : Acting) → AreNear moment (timers_of a)
     → due_count moment (timers_of a) ≤ more
-    → All (IsLater moment) (timers_of (timers_fired more moment a))
-unfolding timers_fired first_due
+    → All (IsLater moment) (timers_of (with_timers_fired more moment a))
+unfolding with_timers_fired first_due
 all-fire zero moment a all few =
     none-later moment (timers_of a) all (none-found moment (timers_of a) few)
 all-fire (suc more) moment a all few =
     by (all-fire more moment) (find (is_due moment) (timers_of a)) refl
   where
     by : ((a : Acting) → AreNear moment (timers_of a) → due_count moment (timers_of a) ≤ more
-        → All (IsLater moment) (timers_of (timers_fired more moment a)))
+        → All (IsLater moment) (timers_of (with_timers_fired more moment a)))
         → (found : Option Timer) → find (is_due moment) (timers_of a) ≡ found
         → All (IsLater moment) (timers_of (option_map_or
-        (λ number. timers_fired more moment (timer_fired moment number a))
+        (λ number. with_timers_fired more moment (with_timer_fired moment number a))
         (option_map (λ timer. timer.number) found) a))
     by rest None e = none-later moment (timers_of a) all e
     by rest (Some first) e =
         let next : Acting = acting_with_timers (with_fired moment a.browser.timers) a in
-        rest (timer_fired moment first.number a)
+        rest (with_timer_fired moment first.number a)
         (posted-near moment first.number next (fired-near moment (timers_of a) all))
         (omega (
           arith,

@@ -21,9 +21,9 @@ use Rattle.script_laws.specs.Staying.{AnswerPasses, IsFit}
 use Rattle.browser_objects.specs.Calls.{CallOutcome, call_of, number}
 use Rattle.browser_objects.specs.declared.effects.Effect.{Effect}
 use Rattle.browser_objects.specs.declared.effects.Effect.TheVariants as effects
-use Rattle.document_stages.specs.Acting.{Acting, Answered, first_argument, gives, lock_posts, node_call, refused, with_browser, with_line}
+use Rattle.document_stages.specs.Acting.{Acting, CallAnswer, first_argument, gives, lock_posts, node_call, gives_nan, with_browser, with_line}
 use Rattle.document_stages.specs.EventLines.{kept_line, sound_line}
-use Rattle.document_stages.specs.Hosting.{Hosted, Reply, browser_call, called, done_for, lock, lock_answered, reply_with, unlock}
+use Rattle.document_stages.specs.Hosting.{HostParts, Reply, browser_call, reply_of_call, reply_of_effect, lock, answer_of_lock, reply_with, unlock}
 use Rattle.page_laws.specs.Soundness.{AreTimers, is_good}
 use Rattle.page_laws.proofs.ActingLemmas.{IsGivenAnswer, IsSoundActing, IsSoundAnswer, TreeLaws, browser-sound, chosen-sound, document-sound, element-sound, gives-sound, launch-sound, line-sound, none-sound}
 use Rattle.page_laws.proofs.ArrayLemmas.{CallLaws, call-fit}
@@ -48,7 +48,7 @@ pub record HostLaws : Type 0 where
   pub few : LockLaws
   pub calls : CallLaws
 
-pub record IsSoundHosted (items : List Item) (h : Hosted) : Type 0 where
+pub record IsSoundHosted (items : List Item) (h : HostParts) : Type 0 where
   pub acting : IsSoundActing items h.acting
   pub locks : HasFewLocks h.modules
 
@@ -105,7 +105,7 @@ module _ (laws : TreeLaws) (hosts : HostLaws) (items : List Item) (limit : ℕ)
   }
 
   module _ (after : List ObjectState) (leaves : Leaves after) where
-    reply-sound : (modules : Modules) (r : Answered) → HasFewLocks modules
+    reply-sound : (modules : Modules) (r : CallAnswer) → HasFewLocks modules
         → IsSoundAnswer items after r → RepliesSoundly (reply_with modules r)
     reply-sound modules r few s = record {
       answer = answer-is items r.heap r.answer s.answer;
@@ -121,11 +121,11 @@ module _ (laws : TreeLaws) (hosts : HostLaws) (items : List Item) (limit : ℕ)
     one-sound a s = gives-sound laws items after (number 1) a refl s
 
     refused-sound : (a : Acting) → IsSoundActing items a
-        → IsSoundAnswer items after (refused a after)
+        → IsSoundAnswer items after (gives_nan a after)
     refused-sound a s = gives-sound laws items after _ a refl s
 
     answered-sound : (answer : LockAnswer) (path : Path) (a : Acting) → IsSoundActing items a
-        → IsSoundAnswer items after (lock_answered answer path a after)
+        → IsSoundAnswer items after (answer_of_lock answer path a after)
     answered-sound answers.Kept path a s =
         one-sound (lock_posts path.component path.«module» a)
         (locks-sound laws items path.component path.«module» a s)
@@ -134,7 +134,7 @@ module _ (laws : TreeLaws) (hosts : HostLaws) (items : List Item) (limit : ℕ)
     answered-sound answers.NoEntry path a s = refused-sound a s
     answered-sound answers.Full path a s = refused-sound a s
 
-    lock-sound : (path : Path) (h : Hosted) → IsSoundHosted items h
+    lock-sound : (path : Path) (h : HostParts) → IsSoundHosted items h
         → RepliesSoundly (lock path h after)
     lock-sound path h s =
         reply-sound (with_lock path.component path.«module» h.modules) _
@@ -142,7 +142,7 @@ module _ (laws : TreeLaws) (hosts : HostLaws) (items : List Item) (limit : ℕ)
         (answered-sound (lock_answer path.component path.«module» h.modules) path h.acting
         s.acting)
 
-    unlock-sound : (path : Path) (h : Hosted) → IsSoundHosted items h
+    unlock-sound : (path : Path) (h : HostParts) → IsSoundHosted items h
         → RepliesSoundly (unlock path h after)
     unlock-sound path h s =
         reply-sound (without_lock path.component path.«module» h.modules) _
@@ -153,7 +153,7 @@ module _ (laws : TreeLaws) (hosts : HostLaws) (items : List Item) (limit : ℕ)
 
     -- ---- what is done for a call of the browser object
 
-    value-sound : (value : Value) (h : Hosted) → is_bare value ≡ true
+    value-sound : (value : Value) (h : HostParts) → is_bare value ≡ true
         → IsAnswer after (Answer value) → IsSoundHosted items h
         → RepliesSoundly (reply_with h.modules (gives value h.acting after))
     value-sound value h bare answer s = record {
@@ -163,16 +163,16 @@ module _ (laws : TreeLaws) (hosts : HostLaws) (items : List Item) (limit : ℕ)
       hosted = record { acting = s.acting; locks = s.locks };
     }
 
-    line-told : (line : List ℕ) (h : Hosted) → IsSoundHosted items h
+    line-told : (line : List ℕ) (h : HostParts) → IsSoundHosted items h
         → IsSoundHosted items (record h { acting = with_line line h.acting })
     line-told line h s = record {
       acting = line-sound laws items after line h.acting.launched h.acting s.acting;
       locks = s.locks;
     }
 
-    done-sound : (effect : Effect) (value : Value) (h : Hosted) → is_bare value ≡ true
+    done-sound : (effect : Effect) (value : Value) (h : HostParts) → is_bare value ≡ true
         → IsAnswer after (Answer value) → IsSoundHosted items h
-        → RepliesSoundly (done_for effect value h after)
+        → RepliesSoundly (reply_of_effect effect value h after)
     done-sound effects.Nothing value h bare answer s = value-sound value h bare answer s
     done-sound (effects.Sound sound) value h bare answer s =
         value-sound value (record h { acting = with_line (sound_line sound) h.acting }) bare answer
@@ -187,7 +187,7 @@ module _ (laws : TreeLaws) (hosts : HostLaws) (items : List Item) (limit : ℕ)
 
   -- ---- calls of the browser object
 
-  browser_call-sound : (h : Hosted) → IsSoundHosted items h → (name : List ℕ)
+  browser_call-sound : (h : HostParts) → IsSoundHosted items h → (name : List ℕ)
       → RepliesSoundly (browser_call h name arguments heap)
   browser_call-sound h s name =
       let a : Acting = h.acting in
@@ -216,9 +216,9 @@ module _ (laws : TreeLaws) (hosts : HostLaws) (items : List Item) (limit : ℕ)
       chosen-sound laws items heap (is_some (tag_of a.tree.items node)) _ _
       (element-sound laws items heap a s node name) (none-sound laws items heap a s)
 
-  pub called-sound : (h : Hosted) → IsSoundHosted items h → (base : HostRef) (name : List ℕ)
-      → RepliesSoundly (called h base name arguments heap)
-  unfolding called
+  pub called-sound : (h : HostParts) → IsSoundHosted items h → (base : HostRef) (name : List ℕ)
+      → RepliesSoundly (reply_of_call h base name arguments heap)
+  unfolding reply_of_call
   called-sound h s ref.Document name =
       reply-sound heap same-objects h.modules _ s.locks
       (document-sound laws items heap h.acting s.acting name

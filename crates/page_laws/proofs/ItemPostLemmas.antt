@@ -11,7 +11,7 @@ use Rattle.event_queue.specs.declared.events.Event.{Event}
 use Rattle.event_queue.specs.declared.events.Event.TheVariants as events
 use Rattle.event_items.specs.EventItems.{EventItem}
 use Rattle.event_items.specs.Subscriptions.{fires_for_message, with_firing}
-use Rattle.document_stages.specs.Acting.{Acting, button_posts, button_post, change_posts, each_item, fired, has_room, key_posts, lock_posts, lock_post, message_posts, message_post, module_post, posted, posted_where, pressed, update_posts}
+use Rattle.document_stages.specs.Acting.{Acting, button_posts, button_post, change_posts, each_item, with_item_fired, has_room, key_posts, lock_posts, lock_post, message_posts, message_post, module_post, with_event, with_event_where, with_press, update_posts}
 use Rattle.page_laws.specs.Soundness.{has_element, is_good_event}
 use Rattle.page_laws.proofs.ActingLemmas.{IsSoundActing, TreeLaws, posted-sound}
 use Rattle.page_laws.proofs.EventItemLemmas.{IsOfElement, noted-good, told_in_turn}
@@ -36,7 +36,7 @@ module _ (laws : TreeLaws) (items : List Item) where
   each-sound step keeps a s = in_turn-sound step keeps a.items.items s.event_items.items a s
 
   where-sound : (t : Bool) (event : Event) (a : Acting) → is_good_event items event ≡ true
-      → IsSoundActing items a → IsSoundActing items (posted_where t event a)
+      → IsSoundActing items a → IsSoundActing items (with_event_where t event a)
   where-sound true event a h s = posted-sound laws items event a h s
   where-sound false event a h s = s
 
@@ -44,18 +44,18 @@ module _ (laws : TreeLaws) (items : List Item) where
 
   fired-sound : (component : ℕ) (message : Message) (node : ℕ) (a : Acting)
       → has_element items node ≡ true → IsSoundActing items a
-      → IsSoundActing items (fired component message node a)
+      → IsSoundActing items (with_item_fired component message node a)
   fired-sound component message node a h s = by (has_room a)
     where
       event : Event
       event = events.Fired node component message
 
-      after : IsSoundActing items (posted event a)
+      after : IsSoundActing items (with_event event a)
       after = posted-sound laws items event a h s
 
       by : (room : Bool) → IsSoundActing items
-          (if room then record (posted event a) { items = with_firing node message a.items }
-          else posted event a)
+          (if room then record (with_event event a) { items = with_firing node message a.items }
+          else with_event event a)
       by true = record {
         nodes = after.nodes;
         focus = after.focus;
@@ -70,7 +70,7 @@ module _ (laws : TreeLaws) (items : List Item) where
   told-sound component message item a h s = by (fires_for_message component message a.items item)
     where
       by : (t : Bool)
-          → IsSoundActing items (if t then fired component message item.node a else a)
+          → IsSoundActing items (if t then with_item_fired component message item.node a else a)
       by true = fired-sound component message item.node a h s
       by false = s
 
@@ -123,13 +123,13 @@ module _ (laws : TreeLaws) (items : List Item) where
       → IsSoundActing items (key_posts down key a)
   keys-sound true key a s = by (key == key_number Data)
     where
-      pressed-sound : IsSoundActing items (pressed key a)
+      pressed-sound : IsSoundActing items (with_press key a)
       pressed-sound =
           posted-sound laws items (events.Default key) _ refl
           (posted-sound laws items (events.KeyDown key) a refl s)
 
       by : (t : Bool)
-          → IsSoundActing items (if t then button_posts (pressed key a) else pressed key a)
-      by true = button-sound (pressed key a) pressed-sound
+          → IsSoundActing items (if t then button_posts (with_press key a) else with_press key a)
+      by true = button-sound (with_press key a) pressed-sound
       by false = pressed-sound
   keys-sound false key a s = posted-sound laws items (events.KeyUp key) a refl s

@@ -30,9 +30,9 @@ use Rattle.event_items.specs.Subscriptions.{fires_for_message}
 use Rattle.browser_objects.specs.Calls.{BrowserParts, CallOutcome, call_of}
 use Rattle.browser_objects.specs.declared.effects.Effect as of_browser
 use Rattle.browser_objects.specs.declared.effects.Effect.TheVariants as effects
-use Rattle.document_stages.specs.Acting.{Acting, Answered, acted, begun, button_posts, button_post, change_posts, each_item, element_call, fired, focus_on, focused, has_room, is_subscription, is_unload, key_posts, launch, left_by, lock_posts, lock_post, message_posts, message_post, module_post, moved_to, node_written, posted, posted_for, posted_where, pressed, read_by, text_written, update_posts, with_browser, with_focus, written}
-use Rattle.document_stages.specs.Hosting.{Hosted, Reply, browser_call, called, done_for, lock_answered}
-use Rattle.acting_documents.specs.Runs.{ended}
+use Rattle.document_stages.specs.Acting.{Acting, CallAnswer, with_action, with_first_events, button_posts, button_post, change_posts, each_item, element_call, with_item_fired, focus_on, with_focus_asked, has_room, is_subscription, is_unload, key_posts, launch, without_focus_of, lock_posts, lock_post, message_posts, message_post, module_post, with_focus_moved, with_node_written, with_event, with_event_for, with_event_where, with_press, member_value, with_text_written, update_posts, with_browser, with_focus, with_member_set}
+use Rattle.document_stages.specs.Hosting.{HostParts, Reply, browser_call, reply_of_call, reply_of_effect, answer_of_lock}
+use Rattle.acting_documents.specs.Runs.{end_of_run}
 use Rattle.page_laws.proofs.BrowserLemmas.{call-good}
 use Rattle.page_laws.proofs.EventItemLemmas.{told_in_turn}
 use Rattle.page_laws.proofs.LaterLemmas.{LaterThan, calls-later}
@@ -69,14 +69,14 @@ module _ (clock : ℕ) where
   each-timely step keeps a h = in_turn-timely step keeps a.items.items a h
 
   where-timely : (t : Bool) (event : Event) (a : Acting) → ActsTimely clock a
-      → ActsTimely clock (posted_where t event a)
-  where-timely t event a h = either (ActsTimely clock) t (posted event a) a h h
+      → ActsTimely clock (with_event_where t event a)
+  where-timely t event a h = either (ActsTimely clock) t (with_event event a) a h h
 
   told-timely : (component : ℕ) (message : Message)
       → KeepsTimely (message_post component message)
   told-timely component message item a h =
       either (ActsTimely clock) (fires_for_message component message a.items item)
-      (fired component message item.node a) a
+      (with_item_fired component message item.node a) a
       (either (ActsTimely clock) (has_room a) _ _ h h) h
 
   pub messages-timely : (component : ℕ) (message : Message) (a : Acting) → ActsTimely clock a
@@ -116,28 +116,28 @@ module _ (clock : ℕ) where
   -- ---- the focus, default actions, keys and beginnings
 
   posted-timely : (event : ℕ → Event) (node : Option ℕ) (a : Acting) → ActsTimely clock a
-      → ActsTimely clock (posted_for event node a)
+      → ActsTimely clock (with_event_for event node a)
   posted-timely event None a h = h
   posted-timely event (Some node) a h = h
 
   moved-timely : (node : ℕ) (a : Acting) → ActsTimely clock a
-      → ActsTimely clock (moved_to node a)
-  unfolding moved_to
+      → ActsTimely clock (with_focus_moved node a)
+  unfolding with_focus_moved
   moved-timely node a h =
       either (ActsTimely clock) (is_node node a.tree.focus.focus) a _ h
       (posted-timely events.Blur (number_of a.tree.focus.focus) (with_focus (focus_on node) a) h)
 
-  left-timely : (node : ℕ) (a : Acting) → ActsTimely clock a → ActsTimely clock (left_by node a)
-  unfolding left_by
+  left-timely : (node : ℕ) (a : Acting) → ActsTimely clock a → ActsTimely clock (without_focus_of node a)
+  unfolding without_focus_of
   left-timely node a h = either (ActsTimely clock) (is_node node a.tree.focus.focus) _ a h h
 
   focused-timely : (node : ℕ) (a : Acting) → ActsTimely clock a
-      → ActsTimely clock (focused node a)
+      → ActsTimely clock (with_focus_asked node a)
   focused-timely node a h =
       either (ActsTimely clock) (can_have_focus a.tree node) _ a (moved-timely node a h) h
 
   pub acted-timely : (action : Action) (a : Acting) → ActsTimely clock a
-      → ActsTimely clock (acted action a)
+      → ActsTimely clock (with_action action a)
   acted-timely NoAction a h = h
   acted-timely (Moves node) a h = moved-timely node a h
   acted-timely (Activates node) a h = h
@@ -146,19 +146,19 @@ module _ (clock : ℕ) where
   pub keys-timely : (down : Bool) (key : ℕ) (a : Acting) → ActsTimely clock a
       → ActsTimely clock (key_posts down key a)
   keys-timely true key a h =
-      either (ActsTimely clock) (key == key_number Data) (button_posts (pressed key a))
-      (pressed key a) (button-timely (pressed key a) h) h
+      either (ActsTimely clock) (key == key_number Data) (button_posts (with_press key a))
+      (with_press key a) (button-timely (with_press key a) h) h
   keys-timely false key a h = h
 
   pub begun-timely : (node : Option ℕ) (a : Acting) → ActsTimely clock a
-      → ActsTimely clock (begun node a)
+      → ActsTimely clock (with_first_events node a)
   begun-timely None a h = h
   begun-timely (Some node) a h = h
 
   -- ---- what scripts write
 
   text-timely : (a : Acting) (base : HostRef) (name text : List ℕ) → ActsTimely clock a
-      → ActsTimely clock (text_written a base name text)
+      → ActsTimely clock (with_text_written a base name text)
   text-timely a ref.Ureg name text h = record { is_now = h.is_now; timers = h.timers }
   text-timely a ref.Greg name text h = record { is_now = h.is_now; timers = h.timers }
   text-timely a ref.Browser name text h = h
@@ -169,13 +169,13 @@ module _ (clock : ℕ) where
 
   node-timely : (a : Acting) (node : ℕ) (name : List ℕ) (value : Value)
       (heap : List ObjectState) → ActsTimely clock a
-      → ActsTimely clock (node_written a node name value heap)
+      → ActsTimely clock (with_node_written a node name value heap)
   node-timely a node name value heap h =
       either (ActsTimely clock) (is_subscription a node name) _ _ h h
 
   written-timely : (a : Acting) (base : HostRef) (name : List ℕ) (value : Value)
       (heap : List ObjectState) → ActsTimely clock a
-      → ActsTimely clock (written a base name value heap)
+      → ActsTimely clock (with_member_set a base name value heap)
   written-timely a (ref.Node node) name value heap h = node-timely a node name value heap h
   written-timely a ref.Ureg name value heap h =
       text-timely a ref.Ureg name (text_of heap value) h
@@ -192,7 +192,7 @@ module _ (clock : ℕ) where
 
   -- ---- what scripts call
 
-  abbrev AnswersTimely : Answered → Type 0
+  abbrev AnswersTimely : CallAnswer → Type 0
   AnswersTimely r = ActsTimely clock r.acting
 
   element-timely : (a : Acting) (node : ℕ) (name : List ℕ) (heap : List ObjectState)
@@ -211,16 +211,16 @@ module _ (clock : ℕ) where
   RepliesTimely r = ActsTimely clock r.hosted.acting
 
   lock-timely : (answer : LockAnswer) (path : Path) (a : Acting) (heap : List ObjectState)
-      → ActsTimely clock a → AnswersTimely (lock_answered answer path a heap)
+      → ActsTimely clock a → AnswersTimely (answer_of_lock answer path a heap)
   lock-timely answers.Kept path a heap h = locks-timely path.component path.«module» a h
   lock-timely answers.Had path a heap h = h
   lock-timely answers.Wanted path a heap h = h
   lock-timely answers.NoEntry path a heap h = h
   lock-timely answers.Full path a heap h = h
 
-  done-timely : (effect : of_browser.Effect) (value : Value) (s : Hosted)
+  done-timely : (effect : of_browser.Effect) (value : Value) (s : HostParts)
       (heap : List ObjectState) → ActsTimely clock s.acting
-      → RepliesTimely (done_for effect value s heap)
+      → RepliesTimely (reply_of_effect effect value s heap)
   done-timely effects.Nothing value s heap h = h
   done-timely (effects.Sound sound) value s heap h = h
   done-timely (effects.Kept slot size) value s heap h = h
@@ -230,7 +230,7 @@ module _ (clock : ℕ) where
   done-timely (effects.Unlock path) value s heap h =
       either AnswersTimely (is_some (lock_on s.modules.locks path.component path.«module»)) _ _ h h
 
-  browser-timely : (s : Hosted) (name : List ℕ) (arguments : List Value)
+  browser-timely : (s : HostParts) (name : List ℕ) (arguments : List Value)
       (heap : List ObjectState) → ActsTimely clock s.acting
       → RepliesTimely (browser_call s name arguments heap)
   browser-timely s name arguments heap h =
@@ -248,10 +248,10 @@ module _ (clock : ℕ) where
         timers = subst (λ (n : ℕ). LaterThan n outcome.called.state.timers) h.is_now good.timers;
       })
 
-  called-timely : (s : Hosted) (base : HostRef) (name : List ℕ) (arguments : List Value)
+  called-timely : (s : HostParts) (base : HostRef) (name : List ℕ) (arguments : List Value)
       (heap : List ObjectState) → ActsTimely clock s.acting
-      → RepliesTimely (called s base name arguments heap)
-  unfolding called
+      → RepliesTimely (reply_of_call s base name arguments heap)
+  unfolding reply_of_call
   called-timely s ref.Document name arguments heap h =
       either AnswersTimely (is_same name (codes "getElementById")) _ _ h h
   called-timely s (ref.Node node) name arguments heap h =
@@ -262,14 +262,14 @@ module _ (clock : ℕ) where
 
   -- ---- runs
 
-  pub run-timely : (run : Run) (s : Hosted) → ActsTimely clock s.acting
-      → ActsTimely clock (ended run s).hosted.acting
-  unfolding ended
+  pub run-timely : (run : Run) (s : HostParts) → ActsTimely clock s.acting
+      → ActsTimely clock (end_of_run run s).hosted.acting
+  unfolding end_of_run
   run-timely (Over outcome w) s h = h
-  run-timely (Reads base name go) s h = run-timely (go (read_by s.acting base name)) s h
+  run-timely (Reads base name go) s h = run-timely (go (member_value s.acting base name)) s h
   run-timely (Writes base name value heap go) s h =
-      run-timely go (record s { acting = written s.acting base name value heap })
+      run-timely go (record s { acting = with_member_set s.acting base name value heap })
       (written-timely s.acting base name value heap h)
   run-timely (Calls base name arguments heap go) s h =
-      let c = called s base name arguments heap in
+      let c = reply_of_call s base name arguments heap in
       run-timely (go c.answer c.heap) c.hosted (called-timely s base name arguments heap h)

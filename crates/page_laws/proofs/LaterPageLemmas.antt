@@ -14,11 +14,11 @@ use Rattle.event_queue.specs.declared.events.Event.{Event}
 use Rattle.document_load.specs.Drafts.{DraftState}
 use Rattle.acting_documents.specs.Beginnings.{load_effect}
 use Rattle.acting_documents.specs.Documents.{Document}
-use Rattle.acting_documents.specs.Handling.{change_effect, due_effect, handled, key_effect, message_effect, without_first}
+use Rattle.acting_documents.specs.Handling.{change_effect, due_effect, event_effect, key_effect, message_effect, without_first}
 use Rattle.acting_documents.specs.Runs.{Effect, Scene}
 use Rattle.page.specs.Dispatches.{dispatch, dispatches, event_in, load_at, most_dispatches, next_and, next_event, next_load, turn}
 use Rattle.page.specs.Inputs.{change_step, changes_step, document_step, due_next, due_step, key_step, message_step, with_clock}
-use Rattle.page.specs.Loading.{load, loadable_reading, opened, wanted_path}
+use Rattle.page.specs.Loading.{load, loadable_reading, document_of_draft, wanted_path}
 use Rattle.page.specs.State.{State, Step, opening, scene_in, stays_or_goes, step_of, still}
 use Rattle.page.specs.State.Wanted.{NoDocument}
 use Rattle.page_laws.specs.Soundness.{IsSound}
@@ -66,7 +66,7 @@ module _ (clock : ℕ) where
       → PageTimely clock s → MayTimely clock (option_map (load s path) reading)
   load-may s path None h = tt
   load-may s path (Some (Ok draft)) h =
-      let scene : Scene = scene_in s (opened s.read path draft) in
+      let scene : Scene = scene_in s (document_of_draft s.read path draft) in
       step-timely (record s { wanted = NoDocument }) (load_effect scene) h.is_now
       (load-timely clock scene h).timers
   load-may s path (Some (Err fault)) h = h
@@ -84,11 +84,11 @@ module _ (clock : ℕ) where
   next_event-may s h = by s.document
     where
       of : (d : Document) (event : Option Event) → MayTimely clock (option_map
-          (λ event. step_of s (handled event (without_first (scene_in s d)))) event)
+          (λ event. step_of s (event_effect event (without_first (scene_in s d)))) event)
       of d None = tt
       of d (Some event) =
           let scene : Scene = without_first (scene_in s d) in
-          step-timely s (handled event scene) h.is_now (handled-timely clock event scene h).timers
+          step-timely s (event_effect event scene) h.is_now (handled-timely clock event scene h).timers
 
       by : (document : Option Document)
           → MayTimely clock (option_and_then (event_in s) document)

@@ -17,11 +17,11 @@ use Rattle.event_queue.specs.Timers.{Timer, timer_of}
 use Rattle.event_queue.specs.declared.events.Event.{Event}
 use Rattle.event_queue.specs.declared.events.Event.TheVariants as events
 use Rattle.dom_objects.specs.declared.current_events.CurrentEvent.{CurrentEvent}
-use Rattle.document_stages.specs.Acting.{Acting, acted, begun, change_posts, first_focus, key_posts, message_posts}
+use Rattle.document_stages.specs.Acting.{Acting, with_action, with_first_events, change_posts, first_focus, key_posts, message_posts}
 use Rattle.acting_documents.specs.Documents.{Document, handler_in, passes}
-use Rattle.acting_documents.specs.Handling.{body_in, change_effect, deactivated, focus_of, handled, handled_at, key_effect, kind_of, message_effect, run_handler, timer_effect, timer_taken}
+use Rattle.acting_documents.specs.Handling.{body_in, change_effect, without_active, focus_of, event_effect, event_effect_at, key_effect, kind_of, message_effect, run_handler, timer_effect, with_timer_taken}
 use Rattle.acting_documents.specs.Beginnings.{begin, load_effect, run_scripts, script_places}
-use Rattle.acting_documents.specs.Runs.{Effect, Scene, acting_in, and_then, done, effect_of_end, ended, hosted_in, most_steps, no_event, nothing_done, run_function, run_program, unless_launched}
+use Rattle.acting_documents.specs.Runs.{Effect, Scene, acting_in, and_then, effect_of_change, effect_of_end, end_of_run, host_parts_in, most_steps, no_event, no_effect, run_function, run_program, unless_launched}
 use Rattle.page_laws.proofs.LaterActingLemmas.{ActsTimely, IsTimely, acted-timely, begun-timely, changes-timely, keys-timely, messages-timely, run-timely}
 use Rattle.page_laws.proofs.LaterLemmas.{with_settled-later}
 
@@ -31,7 +31,7 @@ SceneTimely clock s = IsTimely clock s.now s.browser
 module _ (clock : ℕ) where
   done-timely : (change : Acting → Acting) (s : Scene)
       → ((a : Acting) → ActsTimely clock a → ActsTimely clock (change a)) → SceneTimely clock s
-      → SceneTimely clock (done change s).scene
+      → SceneTimely clock (effect_of_change change s).scene
   done-timely change s keeps h =
       record { is_now = h.is_now; timers = (keeps (acting_in no_event s) h).timers }
 
@@ -48,9 +48,9 @@ module _ (clock : ℕ) where
 
   end-timely : (name : List ℕ) (event : CurrentEvent) (run : Run) (s : Scene)
       → SceneTimely clock s
-      → SceneTimely clock (effect_of_end name s (ended run (hosted_in event s))).scene
+      → SceneTimely clock (effect_of_end name s (end_of_run run (host_parts_in event s))).scene
   end-timely name event run s h =
-      record { is_now = h.is_now; timers = (run-timely clock run (hosted_in event s) h).timers }
+      record { is_now = h.is_now; timers = (run-timely clock run (host_parts_in event s) h).timers }
 
   program-timely : (name : List ℕ) (event : CurrentEvent) (place : ℕ) (s : Scene)
       → SceneTimely clock s → SceneTimely clock (run_program name event place s).scene
@@ -77,12 +77,12 @@ module _ (clock : ℕ) where
     where
       by : (place : Option ℕ) → SceneTimely clock (option_map_or
           (λ place. run_program (name_of event) (record { event = Some event; target = node })
-          place s) place (nothing_done s)).scene
+          place s) place (no_effect s)).scene
       by None = h
       by (Some place) = program-timely (name_of event) _ place s h
 
   handled_at-timely : (node : Option ℕ) (event : Event) (s : Scene) → SceneTimely clock s
-      → SceneTimely clock (handled_at node event s).scene
+      → SceneTimely clock (event_effect_at node event s).scene
   handled_at-timely None event s h = h
   handled_at-timely (Some node) event s h = handler-timely event node s h
 
@@ -92,18 +92,18 @@ module _ (clock : ℕ) where
     where
       by : (timer : Option Timer) → SceneTimely clock (option_map_or
           (λ timer. run_function (name_of (events.Timer number)) timer.function
-          (timer_taken number s)) timer (nothing_done s)).scene
+          (with_timer_taken number s)) timer (no_effect s)).scene
       by None = h
       by (Some timer) =
-          function-timely (name_of (events.Timer number)) timer.function (timer_taken number s)
+          function-timely (name_of (events.Timer number)) timer.function (with_timer_taken number s)
           (record {
             is_now = h.is_now;
             timers = with_settled-later clock number s.browser.timers h.timers;
           })
 
   pub handled-timely : (event : Event) (s : Scene) → SceneTimely clock s
-      → SceneTimely clock (handled event s).scene
-  unfolding handled
+      → SceneTimely clock (event_effect event s).scene
+  unfolding event_effect
   handled-timely events.Load s h = handled_at-timely (body_in s) events.Load s h
   handled-timely events.Unload s h = handled_at-timely (body_in s) events.Unload s h
   handled-timely (events.Focus node) s h = handler-timely (events.Focus node) node s h
@@ -113,12 +113,12 @@ module _ (clock : ℕ) where
       handled_at-timely (focus_of s) (events.KeyDown key) s h
   handled-timely (events.KeyUp key) s h = by (key == key_number Enter)
     where
-      by : (enter : Bool) → SceneTimely clock (handled_at (focus_of s) (events.KeyUp key)
-          (if enter then record s { document = deactivated s.document } else s)).scene
+      by : (enter : Bool) → SceneTimely clock (event_effect_at (focus_of s) (events.KeyUp key)
+          (if enter then record s { document = without_active s.document } else s)).scene
       by true = handled_at-timely (focus_of s) (events.KeyUp key) _ h
       by false = handled_at-timely (focus_of s) (events.KeyUp key) s h
   handled-timely (events.Default key) s h =
-      done-timely (acted (action_of s.document.tree key)) s
+      done-timely (with_action (action_of s.document.tree key)) s
       (acted-timely clock (action_of s.document.tree key)) h
   handled-timely (events.Timer number) s h = timer-timely number s h
   handled-timely (events.Fired item component message) s h =
@@ -149,7 +149,7 @@ module _ (clock : ℕ) where
   key-timely key down s h = by (passes key s.document)
     where
       by : (t : Bool) → SceneTimely clock
-          (if t then done (key_posts down key) s else nothing_done s).scene
+          (if t then effect_of_change (key_posts down key) s else no_effect s).scene
       by true = done-timely (key_posts down key) s (keys-timely clock down key) h
       by false = h
 
@@ -164,7 +164,7 @@ module _ (clock : ℕ) where
 
   begin-timely : (s : Scene) → SceneTimely clock s → SceneTimely clock (begin s).scene
   begin-timely s h =
-      done-timely (λ a. begun (first_focus a) a) s (λ a. begun-timely clock (first_focus a) a) h
+      done-timely (λ a. with_first_events (first_focus a) a) s (λ a. begun-timely clock (first_focus a) a) h
 
   pub load-timely : (s : Scene) → SceneTimely clock s → SceneTimely clock (load_effect s).scene
   unfolding load_effect

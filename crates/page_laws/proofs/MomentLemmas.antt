@@ -6,7 +6,7 @@ use Rattle.multipart_entities.specs.declared.paths.Path.{Path}
 use Rattle.event_queue.specs.Queues.{first_of}
 use Rattle.event_queue.specs.declared.events.Event.{Event}
 use Rattle.acting_documents.specs.Documents.{Document}
-use Rattle.acting_documents.specs.Handling.{change_effect, due_effect, handled, key_effect, message_effect, without_first}
+use Rattle.acting_documents.specs.Handling.{change_effect, due_effect, event_effect, key_effect, message_effect, without_first}
 use Rattle.acting_documents.specs.Runs.{Effect, Scene}
 use Rattle.page.specs.Dispatches.{dispatch, event_in, load_at, next_event, next_load}
 use Rattle.page.specs.Inputs.{document_step, with_clock}
@@ -70,13 +70,13 @@ module _ (s : State) (d : Document) (is : s.document ≡ Some d) (wanted : s.wan
       (by (first_of d.queue) (ap (λ (o : Option Step). is_some (option_map_or (λ step. step.state) o s).document) (sym dispatch-is) ∙ there)))
     where
       by : (event : Option Event)
-          → is_some (option_map_or (λ step. step.state) (option_map (λ event. step_of s (handled event (without_first (scene_in s d)))) event) s).document ≡ true
-          → HasDocument (option_map_or (λ step. step.state) (option_map (λ event. step_of s (handled event (without_first (scene_in s d)))) event) s)
+          → is_some (option_map_or (λ step. step.state) (option_map (λ event. step_of s (event_effect event (without_first (scene_in s d)))) event) s).document ≡ true
+          → HasDocument (option_map_or (λ step. step.state) (option_map (λ event. step_of s (event_effect event (without_first (scene_in s d)))) event) s)
           (with_writes (option_map_or (λ event. event_writes event (without_first (scene_in s d))) event []) (nodes_of d.tree))
       by None there = as-before
       by (Some event) there =
           let scene : Scene = without_first (scene_in s d) in
-          went-on s (handled event scene) (with_writes (event_writes event scene) (nodes_of d.tree)) wanted (event-writes event scene) there
+          went-on s (event_effect event scene) (with_writes (event_writes event scene) (nodes_of d.tree)) wanted (event-writes event scene) there
 
   -- ---- one moment
 

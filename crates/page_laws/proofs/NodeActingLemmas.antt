@@ -28,8 +28,8 @@ use Rattle.event_items.specs.Subscriptions.{fires_for_message}
 use Rattle.browser_objects.specs.Calls.{CallOutcome, call_of}
 use Rattle.browser_objects.specs.declared.effects.Effect as of_browser
 use Rattle.browser_objects.specs.declared.effects.Effect.TheVariants as effects
-use Rattle.document_stages.specs.Acting.{Acting, Answered, acted, button_posts, button_post, change_posts, each_item, element_call, fired, focus_on, focused, has_room, is_unload, key_posts, launch, left_by, lock_posts, lock_post, message_posts, message_post, module_post, moved_to, posted, posted_for, posted_where, pressed, update_posts, with_browser, with_focus, acting_with_timers, timer_fired, timers_fired, due_posted}
-use Rattle.document_stages.specs.Hosting.{Hosted, Reply, browser_call, called, done_for, lock_answered}
+use Rattle.document_stages.specs.Acting.{Acting, CallAnswer, with_action, button_posts, button_post, change_posts, each_item, element_call, with_item_fired, focus_on, with_focus_asked, has_room, is_unload, key_posts, launch, without_focus_of, lock_posts, lock_post, message_posts, message_post, module_post, with_focus_moved, with_event, with_event_for, with_event_where, with_press, update_posts, with_browser, with_focus, acting_with_timers, with_timer_fired, with_timers_fired, with_due_events}
+use Rattle.document_stages.specs.Hosting.{HostParts, Reply, browser_call, reply_of_call, reply_of_effect, answer_of_lock}
 use Rattle.page_laws.proofs.EventItemLemmas.{told_in_turn}
 use Rattle.page_laws.specs.Nodes.{Nodes, nodes_of}
 use Rattle.std.specs.Option.{option_map_or}
@@ -62,14 +62,14 @@ module _ (nodes : Nodes) where
   each-stay step keeps a h = in_turn-stay step keeps a.items.items a h
 
   where-stay : (t : Bool) (event : Event) (a : Acting) → HasNodes nodes a
-      → HasNodes nodes (posted_where t event a)
-  where-stay t event a h = either (HasNodes nodes) t (posted event a) a h h
+      → HasNodes nodes (with_event_where t event a)
+  where-stay t event a h = either (HasNodes nodes) t (with_event event a) a h h
 
   told-stay : (component : ℕ) (message : Message)
       → KeepsNodes (message_post component message)
   told-stay component message item a h =
       either (HasNodes nodes) (fires_for_message component message a.items item)
-      (fired component message item.node a) a
+      (with_item_fired component message item.node a) a
       (either (HasNodes nodes) (has_room a) _ _ h h) h
 
   pub messages-stay : (component : ℕ) (message : Message) (a : Acting) → HasNodes nodes a
@@ -109,28 +109,28 @@ module _ (nodes : Nodes) where
   -- ---- the focus, default actions, keys and beginnings
 
   posted-stay : (event : ℕ → Event) (node : Option ℕ) (a : Acting) → HasNodes nodes a
-      → HasNodes nodes (posted_for event node a)
+      → HasNodes nodes (with_event_for event node a)
   posted-stay event None a h = h
   posted-stay event (Some node) a h = h
 
   moved-stay : (node : ℕ) (a : Acting) → HasNodes nodes a
-      → HasNodes nodes (moved_to node a)
-  unfolding moved_to
+      → HasNodes nodes (with_focus_moved node a)
+  unfolding with_focus_moved
   moved-stay node a h =
       either (HasNodes nodes) (is_node node a.tree.focus.focus) a _ h
       (posted-stay events.Blur (number_of a.tree.focus.focus) (with_focus (focus_on node) a) h)
 
-  left-stay : (node : ℕ) (a : Acting) → HasNodes nodes a → HasNodes nodes (left_by node a)
-  unfolding left_by
+  left-stay : (node : ℕ) (a : Acting) → HasNodes nodes a → HasNodes nodes (without_focus_of node a)
+  unfolding without_focus_of
   left-stay node a h = either (HasNodes nodes) (is_node node a.tree.focus.focus) _ a h h
 
   focused-stay : (node : ℕ) (a : Acting) → HasNodes nodes a
-      → HasNodes nodes (focused node a)
+      → HasNodes nodes (with_focus_asked node a)
   focused-stay node a h =
       either (HasNodes nodes) (can_have_focus a.tree node) _ a (moved-stay node a h) h
 
   pub acted-stay : (action : Action) (a : Acting) → HasNodes nodes a
-      → HasNodes nodes (acted action a)
+      → HasNodes nodes (with_action action a)
   acted-stay NoAction a h = h
   acted-stay (Moves node) a h = moved-stay node a h
   acted-stay (Activates node) a h = h
@@ -139,13 +139,13 @@ module _ (nodes : Nodes) where
   pub keys-stay : (down : Bool) (key : ℕ) (a : Acting) → HasNodes nodes a
       → HasNodes nodes (key_posts down key a)
   keys-stay true key a h =
-      either (HasNodes nodes) (key == key_number Data) (button_posts (pressed key a))
-      (pressed key a) (button-stay (pressed key a) h) h
+      either (HasNodes nodes) (key == key_number Data) (button_posts (with_press key a))
+      (with_press key a) (button-stay (with_press key a) h) h
   keys-stay false key a h = h
 
   -- ---- what scripts call
 
-  abbrev AnswersWith : Answered → Type 0
+  abbrev AnswersWith : CallAnswer → Type 0
   AnswersWith r = HasNodes nodes r.acting
 
   element-stay : (a : Acting) (node : ℕ) (name : List ℕ) (heap : List ObjectState)
@@ -164,16 +164,16 @@ module _ (nodes : Nodes) where
   RepliesWith r = HasNodes nodes r.hosted.acting
 
   lock-stay : (answer : LockAnswer) (path : Path) (a : Acting) (heap : List ObjectState)
-      → HasNodes nodes a → AnswersWith (lock_answered answer path a heap)
+      → HasNodes nodes a → AnswersWith (answer_of_lock answer path a heap)
   lock-stay answers.Kept path a heap h = locks-stay path.component path.«module» a h
   lock-stay answers.Had path a heap h = h
   lock-stay answers.Wanted path a heap h = h
   lock-stay answers.NoEntry path a heap h = h
   lock-stay answers.Full path a heap h = h
 
-  done-stay : (effect : of_browser.Effect) (value : Value) (s : Hosted)
+  done-stay : (effect : of_browser.Effect) (value : Value) (s : HostParts)
       (heap : List ObjectState) → HasNodes nodes s.acting
-      → RepliesWith (done_for effect value s heap)
+      → RepliesWith (reply_of_effect effect value s heap)
   done-stay effects.Nothing value s heap h = h
   done-stay (effects.Sound sound) value s heap h = h
   done-stay (effects.Kept slot size) value s heap h = h
@@ -183,7 +183,7 @@ module _ (nodes : Nodes) where
   done-stay (effects.Unlock path) value s heap h =
       either AnswersWith (is_some (lock_on s.modules.locks path.component path.«module»)) _ _ h h
 
-  browser-stay : (s : Hosted) (name : List ℕ) (arguments : List Value)
+  browser-stay : (s : HostParts) (name : List ℕ) (arguments : List Value)
       (heap : List ObjectState) → HasNodes nodes s.acting
       → RepliesWith (browser_call s name arguments heap)
   browser-stay s name arguments heap h =
@@ -192,10 +192,10 @@ module _ (nodes : Nodes) where
       done-stay outcome.called.effect outcome.called.value
       (record s { acting = with_browser outcome.called.state a }) outcome.heap h
 
-  pub called-stay : (s : Hosted) (base : HostRef) (name : List ℕ) (arguments : List Value)
+  pub called-stay : (s : HostParts) (base : HostRef) (name : List ℕ) (arguments : List Value)
       (heap : List ObjectState) → HasNodes nodes s.acting
-      → RepliesWith (called s base name arguments heap)
-  unfolding called
+      → RepliesWith (reply_of_call s base name arguments heap)
+  unfolding reply_of_call
   called-stay s ref.Document name arguments heap h =
       either AnswersWith (is_same name (codes "getElementById")) _ _ h h
   called-stay s (ref.Node node) name arguments heap h =
@@ -207,22 +207,22 @@ module _ (nodes : Nodes) where
   -- ---- timers
 
   fired-stay : (moment number : ℕ) (a : Acting) → HasNodes nodes a
-      → HasNodes nodes (timer_fired moment number a)
+      → HasNodes nodes (with_timer_fired moment number a)
   fired-stay moment number a h =
       either (HasNodes nodes) (has_room (acting_with_timers (with_fired moment a.browser.timers) a)) _ _ h h
 
   timers-stay : (more moment : ℕ) (a : Acting) → HasNodes nodes a
-      → HasNodes nodes (timers_fired more moment a)
-  unfolding timers_fired
+      → HasNodes nodes (with_timers_fired more moment a)
+  unfolding with_timers_fired
   timers-stay zero moment a h = h
   timers-stay (suc more) moment a h = by (first_due moment a.browser.timers) (timers-stay more moment)
     where
-      by : (number : Option ℕ) → ((b : Acting) → HasNodes nodes b → HasNodes nodes (timers_fired more moment b))
+      by : (number : Option ℕ) → ((b : Acting) → HasNodes nodes b → HasNodes nodes (with_timers_fired more moment b))
           → HasNodes nodes (option_map_or
-          (λ number. timers_fired more moment (timer_fired moment number a)) number a)
+          (λ number. with_timers_fired more moment (with_timer_fired moment number a)) number a)
       by None again = h
-      by (Some number) again = again (timer_fired moment number a) (fired-stay moment number a h)
+      by (Some number) again = again (with_timer_fired moment number a) (fired-stay moment number a h)
 
   pub due-stay : (moment : ℕ) (a : Acting) → HasNodes nodes a
-      → HasNodes nodes (due_posted moment a)
+      → HasNodes nodes (with_due_events moment a)
   due-stay moment a h = timers-stay most_timers moment a h

@@ -7,7 +7,7 @@ use Rattle.es_values.specs.declared.values.HostRef.TheVariants as ref
 use Rattle.es_values.specs.declared.values.Value.{Value}
 use Rattle.es_values.specs.declared.values.Value.TheVariants.{Str}
 use Rattle.dom_objects.specs.Reads.{Rows, element_rows, node_rows, own_rows, read_in, read_value, text_rows, walk_rows}
-use Rattle.document_stages.specs.Acting.{Acting, read_by, written}
+use Rattle.document_stages.specs.Acting.{Acting, member_value, with_member_set}
 use Rattle.acting_documents.specs.Documents.{Document}
 use Rattle.page.specs.State.{State}
 use Rattle.es_values.specs.Conversions as texts
@@ -26,7 +26,7 @@ rows-of items node tag text =
     (option_map_or (λ text. walk_rows items node ++ text_rows text) text [])
 
 -- the `data` of a text
-pub reads-text : (a : Acting) (node : ℕ) (text : List ℕ) → text_of a.tree.items node ≡ Some text → read_by a (ref.Node node) (codes "data") ≡ Str text
+pub reads-text : (a : Acting) (node : ℕ) (text : List ℕ) → text_of a.tree.items node ≡ Some text → member_value a (ref.Node node) (codes "data") ≡ Str text
 unfolding read_value node_rows
 reads-text a node text is =
     ap₂ (λ (tag text : Option (List ℕ)). read_in (rows-of a.tree.items node tag text) (codes "data")) (no-tag a.tree.items node text is) is
@@ -47,23 +47,23 @@ later-text laws s d moments node text has lasts is =
 -- at once
 pub text-at-once : ChangeLaws → (a : Acting) (base : HostRef) (name : List ℕ) (value : Value) (heap : List ObjectState) (node : ℕ) (text : List ℕ)
     → text_of a.tree.items node ≡ Some text
-    → read_by (written a base name value heap) (ref.Node node) (codes "data")
+    → member_value (with_member_set a base name value heap) (ref.Node node) (codes "data")
     ≡ Str (unwrap_or (last_to node (codes "data") (write_made a base name (texts.text_of heap value))) text)
 text-at-once laws a base name value heap node text is =
-    reads-text (written a base name value heap) node (unwrap_or (last_to node (codes "data") (write_made a base name (texts.text_of heap value))) text)
+    reads-text (with_member_set a base name value heap) node (unwrap_or (last_to node (codes "data") (write_made a base name (texts.text_of heap value))) text)
     (ap (λ (n : Nodes). text_of n.items node) (one-write a base name value heap)
     ∙ all-texts laws (write_made a base name (texts.text_of heap value)) (nodes_of a.tree) node text is)
 
 -- ---- the attributes that scripts write
 
 reads-input : (a : Acting) (node : ℕ) → tag_of a.tree.items node ≡ Some (codes "input")
-    → read_by a (ref.Node node) (codes "value") ≡ Str (unwrap_or (value_of a.tree.items node (codes "value")) [])
+    → member_value a (ref.Node node) (codes "value") ≡ Str (unwrap_or (value_of a.tree.items node (codes "value")) [])
 unfolding read_value node_rows
 reads-input a node is =
     ap (λ (tag : Option (List ℕ)). read_in (rows-of a.tree.items node tag (text_of a.tree.items node)) (codes "value")) is
 
 reads-object : (a : Acting) (node : ℕ) → tag_of a.tree.items node ≡ Some (codes "object")
-    → read_by a (ref.Node node) (codes "data") ≡ Str (unwrap_or (value_of a.tree.items node (codes "data")) [])
+    → member_value a (ref.Node node) (codes "data") ≡ Str (unwrap_or (value_of a.tree.items node (codes "data")) [])
 unfolding read_value node_rows
 reads-object a node is =
     ap (λ (tag : Option (List ℕ)). read_in (rows-of a.tree.items node tag (text_of a.tree.items node)) (codes "data")) is

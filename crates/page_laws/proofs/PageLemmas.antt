@@ -22,10 +22,10 @@ use Rattle.document_load.specs.Needs.{needs_of}
 use Rattle.page.specs.Dispatches.{dispatch, dispatches, event_in, load_at, most_dispatches, next_and, next_event, next_load, turn}
 use Rattle.acting_documents.specs.Beginnings.{load_effect}
 use Rattle.acting_documents.specs.Documents.{Document}
-use Rattle.acting_documents.specs.Handling.{change_effect, due_effect, handled, key_effect, message_effect, without_first}
+use Rattle.acting_documents.specs.Handling.{change_effect, due_effect, event_effect, key_effect, message_effect, without_first}
 use Rattle.acting_documents.specs.Runs.{Effect, Scene}
 use Rattle.page.specs.Inputs.{change_step, changes_step, document_step, due_step, key_step, message_step, with_clock, with_random}
-use Rattle.page.specs.Loading.{are_settled, given_draft, load, loadable_reading, once_settled, opened, reading_in, wanted_path}
+use Rattle.page.specs.Loading.{are_settled, given_draft, load, loadable_reading, reading_if_settled, document_of_draft, reading_in, wanted_path}
 use Rattle.page.specs.State.{State, Step, opening, scene_in, stays_or_goes, step_of, still, with_modules}
 use Rattle.page.specs.State.Wanted.{NoDocument}
 use Rattle.page_laws.specs.Soundness.{IsSound, IsSoundDocument, is_good_event}
@@ -102,7 +102,7 @@ module _ (laws : Laws) where
 
   settled-tree : (modules : Modules) (path : Path) (reading : Result (List Item) DocFault)
       → ((items : List Item) → reading ≡ Ok items → IsTree items)
-      → HasTree (once_settled modules path reading)
+      → HasTree (reading_if_settled modules path reading)
   settled-tree modules path (Err fault) h = tt
   settled-tree modules path (Ok items) h = by (are_settled modules (needs_of path items))
     where
@@ -155,7 +155,7 @@ module _ (laws : Laws) where
       → MaySound (option_map (load s path) reading)
   load-sound s path None h sound none = tt
   load-sound s path (Some (Ok draft)) h sound none =
-      let d : Document = opened s.read path draft in
+      let d : Document = document_of_draft s.read path draft in
       step-sound (record s { wanted = NoDocument }) (load_effect (scene_in s d)) refl
       (load_effect-sound laws.trees laws.programs laws.hosts (scene_in s d)
       (record {
@@ -227,10 +227,10 @@ module _ (laws : Laws) where
     where
       by : (event : Option Event) → IfSome event (λ e. is_good_event d.tree.items e ≡ true)
           → MaySound (option_map (λ event. step_of s
-          (handled event (without_first (scene_in s d)))) event)
+          (event_effect event (without_first (scene_in s d)))) event)
       by None may = tt
       by (Some event) may =
-          step-sound s (handled event (without_first (scene_in s d))) none
+          step-sound s (event_effect event (without_first (scene_in s d))) none
           (handled-sound laws.trees laws.programs laws.hosts event (without_first (scene_in s d))
           (without_first-sound (scene_in s d) (scene-sound s d h good)) may)
 

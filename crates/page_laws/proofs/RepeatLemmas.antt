@@ -15,11 +15,11 @@ use Rattle.event_queue.specs.declared.events.Event.{Event}
 use Rattle.event_queue.specs.declared.events.Event.TheVariants as events
 use Rattle.event_items.specs.EventItems.{EventItem, matches_message}
 use Rattle.event_items.specs.Subscriptions.{ItemsState, fires_for_message, is_subscribed, with_firing}
-use Rattle.document_stages.specs.Acting.{Acting, fired, has_room, message_posts, message_post, posted, told_loss}
+use Rattle.document_stages.specs.Acting.{Acting, with_item_fired, has_room, message_posts, message_post, with_event, loss_line}
 use Rattle.document_stages.specs.EventLines.{lost_line, lost_line_of}
 use Rattle.acting_documents.specs.Documents.{Document}
 use Rattle.acting_documents.specs.Handling.{message_effect}
-use Rattle.acting_documents.specs.Runs.{Effect, Scene, acting_in, no_event, nothing_done, with_acting}
+use Rattle.acting_documents.specs.Runs.{Effect, Scene, acting_in, no_event, no_effect, with_acting}
 use Rattle.page.specs.Inputs.{message_step}
 use Rattle.page.specs.State.{State, Step, goes_on, scene_in, stays_or_goes, step_behind, step_of, still}
 use Rattle.page_laws.proofs.EventItemLemmas.{told_in_turn}
@@ -148,12 +148,12 @@ module _ (once : FiresOnce) (component : ℕ) (message : Message) where
   -- its event is posted, and where there is room the firing is noted
   abbrev noted : Bool → EventItem → Acting → Acting
   noted room item a =
-      if room then record (posted (event_for item) a) {
+      if room then record (with_event (event_for item) a) {
         items = with_firing item.node message a.items;
-      } else posted (event_for item) a
+      } else with_event (event_for item) a
 
   abbrev told_by : Bool → EventItem → Acting → Acting
-  told_by t item a = if t then fired component message item.node a else a
+  told_by t item a = if t then with_item_fired component message item.node a else a
 
   told-keeps : (item : EventItem) (a : Acting) → KeepsRest a (told item a)
   told-keeps item a = by (fires_for_message component message a.items item)
@@ -183,8 +183,8 @@ module _ (once : FiresOnce) (component : ℕ) (message : Message) where
   told-empty item a h = by (fires_for_message component message a.items item) h
     where
       room : (r : Bool) → (noted r item a).text ≡ [] → a.text ≡ []
-      room true h = front-empty a.text (told_loss (event_for item) a.queue) h
-      room false h = front-empty a.text (told_loss (event_for item) a.queue) h
+      room true h = front-empty a.text (loss_line (event_for item) a.queue) h
+      room false h = front-empty a.text (loss_line (event_for item) a.queue) h
 
       by : (t : Bool) → (told_by t item a).text ≡ [] → a.text ≡ []
       by true h = room (has_room a) h
@@ -195,7 +195,7 @@ module _ (once : FiresOnce) (component : ℕ) (message : Message) where
       → IsQuiet (told item a).items item
   told-itself item a h = by (fires_for_message component message a.items item) refl h
     where
-      lost : has_room a ≡ false → told_loss (event_for item) a.queue ≡ lost_line (event_for item)
+      lost : has_room a ≡ false → loss_line (event_for item) a.queue ≡ lost_line (event_for item)
       lost e = ap (λ (r : Bool). if r then [] else lost_line (event_for item)) e
 
       room : (r : Bool) → has_room a ≡ r → (noted r item a).text ≡ []
@@ -203,7 +203,7 @@ module _ (once : FiresOnce) (component : ℕ) (message : Message) where
       room true e h = fired-itself a.items item
       room false e h =
           absurd (loss-told (name_of (event_for item))
-          (sym (lost e) ∙ behind-empty a.text (told_loss (event_for item) a.queue) h))
+          (sym (lost e) ∙ behind-empty a.text (loss_line (event_for item) a.queue) h))
 
       by : (t : Bool) → fires_for_message component message a.items item ≡ t
           → (told_by t item a).text ≡ [] → IsQuiet (told_by t item a).items item
@@ -262,7 +262,7 @@ module _ (once : FiresOnce) (component : ℕ) (message : Message) where
       record { scene = with_acting a scene; launched = a.launched; text = a.text }
 
   nothing-again : (scene : Scene) → AreQuiet scene.document.items
-      → message_effect component message scene ≡ nothing_done scene
+      → message_effect component message scene ≡ no_effect scene
   unfolding message_effect message_posts
   nothing-again scene quiet =
       ap (effect_left scene)

@@ -13,9 +13,9 @@ use Rattle.es_eval.specs.Worlds.{Run}
 use Rattle.es_eval.specs.Worlds.Run.{Over, Reads, Writes, Calls}
 use Rattle.script_laws.specs.Passing.{PassesOwn, is_named}
 use Rattle.script_laws.specs.Staying.{AreFit, StaysWithin}
-use Rattle.document_stages.specs.Acting.{read_by, written}
-use Rattle.document_stages.specs.Hosting.{Hosted, called}
-use Rattle.acting_documents.specs.Runs.{End, ended}
+use Rattle.document_stages.specs.Acting.{member_value, with_member_set}
+use Rattle.document_stages.specs.Hosting.{HostParts, reply_of_call}
+use Rattle.acting_documents.specs.Runs.{End, end_of_run}
 use Rattle.page_laws.specs.Soundness.{is_good, names_well}
 use Rattle.page_laws.proofs.ActingLemmas.{TreeLaws, read-given, written-sound}
 use Rattle.page_laws.proofs.HostedLemmas.{HostLaws, IsSoundHosted, called-sound}
@@ -39,26 +39,26 @@ pub record EndsSound (items : List Item) (limit least : ℕ) (e : End) : Type 0 
   pub fit : AreFit (is_good items limit) least e.world.globals e.world.heap
 
 pub run-sound : TreeLaws → HostLaws → (items : List Item) (limit least : ℕ) (run : Run)
-    (h : Hosted) → StaysWithin (is_good items limit) least run → IsSoundHosted items h
-    → EndsSound items limit least (ended run h)
-unfolding ended
+    (h : HostParts) → StaysWithin (is_good items limit) least run → IsSoundHosted items h
+    → EndsSound items limit least (end_of_run run h)
+unfolding end_of_run
 run-sound laws hosts items limit least (Over outcome w) h stays s =
     record { hosted = s; fit = stays }
 run-sound laws hosts items limit least (Reads base name go) h stays s =
     let given = read-given laws items h.acting s.acting base name in
-    let value = read_by h.acting base name in
+    let value = member_value h.acting base name in
     run-sound laws hosts items limit least (go value) h
     (stays.1 value (given-plain items value given) (given-good items limit value given)) s
 run-sound laws hosts items limit least (Writes base name value heap go) h stays s =
     run-sound laws hosts items limit least go
-    (record h { acting = written h.acting base name value heap }) stays.4
+    (record h { acting = with_member_set h.acting base name value heap }) stays.4
     (record {
       acting = written-sound laws items h.acting s.acting base name value heap;
       locks = s.locks;
     })
 run-sound laws hosts items limit least (Calls base name arguments heap go) h stays s =
     let r = called-sound laws hosts items limit arguments heap h s base name in
-    let c = called h base name arguments heap in
+    let c = reply_of_call h base name arguments heap in
     run-sound laws hosts items limit least (go c.answer c.heap) c.hosted
     (stays.2 c.answer c.heap r.answer r.objects.keeps r.passes (r.objects.fit stays.1.fit))
     r.hosted

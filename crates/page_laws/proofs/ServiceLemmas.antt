@@ -22,18 +22,18 @@ use Rattle.browser_objects.specs.declared.effects.Effect as of_browser
 use Rattle.browser_objects.specs.declared.effects.Effect.TheVariants as effects
 use Rattle.multipart_entities.specs.declared.paths.Path.{Path}
 use Rattle.dom_objects.specs.declared.current_events.CurrentEvent.{CurrentEvent}
-use Rattle.document_stages.specs.Acting.{read_by, with_browser, written}
-use Rattle.document_stages.specs.Hosting.{Hosted, called, done_for}
+use Rattle.document_stages.specs.Acting.{member_value, with_browser, with_member_set}
+use Rattle.document_stages.specs.Hosting.{HostParts, reply_of_call, reply_of_effect}
 use Rattle.acting_documents.specs.Beginnings.{begin, load_effect, run_scripts, script_places, unload_effect, without_waiting}
 use Rattle.acting_documents.specs.Documents.{Document, handler_in}
-use Rattle.acting_documents.specs.Handling.{body_in, deactivated, focus_of, handled, handled_at, kind_of, run_handler, timer_effect, timer_taken}
-use Rattle.acting_documents.specs.Runs.{Effect, Scene, and_then, ended, hosted_in, most_steps, no_event, nothing_done, run_function, run_program, unless_launched}
+use Rattle.acting_documents.specs.Handling.{body_in, without_active, focus_of, event_effect, event_effect_at, kind_of, run_handler, timer_effect, with_timer_taken}
+use Rattle.acting_documents.specs.Runs.{Effect, Scene, and_then, end_of_run, host_parts_in, most_steps, no_event, no_effect, run_function, run_program, unless_launched}
 
 -- ---- scripts
 
 -- a call leaves the modules of the service
-done-service : (effect : of_browser.Effect) (value : Value) (h : Hosted) (heap : List ObjectState)
-    → (done_for effect value h heap).hosted.modules.stored ≡ h.modules.stored
+done-service : (effect : of_browser.Effect) (value : Value) (h : HostParts) (heap : List ObjectState)
+    → (reply_of_effect effect value h heap).hosted.modules.stored ≡ h.modules.stored
 unfolding with_lock
 done-service effects.Nothing value h heap = refl
 done-service (effects.Sound sound) value h heap = refl
@@ -42,10 +42,10 @@ done-service (effects.Launch path) value h heap = refl
 done-service (effects.Lock path) value h heap = refl
 done-service (effects.Unlock path) value h heap = refl
 
-called-service : (h : Hosted) (base : HostRef) (name : List ℕ) (arguments : List Value)
+called-service : (h : HostParts) (base : HostRef) (name : List ℕ) (arguments : List Value)
     (heap : List ObjectState)
-    → (called h base name arguments heap).hosted.modules.stored ≡ h.modules.stored
-unfolding called
+    → (reply_of_call h base name arguments heap).hosted.modules.stored ≡ h.modules.stored
+unfolding reply_of_call
 called-service h ref.Document name arguments heap = refl
 called-service h (ref.Node node) name arguments heap = refl
 called-service h ref.Browser name arguments heap =
@@ -55,14 +55,14 @@ called-service h ref.Browser name arguments heap =
     (record h { acting = with_browser outcome.called.state a }) outcome.heap
 called-service h _ name arguments heap = refl
 
-run-service : (run : Run) (h : Hosted) → (ended run h).hosted.modules.stored ≡ h.modules.stored
-unfolding ended
+run-service : (run : Run) (h : HostParts) → (end_of_run run h).hosted.modules.stored ≡ h.modules.stored
+unfolding end_of_run
 run-service (Over outcome w) h = refl
-run-service (Reads base name go) h = run-service (go (read_by h.acting base name)) h
+run-service (Reads base name go) h = run-service (go (member_value h.acting base name)) h
 run-service (Writes base name value heap go) h =
-    run-service go (record h { acting = written h.acting base name value heap })
+    run-service go (record h { acting = with_member_set h.acting base name value heap })
 run-service (Calls base name arguments heap go) h =
-    let c = called h base name arguments heap in
+    let c = reply_of_call h base name arguments heap in
     run-service (go c.answer c.heap) c.hosted ∙ called-service h base name arguments heap
 
 -- ---- documents
@@ -85,7 +85,7 @@ unfolding run_program
 program-service name event place s =
     let d : Document = s.document in
     run-service (run_at (map program_of d.programs) place d.globals d.heap most_steps)
-    (hosted_in event s)
+    (host_parts_in event s)
 
 function-service : (name function : List ℕ) (s : Scene)
     → LeavesService s (run_function name function s)
@@ -93,7 +93,7 @@ unfolding run_function
 function-service name function s =
     let d : Document = s.document in
     run-service (global_run (map program_of d.programs) function d.globals d.heap most_steps)
-    (hosted_in no_event s)
+    (host_parts_in no_event s)
 
 -- ---- events
 
@@ -104,12 +104,12 @@ handler-service event node s =
   where
     by : (place : Option ℕ) → LeavesService s (option_map_or
         (λ place. run_program (name_of event) (record { event = Some event; target = node }) place s)
-        place (nothing_done s))
+        place (no_effect s))
     by None = refl
     by (Some place) = program-service (name_of event) _ place s
 
 handled_at-service : (node : Option ℕ) (event : Event) (s : Scene)
-    → LeavesService s (handled_at node event s)
+    → LeavesService s (event_effect_at node event s)
 handled_at-service None event s = refl
 handled_at-service (Some node) event s = handler-service event node s
 
@@ -117,14 +117,14 @@ timer-service : (number : ℕ) (s : Scene) → LeavesService s (timer_effect num
 timer-service number s = by (timer_of number s.browser.timers)
   where
     by : (timer : Option Timer) → LeavesService s (option_map_or
-        (λ timer. run_function (name_of (events.Timer number)) timer.function (timer_taken number s))
-        timer (nothing_done s))
+        (λ timer. run_function (name_of (events.Timer number)) timer.function (with_timer_taken number s))
+        timer (no_effect s))
     by None = refl
     by (Some timer) =
-        function-service (name_of (events.Timer number)) timer.function (timer_taken number s)
+        function-service (name_of (events.Timer number)) timer.function (with_timer_taken number s)
 
-pub handled-service : (event : Event) (s : Scene) → LeavesService s (handled event s)
-unfolding handled
+pub handled-service : (event : Event) (s : Scene) → LeavesService s (event_effect event s)
+unfolding event_effect
 handled-service events.Load s = handled_at-service (body_in s) events.Load s
 handled-service events.Unload s = handled_at-service (body_in s) events.Unload s
 handled-service (events.Focus node) s = handler-service (events.Focus node) node s
@@ -133,8 +133,8 @@ handled-service (events.Click node) s = handler-service (events.Click node) node
 handled-service (events.KeyDown key) s = handled_at-service (focus_of s) (events.KeyDown key) s
 handled-service (events.KeyUp key) s = by (key == key_number Enter)
   where
-    by : (enter : Bool) → LeavesService s (handled_at (focus_of s) (events.KeyUp key)
-        (if enter then record s { document = deactivated s.document } else s))
+    by : (enter : Bool) → LeavesService s (event_effect_at (focus_of s) (events.KeyUp key)
+        (if enter then record s { document = without_active s.document } else s))
     by true = handled_at-service (focus_of s) (events.KeyUp key) _
     by false = handled_at-service (focus_of s) (events.KeyUp key) s
 handled-service (events.Default key) s = refl

@@ -7,7 +7,7 @@ use Rattle.event_queue.specs.Queues.{first_of}
 use Rattle.module_locks.specs.Locks.{Modules}
 use Rattle.es_values.specs.declared.values.HostRef.TheVariants.{Node}
 use Rattle.es_values.specs.declared.values.Value.TheVariants.{Str}
-use Rattle.document_stages.specs.Acting.{Acting, read_by}
+use Rattle.document_stages.specs.Acting.{Acting, member_value}
 use Rattle.acting_documents.specs.Documents.{Document}
 use Rattle.acting_documents.specs.Handling.{without_first}
 use Rattle.page.specs.Dispatches.{dispatch}
@@ -67,7 +67,7 @@ Lasts (moment ∷ moments) s =
 -- Whatever acts on the document reads this of the node, by whatever reference: in each handler, at its beginning.
 abbrev pub ReadsAs : Document → ℕ → List ℕ → List ℕ → Type 0
 ReadsAs d node name text =
-    (a : Acting) → a.tree ≡ d.tree → read_by a (Node node) name ≡ Str text
+    (a : Acting) → a.tree ≡ d.tree → member_value a (Node node) name ≡ Str text
 
 -- The document is there still, and the last text that was written to the node is read of it, or what was read before.
 pub record HasLast (s : State) (node : ℕ) (name : List ℕ) (writes : List Write) (before : List ℕ)

@@ -19,11 +19,11 @@ use Rattle.event_queue.specs.declared.events.Event.{Event}
 use Rattle.event_queue.specs.declared.events.Event.TheVariants as events
 use Rattle.dom_objects.specs.Writes.{Change, change_of, changed_items, changed_sources}
 use Rattle.dom_objects.specs.declared.current_events.CurrentEvent.{CurrentEvent}
-use Rattle.document_stages.specs.Acting.{Acting, is_subscription, read_by, written}
-use Rattle.document_stages.specs.Hosting.{Hosted, called}
+use Rattle.document_stages.specs.Acting.{Acting, is_subscription, member_value, with_member_set}
+use Rattle.document_stages.specs.Hosting.{HostParts, reply_of_call}
 use Rattle.acting_documents.specs.Documents.{handler_in}
-use Rattle.acting_documents.specs.Handling.{body_in, focus_of, kind_of, released, timer_taken}
-use Rattle.acting_documents.specs.Runs.{Scene, hosted_in, most_steps, no_event}
+use Rattle.acting_documents.specs.Handling.{body_in, focus_of, kind_of, with_key_released, with_timer_taken}
+use Rattle.acting_documents.specs.Runs.{Scene, host_parts_in, most_steps, no_event}
 
 -- the nodes of a document, and what was written to their styles
 pub record Nodes : Type 0 where
@@ -65,29 +65,29 @@ write_made a (Node node) name text =
 write_made a base name text = record { base = base; name = name; text = text } ∷ []
 
 -- those of a run, of which each question is answered by the document and the browser object
-unfoldable pub writes_of : Run → Hosted → List Write
+unfoldable pub writes_of : Run → HostParts → List Write
 writes_of (Over outcome w) h = []
-writes_of (Reads base name go) h = writes_of (go (read_by h.acting base name)) h
+writes_of (Reads base name go) h = writes_of (go (member_value h.acting base name)) h
 writes_of (Writes base name value heap go) h =
     write_made h.acting base name (text_of heap value)
-    ++ writes_of go (record h { acting = written h.acting base name value heap })
+    ++ writes_of go (record h { acting = with_member_set h.acting base name value heap })
 writes_of (Calls base name arguments heap go) h =
-    writes_of (go (called h base name arguments heap).answer (called h base name arguments heap).heap)
-    (called h base name arguments heap).hosted
+    writes_of (go (reply_of_call h base name arguments heap).answer (reply_of_call h base name arguments heap).heap)
+    (reply_of_call h base name arguments heap).hosted
 
 -- those of the program at a place, as the handler of an event
 unfoldable pub program_writes : CurrentEvent → ℕ → Scene → List Write
 program_writes event place s =
     writes_of
     (run_at (map program_of s.document.programs) place s.document.globals s.document.heap
-    most_steps) (hosted_in event s)
+    most_steps) (host_parts_in event s)
 
 -- those of the function of a timer
 unfoldable pub function_writes : List ℕ → Scene → List Write
 function_writes function s =
     writes_of
     (global_run (map program_of s.document.programs) function s.document.globals s.document.heap
-    most_steps) (hosted_in no_event s)
+    most_steps) (host_parts_in no_event s)
 
 -- those of the handler that a node has for an event
 abbrev pub handler_writes : Event → ℕ → Scene → List Write
@@ -101,7 +101,7 @@ writes_at node event s = option_map_or (λ node. handler_writes event node s) no
 
 abbrev pub timer_writes : ℕ → Scene → List Write
 timer_writes number s =
-    option_map_or (λ timer. function_writes timer.function (timer_taken number s))
+    option_map_or (λ timer. function_writes timer.function (with_timer_taken number s))
     (timer_of number s.browser.timers) []
 
 -- Those of what is done for an event: of the handler that its target has for it, or of the timer's function. The default
@@ -113,7 +113,7 @@ event_writes (events.Focus node) s = handler_writes (events.Focus node) node s
 event_writes (events.Blur node) s = handler_writes (events.Blur node) node s
 event_writes (events.Click node) s = handler_writes (events.Click node) node s
 event_writes (events.KeyDown key) s = writes_at (focus_of s) (events.KeyDown key) s
-event_writes (events.KeyUp key) s = writes_at (focus_of s) (events.KeyUp key) (released key s)
+event_writes (events.KeyUp key) s = writes_at (focus_of s) (events.KeyUp key) (with_key_released key s)
 event_writes (events.Default key) s = []
 event_writes (events.Timer number) s = timer_writes number s
 event_writes (events.Fired item component message) s =

@@ -11,7 +11,7 @@ ghost use Rattle.es_values.specs.declared.values.Value.{Value};
 ghost use Rattle.es_values.specs.declared.values.Value.TheVariants.{Str};
 ghost use Rattle.es_values.specs.Conversions as texts;
 ghost use Rattle.es_values.specs.Objects.{ObjectState};
-ghost use Rattle.document_stages.specs.Acting.{Acting, read_by, written};
+ghost use Rattle.document_stages.specs.Acting.{Acting, member_value, with_member_set};
 ghost use Rattle.acting_documents.specs.Documents.{Document};
 ghost use Rattle.page.specs.Dispatches.{turn};
 ghost use Rattle.page.specs.State.{State};
@@ -81,7 +81,7 @@ pub fn law_of_written_nodes()
     ensures at_once { (a : Acting) (base : HostRef) (name : List ℕ) (value : Value)
         (heap : List ObjectState) (node : ℕ) (text : List ℕ)
         → text_of a.tree.items node ≡ Some text
-        → read_by (written a base name value heap) (Node node) (codes "data")
+        → member_value (with_member_set a base name value heap) (Node node) (codes "data")
         ≡ Str
         (unwrap_or
         (last_to node (codes "data") (write_made a base name (texts.text_of heap value))) text) }

@@ -60,8 +60,8 @@ pub record IsDocument (kept : KeptDocument) (d : Document) : Type 0 where
   pub others : kept ≡ kept_as kept d
 
 -- what a document acts on before its scripts run, with these nodes and rules
-abbrev pub staged_first : Path → List Item → List Rule → BrowserParts → ℕ → StageState
-staged_first path items rules lent now =
+abbrev pub first_stage : Path → List Item → List Rule → BrowserParts → ℕ → StageState
+first_stage path items rules lent now =
     record {
       acting = record {
         path = path;

@@ -7,7 +7,7 @@ ghost use Rattle.event_queue.specs.Events.{target_of};
 ghost use Rattle.event_queue.specs.Queues.{first_of};
 ghost use Rattle.module_locks.specs.Standing.{ModulesState};
 ghost use Rattle.acting_documents.specs.devices.Doings.{Changes, Does, lent_modules};
-ghost use Rattle.acting_documents.specs.Handling.{default_action, focus_of, handled as spec_handled, handled_at, released, run_handler as spec_run_handler, timer_effect, timer_taken, without_first};
+ghost use Rattle.acting_documents.specs.Handling.{default_action, focus_of, event_effect as spec_event_effect, event_effect_at, with_key_released, run_handler as spec_run_handler, timer_effect, with_timer_taken, without_first};
 
 use crate::documents::ActingDocument;
 use bml_bytes::NoMemory;
@@ -29,10 +29,10 @@ impl ActingDocument {
 
     /// Handles an event that was taken: its target's handler runs, the default action of a key is
     /// made, or the function of a timer is called.
-    #[tactic(auto, unfolding(crate::specs::Handling::handled))]
+    #[tactic(auto, unfolding(crate::specs::Handling::event_effect))]
     pub fn handle(&mut self, event: Event, out: &mut Vec<u8>) -> Result<(), NoMemory>
         ensures does { OnOk result
-            (Does (spec_handled event) self.old self.new out.old.items out.new.items) }
+            (Does (spec_event_effect event) self.old self.new out.old.items out.new.items) }
         ensures grows { StartsWith out.new.items out.old.items }
     {
         match event {
@@ -53,7 +53,7 @@ impl ActingDocument {
 
     // Runs the handler of an event at the node that it names, where it names one.
     fn handle_at_node(&mut self, event: Event, out: &mut Vec<u8>) -> Result<(), NoMemory>
-        ensures does { OnOk result (Does (handled_at (target_of event) event)
+        ensures does { OnOk result (Does (event_effect_at (target_of event) event)
             self.old self.new out.old.items out.new.items) }
         ensures grows { StartsWith out.new.items out.old.items }
     {
@@ -77,14 +77,14 @@ impl ActingDocument {
 
     // An event of the timer of a number was taken: it ends where it goes on no more.
     fn settle_timer(&mut self, number: u32)
-        ensures { Changes (timer_taken number) self.old self.new }
+        ensures { Changes (with_timer_taken number) self.old self.new }
     {
         self.host.stage.settle_timer(number);
     }
 
     // Ends the active state, where enter is released.
     fn release(&mut self, key: u8)
-        ensures { Changes (released key) self.old self.new }
+        ensures { Changes (with_key_released key) self.old self.new }
     {
         if key == Key::Enter.number() {
             self.host.stage.deactivate();
@@ -93,7 +93,7 @@ impl ActingDocument {
 
     // Runs the handler of an event at the element that has the focus.
     fn handle_at_focus(&mut self, event: Event, out: &mut Vec<u8>) -> Result<(), NoMemory>
-        ensures does { OnOk result (Does (λ s. handled_at (focus_of s) event s)
+        ensures does { OnOk result (Does (λ s. event_effect_at (focus_of s) event s)
             self.old self.new out.old.items out.new.items) }
         ensures grows { StartsWith out.new.items out.old.items }
     {
@@ -108,7 +108,7 @@ impl ActingDocument {
         event: Event,
         out: &mut Vec<u8>,
     ) -> Result<(), NoMemory>
-        ensures does { OnOk result (Does (handled_at (number_of target) event)
+        ensures does { OnOk result (Does (event_effect_at (number_of target) event)
             self.old self.new out.old.items out.new.items) }
         ensures grows { StartsWith out.new.items out.old.items }
     {

@@ -6,7 +6,7 @@ ghost use Rattle.acting_documents.specs.Documents.{Document as TheDocument, pass
 ghost use Rattle.acting_documents.specs.devices.Doings.{DoesApart};
 ghost use Rattle.acting_documents.specs.devices.Kept.{IsDocument};
 ghost use Rattle.acting_documents.specs.Notices.{IsInTime, notice_effect};
-ghost use Rattle.acting_documents.specs.devices.Posting.{post_effect, posted_by, takes as spec_takes};
+ghost use Rattle.acting_documents.specs.devices.Posting.{post_effect, with_notice, takes as spec_takes};
 
 use crate::documents::ActingDocument;
 use crate::notices::Notice;
@@ -74,7 +74,7 @@ impl ActingDocument {
 // Posts the events of what a document is told.
 fn post_on(stage: &mut Stage, notice: Notice<'_>) -> Result<(), NoMemory>
     requires { IsInTime notice }
-    ensures { OnOk result (stage.new.acting ≡ posted_by notice.entry stage.old.acting) }
+    ensures { OnOk result (stage.new.acting ≡ with_notice notice.entry stage.old.acting) }
 {
     match notice {
         Notice::Key { key, down } => stage.post_key(key, down),

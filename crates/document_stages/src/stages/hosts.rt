@@ -12,7 +12,7 @@ ghost use Rattle.es_values.specs.declared.numbers.Num.TheVariants.{NotANumber};
 ghost use Rattle.es_values.specs.declared.values.Value.TheVariants.{Number};
 ghost use Rattle.browser_objects.specs.Calls.{Answers, call_of};
 ghost use Rattle.dom_objects.specs.Reads.{read_value};
-ghost use Rattle.document_stages.specs.Acting.{browser_value as spec_browser_value, document_call, first_argument, is_subscription, is_unload, launch, node_call, parts_of, read_by, register_value as spec_register_value, text_written, with_browser, with_line, written};
+ghost use Rattle.document_stages.specs.Acting.{browser_value as spec_browser_value, document_call, first_argument, is_subscription, is_unload, launch, node_call, parts_of, member_value, register_value as spec_register_value, with_text_written, with_browser, with_line, with_member_set};
 ghost use Rattle.document_stages.specs.EventLines.{kept_line, sound_line};
 
 use crate::event_lines::{push_kept_line, push_launch_line, push_sound_line};
@@ -29,7 +29,7 @@ use multipart_entities::Path;
 impl Stage {
     /// What a name of a reference reads as.
     pub(crate) fn read(&mut self, base: HostRef, name: &Text) -> Result<Value, NoMemory>
-        ensures value { IfOk result (λ value. value ≡ read_by self.old.acting base name.now) }
+        ensures value { IfOk result (λ value. value ≡ member_value self.old.acting base name.now) }
         ensures plain { IfOk result (λ value. is_plain value ≡ true) }
         ensures same { OnOk result (self.new.acting ≡ self.old.acting) }
     {
@@ -54,7 +54,7 @@ impl Stage {
     ) -> Result<(), NoMemory>
         requires { IsLive heap.now value.now }
         ensures { OnOk result
-            (self.new.acting ≡ written self.old.acting base name.now value.now heap.now) }
+            (self.new.acting ≡ with_member_set self.old.acting base name.now value.now heap.now) }
     {
         match base {
             HostRef::Node(number) if self.is_subscription(NodeId(number), name) => {
@@ -96,7 +96,7 @@ impl Stage {
     // Writes a text under a name of a reference.
     fn write_text(&mut self, base: HostRef, name: &Text, text: &Text) -> Result<(), NoMemory>
         ensures { OnOk result
-            (self.new.acting ≡ text_written self.old.acting base name.now text.now) }
+            (self.new.acting ≡ with_text_written self.old.acting base name.now text.now) }
     {
         match base {
             HostRef::Ureg => set_register(self.alloc, &mut self.browser.ureg, name, text),

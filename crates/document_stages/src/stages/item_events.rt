@@ -4,7 +4,7 @@ ghost use Rattle.std.specs.Prelude.{◌≡◌, ◌==◌, if◌then◌else◌, On
 ghost use Rattle.std.specs.Option.{option_map_or};
 ghost use Rattle.focus_keys.specs.KeyTables.{key_number};
 ghost use Rattle.focus_keys.specs.declared.keys.Key.TheVariants as keys;
-ghost use Rattle.document_stages.specs.Acting.{button_posts, button_post, change_posts, each_item, fired, lock_post, lock_posts, message_posts, message_post, module_post, update_posts};
+ghost use Rattle.document_stages.specs.Acting.{button_posts, button_post, change_posts, each_item, with_item_fired, lock_post, lock_posts, message_posts, message_post, module_post, update_posts};
 
 use crate::stages::Stage;
 use bml_bytes::NoMemory;
@@ -54,7 +54,7 @@ impl Stage {
     // The item that a node is fires for a message of a component.
     fn fire(&mut self, node: NodeId, component: u8, message: &Message) -> Result<(), NoMemory>
         ensures fired { OnOk result
-            (self.new.acting ≡ fired component message.now node.0 self.old.acting) }
+            (self.new.acting ≡ with_item_fired component message.now node.0 self.old.acting) }
         ensures worked { self.new.worked ≡ self.old.worked }
     {
         let posted = self.post_or_lose(Event::Fired {

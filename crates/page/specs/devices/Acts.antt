@@ -4,7 +4,7 @@ use Rattle.module_locks.specs.Standing.{ModulesState, StandsFor}
 use Rattle.multipart_entities.specs.declared.paths.Path.{Path}
 use Rattle.browser_objects.specs.Calls.{BrowserParts}
 use Rattle.acting_documents.specs.Beginnings.{load_effect, unload_effect}
-use Rattle.acting_documents.specs.Handling.{handled}
+use Rattle.acting_documents.specs.Handling.{event_effect}
 use Rattle.acting_documents.specs.devices.Doings.{Does, IsScene}
 use Rattle.acting_documents.specs.devices.Kept.{IsDocument, KeptDocument}
 use Rattle.acting_documents.specs.Runs.{Effect, Scene}
@@ -14,7 +14,7 @@ use Rattle.page.specs.declared.acts.Task.TheVariants.{Begin, Handle}
 -- what a document does in a dispatch
 abbrev pub task_effect : Task → Scene → Effect
 task_effect Begin s = load_effect s
-task_effect (Handle event) s = handled event s
+task_effect (Handle event) s = event_effect event s
 
 -- What a document is lent, and gives back: what belongs to the receiver, with the timers, and the modules.
 pub record Lent : Type 0 where
@@ -22,8 +22,8 @@ pub record Lent : Type 0 where
   pub modules : ModulesState
 
 -- the document with what it is lent, at a time
-abbrev pub lent_to : KeptDocument → Lent → ℕ → KeptDocument
-lent_to kept lent now =
+abbrev pub with_lent : KeptDocument → Lent → ℕ → KeptDocument
+with_lent kept lent now =
     record kept { lent = lent.browser; modules = lent.modules; now = now }
 
 -- Nothing was launched: what is kept and given back is what the effect leaves, and this is what it prints.
@@ -53,7 +53,7 @@ pub record Acts (effect : Scene → Effect) (launched : Option Path) (now : ℕ)
     (old new : KeptDocument) (lent given_back : Lent) (before after : List ℕ) : Type 0 where
   pub text : List ℕ
   pub printed : after ≡ before ++ text
-  pub acts : (s : Scene) → IsScene (lent_to old lent now) s
+  pub acts : (s : Scene) → IsScene (with_lent old lent now) s
       → HasActed launched new given_back text (effect s)
 
 -- The same of what does nothing with the modules and launches nothing: whatever modules it is lent.
@@ -75,13 +75,13 @@ ActsLent effect launched old new before after =
     Acts effect launched old.now old new (lent_of old) (lent_of new) before after
 
 -- what was launched was taken
-abbrev pub taken : KeptDocument → KeptDocument
-taken kept = record kept { launched = None }
+abbrev pub without_launched : KeptDocument → KeptDocument
+without_launched kept = record kept { launched = None }
 
 -- it was taken, and where there was one the document's `unload` was handled
 abbrev pub IsHandled : Option Path → KeptDocument → KeptDocument → List ℕ → List ℕ → Type 0
-IsHandled None old new before after = (new ≡ taken old) × (after ≡ before)
-IsHandled (Some path) old new before after = Does unload_effect (taken old) new before after
+IsHandled None old new before after = (new ≡ without_launched old) × (after ≡ before)
+IsHandled (Some path) old new before after = Does unload_effect (without_launched old) new before after
 
 pub record GivesWay (launched : Option Path) (old new : KeptDocument) (before after : List ℕ)
     : Type 0 where

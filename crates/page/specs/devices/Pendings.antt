@@ -12,7 +12,7 @@ use Rattle.document_load.specs.Drafts.{DraftState}
 use Rattle.document_load.specs.Scripts.{bad_numbers, sources_of}
 use Rattle.acting_documents.specs.devices.Kept.{IsDocument, KeptDocument}
 use Rattle.page.specs.Lines.{load_lines, refuse_line}
-use Rattle.page.specs.Loading.{are_settled, loadable_reading, opened, wanted_path}
+use Rattle.page.specs.Loading.{are_settled, loadable_reading, document_of_draft, wanted_path}
 use Rattle.page.specs.devices.PendingStates.{IsFound, IsStartPath}
 use Rattle.page.specs.State.{Wanted}
 use Rattle.page.specs.State.Wanted.{StartDocument, DocumentAt, NoDocument}
@@ -26,8 +26,8 @@ abbrev pub wanted_at : Bool → Path → Wanted
 wanted_at is_start path = if is_start then StartDocument else DocumentAt path
 
 -- what is kept of it as long as it wasn't read
-abbrev pub unread : Bool → Path → Loading
-unread is_start path = if is_start then kept.Start else kept.At path
+abbrev pub unread_loading : Bool → Path → Loading
+unread_loading is_start path = if is_start then kept.Start else kept.At path
 
 -- what is wanted: one that was read and waits is still wanted
 abbrev pub wanted_of : Loading → Wanted
@@ -51,7 +51,7 @@ is_told_by component change _ = false
 
 -- it is wanted, and wasn't read
 abbrev pub wanted_anew : Loading → Loading
-wanted_anew (kept.Pending pending) = unread pending.is_start pending.path
+wanted_anew (kept.Pending pending) = unread_loading pending.is_start pending.path
 wanted_anew loading = loading
 
 -- then it is wanted anew
@@ -97,7 +97,7 @@ pub record IsLoaded (read : Reader) (path : Path) (reading : Option (Result Draf
     (document : KeptDocument) (text : List ℕ) : Type 0 where
   pub draft : DraftState
   pub reading_is : reading ≡ Some (Ok draft)
-  pub document_is : IsDocument document (opened read path draft)
+  pub document_is : IsDocument document (document_of_draft read path draft)
   pub text_is : text ≡ load_lines path (bad_numbers read (sources_of draft))
 
 -- what comes of a reading under the path of what is wanted, and the lines that tell it

@@ -2,7 +2,7 @@ use Rattle.std.proofs.Common.{sym, ◌∙◌}
 use Rattle.std.specs.Prelude.{true, false}
 use Rattle.std.proofs.lemmas.Result.{on_ok_weaker}
 use Rattle.acting_documents.specs.Notices.{notice_effect}
-use Rattle.acting_documents.specs.Runs.{nothing_done}
+use Rattle.acting_documents.specs.Runs.{no_effect}
 use Rattle.acting_documents.specs.devices.Doings.{DoesApart}
 use Rattle.acting_documents.specs.devices.Posting.{post_effect}
 use Rattle.acting_documents.proofs.DoingLemmas.{does_notice, does_still}
@@ -14,7 +14,7 @@ returns-then-not-takes-clause-does c =
     let new = c.do_nothing.new.self in
     let out = c.args.out.now.items in
     does_notice c.args.notice false old new out out (λ d k. sym c.if-not-takes.true ∙ c.takes.ensures.takes d k)
-    (does_still nothing_done old c.takes.new.self new out out c.takes.ensures.kept (c.do_nothing.ensures.apart out))
+    (does_still no_effect old c.takes.new.self new out out c.takes.ensures.kept (c.do_nothing.ensures.apart out))
 
 pub returns-clause-does : goal.returns-clause-does
 returns-clause-does c =
