@@ -1,7 +1,7 @@
 """A headless Chromium for tests and for pictures of pages, spoken to over a pipe in its own protocol (Chrome DevTools Protocol).
 
     with Browser() as browser:
-        page = browser.open("file:///tmp/report.html")
+        page = browser.open("file:///FOLDER/report.html")
         page.value("document.title")
 
 Where there is no Chromium, `program()` is None.

@@ -1,5 +1,5 @@
-//! Tests of `bml_ports`: the keeper in memory, through its trait. No run keeps anything yet; the world
-//! and the sink in memory are those of `replay_tests`.
+//! Tests of `bml_ports`: the keeper in memory, through its trait. The world and the sink in memory are
+//! those of `replay_tests`.
 
 use bml_ports::*;
 

@@ -15,8 +15,8 @@ ghost use Rattle.module_locks.specs.Locks.{Modules, changes_by, is_lock_on, kept
 
 use module_store::{law_of_found_resources, law_of_start_paths, law_of_undelivered_modules};
 
-/// What is found under a path stays there, with the same bytes, until a change of its module is told
-/// or its module is unlocked. A lock changes no look-up.
+/// What is found under a path stays there, with the same bytes, over each section and map that tells
+/// no change of its module. A lock changes no look-up.
 pub fn law_of_found_paths()
     ensures sections { (modules : Modules) (component : ℕ) (section : List ℕ) (path : Path)
         (bytes : List ℕ) → path.«module» < 2 ^ 16
@@ -36,7 +36,7 @@ pub fn law_of_found_paths()
     law_of_found_resources();
 }
 
-/// The start path stays until a change of its module is told or its module is unlocked.
+/// The start path stays over each section and map that tells no change of its module.
 pub fn law_of_start_documents()
     ensures sections { (modules : Modules) (component : ℕ) (section : List ℕ)
         → (component ≡ start_component
