@@ -1,7 +1,6 @@
 pub mod Codes
 pub mod Escapes
 pub mod Fields
-pub mod Hashes
 pub mod Numbers
 pub mod Numerals
 pub mod Refusals

@@ -130,34 +130,17 @@ impl Eq for Text {
     ghost laws = { Prim.search (comparing, rules) };
 }
 
-// The most codes of a text that are all hashed.
-const HASHED_WHOLE: usize = 64;
-
-// How many codes of each end are hashed of a longer one, beside its length.
-const HASHED_END: usize = 32;
-
-// A long text costs no more than a short one. Texts that only differ between their ends hash alike, as
-// equal ones do: a map compares them.
 impl Hash for Text {
-    ghost use Rattle.std.proofs.Common.{sym, ap};
-    ghost use Rattle.std.specs.Cmp.Lexicographic.{same_text};
-    ghost use Rattle.bml_bytes.specs.Hashes.{text_writes};
+    ghost use Rattle.std.specs.Hash as fed;
+    ghost use Rattle.std.specs.Cmp.Rules.{hashing};
+    ghost use Rattle.std.proofs.Common.{rules};
 
-    ghost hash_input = { text_writes };
+    ghost hash_input = { fed.slice fed.u16 };
 
-    ghost respects_eq = { λ x y equal. ap text_writes (same_text x y (sym equal)) };
+    ghost respects_eq = { Prim.search (hashing, rules) };
 
     fn hash<H: Hasher>(&self, state: &mut H) {
-        let codes = self.codes();
-        if codes.len() <= HASHED_WHOLE {
-            codes.hash(state);
-        } else {
-            let (front, _) = codes.split_at(HASHED_END);
-            let (_, back) = codes.split_at(codes.len() - HASHED_END);
-            codes.len().hash(state);
-            front.hash(state);
-            back.hash(state);
-        }
+        self.codes().hash(state);
     }
 }
 

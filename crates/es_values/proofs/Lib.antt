@@ -5,10 +5,13 @@ pub mod HeldLemmas
 pub mod IndexLemmas
 pub mod JoinLemmas
 pub mod LawLemmas
+pub mod LengthLemmas
 pub mod ListSteps
 pub mod NumberLemmas
 pub mod OrderLemmas
 pub mod ReverseLemmas
+pub mod RunLemmas
 pub mod SlotLemmas
 pub mod SoundLemmas
 pub mod TurnLemmas
+pub mod ZeroLemmas

@@ -1,9 +1,9 @@
 -- Objects and the heap that holds them (ECMA-262 second edition, 8.6 and 15.4: objects without prototypes
 -- and attributes, whose properties stand in order of insertion). An object's number is its place in the
 -- heap, from 0, which is this project's own, as is the greatest index.
-use Rattle.std.specs.Prelude.{ℕ, ◌+◌, nat_le, nat_lt, max, Bool, false, not, ◌&&◌, if◌then◌else◌, pos, negsuc, List, [], length, map, filter, count_by, Option, Some, None, slice_get, slice_set, is_some, unwrap_or, All, codes}
+use Rattle.std.specs.Prelude.{ℕ, ◌+◌, ◌≤◌, nat_le, nat_lt, max, Bool, false, not, ◌&&◌, if◌then◌else◌, pos, negsuc, List, [], length, map, filter, count_by, Option, Some, None, slice_get, slice_set, is_some, unwrap_or, All, codes}
 use Rattle.std.specs.List.{list_any}
-use Rattle.std.specs.Option.{option_map_or}
+use Rattle.std.specs.Option.{ForSome, option_map_or}
 use Rattle.std.specs.Map.{lookup, remove_entry}
 use Rattle.indexmap.specs.IndexMap.{insert_entry}
 use Rattle.bml_bytes.specs.Numerals.{decimal_digits, decimal_number}
@@ -106,7 +106,20 @@ without_property object name =
 abbrev pub names_of : ObjectState → List (List ℕ)
 names_of object = map (λ property. property.0) object.properties
 
+-- an array of this length may have this property: it is no element at this place or behind it
+abbrev pub IsBelow : ℕ → List ℕ × Value → Type 0
+IsBelow count property = length_for property.0 ≤ count
+
+-- where it is an array, each of its indices is below its length (15.4)
+abbrev pub HasSoundLength : ObjectState → Type 0
+HasSoundLength object =
+    ForSome object.array_length (λ count. All (IsBelow count) object.properties)
+
 -- Heaps
+
+-- so it is of each object
+abbrev pub HaveSoundLengths : List ObjectState → Type 0
+HaveSoundLengths heap = All HasSoundLength heap
 
 -- the object of this number; what isn't there is an object without properties
 abbrev pub object_at : List ObjectState → ℕ → ObjectState

@@ -1,3 +1,4 @@
 -- Devices of the proofs, which nobody has to believe.
 pub mod Indices
+pub mod Runs
 pub mod Turning

@@ -5,6 +5,7 @@ ghost use Rattle.std.specs.Prelude.{◌≡◌, ◌<◌, ◌≤◌, ◌^◌, ◌+
 ghost use Rattle.std.specs.Int.{w32};
 ghost use Rattle.std.specs.List.{list_any};
 ghost use Rattle.std.specs.Map.{lookup};
+ghost use Rattle.std.specs.Option.{ForSome};
 ghost use Rattle.std.specs.Set.{remove_key};
 ghost use Rattle.bml_bytes.specs.Numerals.{decimal_digits};
 ghost use Rattle.bml_bytes.specs.Words.{is_same};
@@ -15,7 +16,7 @@ ghost use Rattle.es_values.specs.Arrays.{array_of, element_at, elements_of, turn
 ghost use Rattle.es_values.specs.Numbers.{wrapped};
 ghost use Rattle.es_values.specs.Objects.{ObjectState};
 ghost use Rattle.es_values.specs.Values.{is_function};
-ghost use Rattle.es_values.specs.Heaps.{IsLive, IsSound, holds_function, index_of, is_array_length, is_length, names_of, new_object, object_at, value_of, with_length, with_property, without_property, with_object};
+ghost use Rattle.es_values.specs.Heaps.{HasSoundLength, HaveSoundLengths, IsLive, IsSound, holds_function, index_of, is_array_length, is_length, names_of, new_object, object_at, value_of, with_length, with_property, without_property, with_object};
 ghost use Rattle.es_values.specs.Operators.{with_put};
 
 use bml_bytes::law_of_decimals;
@@ -86,6 +87,35 @@ pub fn law_of_elements()
         → (array_of values).array_length ≡ Some (length values) }
     ensures set { (object : ObjectState) (values : List Value) (place : ℕ) → place < 2147483647
         → element_at (with_first_elements object values).properties place ≡ slice_get values place }
+{
+    law_of_decimals();
+}
+
+/// An array's index is below its length, in a heap that is made by the operations of this crate. A heap
+/// without objects has such lengths, and so has one with a new object or an array of values. A put, a
+/// length and a removal keep them, and so does an array that is turned round. Values become an object's
+/// elements in place of its own where they are no more than its length says. (15.4.)
+pub fn law_of_lengths()
+    ensures below { (object : ObjectState) (count index : ℕ) → HasSoundLength object
+        → object.array_length ≡ Some count → index < 2147483647
+        → is_some (element_at object.properties index) ≡ true → index < count }
+    ensures nothing { HaveSoundLengths [] }
+    ensures added { (heap : List ObjectState) (array : Bool) → HaveSoundLengths heap
+        → HaveSoundLengths (heap ++ new_object array ∷ []) }
+    ensures made { (heap : List ObjectState) (values : List Value) → HaveSoundLengths heap
+        → HaveSoundLengths (heap ++ array_of values ∷ []) }
+    ensures put { (heap : List ObjectState) (object : ℕ) (name : List ℕ) (value : Value)
+        → HaveSoundLengths heap → HaveSoundLengths (with_put heap object name value) }
+    ensures removed { (heap : List ObjectState) (object : ℕ) (name : List ℕ)
+        → HaveSoundLengths heap → HaveSoundLengths
+        (with_object heap object (without_property (object_at heap object) name)) }
+    ensures set { (heap : List ObjectState) (object : ℕ) (values : List Value)
+        → HaveSoundLengths heap
+        → ForSome (object_at heap object).array_length (λ count. length values ≤ count)
+        → HaveSoundLengths
+        (with_object heap object (with_first_elements (object_at heap object) values)) }
+    ensures reversed { (heap : List ObjectState) (object : ℕ) → HaveSoundLengths heap
+        → HaveSoundLengths (with_object heap object (turned_object (object_at heap object))) }
 {
     law_of_decimals();
 }

@@ -34,7 +34,8 @@ pub use crate::heaps::Heap;
 pub use crate::hosts::{Host, HostAnswer};
 pub use crate::laws::{
     law_of_array_functions, law_of_arrays, law_of_elements, law_of_functions, law_of_indices,
-    law_of_insertion, law_of_live_values, law_of_properties, law_of_reversal, law_of_wrapping,
+    law_of_insertion, law_of_lengths, law_of_live_values, law_of_properties, law_of_reversal,
+    law_of_wrapping,
 };
 pub use crate::numbers::Num;
 pub use crate::numerals::{digit_value, number_of_digits, number_of_text, signed_number, trimmed};

@@ -1,13 +1,20 @@
 //! The number that a text means.
 
-ghost use Rattle.std.specs.Prelude.{◌≡◌, ◌<◌, ◌≤◌, ◌*◌, ◌+◌, true, false, pos, length, min, nat_eq, codes, drop, if◌then◌else◌};
+ghost use Rattle.std.specs.Prelude.{◌≡◌, ◌<◌, ◌≤◌, ◌*◌, ◌+◌, ℕ, Bool, true, false, pos, length, min, nat_eq, codes, drop, if◌then◌else◌};
 ghost use Rattle.std.specs.List.{list_all, starts_with};
-ghost use Rattle.es_values.specs.Numerals.{are_digits as spec_are_digits, digit_value as spec_digit_value, is_digit_in as spec_is_digit_in, is_white as spec_is_white, number_in_range, number_of_text as spec_number_of_text, number_written, numeral as spec_numeral, signed, signed_numeral as spec_signed_numeral, trimmed as spec_trimmed, without_white_front as spec_without_white_front};
+ghost use Rattle.es_values.specs.devices.Runs.{is_zero, without_end, without_front};
+ghost use Rattle.es_values.specs.Numerals.{digit_value as spec_digit_value, is_digit_in as spec_is_digit_in, is_white as spec_is_white, number_in_range, number_of_text as spec_number_of_text, number_written, numeral as spec_numeral, signed, signed_numeral as spec_signed_numeral, trimmed as spec_trimmed, without_white_front as spec_without_white_front};
 
 use crate::numbers::Num;
 
 /// What no number of digits passes here: past it, each number is out of the range of numbers.
 const MOST_MAGNITUDE: u64 = 4_294_967_296;
+
+/// More digits than these write a number past that one in each base, where the first of them isn't 0.
+const MOST_DIGITS: usize = 32;
+
+/// How many codes of a long text are passed at once, by one comparison with as many in front of them.
+const BLOCK: usize = 512;
 
 /// The number that a text means: white at both ends counts for nothing, and what is left is empty, which
 /// is 0, decimal digits behind `+`, behind `-` or alone, or `0x` and hexadecimal digits. Every other text,
@@ -22,7 +29,7 @@ pub fn number_of_text(text: &[u16]) -> Num
 pub fn trimmed(text: &[u16]) -> &[u16]
     ensures { result.now ≡ spec_trimmed text.now }
 {
-    let mut rest = without_white_front(text);
+    let mut rest = before_white_blocks(without_white_front(text));
     'end: while let Some((last, fewer)) = rest.split_last() {
         if !is_white(*last) {
             return rest;
@@ -122,23 +129,24 @@ fn unsigned_numeral(text: &[u16]) -> Num
     }
 }
 
-// What digits of a base mean behind a sign, and NaN where they are none.
-#[tactic(auto, unfolding(crate::specs::Numerals::signed_numeral))]
+// What digits of a base mean behind a sign, and NaN where they are none. Behind the zeros in front no more
+// codes are read than a number within the range has digits.
 fn signed_numeral(negative: bool, base: u64, digits: &[u16]) -> Num
-    requires some { 0 < base }
+    requires some { 2 ≤ base }
     requires most { base ≤ 36 }
     ensures { result ≡ spec_signed_numeral negative base digits.now }
 {
-    if !are_digits(base, digits) {
+    if digits.is_empty() {
         return Num::NotANumber;
     }
-    signed_number(negative, number_of_digits(base, digits))
-}
-
-fn are_digits(base: u64, digits: &[u16]) -> bool
-    ensures { result ≡ spec_are_digits base digits.now }
-{
-    !digits.is_empty() && are_all_digits(base, digits)
+    let written = without_zeros(digits);
+    if written.len() > MOST_DIGITS {
+        return Num::NotANumber;
+    }
+    if !are_all_digits(base, written) {
+        return Num::NotANumber;
+    }
+    signed_number(negative, number_of_digits(base, written))
 }
 
 fn are_all_digits(base: u64, digits: &[u16]) -> bool
@@ -167,7 +175,7 @@ fn without_white_front(text: &[u16]) -> &[u16]
     ensures text { result.now ≡ spec_without_white_front text.now }
     ensures bound { length result.now ≤ length text.now }
 {
-    let mut rest = text;
+    let mut rest = behind_white_blocks(text);
     'front: while let Some((first, more)) = rest.split_first() {
         if !is_white(*first) {
             return rest;
@@ -175,6 +183,106 @@ fn without_white_front(text: &[u16]) -> &[u16]
         rest = more;
     }
     rest
+}
+
+// What stands behind the zeros in front.
+fn without_zeros(digits: &[u16]) -> &[u16]
+    ensures { result.now ≡ without_front is_zero digits.now }
+{
+    let mut rest = behind_zero_blocks(digits);
+    'zeros: while let Some((first, more)) = rest.split_first() {
+        if *first != 0x30 {
+            return rest;
+        }
+        rest = more;
+    }
+    rest
+}
+
+// The text behind a first block of white and those that repeat it.
+fn behind_white_blocks(text: &[u16]) -> &[u16]
+    ensures text { spec_without_white_front result.now ≡ spec_without_white_front text.now }
+    ensures bound { length result.now ≤ length text.now }
+{
+    if text.len() < BLOCK {
+        return text;
+    }
+    let (block, behind) = text.split_at(BLOCK);
+    if !is_all_white(block) {
+        return text;
+    }
+    behind_copies(block, behind)
+}
+
+// The text in front of a last block of white and those that repeat it.
+fn before_white_blocks(text: &[u16]) -> &[u16]
+    ensures text { without_end spec_is_white result.now ≡ without_end spec_is_white text.now }
+    ensures bound { length result.now ≤ length text.now }
+{
+    if text.len() < BLOCK {
+        return text;
+    }
+    let (before, block) = text.split_at(text.len() - BLOCK);
+    if !is_all_white(block) {
+        return text;
+    }
+    before_copies(block, before)
+}
+
+// The text behind a first block of zeros and those that repeat it.
+fn behind_zero_blocks(text: &[u16]) -> &[u16]
+    ensures text { without_front is_zero result.now ≡ without_front is_zero text.now }
+    ensures bound { length result.now ≤ length text.now }
+{
+    if text.len() < BLOCK {
+        return text;
+    }
+    let (block, behind) = text.split_at(BLOCK);
+    if !is_all_zeros(block) {
+        return text;
+    }
+    behind_copies(block, behind)
+}
+
+// The text behind the blocks at its front that repeat this one. Whatever all codes of the block are, none
+// but such codes were passed.
+fn behind_copies<'a>(block: &[u16], text: &'a [u16]) -> &'a [u16]
+    requires { 0 < length block.now }
+    ensures front { (p : ℕ → Bool) → list_all p block.now ≡ true
+        → without_front p result.now ≡ without_front p text.now }
+    ensures bound { length result.now ≤ length text.now }
+{
+    let mut rest = text;
+    'copies: while let Some(more) = rest.strip_prefix(block) {
+        rest = more;
+    }
+    rest
+}
+
+// The text before the blocks at its end that repeat this one.
+fn before_copies<'a>(block: &[u16], text: &'a [u16]) -> &'a [u16]
+    requires { 0 < length block.now }
+    ensures end { (p : ℕ → Bool) → list_all p block.now ≡ true
+        → without_end p result.now ≡ without_end p text.now }
+    ensures bound { length result.now ≤ length text.now }
+{
+    let mut rest = text;
+    'copies: while let Some(fewer) = rest.strip_suffix(block) {
+        rest = fewer;
+    }
+    rest
+}
+
+fn is_all_white(block: &[u16]) -> bool
+    ensures { result ≡ list_all spec_is_white block.now }
+{
+    block.iter().all(|code| is_white(*code))
+}
+
+fn is_all_zeros(block: &[u16]) -> bool
+    ensures { result ≡ list_all is_zero block.now }
+{
+    block.iter().all(|code| *code == 0x30)
 }
 
 #[tactic(auto, unfolding(crate::specs::Numerals::is_white))]
