@@ -257,14 +257,14 @@ needs_packet replay items item now inputs ahead notes waiting short p =
     }
 
 -- the read of the stream ended the run
-record EndsInStream (replay : Replay) (behind : Outside) (now : Moment) (last : List ℕ)
+pub record EndsInStream (replay : Replay) (behind : Outside) (now : Moment) (last : List ℕ)
     : Type 0 where
-  given : Given
-  reads : ReadsStream (run_of replay behind) given last
-  writes : WritesDecided (means replay) given (run_of replay behind)
-  size : now.bytes ≡ length given.stream.bytes
+  pub given : Given
+  pub reads : ReadsStream (run_of replay behind) given last
+  pub writes : WritesDecided (means replay) given (run_of replay behind)
+  pub size : now.bytes ≡ length given.stream.bytes
 
-ends_in_stream : ReceiverLaws → PacketLaws → (replay : Replay) (old : Moment) (behind : Outside)
+pub ends_in_stream : ReceiverLaws → PacketLaws → (replay : Replay) (old : Moment) (behind : Outside)
     (items : List RecordItem) (item : RecordItem) (notes : RecordState) (last : List ℕ)
     → IsReader replay.read → (r : IsReadForPacket item old behind last)
     → IsBetween replay old items → (old.cutter.ended ≡ false → TakeJust items old.packets)
@@ -334,12 +334,12 @@ faulty_stream laws packets status replay old behind items item notes right s b j
 -- ---- a read for a line
 
 -- the record read of the run ended it
-record EndsInRecord (replay : Replay) (behind : Outside) (now : RecordState) (last : List ℕ)
+pub record EndsInRecord (replay : Replay) (behind : Outside) (now : RecordState) (last : List ℕ)
     : Type 0 where
-  given : Given
-  reads : ReadsNotes (run_of replay behind) given last
-  writes : WritesDecided (means replay) given (run_of replay behind)
-  size : now.bytes ≡ length given.notes.bytes
+  pub given : Given
+  pub reads : ReadsNotes (run_of replay behind) given last
+  pub writes : WritesDecided (means replay) given (run_of replay behind)
+  pub size : now.bytes ≡ length given.notes.bytes
 
 -- what is decided is among what the items read so far hand over
 at_line_decides : (replay : Replay) (items : List RecordItem) (now : Moment)
@@ -365,7 +365,7 @@ at_line_decides replay items now inputs ahead notes unfinished same m a decided 
     (ap₂ (λ l m. inputs_of (packets_of l) m) (sym m.whole) read)
     (are m.rest (zeros 130) m.ended follows))
 
-ends_in_record : ReceiverLaws → (replay : Replay) (now : Moment) (behind : Outside)
+pub ends_in_record : ReceiverLaws → (replay : Replay) (now : Moment) (behind : Outside)
     (items : List RecordItem) (old : RecordState) (last : List ℕ)
     → IsReader replay.read → (r : IsReadForLine old behind.world.notes last)
     → IsBetween replay now items → IsTold now behind → IsIdle now.receiver

@@ -1,6 +1,6 @@
 -- How a replay ends, over plain values.
 use Rattle.std.proofs.Common.{◌≡◌, ◌≢◌, ℕ, ◌≤◌, List, [], ◌∷◌, ◌++◌, refl, sym, ap, ap₂, ◌∙◌, subst}
-use Rattle.std.proofs.Common.{arith, append-nil, Option, Some, None, Result, Ok, Err, OnOk, IfErr, inl, inr}
+use Rattle.std.proofs.Common.{append-nil, Option, Some, None, Result, Ok, Err, OnOk, IfErr, inl, inr}
 use Rattle.std.specs.Io.KnownBytes.{Appends}
 use Rattle.bml_ports.specs.declared.outside.Port.TheVariants.{Stream, Notes}
 use Rattle.bml_ports.specs.Keepers.{KeeperState}
@@ -15,7 +15,7 @@ use Rattle.replay_run.specs.declared.status.Status.{Status}
 use Rattle.replay_run.specs.declared.status.Status.TheVariants.{Done, Usage, BadRecord, OpenFault}
 use Rattle.replay_run.specs.declared.status.Status.TheVariants.{ReadFault, WriteFault, KeepFault}
 use Rattle.replay_run.specs.declared.status.Status.TheVariants.{BadArea, TooLong, NoMemory}
-use Rattle.replay_run.specs.Ending.{Begins, EndsAs, FailsToRead, ReadsTooMuch}
+use Rattle.replay_run.specs.Ending.{Begins, EndsAs, FailsToRead, HoldsNothingBack, ReadsTooMuch}
 use Rattle.replay_run.specs.Files.{file, GaveAtMost, record_limit}
 use Rattle.replay_run.specs.Lines.{end_line}
 use Rattle.replay_run.specs.Meaning.{Meaning, area_meaning, end_piece, last_pieces, replay_inputs}
@@ -49,6 +49,10 @@ means replay =
 -- it ends as it should
 abbrev pub Ends : Replay → Outside → Status → Type 0
 Ends replay behind status = EndsAs (means replay) (run_of replay behind) status
+
+-- it kept nothing back
+abbrev pub Holds : Replay → Outside → Type 0
+Holds replay behind = HoldsNothingBack (means replay) (run_of replay behind)
 
 -- the record gave no more than it may, as far as it was read
 abbrev pub RecordWithin : Replay → Outside → Type 0
@@ -110,40 +114,42 @@ front_of_stop laws status replay behind items right front s =
 
 leaves_in_front : (status : Status) (replay : Replay) (behind : Outside) (given : List Piece)
     → IsFront given (means replay).pieces → RecordWithin replay behind
-    → FaultyReads status replay behind
+    → FaultyReads status replay behind → Holds replay behind
     → LeavesPackets status replay behind given → Ends replay behind status
-leaves_in_front ReadFault replay behind given front within reads l = (
+leaves_in_front ReadFault replay behind given front within reads holds l = (
   begins replay,
   record { stream = l; notes = within },
   reads.failed refl,
 )
-leaves_in_front NoMemory replay behind given front within reads l =
+leaves_in_front NoMemory replay behind given front within reads holds l =
     whole_further (meaning_of replay given) (means replay) (run_of replay behind) refl front l.1
-leaves_in_front TooLong replay behind given front within reads l =
+leaves_in_front TooLong replay behind given front within reads holds l =
     (begins replay, inl l, reads.long refl)
-leaves_in_front WriteFault replay behind given front within reads l = (
+leaves_in_front WriteFault replay behind given front within reads holds l = (
   record { stream = l.0; notes = within },
   short_further (meaning_of replay given) (means replay) (run_of replay behind) refl front l.1,
+  holds,
 )
-leaves_in_front KeepFault replay behind given front within reads l = inr (
+leaves_in_front KeepFault replay behind given front within reads holds l = inr (
   record { stream = l.0; notes = within },
   lost_further (meaning_of replay given) (means replay) (run_of replay behind) refl front l.1,
+  holds,
 )
-leaves_in_front Done replay behind given front within reads l = absurd l
-leaves_in_front Usage replay behind given front within reads l = absurd l
-leaves_in_front (BadRecord line) replay behind given front within reads l = absurd l
-leaves_in_front OpenFault replay behind given front within reads l = absurd l
-leaves_in_front (BadArea size) replay behind given front within reads l = absurd l
+leaves_in_front Done replay behind given front within reads holds l = absurd l
+leaves_in_front Usage replay behind given front within reads holds l = absurd l
+leaves_in_front (BadRecord line) replay behind given front within reads holds l = absurd l
+leaves_in_front OpenFault replay behind given front within reads holds l = absurd l
+leaves_in_front (BadArea size) replay behind given front within reads holds l = absurd l
 
 pub ends_in_item : ReceiverLaws → (status : Status) (replay : Replay) (behind : Outside)
     (items : List RecordItem)
     → IsReader replay.read → IsFront items (items_before_bad replay.notes)
-    → RecordWithin replay behind → FaultyReads status replay behind
+    → RecordWithin replay behind → FaultyReads status replay behind → Holds replay behind
     → StopsIn status replay behind (inputs_of (packets_of replay.stream) items)
     → Ends replay behind status
-ends_in_item laws status replay behind items right front within reads s =
+ends_in_item laws status replay behind items right front within reads holds s =
     leaves_in_front status replay behind s.given
-    (front_of_stop laws status replay behind items right front s) within reads s.leaves
+    (front_of_stop laws status replay behind items right front s) within reads holds s.leaves
 
 -- ---- the record stops the replay
 
@@ -170,11 +176,11 @@ put_told replay now behind given told put =
 ends_bad : ReceiverLaws → (line : ℕ) (replay : Replay) (now : Moment) (behind : Outside)
     (items : List RecordItem)
     → IsReader replay.read → IsBadBehind line (file replay.notes behind.world.notes.left) items
-    → IsTold now behind → StreamWithin replay behind
+    → IsTold now behind → StreamWithin replay behind → Holds replay behind
     → IsIdle now.receiver → IsBetween replay now items
     → Ends replay behind (BadRecord line)
 unfolding replay_pieces
-ends_bad laws line replay now behind items right bad told within idle b =
+ends_bad laws line replay now behind items right bad told within holds idle b =
     let packets = packets_of replay.stream in
     let inputs = inputs_of packets items in
     let all = replay_inputs replay.stream replay.notes in
@@ -189,38 +195,40 @@ ends_bad laws line replay now behind items right bad told within idle b =
     (b.stands right) idle)) in
     let put : HasPut replay.area replay.before now.kept (outlets_of behind) (means replay).pieces =
     subst (λ (l : List Piece). HasPut replay.area replay.before now.kept (outlets_of behind) l)
-    pieces (put_told replay now behind b.given told b.put) in
-    record {
-      same = ap status_behind bad.number;
-      within = record { stream = within; notes = bad.within };
-      written = put.wrote;
-      kept = put.keeps;
-    }
+    pieces (put_told replay now behind b.given told b.put) in (
+      record {
+        same = ap status_behind bad.number;
+        within = record { stream = within; notes = bad.within };
+        written = put.wrote;
+        kept = put.keeps;
+      },
+      holds,
+    )
 
 pub ends_in_items : ReceiverLaws → (status : Status) (replay : Replay) (now : Moment)
     (behind : Outside) (items : List RecordItem)
     → IsReader replay.read → IsTold now behind
-    → StreamWithin replay behind → FaultyReads status replay behind
+    → StreamWithin replay behind → FaultyReads status replay behind → Holds replay behind
     → IsIdle now.receiver → IsBetween replay now items
     → LeavesItems status (file replay.notes behind.world.notes.left) items
     → Ends replay behind status
-ends_in_items laws ReadFault replay now behind items right told within reads idle b l = (
+ends_in_items laws ReadFault replay now behind items right told within reads holds idle b l = (
   begins replay,
   record { stream = within; notes = l },
   reads.failed refl,
 )
-ends_in_items laws TooLong replay now behind items right told within reads idle b l =
+ends_in_items laws TooLong replay now behind items right told within reads holds idle b l =
     (begins replay, inr l, reads.long refl)
-ends_in_items laws (BadRecord line) replay now behind items right told within reads idle b l =
-    ends_bad laws line replay now behind items right l told within idle b
-ends_in_items laws Done replay now behind items right told within reads idle b l = absurd l
-ends_in_items laws Usage replay now behind items right told within reads idle b l = absurd l
-ends_in_items laws OpenFault replay now behind items right told within reads idle b l = absurd l
-ends_in_items laws WriteFault replay now behind items right told within reads idle b l = absurd l
-ends_in_items laws KeepFault replay now behind items right told within reads idle b l = absurd l
-ends_in_items laws (BadArea size) replay now behind items right told within reads idle b l =
+ends_in_items laws (BadRecord line) replay now behind items right told within reads holds idle b l =
+    ends_bad laws line replay now behind items right l told within holds idle b
+ends_in_items laws Done replay now behind items right told within reads holds idle b l = absurd l
+ends_in_items laws Usage replay now behind items right told within reads holds idle b l = absurd l
+ends_in_items laws OpenFault replay now behind items right told within reads holds idle b l = absurd l
+ends_in_items laws WriteFault replay now behind items right told within reads holds idle b l = absurd l
+ends_in_items laws KeepFault replay now behind items right told within reads holds idle b l = absurd l
+ends_in_items laws (BadArea size) replay now behind items right told within reads holds idle b l =
     absurd l
-ends_in_items laws NoMemory replay now behind items right told within reads idle b l = absurd l
+ends_in_items laws NoMemory replay now behind items right told within reads holds idle b l = absurd l
 
 -- ---- the last line
 
@@ -273,36 +281,38 @@ line_keeps now keeper same =
 ends_done : ReceiverLaws → (replay : Replay) (now : Moment) (behind : Outside)
     (items : List RecordItem)
     → IsReader replay.read → IsWhole (file replay.notes behind.world.notes.left) items
-    → StreamWithin replay behind
+    → StreamWithin replay behind → Holds replay behind
     → WritesOn now.outlets.sink.written behind.sink.written (end_line now.packets)
     → behind.keeper ≡ now.outlets.keeper
     → IsIdle now.receiver → now.kept ≡ now.receiver.area → IsBetween replay now items
     → Ends replay behind Done
-ends_done laws replay now behind items right whole within wrote same idle area b =
+ends_done laws replay now behind items right whole within holds wrote same idle area b =
     let puts : PutsPiece now.kept (end_of now) now.outlets (outlets_of behind) =
     record { keeps = line_keeps now behind.keeper same; writes = wrote } in
     let put : HasPut replay.area replay.before now.kept (outlets_of behind) (means replay).pieces =
     subst (λ (l : List Piece). HasPut replay.area replay.before now.kept (outlets_of behind) l)
     (all_pieces laws replay now _ items right whole idle area b)
     (put_more replay.area replay.before now.kept now.outlets (outlets_of behind) b.given
-    (end_of now) b.put puts) in
-    record {
-      same = ap status_behind (items_of_whole replay.notes _ items whole).0;
-      within = record { stream = within; notes = whole.within };
-      written = put.wrote;
-      kept = put.keeps;
-    }
+    (end_of now) b.put puts) in (
+      record {
+        same = ap status_behind (items_of_whole replay.notes _ items whole).0;
+        within = record { stream = within; notes = whole.within };
+        written = put.wrote;
+        kept = put.keeps;
+      },
+      holds,
+    )
 
 -- it wasn't
 ends_in_line : ReceiverLaws → (status : Status) (replay : Replay) (now : Moment)
     (behind : Outside) (items : List RecordItem)
     → IsReader replay.read → IsWhole (file replay.notes behind.world.notes.left) items
-    → StreamWithin replay behind
+    → StreamWithin replay behind → Holds replay behind
     → StopsLine status now.outlets.sink.written behind.sink.written (end_line now.packets)
     → behind.keeper ≡ now.outlets.keeper
     → IsIdle now.receiver → now.kept ≡ now.receiver.area → IsBetween replay now items
     → Ends replay behind status
-ends_in_line laws WriteFault replay now behind items right whole within short same idle area b =
+ends_in_line laws WriteFault replay now behind items right whole within holds short same idle area b =
     let cuts : CutsPiece now.kept (end_of now) now.outlets (outlets_of behind) =
     record { keeps = line_keeps now behind.keeper same; short = short } in
     let all : IsFront (b.given ++ end_of now ∷ []) (means replay).pieces =
@@ -312,8 +322,9 @@ ends_in_line laws WriteFault replay now behind items right whole within short sa
       record { stream = within; notes = whole.within },
       put_short (means replay) (run_of replay behind) now.kept now.outlets b.given (end_of now)
           b.put cuts all,
+      holds,
     )
-ends_in_line laws NoMemory replay now behind items right whole within kept same idle area b =
+ends_in_line laws NoMemory replay now behind items right whole within holds kept same idle area b =
     let all : IsFront b.given (means replay).pieces =
     subst (λ (l : List Piece). IsFront b.given l)
     (all_pieces laws replay now _ items right whole idle area b)
@@ -326,19 +337,19 @@ ends_in_line laws NoMemory replay now behind items right whole within kept same 
       keeps = subst (λ k. Keeps replay.before.keeper k (stores replay.area b.given)) (sym same)
           put.keeps;
     }) all
-ends_in_line laws Done replay now behind items right whole within s same idle area b = absurd s
-ends_in_line laws Usage replay now behind items right whole within s same idle area b = absurd s
-ends_in_line laws (BadRecord line) replay now behind items right whole within s same idle area b =
+ends_in_line laws Done replay now behind items right whole within holds s same idle area b = absurd s
+ends_in_line laws Usage replay now behind items right whole within holds s same idle area b = absurd s
+ends_in_line laws (BadRecord line) replay now behind items right whole within holds s same idle area b =
     absurd s
-ends_in_line laws OpenFault replay now behind items right whole within s same idle area b =
+ends_in_line laws OpenFault replay now behind items right whole within holds s same idle area b =
     absurd s
-ends_in_line laws ReadFault replay now behind items right whole within s same idle area b =
+ends_in_line laws ReadFault replay now behind items right whole within holds s same idle area b =
     absurd s
-ends_in_line laws KeepFault replay now behind items right whole within s same idle area b =
+ends_in_line laws KeepFault replay now behind items right whole within holds s same idle area b =
     absurd s
-ends_in_line laws (BadArea size) replay now behind items right whole within s same idle area b =
+ends_in_line laws (BadArea size) replay now behind items right whole within holds s same idle area b =
     absurd s
-ends_in_line laws TooLong replay now behind items right whole within s same idle area b = absurd s
+ends_in_line laws TooLong replay now behind items right whole within holds s same idle area b = absurd s
 
 -- the answer of writing the last line
 pub ends_with_line : ReceiverLaws → (result : Result (Unit {0}) Status) (packets : ℕ)
@@ -348,28 +359,21 @@ pub ends_with_line : ReceiverLaws → (result : Result (Unit {0}) Status) (packe
     → IfErr result (λ status. StopsLine status now.outlets.sink.written behind.sink.written
     (end_line packets))
     → IsWhole (file replay.notes behind.world.notes.left) items → StreamWithin replay behind
-    → behind.keeper ≡ now.outlets.keeper
+    → Holds replay behind → behind.keeper ≡ now.outlets.keeper
     → IsIdle now.receiver → now.kept ≡ now.receiver.area → IsBetween replay now items
     → Ends replay behind (outcome_of result)
 ends_with_line laws (Ok u) packets replay now behind items right number wrote stops whole within
-    same idle area b =
-    ends_done laws replay now behind items right whole within
+    holds same idle area b =
+    ends_done laws replay now behind items right whole within holds
     (subst (λ n. WritesOn now.outlets.sink.written behind.sink.written (end_line n)) number wrote)
     same idle area b
 ends_with_line laws (Err status) packets replay now behind items right number wrote stops whole
-    within same idle area b =
-    ends_in_line laws status replay now behind items right whole within
+    within holds same idle area b =
+    ends_in_line laws status replay now behind items right whole within holds
     (subst (λ n. StopsLine status now.outlets.sink.written behind.sink.written (end_line n)) number
     stops) same idle area b
 
 -- ---- steps between items
-
--- a replay that begins now
-pub begun_now : (told : Outside) → HasBegun told told
-begun_now told = record {
-  written = refl;
-  keeps = record { kept = λ bytes told. told; calls = omega arith };
-}
 
 -- the stream's port stays
 pub between_same : (replay : Replay) (now : Moment) (left : Option (List ℕ))

@@ -1,14 +1,15 @@
 -- Laws of the areas that are stored for pieces.
 use Rattle.std.proofs.Common.{◌≡◌, ◌≢◌, ℕ, ◌-◌, Bool, true, false, cond, List, [], ◌∷◌}
 use Rattle.std.proofs.Common.{◌++◌, All, length, replicate, refl, sym, ap, ap₂, ◌∙◌, subst, Some}
-use Rattle.std.proofs.Common.{◌⊎◌, inl, inr, arith, append_assoc, append-nil, length-append, take_all}
+use Rattle.std.proofs.Common.{◌⊎◌, inl, inr, arith, append_assoc, append-nil, take_all}
 use Rattle.std.proofs.lemmas.List.Elements.{All-head, All-tail}
 use Rattle.std.specs.Cmp.Lexicographic.{bytes_decides}
 use Rattle.bml_bytes.specs.Words.{is_same}
+use Rattle.bml_ports.specs.Counters.{counted}
 use Rattle.bml_ports.specs.Keepers.{KeeperState, filled}
 use Rattle.receiver_core.specs.Outputs.{Piece}
 use Rattle.replay_run.specs.Kept.{CallsFor, HasKept, Keeps, area_after, area_length, area_of_kept}
-use Rattle.replay_run.specs.Kept.{kept_behind, stores}
+use Rattle.replay_run.specs.Kept.{calls_after, kept_behind, stores}
 use Rattle.replay_run.specs.Putting.{FailsToKeep, KeepsOn, change}
 
 -- ---- one area
@@ -52,6 +53,11 @@ kept_behind-append : (kept : List ℕ) (areas more : List (List ℕ))
 kept_behind-append kept [] more = refl
 kept_behind-append kept (area ∷ areas) more = kept_behind-append area areas more
 
+calls_after-append : (calls : ℕ) (areas more : List (List ℕ))
+    → calls_after calls (areas ++ more) ≡ calls_after (calls_after calls areas) more
+calls_after-append calls [] more = refl
+calls_after-append calls (area ∷ areas) more = calls_after-append (counted calls) areas more
+
 has_kept_more : (before mid new : KeeperState) (areas more : List (List ℕ))
     → HasKept before mid areas → HasKept mid new more → HasKept before new (areas ++ more)
 has_kept_more before mid new areas more first next = λ bytes told.
@@ -62,7 +68,8 @@ keeps_more : (before mid new : KeeperState) (areas more : List (List ℕ))
     → Keeps before mid areas → KeepsOn mid new more → Keeps before new (areas ++ more)
 keeps_more before mid new areas more first next = record {
   kept = has_kept_more before mid new areas more first.kept next.kept;
-  calls = omega (arith, first.calls, next.calls, length-append areas more);
+  calls = next.calls ∙ ap (λ n. calls_after n more) first.calls
+      ∙ sym (calls_after-append (counted before.calls) areas more);
 }
 
 -- nothing was called
@@ -71,7 +78,7 @@ pub keeps_none : (keeper : KeeperState) (kept area : List ℕ) → area ≡ kept
 keeps_none keeper kept area same =
     let P : List (List ℕ) → Type 0 = λ l. KeepsOn keeper keeper l in
     subst P (sym (no_change kept area same))
-    (record { kept = λ bytes told. told; calls = omega arith })
+    (record { kept = λ bytes told. told; calls = refl })
 
 -- nothing was stored
 pub keeps_still : (before mid new : KeeperState) (areas : List (List ℕ))
@@ -123,13 +130,9 @@ fails_piece before mid new area kept pieces piece keeps same fails =
       differs = other;
       kept = kept_either before mid new (stores area pieces) (stores area (pieces ++ piece ∷ []))
           piece.area all keeps.kept fails.left;
-      calls = omega (
-        arith,
-        keeps.calls,
-        fails.calls,
-        ap length all,
-        length-append (stores area pieces) (piece.area ∷ []),
-      );
+      calls = fails.calls ∙ ap counted keeps.calls
+          ∙ sym (calls_after-append (counted before.calls) (stores area pieces) (piece.area ∷ []))
+          ∙ ap (calls_after (counted before.calls)) (sym all);
     }
 
 -- ---- what the bytes that are kept come to

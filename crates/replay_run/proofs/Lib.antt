@@ -8,6 +8,7 @@ pub mod FieldLaws
 pub mod FirstPlaces
 pub mod ItemLaws
 pub mod KeptLaws
+pub mod LastReadLaws
 pub mod LineLaws
 pub mod RecordProgressLaws
 pub mod OrderLaws

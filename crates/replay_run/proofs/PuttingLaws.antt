@@ -1,5 +1,6 @@
 -- Laws of pieces that are put out: their areas are stored, and their texts written.
 use Rattle.std.proofs.Common.{◌≡◌, ◌≢◌, ◌⊎◌, ℕ, List, [], ◌∷◌, ◌++◌, sym, ap, ◌∙◌, subst, append-nil, arith}
+use Rattle.std.proofs.Common.{inl, inr, refl}
 use Rattle.std.specs.Io.KnownBytes.{Appends}
 use Rattle.std.proofs.KnownBytes.{Appends-nil}
 use Rattle.receiver_core.specs.Fronts.{IsFront, front_of_front}
@@ -9,12 +10,14 @@ use Rattle.replay_run.specs.Kept.{CallsFor, HasKept, Keeps, area_after, stores}
 use Rattle.replay_run.specs.Meaning.{Meaning}
 use Rattle.replay_run.specs.Outside.{Account, Outside}
 use Rattle.replay_run.specs.Output.{bytes_of}
-use Rattle.replay_run.specs.Progress.{HasBegun}
+use Rattle.replay_run.specs.declared.record.RecordItem.{RecordItem}
+use Rattle.replay_run.specs.Midway.{WasReadForPacket}
+use Rattle.replay_run.specs.Progress.{HasBegun, Moment}
 use Rattle.replay_run.specs.Putting.{CutsPiece, HasPut, IsLater, KeepsOn, LosesPiece, Outlets}
 use Rattle.replay_run.specs.Putting.{PutsPiece, change, outlets_of}
 use Rattle.replay_run.proofs.KeptLaws.{area_after-push, fails_piece, keeps_piece, keeps_still}
 use Rattle.replay_run.proofs.KeptLaws.{no_change}
-use Rattle.replay_run.proofs.WritingLaws.{appends_more, bytes-append}
+use Rattle.replay_run.proofs.WritingLaws.{appends_more, bytes-append, grows_more, grows_none}
 
 -- a replay began
 pub put_none : (area : List ℕ) (before now : Outside) (kept : List ℕ) → HasBegun before now
@@ -66,13 +69,31 @@ put_nothing area before kept now after given piece no_text same has puts =
 -- ---- counts of faults
 
 pub later_none : (told : Outlets) → IsLater told told
-later_none told = record { keeper = omega arith; sink = omega arith }
+later_none told = record {
+  keeper = omega arith;
+  sink = omega arith;
+  written = grows_none told.sink.written;
+}
 
 pub later_more : (a b c : Outlets) → IsLater a b → IsLater b c → IsLater a c
 later_more a b c x y = record {
   keeper = omega (arith, x.keeper, y.keeper);
   sink = omega (arith, x.sink, y.sink);
+  written = grows_more a.sink.written b.sink.written c.sink.written x.written y.written;
 }
+
+-- what was put out behind the last read
+pub packet_read_further : (item : RecordItem) (old : Moment) (first mid behind : Outside)
+    → WasReadForPacket item old first mid → behind.world ≡ mid.world
+    → IsLater (outlets_of mid) (outlets_of behind) → WasReadForPacket item old first behind
+packet_read_further item old first mid behind (inl read) same later = inl (
+  read.0,
+  read.1,
+  read.2,
+  same ∙ read.3,
+  later_more (outlets_of read.1) (outlets_of mid) (outlets_of behind) read.4 later,
+)
+packet_read_further item old first mid behind (inr none) same later = inr (same ∙ none)
 
 -- ---- where it stops
 
@@ -81,7 +102,14 @@ pub put_whole : (meaning : Meaning) (run : Account) (kept : List ℕ) (given : L
     → HasPut meaning.area run.before kept (outlets_of run.behind) given
     → IsFront given meaning.pieces → WritesWhole meaning run
 put_whole meaning run kept given has front =
-    record { whole = given; front = front; written = has.wrote; kept = has.keeps }
+    record { whole = given; front = front; written = has.wrote; kept = inl has.keeps }
+
+-- none was, of a replay that has begun
+pub begun_whole : (meaning : Meaning) (run : Account) → HasBegun run.before run.behind
+    → WritesWhole meaning run
+begun_whole meaning run begun =
+    put_whole meaning run meaning.area [] (put_none meaning.area run.before run.behind meaning.area
+    begun refl) (record { rest = meaning.pieces; joined = refl })
 
 -- and then the text of one more was cut short
 pub put_short : (meaning : Meaning) (run : Account) (kept : List ℕ) (now : Outlets)
@@ -127,12 +155,16 @@ put_lost meaning run kept now given piece has loses front =
 
 pub whole_further : (one other : Meaning) (run : Account) → one.area ≡ other.area
     → IsFront one.pieces other.pieces → WritesWhole one run → WritesWhole other run
-whole_further one other run same front w = record {
-  whole = w.whole;
-  front = front_of_front w.whole one.pieces other.pieces w.front front;
-  written = w.written;
-  kept = subst (λ a. Keeps run.before.keeper run.behind.keeper (stores a w.whole)) same w.kept;
-}
+whole_further one other run same front w =
+    let P : List ℕ → Type 0 = λ a.
+    Keeps run.before.keeper run.behind.keeper (stores a w.whole)
+    ⊎ ((w.whole ≡ []) × (run.behind.keeper ≡ run.before.keeper)) in
+    record {
+      whole = w.whole;
+      front = front_of_front w.whole one.pieces other.pieces w.front front;
+      written = w.written;
+      kept = subst P same w.kept;
+    }
 
 pub short_further : (one other : Meaning) (run : Account) → one.area ≡ other.area
     → IsFront one.pieces other.pieces → BreaksOff one run → BreaksOff other run

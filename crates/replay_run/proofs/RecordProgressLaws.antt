@@ -1,7 +1,8 @@
 -- The steps of reading a record, over plain values.
 use Rattle.std.proofs.Common.{◌≡◌, ◌≢◌, ℕ, ◌+◌, ◌-◌, ◌<◌, ◌≤◌, true, false, List, [], ◌∷◌, ◌++◌, All}
 use Rattle.std.proofs.Common.{refl, sym, ap, ◌∙◌, subst, append_assoc, append-nil, length, Option}
-use Rattle.std.proofs.Common.{Some, None, arith, length-append, slice_get, map, take}
+use Rattle.std.proofs.Common.{Some, None, arith, length-append, slice_get, map, take, ◌⊎◌, inl, inr}
+use Rattle.bml_ports.specs.Worlds.{WorldState}
 use Rattle.std.specs.Str.Lines.{lines}
 use Rattle.std.specs.List.{filter_map}
 use Rattle.std.proofs.lemmas.List.Elements.{All-push, filter_map-append}
@@ -11,10 +12,11 @@ use Rattle.replay_run.specs.declared.record.RecordItem.TheVariants.{All as Every
 use Rattle.replay_run.specs.declared.record.Line.{Line}
 use Rattle.replay_run.specs.declared.record.Line.TheVariants.{Item as Read, Nothing, Bad}
 use Rattle.replay_run.specs.RecordProgress.{RecordState, IsAt, IsAtItem, IsWhole, IsBadBehind}
+use Rattle.replay_run.specs.RecordProgress.{IsFresh, IsReadForLine, WasReadForLine}
 use Rattle.replay_run.specs.Play.{milliseconds_of}
 use Rattle.replay_run.specs.Record.{line_of, tick_limit, IsWritten}
 use Rattle.replay_run.specs.Record.{lines_of, item_in, items_until_bad, items_before_bad, first_bad}
-use Rattle.replay_run.specs.RecordReader.{ReaderState, Gives, BeginsBad, DropsFront}
+use Rattle.replay_run.specs.RecordReader.{ReaderState, Gives, BeginsBad, DropsFront, IsOver}
 use Rattle.replay_run.specs.Needs.{most_ahead}
 use Rattle.replay_run.specs.Files.{file, GaveMore, GaveAtMost, record_limit}
 use Rattle.replay_run.proofs.ItemLaws.{read_item}
@@ -284,3 +286,43 @@ time_within old new item gives =
     let first = first_line (lines (old.held ++ [])) (Read item) (lines_of (new.held ++ []))
     (gives [] (λ e. refl)) in
     time_written item _ (read_item first.0 item first.1).1
+
+-- ---- whether the record was read
+
+-- it was, for a line; or nothing was read, and where nothing had come, nothing came
+abbrev pub ReadsOrRests : RecordState → WorldState → WorldState → ReaderState → Type 0
+ReadsOrRests old before behind reader =
+    ((last : List ℕ) × IsReadForLine old behind.notes last)
+    ⊎ ((behind ≡ before) × (IsFresh old.reader → IsFresh reader))
+
+-- something had come
+pub reads_came : (old : RecordState) (before behind : WorldState) (reader : ReaderState)
+    → ReadsOrRests old before behind reader → ¬ (IsFresh reader) → WasReadForLine old before behind
+reads_came old before behind reader (inl read) came = inl read
+reads_came old before behind reader (inr rests) came = inr (rests.0, λ fresh. came (rests.1 fresh))
+
+-- then it doesn't matter what comes
+pub reads_further : (old : RecordState) (before behind : WorldState) (reader : ReaderState)
+    → WasReadForLine old before behind → ReadsOrRests old before behind reader
+reads_further old before behind reader (inl read) = inl read
+reads_further old before behind reader (inr rests) =
+    inr (rests.0, λ fresh. absurd (rests.1 fresh))
+
+-- a line was taken
+pub line_came : (reader : ReaderState) (count : ℕ) → count < length reader.held
+    → ¬ (IsFresh reader)
+line_came reader count shorter fresh = absurd (omega (arith, shorter, ap length fresh.held))
+
+-- the line that comes is bad
+pub bad_came : (reader : ReaderState) → BeginsBad reader → ¬ (IsFresh reader)
+bad_came reader bad fresh =
+    let none : lines_of (reader.held ++ []) ≡ [] =
+    ap (λ l. lines_of (l ++ [])) fresh.held ∙ no_lines_of in
+    let first = first_known [] Bad
+    (subst (λ (l : List Line). slice_get l 0 ≡ Some Bad) none (bad [] (λ e. refl))) in
+    absurd (omega (arith, ap length first.1))
+
+-- the end was told
+pub end_came : (reader : ReaderState) → IsOver reader → ¬ (IsFresh reader)
+end_came reader over fresh =
+    let clash : true ≡ false = sym over.ended ∙ fresh.open_end in cc

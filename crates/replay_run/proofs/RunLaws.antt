@@ -1,6 +1,6 @@
 -- How a run ends that comes to no item, and what its keeper tells, over plain values.
-use Rattle.std.proofs.Common.{◌≡◌, ◌≢◌, ℕ, ◌+◌, ◌≤◌, Result, Ok, Err, IfErr, false, cond, List, [], ◌∷◌, length, refl, sym}
-use Rattle.std.proofs.Common.{ap, ◌∙◌, subst, arith, Option, Some, None, inl}
+use Rattle.std.proofs.Common.{◌≡◌, ◌≢◌, ℕ, ◌≤◌, Result, Ok, Err, IfErr, false, cond, List, [], ◌∷◌, length, refl, sym}
+use Rattle.std.proofs.Common.{ap, ◌∙◌, subst, arith, Option, Some, None, inl, inr}
 use Rattle.std.specs.Io.KnownBytes.{Appends, Keeps as KeepsKnown}
 use Rattle.std.proofs.KnownBytes.{Appends-nil}
 use Rattle.bml_ports.specs.declared.outside.Port.{Port}
@@ -49,10 +49,6 @@ kept_now old new area replaces = by old.kept new.kept replaces
     by None new r bytes e = let clash : None ≡ Some bytes = e in cc
     by (Some x) new r bytes e = r
 
--- one call more
-pub one_call : (old new : ℕ) → new ≡ counted old → new ≤ old + 1
-one_call old new same = omega arith
-
 -- what a load that succeeded told
 pub loaded_size : (kept : Option (List ℕ)) (size : ℕ) (area : List ℕ) → Loads kept size area
     → (bytes : List ℕ) → kept ≡ Some bytes → size ≡ length bytes
@@ -78,8 +74,7 @@ ends_unopened NoMemory meaning run port old new sink keeper s = record {
   front = record { rest = meaning.pieces; joined = refl };
   written = subst (λ o. Appends run.before.sink.written o []) (sym (ap (λ s. s.written) sink))
       (Appends-nil run.before.sink.written);
-  kept = subst (λ k. Keeps run.before.keeper k []) (sym keeper)
-      (record { kept = λ bytes told. told; calls = omega arith });
+  kept = inr (refl, keeper);
 }
 ends_unopened Done meaning run port old new sink keeper s = absurd s
 ends_unopened Usage meaning run port old new sink keeper s = absurd s

@@ -8,7 +8,7 @@ use Rattle.std.proofs.lemmas.List.{map-append}
 use Rattle.std.proofs.lemmas.List.Folds.{concat-append}
 use Rattle.receiver_core.specs.Outputs.{Piece, texts_of}
 use Rattle.replay_run.specs.Output.{bytes_of}
-use Rattle.replay_run.specs.Writing.{WritesOn, WritesShort}
+use Rattle.replay_run.specs.Writing.{Grows, WritesOn, WritesShort}
 
 -- where the bytes told are known, appending gives the others
 pub appended_some : (start bytes : List ℕ) (mid new : Option (List ℕ)) → mid ≡ Some start
@@ -70,6 +70,25 @@ kept_written old mid new bytes kept w = λ start told.
     kept_appends None new k = tt
     kept_appends (Some x) None k = absurd k
     kept_appends (Some x) (Some y) k = k ∙ sym (append-nil x)
+
+-- what was written stays
+pub grows_none : (told : Option (List ℕ)) → Grows told told
+grows_none told = λ start e. ([], e ∙ ap Some (sym (append-nil start)))
+
+pub grows_more : (a b c : Option (List ℕ)) → Grows a b → Grows b c → Grows a c
+grows_more a b c x y = λ start e.
+    let first = x start e in
+    let next = y (start ++ first.0) first.1 in
+    (first.0 ++ next.0, next.1 ∙ ap Some (append_assoc start first.0 next.0))
+
+pub grows_written : (old new : Option (List ℕ)) (piece rest : List ℕ)
+    → IsWrittenTo old new piece rest → Grows old new
+grows_written old new piece rest w = λ start e. (w.front, w.written start e)
+
+pub grows_kept : (old mid new : Option (List ℕ)) (piece rest : List ℕ) → KeepsKnown mid new
+    → IsWrittenTo old mid piece rest → Grows old new
+grows_kept old mid new piece rest kept w = λ start e.
+    (w.front, kept_written old mid new w.front kept w.written start e)
 
 -- so what is left is wanting
 pub short_written : (old mid new : Option (List ℕ)) (piece rest : List ℕ) → KeepsKnown mid new

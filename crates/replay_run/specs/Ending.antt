@@ -56,12 +56,14 @@ pub record Finishes (meaning : Meaning) (run : Account) (status : Status) : Type
   pub written : WritesIn run (bytes_of meaning.pieces)
   pub kept : KeepsFor meaning run meaning.pieces
 
--- whole pieces were written, from the first one on, and their areas are kept
+-- whole pieces were written, from the first one on, and their areas are kept; or none was written,
+-- and the keeper wasn't called
 pub record WritesWhole (meaning : Meaning) (run : Account) : Type 0 where
   pub whole : List Piece
   pub front : IsFront whole meaning.pieces
   pub written : WritesIn run (bytes_of whole)
   pub kept : KeepsFor meaning run whole
+      ⊎ ((whole ≡ []) × (run.behind.keeper ≡ run.before.keeper))
 
 -- ---- where reading stops
 
@@ -122,6 +124,23 @@ pub record ReadsTooMuch (meaning : Meaning) (run : Account) : Type 0 where
       ⊎ (ReadsNotes run given last × Passes record_limit given.notes last)
   pub writes : WritesDecided meaning given run
 
+-- ---- where no read stops the run
+
+-- these bytes, and perhaps others behind them, were written in the run
+pub record WritesFirst (run : Account) (bytes : List ℕ) : Type 0 where
+  pub more : List ℕ
+  pub written : WritesIn run (bytes ++ more)
+
+-- The last read of the run needed a packet or a line: before it this was given, and it gave these
+-- bytes. When the run ends, the text of all pieces is written that what was given before that read
+-- decides.
+pub record HoldsNothingBack (meaning : Meaning) (run : Account) : Type 0 where
+  pub given : Given
+  pub last : List ℕ
+  pub read : ReadsStream run given last ⊎ ReadsNotes run given last
+  pub decided : (inputs : List Input) → AreDecided given inputs
+      → WritesFirst run (bytes_of (meaning.pieces_for inputs))
+
 -- ---- where putting a piece out stops
 
 -- Writing a piece failed: behind whole pieces a proper front of its text was written. Its area is
@@ -156,16 +175,19 @@ Begins meaning = (size : ℕ) → meaning.status ≢ BadArea size
 
 -- Done and BadRecord are statuses of a meaning, of which all is written. At each other status that
 -- comes once a replay began a front of the pieces was written, of whole pieces but for WriteFault;
--- where reading stopped, at least those that what was given before the last read decides. No other
--- writes anything.
+-- unless memory was wanting, at least what is decided by what was given before the last read. No
+-- other writes anything.
 abbrev pub EndsAs : Meaning → Account → Status → Type 0
-EndsAs meaning run Done = Finishes meaning run Done
-EndsAs meaning run (BadRecord line) = Finishes meaning run (BadRecord line)
+EndsAs meaning run Done = Finishes meaning run Done × HoldsNothingBack meaning run
+EndsAs meaning run (BadRecord line) =
+    Finishes meaning run (BadRecord line) × HoldsNothingBack meaning run
 EndsAs meaning run ReadFault = Begins meaning × IsWithin run × FailsToRead meaning run
 EndsAs meaning run NoMemory = WritesWhole meaning run
 EndsAs meaning run TooLong = Begins meaning × IsBeyond run × ReadsTooMuch meaning run
-EndsAs meaning run WriteFault = IsWithin run × BreaksOff meaning run
-EndsAs meaning run KeepFault = LoadsAlone run ⊎ (IsWithin run × FailsToStore meaning run)
+EndsAs meaning run WriteFault =
+    IsWithin run × BreaksOff meaning run × HoldsNothingBack meaning run
+EndsAs meaning run KeepFault =
+    LoadsAlone run ⊎ (IsWithin run × FailsToStore meaning run × HoldsNothingBack meaning run)
 EndsAs meaning run OpenFault = LeavesAll run
 EndsAs meaning run (BadArea length) = (meaning.status ≡ BadArea length) × LoadsAlone run
 EndsAs meaning run Usage = ⊥

@@ -1,8 +1,9 @@
 -- What a run keeps: the area at its start, and the areas behind its pieces that it stores. This
 -- project's own.
-use Rattle.std.specs.Prelude.{◌≡◌, ◌≤◌, ◌+◌, ◌==◌, ◌||◌, ℕ, Bool, if◌then◌else◌, List, [], ◌∷◌}
-use Rattle.std.specs.Prelude.{◌++◌, length, Some}
+use Rattle.std.specs.Prelude.{◌≡◌, ◌==◌, ◌||◌, ℕ, Bool, if◌then◌else◌, List, [], ◌∷◌}
+use Rattle.std.specs.Prelude.{◌++◌, Some}
 use Rattle.bml_bytes.specs.Words.{is_same}
+use Rattle.bml_ports.specs.Counters.{counted}
 use Rattle.bml_ports.specs.Keepers.{KeeperState, filled}
 use Rattle.receiver_core.specs.Outputs.{Piece}
 
@@ -42,9 +43,14 @@ abbrev pub HasKept : KeeperState → KeeperState → List (List ℕ) → Type 0
 HasKept before behind areas =
     (bytes : List ℕ) → before.kept ≡ Some bytes → behind.kept ≡ Some (kept_behind bytes areas)
 
--- the keeper was called no more often than once to load and once for each of them
+-- how many calls a keeper tells after one more for each area
+abbrev pub calls_after : ℕ → List (List ℕ) → ℕ
+calls_after calls [] = calls
+calls_after calls (area ∷ areas) = calls_after (counted calls) areas
+
+-- the keeper was called once to load, and then once for each of them, and no more
 abbrev pub CallsFor : KeeperState → KeeperState → List (List ℕ) → Type 0
-CallsFor before behind areas = behind.calls ≤ before.calls + (1 + length areas)
+CallsFor before behind areas = behind.calls ≡ calls_after (counted before.calls) areas
 
 pub record Keeps (before behind : KeeperState) (areas : List (List ℕ)) : Type 0 where
   pub kept : HasKept before behind areas

@@ -23,7 +23,7 @@ use Rattle.replay_run.specs.Files.{packet_length, read_length, stream_limit}
 use Rattle.replay_run.specs.Outside.{Outside}
 use Rattle.replay_run.specs.Play.{inputs_of_item, packets_behind}
 use Rattle.replay_run.specs.Progress.{Replay, Moment, IsMidway, StartsReplay}
-use Rattle.replay_run.specs.Putting.{outlets_of}
+use Rattle.replay_run.specs.Putting.{IsLater, outlets_of}
 use Rattle.replay_run.specs.Stopping.{LeavesPackets}
 
 -- what a player holds, and what the outside tells
@@ -185,6 +185,14 @@ pub record IsReadForPacket (item : RecordItem) (old : Moment) (told : Outside) (
   pub outlets_are : now.outlets ≡ outlets_of told
   pub consumed : Consumes now.left told.world.stream.left last
   pub most : length last ≤ read_length
+
+-- The last read between the two was of the stream, for a packet, and behind it pieces were put out;
+-- or there was none.
+abbrev pub WasReadForPacket : RecordItem → Moment → Outside → Outside → Type 0
+WasReadForPacket item old before behind =
+    ((last : List ℕ) × (read : Outside) × IsReadForPacket item old read last
+    × (behind.world ≡ read.world) × IsLater (outlets_of read) (outlets_of behind))
+    ⊎ (behind.world ≡ before.world)
 
 -- Where handling an item stops in a read, it failed and gave nothing, or it gave too much.
 pub record StopsInStream (status : Status) (item : RecordItem) (old : Moment) (told : Outside)

@@ -1,8 +1,8 @@
 -- A device of the proofs: what storing the area behind a piece, and writing its text, leave.
-use Rattle.std.specs.Prelude.{◌≡◌, ◌≢◌, ◌⊎◌, ℕ, ◌+◌, ◌≤◌, if◌then◌else◌, List, [], ◌∷◌, length}
+use Rattle.std.specs.Prelude.{◌≡◌, ◌≢◌, ◌⊎◌, ℕ, ◌≤◌, if◌then◌else◌, List, [], ◌∷◌}
 use Rattle.std.specs.Io.KnownBytes.{Appends}
 use Rattle.bml_bytes.specs.Words.{is_same}
-use Rattle.bml_ports.specs.Counters.{FaultedSince}
+use Rattle.bml_ports.specs.Counters.{FaultedSince, counted}
 use Rattle.bml_ports.specs.Keepers.{KeeperState}
 use Rattle.bml_ports.specs.Sinks.{SinkState}
 use Rattle.receiver_core.specs.Outputs.{Piece}
@@ -10,10 +10,10 @@ use Rattle.replay_run.specs.declared.status.Status.{Status}
 use Rattle.replay_run.specs.declared.status.Status.TheVariants.{Done, Usage, BadRecord, OpenFault}
 use Rattle.replay_run.specs.declared.status.Status.TheVariants.{ReadFault, WriteFault, KeepFault}
 use Rattle.replay_run.specs.declared.status.Status.TheVariants.{BadArea, TooLong, NoMemory}
-use Rattle.replay_run.specs.Kept.{HasKept, Keeps, area_after, stores}
+use Rattle.replay_run.specs.Kept.{HasKept, Keeps, area_after, calls_after, stores}
 use Rattle.replay_run.specs.Output.{bytes_of}
 use Rattle.replay_run.specs.Outside.{Outside}
-use Rattle.replay_run.specs.Writing.{WritesOn, WritesShort}
+use Rattle.replay_run.specs.Writing.{Grows, WritesOn, WritesShort}
 
 -- what the two tell to which a piece goes: the keeper its area, and the sink its text
 pub record Outlets : Type 0 where
@@ -26,25 +26,26 @@ outlets keeper sink = record { keeper = keeper; sink = sink }
 abbrev pub outlets_of : Outside → Outlets
 outlets_of told = outlets told.keeper told.sink
 
--- between the two the counts of faults didn't fall
+-- between the two the counts of faults didn't fall, and what was written stayed
 pub record IsLater (old new : Outlets) : Type 0 where
   pub keeper : old.keeper.faults.faults ≤ new.keeper.faults.faults
   pub sink : old.sink.writes.faults ≤ new.sink.writes.faults
+  pub written : Grows old.sink.written new.sink.written
 
 -- what is stored of an area: nothing where it is the one that is kept
 abbrev pub change : List ℕ → List ℕ → List (List ℕ)
 change kept area = if is_same area kept then [] else area ∷ []
 
--- these areas were stored, by a call each at most
+-- these areas were stored, by a call each
 pub record KeepsOn (old new : KeeperState) (areas : List (List ℕ)) : Type 0 where
   pub kept : HasKept old new areas
-  pub calls : new.calls ≤ old.calls + length areas
+  pub calls : new.calls ≡ calls_after old.calls areas
 
 -- storing an area failed, which isn't the one that was kept
 pub record FailsToKeep (old new : KeeperState) (kept area : List ℕ) : Type 0 where
   pub differs : area ≢ kept
   pub left : HasKept old new [] ⊎ HasKept old new (area ∷ [])
-  pub calls : new.calls ≤ old.calls + 1
+  pub calls : new.calls ≡ counted old.calls
 
 -- a piece was put out whole
 pub record PutsPiece (kept : List ℕ) (piece : Piece) (old new : Outlets) : Type 0 where

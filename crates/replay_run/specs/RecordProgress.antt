@@ -1,5 +1,6 @@
 -- A device of the proofs: how far the record has been read. (What a run means is in `Meaning`.)
-use Rattle.std.specs.Prelude.{◌≡◌, ◌≢◌, ℕ, ◌+◌, ◌-◌, ◌*◌, ◌<◌, ◌≤◌, true, false, IsTrue, List, []}
+use Rattle.std.specs.Prelude.{◌≡◌, ◌≢◌, ◌⊎◌, ℕ, ◌+◌, ◌-◌, ◌*◌, ◌<◌, ◌≤◌, true, false, IsTrue, List}
+use Rattle.std.specs.Prelude.{[]}
 use Rattle.std.specs.Prelude.{◌∷◌, ◌++◌}
 use Rattle.std.specs.Prelude.{All, length, Option, Some}
 use Rattle.std.specs.List.{filter_map}
@@ -71,10 +72,16 @@ pub record IsAtItem (notes : List ℕ) (now : RecordState) (items : List RecordI
 abbrev pub IsReadable : ReaderState → WorldState → Type 0
 IsReadable reader world = reader.ended ≡ false → IsTrue world.notes.readable
 
+-- nothing came to the reader
+pub record IsFresh (reader : ReaderState) : Type 0 where
+  pub held : reader.held ≡ []
+  pub open_end : reader.ended ≡ false
+
 -- a record of which nothing was read
 pub record StartsItems (items : RecordItems) : Type 0 where
   pub start : (world : WorldState) (notes : List ℕ) → world.notes.left ≡ Some notes
       → IsAt notes (record_state items world) []
+  pub fresh : IsFresh items.reader
   pub within : items.bytes ≤ record_limit
   pub readable : (world : WorldState) → IsTrue world.notes.readable
       → IsReadable items.reader world
@@ -110,6 +117,13 @@ pub record IsReadForLine (old : RecordState) (port : PortState) (last : List ℕ
   pub within : now.bytes ≤ record_limit
   pub consumed : Consumes now.left port.left last
   pub most : length last ≤ read_length
+
+-- The last read between the two was of the record, for a line; or there was none, and something came
+-- before.
+abbrev pub WasReadForLine : RecordState → WorldState → WorldState → Type 0
+WasReadForLine old before behind =
+    ((last : List ℕ) × IsReadForLine old behind.notes last)
+    ⊎ ((behind ≡ before) × ¬ (IsFresh old.reader))
 
 -- Where reading items stops in a read, it failed and gave nothing, or it gave too much.
 pub record StopsInRecord (status : Status) (old : RecordState) (port : PortState) : Type 0 where

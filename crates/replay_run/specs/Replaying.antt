@@ -160,7 +160,7 @@ TellsOfFiles NoMemory stream notes = Unit {0}
 -- Where the files are told, this holds of a replay that has begun.
 abbrev pub PlayTells : Outside → Outside → Status → Type 0
 PlayTells old behind status =
-    (stream notes : List ℕ)
+    (before : Outside) → HasBegun before old → (stream notes : List ℕ)
     → old.world.stream.left ≡ Some stream → old.world.notes.left ≡ Some notes
     → TellsOfFiles status (file stream behind.world.stream.left)
     (file notes behind.world.notes.left)

@@ -1,15 +1,16 @@
 -- A device of the proofs: why a replay stops before its end, and what it has written and kept then.
-use Rattle.std.specs.Prelude.{◌≡◌, ℕ, ◌<◌, ◌⊎◌, List, []}
+use Rattle.std.specs.Prelude.{◌≡◌, ℕ, ◌<◌, ◌≤◌, ◌⊎◌, List, [], length}
+use Rattle.std.specs.Io.KnownBytes.{Consumes}
 use Rattle.bml_ports.specs.declared.outside.Port.{Port}
 use Rattle.bml_ports.specs.Counters.{Counter, FaultedSince}
-use Rattle.bml_ports.specs.Worlds.{WorldState, port_of, other_port}
+use Rattle.bml_ports.specs.Worlds.{PortState, WorldState, port_of, other_port}
 use Rattle.receiver_core.specs.Outputs.{Piece}
 use Rattle.replay_run.specs.declared.status.Status.{Status}
 use Rattle.replay_run.specs.declared.status.Status.TheVariants.{Done, Usage, BadRecord, OpenFault}
 use Rattle.replay_run.specs.declared.status.Status.TheVariants.{ReadFault, WriteFault, KeepFault}
 use Rattle.replay_run.specs.declared.status.Status.TheVariants.{BadArea, TooLong, NoMemory}
 use Rattle.replay_run.specs.Ending.{BreaksOff, FailsToStore, WritesWhole}
-use Rattle.replay_run.specs.Files.{stream_limit, GaveMore, GaveAtMost}
+use Rattle.replay_run.specs.Files.{read_length, stream_limit, GaveMore, GaveAtMost}
 use Rattle.replay_run.specs.Meaning.{Meaning}
 use Rattle.replay_run.specs.Order.{IsReadOn}
 use Rattle.replay_run.specs.Outside.{Account, Outside, account}
@@ -22,6 +23,12 @@ pub record OnlyReads (port : Port) (old new : WorldState) : Type 0 where
   pub openings : new.openings ≡ old.openings
   pub other : port_of new (other_port port) ≡ port_of old (other_port port)
   pub on : IsReadOn (port_of old port) (port_of new port)
+
+-- one read of a port gave these bytes, and none where it failed
+pub record IsOneRead (old new : PortState) : Type 0 where
+  pub last : List ℕ
+  pub consumed : Consumes old.left new.left last
+  pub most : length last ≤ read_length
 
 -- Reading the stream stops for these causes: `reads` counts the reads, and `bytes` are those that
 -- the stream gave.

@@ -2,7 +2,7 @@
 
 ghost use Rattle.bml_ports.specs.Counters.{FaultedSince};
 ghost use Rattle.std.specs.Prelude.{◌≡◌, ◌≤◌, OnOk, OnErr, IfErr};
-ghost use Rattle.replay_run.specs.Writing.{WritesOn, WritesShort};
+ghost use Rattle.replay_run.specs.Writing.{Grows, WritesOn, WritesShort};
 
 use crate::status::Status;
 use bml_ports::Sink;
@@ -16,6 +16,7 @@ pub fn write_piece<S: Sink>(out: &mut S, piece: &[u8]) -> Result<(), Status>
     ensures fault { IfErr result (λ status. status ≡ Status.WriteFault) }
     ensures cause { OnErr result (FaultedSince (S.told out.old).writes (S.told out.new).writes) }
     ensures writes { (S.told out.old).writes.faults ≤ (S.told out.new).writes.faults }
+    ensures grows { Grows (S.told out.old).written (S.told out.new).written }
 {
     let mut rest = piece;
     'writes: while !rest.is_empty() {

@@ -50,13 +50,13 @@ impl Player {
     ghost use Rattle.replay_run.specs.Midway.{KeepsArea, StopsHandling, IsReadable, StartsPlayer};
     ghost use Rattle.replay_run.specs.Ending.{end_told};
     ghost use Rattle.replay_run.specs.Midway.{StopsInRead, StopsInStream, TakesJust, loosely};
-    ghost use Rattle.replay_run.specs.Midway.{work_left};
+    ghost use Rattle.replay_run.specs.Midway.{WasReadForPacket, work_left};
     ghost use Rattle.replay_run.specs.Outside.{outside};
     ghost use Rattle.receiver_core.specs.Outputs.{Piece};
     ghost use Rattle.receiver_core.specs.Receiving.{IsIdle};
     ghost use Rattle.replay_run.specs.Putting.{FailsToKeep, IsLater, KeepsOn, PutsPiece, change};
     ghost use Rattle.replay_run.specs.Putting.{StopsPiece, StopsTurns, outlets};
-    ghost use Rattle.replay_run.specs.Stopping.{OnlyReads, StopsPackets, StopsReading};
+    ghost use Rattle.replay_run.specs.Stopping.{IsOneRead, OnlyReads, StopsPackets, StopsReading};
 
     /// A replay at the start of its stream, with an area that was loaded.
     pub fn new(alloc: Global, selection: Selection, area: AreaBytes) -> Result<Player, NoMemory>
@@ -128,6 +128,10 @@ impl Player {
         ensures reading { IfErr result (λ status. StopsInStream status item
             (moment self.old (outside (W.told world.old) (K.told keeper.old) (S.told out.old)))
             (outside (W.told world.new) (K.told keeper.new) (S.told out.new))) }
+        ensures last_read { WasReadForPacket item
+            (moment self.old (outside (W.told world.old) (K.told keeper.old) (S.told out.old)))
+            (outside (W.told world.old) (K.told keeper.old) (S.told out.old))
+            (outside (W.told world.new) (K.told keeper.new) (S.told out.new)) }
     {
         match item {
             RecordItem::All => self.take(None, world, keeper, out),
@@ -182,6 +186,10 @@ impl Player {
         ensures reading { IfErr result (λ status. StopsInStream status (item_of_count most)
             (moment self.old (outside (W.told world.old) (K.told keeper.old) (S.told out.old)))
             (outside (W.told world.new) (K.told keeper.new) (S.told out.new))) }
+        ensures last_read { WasReadForPacket (item_of_count most)
+            (moment self.old (outside (W.told world.old) (K.told keeper.old) (S.told out.old)))
+            (outside (W.told world.old) (K.told keeper.old) (S.told out.old))
+            (outside (W.told world.new) (K.told keeper.new) (S.told out.new)) }
     {
         let last = self.last_packet(most);
         'packets: while last != Some(self.packets) {
@@ -426,6 +434,7 @@ impl Player {
         ensures reads { OnlyReads Port.Stream (W.told world.old) (W.told world.new) }
         ensures cause { IfErr result (λ status. StopsReading status
             (W.told world.old).stream.reads (W.told world.new).stream.reads self.new.bytes) }
+        ensures gave { IsOneRead (W.told world.old).stream (W.told world.new).stream }
         ensures last { IfErr result (λ status. StopsInRead status stream_limit
             self.old.bytes (W.told world.old).stream (W.told world.new).stream) }
         ensures ahead { OnOk result

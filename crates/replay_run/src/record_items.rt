@@ -33,11 +33,11 @@ impl RecordItems {
     ghost use Rattle.replay_run.specs.Record.{tick_limit};
     ghost use Rattle.replay_run.specs.RecordProgress.{record_state, IsAt, IsAtItem, IsReadable, IsWhole};
     ghost use Rattle.replay_run.specs.RecordProgress.{StartsItems, StopsItems, LeavesItems};
-    ghost use Rattle.replay_run.specs.RecordProgress.{StopsInRecord, work_left};
+    ghost use Rattle.replay_run.specs.RecordProgress.{StopsInRecord, WasReadForLine, work_left};
     ghost use Rattle.replay_run.specs.Ending.{end_told};
     ghost use Rattle.replay_run.specs.Midway.{StopsInRead};
     ghost use Rattle.replay_run.specs.RecordReader.{longest_line};
-    ghost use Rattle.replay_run.specs.Stopping.{OnlyReads};
+    ghost use Rattle.replay_run.specs.Stopping.{IsOneRead, OnlyReads};
     ghost use Rattle.replay_run.specs.declared.record.RecordItem.{RecordItem};
 
     /// A record of which nothing was read.
@@ -82,6 +82,8 @@ impl RecordItems {
             → LeavesItems status (file notes (W.told world.new).notes.left) items) }
         ensures reading { IfErr result (λ status. StopsInRecord status
             (record_state self.old (W.told world.old)) (W.told world.new).notes) }
+        ensures last_read { WasReadForLine
+            (record_state self.old (W.told world.old)) (W.told world.old) (W.told world.new) }
     {
         'lines: loop {
             match self.reader.next() {
@@ -116,6 +118,7 @@ impl RecordItems {
         ensures reads { OnlyReads Port.Notes (W.told world.old) (W.told world.new) }
         ensures cause { IfErr result (λ status. StopsItems status
             (W.told world.old).notes.reads (W.told world.new).notes.reads self.new.bytes) }
+        ensures gave { IsOneRead (W.told world.old).notes (W.told world.new).notes }
         ensures last { IfErr result (λ status. StopsInRead status record_limit self.old.bytes
             (W.told world.old).notes (W.told world.new).notes) }
         ensures ahead { OnOk result

@@ -23,7 +23,7 @@ ghost use Rattle.replay_run.specs.Replaying.{ReplayEnds, ReplayHasReason, StopsL
 ghost use Rattle.replay_run.specs.Replaying.{StopsOpening, StopsPlay, StopsReplay};
 ghost use Rattle.replay_run.specs.Replaying.{StopsWriting};
 ghost use Rattle.replay_run.specs.Status.{outcome_of};
-ghost use Rattle.replay_run.specs.Writing.{WritesOn};
+ghost use Rattle.replay_run.specs.Writing.{Grows, WritesOn};
 
 use crate::lines::push_end_line;
 use crate::output::write_piece;
@@ -204,6 +204,7 @@ fn write_end<S: Sink>(alloc: Global, packets: u64, out: &mut S) -> Result<(), St
     ensures stops { IfErr result (λ status. StopsLine status
         (S.told out.old).written (S.told out.new).written (end_line packets)) }
     ensures writes { (S.told out.old).writes.faults ≤ (S.told out.new).writes.faults }
+    ensures grows { Grows (S.told out.old).written (S.told out.new).written }
 {
     let mut line = Vec::new(alloc);
     push_end_line(packets, &mut line)?;

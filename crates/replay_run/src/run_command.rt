@@ -31,8 +31,8 @@ use std::alloc::Global;
 /// at the end for the P packets that were taken. The persistent area is what the keeper kept, and
 /// after each turn that changed its bytes it is stored, before what the turn printed is written. A
 /// replay holds neither the stream nor the record in memory. It reads a port on only for a packet or
-/// a line that it needs, and only where the last read gave at least one byte. Where a read fails or
-/// a file is too long, all was written that the bytes given before that read decide.
+/// a line that it needs, and only where the last read gave at least one byte. However it ends, but
+/// for want of memory, all was written that the bytes given before the last read decide.
 ///
 /// `gen SEED COUNT` replays the stream of generated files in memory, with SEED from 0 to
 /// 4,294,967,295 and COUNT modules of random bytes, 1 to 100, and writes how many packets, bytes
@@ -47,9 +47,9 @@ pub fn run<W: World, K: Keeper, S: Sink>(
     requires unasked { IsUnasked (W.told world.old) }
 
     // There is a reader of programs, and where the files and the kept bytes are told, the run ends
-    // as its meaning by this reader says, however reads are cut; and so by every reader. Where a
-    // read ends it, the last read was for a packet or a line that the bytes given before it lack,
-    // and what these decide was written. Where a file is missing, it ends at its opening.
+    // as its meaning by this reader says, however reads are cut; and so by every reader. Unless
+    // memory is wanting, the last read was for a packet or a line that the bytes given before it
+    // lack, and what these decide was written. Where a file is missing, it ends at its opening.
     ensures reader { (read : Reader) × IsReader read × RunMeansBy read (command words.now)
         (outside (W.told world.old) (K.told keeper.old) (S.told out.old))
         (outside (W.told world.new) (K.told keeper.new) (S.told out.new)) result }

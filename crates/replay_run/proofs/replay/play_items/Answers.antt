@@ -1,4 +1,5 @@
 use Rattle.std.proofs.Common.{refl, [], ◌∷◌, ◌++◌, ◌∙◌, Ok, None, sym, ap, subst, IsTrue}
+use Rattle.std.proofs.Common.{arith, inl, inr}
 use Rattle.std.proofs.lemmas.Result.{err_from_is_err_and}
 use Rattle.bml_ports.specs.Worlds.{PortState}
 use Rattle.es_reader.specs.Readers.{Reader}
@@ -10,9 +11,10 @@ use Rattle.replay_run.proofs.ClockLaws.{early_later, early_room, early_start, fe
 use Rattle.replay_run.proofs.CompletenessLaws.{tells_in_items, tells_in_line, tells_in_packets}
 use Rattle.replay_run.proofs.BlankLaws.{PacketLaws}
 use Rattle.replay_run.proofs.DecidingLaws.{faulty_record, faulty_stream}
-use Rattle.replay_run.proofs.EndingLaws.{left_same, between_same, at_same, begun_now}
+use Rattle.replay_run.proofs.EndingLaws.{left_same, between_same, at_same}
 use Rattle.replay_run.proofs.EndingLaws.{between_within, ends_in_items, ends_in_item}
 use Rattle.replay_run.proofs.EndingLaws.{ends_with_line, reads_none, reads_notes, reads_stream}
+use Rattle.replay_run.proofs.LastReadLaws.{holds_at_line, holds_at_packet, holds_further}
 use Rattle.replay_run.proofs.OutputLaws.{ReceiverLaws}
 use Rattle.replay_run.proofs.RecordProgressLaws.{at_front, at_within}
 use Rattle.replay_run.proofs.ProgressLaws.{between_push}
@@ -42,6 +44,7 @@ items-init g c = record {
         (g.S.Sink.told c.args.out.now)) read stream notes before begun l,
     c.requires.items.start (g.W.World.told c.args.world.now) notes n,
     λ e. c.requires.player.packets,
+    inl c.requires.items.fresh,
   );
 }
 
@@ -68,6 +71,8 @@ returns-in_err-item-clause-ends g c =
     } in
     let was = c.items.invariant.goes read before begun stream notes l n in
     let b = between_same _ _ _ was.0 (left_same _ _ stopped.reads.other) was.1 in
+    let told = outside (g.W.World.told c.items.world) (g.K.Keeper.told c.items.keeper)
+    (g.S.Sink.told c.items.out) in
     let behind = outside (g.W.World.told c.next_item.new.world) (g.K.Keeper.told c.items.keeper)
     (g.S.Sink.told c.items.out) in
     ends_in_items laws _ replay _ behind was.0 right (record { left = refl; outlets = refl })
@@ -75,6 +80,9 @@ returns-in_err-item-clause-ends g c =
     (faulty_record laws _ replay _ behind was.0 _ right stopped.reading b
     (record { left = refl; outlets = refl }) c.items.invariant.idle was.3 refl was.2
     (ap end_told stopped.reads.other ∙ c.items.invariant.stream_told))
+    (holds_at_line laws replay _ told behind was.0 _ right stopped.last_read b
+    (record { left = refl; outlets = refl }) c.items.invariant.idle was.3 refl was.2
+    (ap end_told stopped.reads.other ∙ c.items.invariant.stream_told) (later_none _) was.4)
     c.items.invariant.idle b (stopped.stopped notes was.0 was.2))
 
 pub items-preserved : goal.items-preserved
@@ -82,6 +90,19 @@ items-preserved g c =
     let before = c.items.invariant in
     let next = c.in_ok-item.ensures in
     let done = c.in_ok-handle-in-Some.ensures in
+    let laws : ReceiverLaws =
+    record {
+      more = c.law_of_outputs.ensures.more;
+      front = c.law_of_receivers.ensures.front;
+      all = c.law_of_receivers.ensures.all;
+      split = c.law_of_ticks.ensures.split;
+    } in
+    let packets : PacketLaws =
+    record { computed = c.packets_are_computed.ensures; unique = c.packets_are_unique.ensures } in
+    let told = outside (g.W.World.told c.items.world) (g.K.Keeper.told c.items.keeper)
+    (g.S.Sink.told c.items.out) in
+    let read_on = outside (g.W.World.told c.next_item.new.world) (g.K.Keeper.told c.items.keeper)
+    (g.S.Sink.told c.items.out) in
     record {
       idle = done.idle;
       area = done.area;
@@ -101,11 +122,28 @@ items-preserved g c =
           let item = c.in-Some.item in
           let was = before.goes read first begun stream notes l n in
           let b = between_same _ _ _ was.0 (left_same _ _ next.reads.other) was.1 in
-          let a = next.item item (ap Ok c.in-Some.is) notes was.0 was.2 in (
+          let a = next.item item (ap Ok c.in-Some.is) notes was.0 was.2 in
+          let replay : Replay = record {
+            read = read;
+            selection = c.args.selection;
+            area = c.args.player.now.kept;
+            stream = stream;
+            notes = notes;
+            before = first;
+          } in (
             was.0 ++ item ∷ [],
             between_push _ _ was.0 item (done.handled _ _ _ b),
             at_same notes _ _ (was.0 ++ item ∷ []) (left_same _ _ done.reads.other) a.at,
             λ e. just_push was.0 item _ _ (was.3 (done.was_open e)) (done.takes e),
+            inr (λ right.
+                holds_at_packet laws packets replay _ read_on
+                (outside (g.W.World.told c.handle.new.world) (g.K.Keeper.told c.handle.new.keeper)
+                (g.S.Sink.told c.handle.new.out)) was.0 item _ right done.last_read b was.3 a
+                (sym (left_same _ _ done.reads.other)) (ap end_told done.reads.other ∙ next.told)
+                done.later
+                (holds_at_line laws replay _ told read_on was.0 _ right next.last_read b
+                (record { left = refl; outlets = refl }) before.idle was.3 refl was.2
+                (ap end_told next.reads.other ∙ before.stream_told) (later_none _) was.4)),
           );
     }
 
@@ -138,11 +176,23 @@ returns-in_err-handle-in-Some-clause-ends g c =
     let after = at_same notes _ _ (was.0 ++ item ∷ []) (left_same _ _ stopped.reads.other) at.at in
     let packets : PacketLaws =
     record { computed = c.packets_are_computed.ensures; unique = c.packets_are_unique.ensures } in
+    let told = outside (g.W.World.told c.items.world) (g.K.Keeper.told c.items.keeper)
+    (g.S.Sink.told c.items.out) in
+    let read_on = outside (g.W.World.told c.next_item.new.world) (g.K.Keeper.told c.items.keeper)
+    (g.S.Sink.told c.items.out) in
     ends_in_item laws _ replay _ (was.0 ++ item ∷ []) right
     (at_front notes _ (was.0 ++ item ∷ []) after)
     (at_within notes _ (was.0 ++ item ∷ []) _ next.within after)
     (faulty_stream laws packets _ replay _ _ was.0 item _ right stopped.reading b was.3 at
     (sym (left_same _ _ stopped.reads.other)) (ap end_told stopped.reads.other ∙ next.told))
+    (holds_at_packet laws packets replay _ read_on
+    (outside (g.W.World.told c.handle.new.world) (g.K.Keeper.told c.handle.new.keeper)
+    (g.S.Sink.told c.handle.new.out)) was.0 item _ right stopped.last_read b was.3 at
+    (sym (left_same _ _ stopped.reads.other)) (ap end_told stopped.reads.other ∙ next.told)
+    stopped.later
+    (holds_at_line laws replay _ told read_on was.0 _ right next.last_read b
+    (record { left = refl; outlets = refl }) c.items.invariant.idle was.3 refl was.2
+    (ap end_told next.reads.other ∙ c.items.invariant.stream_told) (later_none _) was.4))
     (stops_pushed _ _ _ was.0 item (stopped.stopped _ _ _ b)))
 
 pub returns-in-None-clause-ends : goal.returns-in-None-clause-ends
@@ -166,12 +216,27 @@ returns-in-None-clause-ends g c = λ read right before begun stream notes l n.
     let was = c.items.invariant.goes read before begun stream notes l n in
     let b = between_same _ _ _ was.0 (left_same _ _ next.reads.other) was.1 in
     let whole = next.end (ap Ok c.in-None.is) notes was.0 was.2 in
+    let told = outside (g.W.World.told c.items.world) (g.K.Keeper.told c.items.keeper)
+    (g.S.Sink.told c.items.out) in
+    let read_on = outside (g.W.World.told c.next_item.new.world) (g.K.Keeper.told c.items.keeper)
+    (g.S.Sink.told c.items.out) in
     ends_with_line laws c.write_end.result _ replay _
     (outside (g.W.World.told c.next_item.new.world) (g.K.Keeper.told c.items.keeper)
     (g.S.Sink.told c.write_end.new.out)) was.0 right
     c.packets.ensures c.write_end.ensures.whole c.write_end.ensures.stops whole
-    (between_within _ _ was.0 _ c.items.invariant.stream_within b) refl c.items.invariant.idle
-    c.items.invariant.area b
+    (between_within _ _ was.0 _ c.items.invariant.stream_within b)
+    (holds_further replay read_on
+    (outside (g.W.World.told c.next_item.new.world) (g.K.Keeper.told c.items.keeper)
+    (g.S.Sink.told c.write_end.new.out)) refl
+    (record {
+      keeper = omega arith;
+      sink = c.write_end.ensures.writes;
+      written = c.write_end.ensures.grows;
+    })
+    (holds_at_line laws replay _ told read_on was.0 _ right next.last_read b
+    (record { left = refl; outlets = refl }) c.items.invariant.idle was.3 refl was.2
+    (ap end_told next.reads.other ∙ c.items.invariant.stream_told) (later_none _) was.4))
+    refl c.items.invariant.idle c.items.invariant.area b
 
 pub returns-in_err-item-clause-reads : goal.returns-in_err-item-clause-reads
 returns-in_err-item-clause-reads g c =
@@ -196,8 +261,8 @@ pub returns-in_err-item-clause-tells : goal.returns-in_err-item-clause-tells
 returns-in_err-item-clause-tells g c =
     let p = err_from_is_err_and c.from_residual.result
     c.from_residual.ensures.1 in
-    rw (p.1, p.2) (λ stream notes l n.
-    let was = c.items.invariant.goes no_programs _ (begun_now _) stream notes l n in
+    rw (p.1, p.2) (λ before begun stream notes l n.
+    let was = c.items.invariant.goes no_programs before begun stream notes l n in
     tells_in_items _ (file stream (g.W.World.told c.next_item.new.world).stream.left) _
     was.0 (c.in_err-item.ensures.stopped notes was.0 was.2))
 
@@ -205,14 +270,14 @@ pub returns-in_err-handle-in-Some-clause-tells : goal.returns-in_err-handle-in-S
 returns-in_err-handle-in-Some-clause-tells g c =
     let p = err_from_is_err_and c.from_residual-in_err-handle-in-Some.result
     c.from_residual-in_err-handle-in-Some.ensures.1 in
-    rw (p.1, p.2) (λ stream notes l n.
-    let was = c.items.invariant.goes no_programs _ (begun_now _) stream notes l n in
+    rw (p.1, p.2) (λ before begun stream notes l n.
+    let was = c.items.invariant.goes no_programs before begun stream notes l n in
     let b = between_same _ _ _ was.0 (left_same _ _ c.in_ok-item.ensures.reads.other) was.1 in
     tells_in_packets _ _ _ (file notes (g.W.World.told c.handle.new.world).notes.left) _
     (c.in_err-handle-in-Some.ensures.stopped _ _ _ b).leaves)
 
 pub returns-in-None-clause-tells : goal.returns-in-None-clause-tells
-returns-in-None-clause-tells g c = λ stream notes l n.
+returns-in-None-clause-tells g c = λ before begun stream notes l n.
     tells_in_line c.write_end.result
     (file stream (g.W.World.told c.next_item.new.world).stream.left)
     (file notes (g.W.World.told c.next_item.new.world).notes.left) _ _

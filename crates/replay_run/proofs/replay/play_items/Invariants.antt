@@ -11,6 +11,7 @@ use Rattle.replay_run.specs.Progress.{HasBegun, IsBetween}
 use Rattle.replay_run.specs.Putting.{IsLater, outlets}
 use Rattle.replay_run.specs.RecordProgress as progress
 use Rattle.replay_run.proofs.ClockLaws.{IsEarly}
+use Rattle.replay_run.proofs.LastReadLaws.{HoldsSoFar}
 use Rattle.replay_run.proofs.replay.play_items.Given as goal
 
 -- the items so far were handled
@@ -46,7 +47,16 @@ invariant-items g l = record {
       (midway.moment l.player (outside (g.W.World.told l.world) (g.K.Keeper.told l.keeper)
       (g.S.Sink.told l.out))) items
       × progress.IsAt notes (progress.record_state l.items (g.W.World.told l.world)) items
-      × (l.player.cutter.ended ≡ false → midway.TakeJust items l.player.packets);
+      × (l.player.cutter.ended ≡ false → midway.TakeJust items l.player.packets)
+      × HoldsSoFar (record {
+        read = read;
+        selection = l.fn.selection;
+        area = l.fn.player.kept;
+        stream = stream;
+        notes = notes;
+        before = before;
+      }) l.items.reader
+      (outside (g.W.World.told l.world) (g.K.Keeper.told l.keeper) (g.S.Sink.told l.out));
 }
 
 abbrev pub decreases-items : goal.decreases-items

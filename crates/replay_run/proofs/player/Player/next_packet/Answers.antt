@@ -1,6 +1,7 @@
 use Rattle.std.proofs.Common.{refl, sym, rules}
 use Rattle.std.proofs.lemmas.Result.{on_ok_weaker, MatchResult-weaker}
 use Rattle.replay_run.proofs.ProgressLaws.{midway_packet}
+use Rattle.replay_run.proofs.PuttingLaws.{later_none}
 use Rattle.replay_run.proofs.player.Player.next_packet.Goals as goal
 
 pub returns-then-not-wants-clause-handled : goal.returns-then-not-wants-clause-handled
@@ -26,3 +27,6 @@ returns-clause-stopped g c = MatchResult-weaker c.turns.result c.turns.ensures.s
     c.take_packet-packet.ensures.gives c.take_packet-packet.ensures.ended
     c.take_packet-packet.ensures.held c.take_packet-packet.ensures.packet
     (c.wanted_packet.ensures.taken replay.read replay.selection replay.area) m))
+
+pub returns-then-not-wants-clause-later : goal.returns-then-not-wants-clause-later
+returns-then-not-wants-clause-later g c = later_none _

@@ -111,3 +111,7 @@ returns-clause-handled g c =
     (moment c.steps.self
     (outside world (g.K.Keeper.told c.steps.keeper) (g.S.Sink.told c.steps.out)))) all
     (before.passed.2 world)
+
+pub returns-in_err-put_piece-clause-later : goal.returns-in_err-put_piece-clause-later
+returns-in_err-put_piece-clause-later g c =
+    later_more _ _ _ c.steps.invariant.later c.in_err-put_piece.ensures.later

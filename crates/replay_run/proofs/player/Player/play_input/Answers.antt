@@ -2,6 +2,7 @@ use Rattle.std.proofs.Common.{ap, refl}
 use Rattle.std.proofs.lemmas.Result.{err_from_is_err_and, MatchResult-weaker}
 use Rattle.replay_run.specs.Outside.{outside}
 use Rattle.replay_run.proofs.PlayLaws.{packet_count-other}
+use Rattle.replay_run.proofs.PuttingLaws.{later_none}
 use Rattle.replay_run.proofs.StepLaws.{input_step, midway_step, no_packet, on_ok_two, stops_step}
 use Rattle.replay_run.proofs.StoppingLaws.{first_all, first_pushed, stops_within}
 use Rattle.replay_run.proofs.player.Player.play_input.Goals as goal
@@ -46,3 +47,6 @@ returns-in_err-input-clause-stopped g c =
     stops_within replay _
     (outside world (g.K.Keeper.told c.args.keeper.now) (g.S.Sink.told c.args.out.now)) inputs _ ahead
     (first_pushed inputs _) refl refl c.requires.within m)
+
+pub returns-in_err-input-clause-later : goal.returns-in_err-input-clause-later
+returns-in_err-input-clause-later g c = later_none _

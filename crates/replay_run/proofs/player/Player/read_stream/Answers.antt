@@ -76,3 +76,32 @@ returns-then-self-gt-STREAM_LIMIT-clause-last g c =
       failed = λ e. absurd (cc);
       long = λ e. omega (arith, c.if-self-gt-STREAM_LIMIT.true, size);
     }
+
+pub returns-in-Err-clause-gave : goal.returns-in-Err-clause-gave
+returns-in-Err-clause-gave g c = record {
+  last = [];
+  consumed = Consumes-kept _ _ _ [] (Consumes-nil _) c.in-Err.ensures.bytes;
+  most = omega arith;
+}
+
+pub returns-then-self-gt-STREAM_LIMIT-clause-gave :
+    goal.returns-then-self-gt-STREAM_LIMIT-clause-gave
+returns-then-self-gt-STREAM_LIMIT-clause-gave g c =
+    let bytes = take c.in-Ok.count c.read_port.new.buf in
+    let size : length bytes ≡ c.in-Ok.count = sym c.in-Ok.ensures.count.1 in
+    record {
+      last = bytes;
+      consumed = c.in-Ok.ensures.bytes.0;
+      most = omega (arith, size, c.in-Ok.ensures.count.0);
+    }
+
+pub returns-else-self-gt-STREAM_LIMIT-clause-gave :
+    goal.returns-else-self-gt-STREAM_LIMIT-clause-gave
+returns-else-self-gt-STREAM_LIMIT-clause-gave g c =
+    let bytes = take c.in-Ok.count c.read_port.new.buf in
+    let size : length bytes ≡ c.in-Ok.count = sym c.in-Ok.ensures.count.1 in
+    record {
+      last = bytes;
+      consumed = c.in-Ok.ensures.bytes.0;
+      most = omega (arith, size, c.in-Ok.ensures.count.0);
+    }

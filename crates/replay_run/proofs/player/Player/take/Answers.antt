@@ -1,4 +1,5 @@
 use Rattle.std.proofs.Common.{◌≡◌, ◌+◌, ◌∙◌, sym, ap, arith, refl, subst, Some, true, true≢false}
+use Rattle.std.proofs.Common.{inl, inr}
 use Rattle.std.proofs.lemmas.Result.{err_from_is_err_and}
 use Rattle.ts_packets.specs.Packets.{packets_of}
 use Rattle.receiver_core.specs.Receiving.{ReceiverState}
@@ -10,7 +11,7 @@ use Rattle.replay_run.proofs.PlayLaws.{took_enough}
 use Rattle.replay_run.proofs.PlayLaws.{took_less}
 use Rattle.replay_run.proofs.ProgressLaws.{midway_ended, midway_loosely, midway_seek, midway_none}
 use Rattle.replay_run.proofs.ProgressLaws.{midway_more, midway_over}
-use Rattle.replay_run.proofs.PuttingLaws.{later_more, later_none}
+use Rattle.replay_run.proofs.PuttingLaws.{later_more, later_none, packet_read_further}
 use Rattle.replay_run.proofs.StoppingLaws.{only_reads_none, only_reads_more, no_packets}
 use Rattle.replay_run.proofs.StoppingLaws.{stops_further, stops_more, stream_stops, turns_unread}
 use Rattle.replay_run.proofs.player.Player.take.Goals as goal
@@ -26,6 +27,7 @@ packets-init g c = record {
   was_open = λ e. e;
   reads = only_reads_none _ _;
   later = later_none _;
+  last_read = inr refl;
   until = c.last_packet-last.ensures;
   taken = (
     0,
@@ -54,6 +56,11 @@ packets-preserved-in-Continue-1 g c =
       was_open = λ e. before.was_open (sym c.seek.ensures.drops.ended ∙ sym taken.ended ∙ e);
       reads = before.reads;
       later = later_more _ _ _ before.later taken.later;
+      last_read = packet_read_further (item_of_count c.args.most) (moment c.args.self.now (outside (g.W.World.told c.args.world.now)
+          (g.K.Keeper.told c.args.keeper.now) (g.S.Sink.told c.args.out.now))) (outside (g.W.World.told c.args.world.now) (g.K.Keeper.told c.args.keeper.now)
+          (g.S.Sink.told c.args.out.now)) (outside (g.W.World.told c.packets.world) (g.K.Keeper.told c.packets.keeper)
+          (g.S.Sink.told c.packets.out)) (outside (g.W.World.told c.packets.world) (g.K.Keeper.told c.next_packet.new.keeper)
+          (g.S.Sink.told c.next_packet.new.out)) before.last_read refl taken.later;
       until = before.until;
       taken = (
         before.taken.0 + 1,
@@ -91,6 +98,10 @@ pub packets-preserved : goal.packets-preserved
 packets-preserved g c =
     let before = c.packets.invariant in
     let read = c.in_ok-read_stream-in-NeedMore.ensures in
+    let waiting = c.seek.ensures.need_more.0 c.in-NeedMore.is in
+    let fewer : Allows c.args.most (before.taken.0 + 1) =
+    took_less c.args.most _ _ _ before.taken.0 before.until before.taken.1
+    (told_apart _ _ _ c.ne.ensures c.packets-test.true) before.taken.2 in
     record {
       within = read.within;
       idle = rw read.receiver before.idle;
@@ -101,6 +112,34 @@ packets-preserved g c =
       was_open = λ e. before.was_open (c.seek.ensures.need_more.0 c.in-NeedMore.is).open_end;
       reads = only_reads_more _ _ _ _ before.reads read.reads;
       later = before.later;
+      last_read = inl (
+        read.gave.last,
+        outside (g.W.World.told c.read_stream.new.world) (g.K.Keeper.told c.packets.keeper)
+            (g.S.Sink.told c.packets.out),
+        record {
+          now = record (moment c.packets.self (outside (g.W.World.told c.packets.world)
+              (g.K.Keeper.told c.packets.keeper) (g.S.Sink.told c.packets.out))) {
+                cutter = c.seek.new.self;
+                loose = true;
+              };
+          count = before.taken.0;
+          takes = allows_more c.args.most before.taken.0 fewer;
+          goes = λ replay inputs ahead m.
+              midway_seek replay _ _ _ _ c.seek.ensures.gives c.seek.ensures.drops
+              (before.taken.3 replay inputs ahead m);
+          packets = before.taken.1;
+          was_open = before.was_open waiting.open_end;
+          waiting = waiting_behind _ _ c.seek.ensures.drops waiting;
+          short = c.seek.ensures.room c.in-NeedMore.is;
+          within = before.within;
+          idle = before.idle;
+          outlets_are = refl;
+          consumed = read.gave.consumed;
+          most = read.gave.most;
+        },
+        refl,
+        later_none _,
+      );
       until = before.until;
       taken = (
         before.taken.0,
@@ -211,3 +250,58 @@ returns-in_err-read_stream-in-NeedMore-clause-reading g c =
       },
       refl,
     )) c.in_err-read_stream-in-NeedMore.ensures.last)
+
+-- ---- the last read
+
+pub returns-in_err-next_packet-in-Packet-clause-last_read :
+    goal.returns-in_err-next_packet-in-Packet-clause-last_read
+returns-in_err-next_packet-in-Packet-clause-last_read g c =
+    packet_read_further (item_of_count c.args.most) (moment c.args.self.now (outside (g.W.World.told c.args.world.now)
+    (g.K.Keeper.told c.args.keeper.now) (g.S.Sink.told c.args.out.now))) (outside (g.W.World.told c.args.world.now) (g.K.Keeper.told c.args.keeper.now)
+    (g.S.Sink.told c.args.out.now)) (outside (g.W.World.told c.packets.world) (g.K.Keeper.told c.packets.keeper)
+    (g.S.Sink.told c.packets.out)) (outside (g.W.World.told c.packets.world) (g.K.Keeper.told c.next_packet.new.keeper)
+    (g.S.Sink.told c.next_packet.new.out)) c.packets.invariant.last_read refl
+    c.in_err-next_packet-in-Packet.ensures.later
+
+pub returns-in_err-next_packet-in-Packet-clause-later :
+    goal.returns-in_err-next_packet-in-Packet-clause-later
+returns-in_err-next_packet-in-Packet-clause-later g c =
+    later_more _ _ _ c.packets.invariant.later c.in_err-next_packet-in-Packet.ensures.later
+
+pub returns-in_err-read_stream-in-NeedMore-clause-last_read :
+    goal.returns-in_err-read_stream-in-NeedMore-clause-last_read
+returns-in_err-read_stream-in-NeedMore-clause-last_read g c =
+    let before = c.packets.invariant in
+    let gave = c.in_err-read_stream-in-NeedMore.ensures.gave in
+    let waiting = c.seek.ensures.need_more.0 c.in-NeedMore.is in
+    let fewer : Allows c.args.most (before.taken.0 + 1) =
+    took_less c.args.most _ _ _ before.taken.0 before.until before.taken.1
+    (told_apart _ _ _ c.ne.ensures c.packets-test.true) before.taken.2 in
+    inl (
+      gave.last,
+      outside (g.W.World.told c.read_stream.new.world) (g.K.Keeper.told c.packets.keeper)
+          (g.S.Sink.told c.packets.out),
+      record {
+        now = record (moment c.packets.self (outside (g.W.World.told c.packets.world)
+            (g.K.Keeper.told c.packets.keeper) (g.S.Sink.told c.packets.out))) {
+              cutter = c.seek.new.self;
+              loose = true;
+            };
+        count = before.taken.0;
+        takes = allows_more c.args.most before.taken.0 fewer;
+        goes = λ replay inputs ahead m.
+            midway_seek replay _ _ _ _ c.seek.ensures.gives c.seek.ensures.drops
+            (before.taken.3 replay inputs ahead m);
+        packets = before.taken.1;
+        was_open = before.was_open waiting.open_end;
+        waiting = waiting_behind _ _ c.seek.ensures.drops waiting;
+        short = c.seek.ensures.room c.in-NeedMore.is;
+        within = before.within;
+        idle = before.idle;
+        outlets_are = refl;
+        consumed = gave.consumed;
+        most = gave.most;
+      },
+      refl,
+      later_none _,
+    )

@@ -4,7 +4,8 @@ use Rattle.receiver_core.specs.Receiving.{IsIdle}
 use Rattle.replay_run.specs.declared.record.RecordItem.TheVariants.{Packets}
 use Rattle.replay_run.specs.Ending.{end_told}
 use Rattle.replay_run.specs.Files.{stream_limit}
-use Rattle.replay_run.specs.Midway.{moment, Handles, IsReadable, KeepsArea, loosely, work_left}
+use Rattle.replay_run.specs.Midway.{moment, Handles, IsReadable, KeepsArea, WasReadForPacket}
+use Rattle.replay_run.specs.Midway.{item_of_count, loosely, work_left}
 use Rattle.replay_run.specs.Outside.{outside}
 use Rattle.replay_run.specs.Putting.{IsLater, outlets}
 use Rattle.replay_run.specs.Stopping.{OnlyReads}
@@ -24,6 +25,12 @@ invariant-packets g l = record {
   reads : OnlyReads Stream (g.W.World.told l.initial.world) (g.W.World.told l.world);
   later : IsLater (outlets (g.K.Keeper.told l.initial.keeper) (g.S.Sink.told l.initial.out))
       (outlets (g.K.Keeper.told l.keeper) (g.S.Sink.told l.out));
+  last_read : WasReadForPacket (item_of_count l.fn.most)
+      (moment l.initial.self (outside (g.W.World.told l.initial.world)
+      (g.K.Keeper.told l.initial.keeper) (g.S.Sink.told l.initial.out)))
+      (outside (g.W.World.told l.initial.world) (g.K.Keeper.told l.initial.keeper)
+      (g.S.Sink.told l.initial.out))
+      (outside (g.W.World.told l.world) (g.K.Keeper.told l.keeper) (g.S.Sink.told l.out));
   until : l.last ≡ option_map (λ n. l.initial.self.packets + n) l.fn.most;
   taken : (count : ℕ) × (l.self.packets ≡ l.initial.self.packets + count) × Allows l.fn.most count
       × Handles (Packets count)

@@ -84,3 +84,8 @@ returns-in-false-clause-area g c =
     c.turns.invariant.area
     ∙ sym (c.law_of_standing_areas.ensures.over _ _ _ _
     (c.in_ok-section_turn.ensures.over (ap Ok c.in-false.is)))
+
+pub returns-in_err-put_piece-in-true-clause-later :
+    goal.returns-in_err-put_piece-in-true-clause-later
+returns-in_err-put_piece-in-true-clause-later g c =
+    later_more _ _ _ c.turns.invariant.later c.in_err-put_piece-in-true.ensures.later

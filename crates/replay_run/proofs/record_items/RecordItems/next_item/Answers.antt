@@ -1,12 +1,25 @@
-use Rattle.std.proofs.Common.{◌≡◌, ◌≤◌, ◌+◌, ◌∙◌, sym, refl, subst, arith}
+use Rattle.std.proofs.Common.{◌≡◌, ◌≤◌, ◌+◌, ◌∙◌, sym, refl, subst, arith, inl, inr}
 use Rattle.std.proofs.lemmas.Result.{err_from_is_err_and}
 use Rattle.replay_run.specs.declared.record.Line.TheVariants.{Item as Read, Nothing}
 use Rattle.replay_run.specs.Play.{milliseconds_of}
 use Rattle.replay_run.specs.Record.{tick_limit}
 use Rattle.replay_run.specs.RecordProgress.{IsAt, IsAtItem, record_state}
 use Rattle.replay_run.proofs.RecordProgressLaws.{at_item, at_nothing, at_bad, at_whole, time_within}
-use Rattle.replay_run.proofs.StoppingLaws.{only_reads_more, record_stops}
+use Rattle.replay_run.proofs.RecordProgressLaws.{bad_came, end_came, line_came, reads_came}
+use Rattle.replay_run.proofs.RecordProgressLaws.{reads_further}
+use Rattle.replay_run.proofs.StoppingLaws.{only_reads_more, only_reads_none, record_stops}
 use Rattle.replay_run.proofs.record_items.RecordItems.next_item.Goals as goal
+
+pub lines-init : goal.lines-init
+lines-init g c = record {
+  within = c.requires.within;
+  further = omega arith;
+  readable = c.requires.readable;
+  told = c.requires.told;
+  reads = only_reads_none _ _;
+  goes = λ notes items a. a;
+  last_read = inr (refl, λ fresh. fresh);
+}
 
 pub returns-in-Line-Item-clause-item : goal.returns-in-Line-Item-clause-item
 returns-in-Line-Item-clause-item g c = λ item e notes items a.
@@ -54,6 +67,9 @@ lines-preserved-in-Line-Nothing g c =
       goes = λ notes items a. at_nothing notes _ items _
           (c.next.ensures.good Nothing (λ clash. cc) is_nothing)
           c.next.ensures.drops (before.goes notes items a);
+      last_read = reads_further _ _ _ _
+          (reads_came _ _ _ _ before.last_read
+          (line_came c.lines.self.reader _ (c.next.ensures.takes Nothing (λ clash. cc) is_nothing)));
     }
 
 pub lines-preserved : goal.lines-preserved
@@ -73,6 +89,17 @@ lines-preserved g c =
         lines = c.lines.self.lines;
         left = (g.W.World.told c.lines.world).notes.left;
       }) items) (sym same) (before.goes notes items a));
+      last_read = inl (
+        read.gave.last,
+        record {
+          now = record_state c.lines.self (g.W.World.told c.lines.world);
+          goes = before.goes;
+          unfinished = c.next.ensures.need_more.0 c.in-NeedMore.is;
+          within = before.within;
+          consumed = read.gave.consumed;
+          most = read.gave.most;
+        },
+      );
     }
 
 pub returns-in_err-read_record-in-NeedMore-clause-reads :
@@ -101,3 +128,38 @@ returns-in_err-read_record-in-NeedMore-clause-reading g c =
       },
       refl,
     )) c.in_err-read_record-in-NeedMore.ensures.last)
+
+-- ---- the last read
+
+pub returns-in-Line-Item-clause-last_read : goal.returns-in-Line-Item-clause-last_read
+returns-in-Line-Item-clause-last_read g c =
+    reads_came _ _ _ _ c.lines.invariant.last_read
+    (line_came c.lines.self.reader _ (c.next.ensures.takes (Read c.in-Line-Item.item) (λ clash. cc)
+    (rw c.in-Line-Item.field-0-is at c.in-Line-Item.is)))
+
+pub returns-in-Line-Bad-clause-last_read : goal.returns-in-Line-Bad-clause-last_read
+returns-in-Line-Bad-clause-last_read g c =
+    reads_came _ _ _ _ c.lines.invariant.last_read
+    (bad_came c.lines.self.reader (c.next.ensures.bad (rw c.in-Line-Bad.field-0-is at c.in-Line-Bad.is)))
+
+pub returns-in-End-clause-last_read : goal.returns-in-End-clause-last_read
+returns-in-End-clause-last_read g c =
+    reads_came _ _ _ _ c.lines.invariant.last_read
+    (end_came c.lines.self.reader (c.next.ensures.end.0 c.in-End.is))
+
+pub returns-in_err-read_record-in-NeedMore-clause-last_read :
+    goal.returns-in_err-read_record-in-NeedMore-clause-last_read
+returns-in_err-read_record-in-NeedMore-clause-last_read g c =
+    let before = c.lines.invariant in
+    let gave = c.in_err-read_record-in-NeedMore.ensures.gave in
+    inl (
+      gave.last,
+      record {
+        now = record_state c.lines.self (g.W.World.told c.lines.world);
+        goes = before.goes;
+        unfinished = c.next.ensures.need_more.0 c.in-NeedMore.is;
+        within = before.within;
+        consumed = gave.consumed;
+        most = gave.most;
+      },
+    )

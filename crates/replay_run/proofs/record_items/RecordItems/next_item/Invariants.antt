@@ -5,6 +5,7 @@ use Rattle.replay_run.specs.Ending.{end_told}
 use Rattle.replay_run.specs.Files.{record_limit}
 use Rattle.replay_run.specs.RecordProgress.{record_state, IsAt, IsReadable, work_left}
 use Rattle.replay_run.specs.Stopping.{OnlyReads}
+use Rattle.replay_run.proofs.RecordProgressLaws.{ReadsOrRests}
 use Rattle.replay_run.proofs.record_items.RecordItems.next_item.Given as goal
 
 -- lines were passed over that ask for nothing, and bytes were read
@@ -18,6 +19,8 @@ invariant-lines g l = record {
   goes : (notes : List ℕ) (items : List RecordItem)
       → IsAt notes (record_state l.initial.self (g.W.World.told l.initial.world)) items
       → IsAt notes (record_state l.self (g.W.World.told l.world)) items;
+  last_read : ReadsOrRests (record_state l.initial.self (g.W.World.told l.initial.world))
+      (g.W.World.told l.initial.world) (g.W.World.told l.world) l.self.reader;
 }
 
 abbrev pub decreases-lines : goal.decreases-lines
