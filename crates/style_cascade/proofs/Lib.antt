@@ -15,7 +15,3 @@ pub mod CascadeLaws
 pub mod TreeLaws
 pub mod KeptLemmas
 pub mod SaidLemmas
-pub mod OwedLemmas
-pub mod GetLemmas
-pub mod ForgetLemmas
-pub mod SetLemmas

@@ -6,4 +6,3 @@ pub mod Kept
 pub mod Indexing
 pub mod Rows
 pub mod Searching
-pub mod Getting

@@ -13,7 +13,7 @@ ghost use Rattle.style_reader.specs.declared.properties.StyleValue.{StyleValue};
 ghost use Rattle.style_reader.specs.declared.rules.Rule.{Rule};
 ghost use Rattle.style_cascade.specs.Cascade.{Sources, own_value, style_value, unwritten, with_write, write_of};
 ghost use Rattle.style_cascade.specs.Candidates.{inline_rules, inline_value, is_at_least, last_value, strongest};
-ghost use Rattle.style_cascade.specs.Keeping.{IsRight, StylesState, owed};
+ghost use Rattle.style_cascade.specs.Keeping.{IsRight, StylesState};
 ghost use Rattle.style_cascade.specs.Writes.{are_in_order};
 ghost use Rattle.style_cascade.specs.declared.states.State.{State};
 ghost use Rattle.style_cascade.specs.declared.subjects.Subject.{Subject};
@@ -99,15 +99,11 @@ pub fn law_of_writes()
         one ≡ other }
 {}
 
-/// Another text for a text node changes no value, and the styles are still those of the tree. No
-/// more is owed of them.
+/// Another text for a text node changes no value, and the styles are still those of the tree.
 pub fn law_of_text_writes()
     ensures right { (items : List Item) (node : ℕ) (text : List ℕ)
         (states : ℕ → State) (styles : StylesState) → IsRight items states styles →
         IsRight (changed_at (with_text text) node items) states styles }
-    ensures owed { (items : List Item) (node : ℕ) (text : List ℕ)
-        (states : ℕ → State) (styles : StylesState) →
-        owed (changed_at (with_text text) node items) states styles ≡ owed items states styles }
     ensures values { (items : List Item) (node : ℕ) (text : List ℕ)
         (sources : Sources) (present : ℕ → State) (at : ℕ) (state : State) (property : Property) →
         style_value (changed_at (with_text text) node items) sources present at state property

@@ -1,6 +1,6 @@
 //! Tables of values by node, state and property.
 
-ghost use Rattle.std.specs.Prelude.{◌≡◌, ◌||◌, ◌+◌, ◌*◌, ◌<◌, ◌≤◌, ℕ, None, is_some, length, replicate, slice_set, IfOk, IfSome, IsTrue};
+ghost use Rattle.std.specs.Prelude.{◌≡◌, ◌+◌, ◌*◌, ◌<◌, ◌≤◌, ℕ, None, length, replicate, slice_set, IfOk, IfSome, IsTrue};
 ghost use Rattle.style_reader.specs.Values.{fits};
 ghost use Rattle.style_cascade.specs.Candidates.{property_place};
 ghost use Rattle.style_cascade.specs.devices.Tables.{cell_place as spec_cell_place};
@@ -39,7 +39,7 @@ impl Model for Table {
 }
 
 impl Table {
-    ghost use Rattle.style_cascade.specs.devices.Tables.{Clears, Forgets, cell_of, has_value};
+    ghost use Rattle.style_cascade.specs.devices.Tables.{cell_of};
 
     /// A table without values, for so many nodes.
     pub fn new(alloc: Global, nodes: u32) -> Result<Table, NoMemory>
@@ -74,45 +74,6 @@ impl Table {
         ensures { self.new ≡ slice_set self.old (spec_cell_place node.0 state property) value }
     {
         self.cells[cell_place(node, state, property)] = value;
-    }
-
-    /// Whether a node has a value of a property in some state.
-    #[tactic(auto, unfolding(crate::specs::devices::Tables::has_value))]
-    pub fn has(&self, node: NodeId, property: Property) -> bool
-        ensures { result ≡ has_value self.now node.0 property }
-    {
-        self.get(node, State::Normal, property).is_some()
-            || self.get(node, State::Focus, property).is_some()
-            || self.get(node, State::Active, property).is_some()
-    }
-
-    /// Takes away the values of a property that the nodes from the first one on have, in each
-    /// state, up to the end.
-    pub fn forget(&mut self, property: Property, first: u32, end: u32)
-        ensures { Forgets self.old self.new property first end }
-    {
-        'nodes: for number in first..end {
-            self.clear_node(NodeId(number), property);
-        }
-    }
-
-    // Takes away the values of a property that a node has.
-    fn clear_node(&mut self, node: NodeId, property: Property)
-        ensures { Forgets self.old self.new property node.0 (node.0 + 1) }
-    {
-        self.clear(node, State::Normal, property);
-        self.clear(node, State::Focus, property);
-        self.clear(node, State::Active, property);
-    }
-
-    // Takes away the value of a cell, if the table has the cell.
-    fn clear(&mut self, node: NodeId, state: State, property: Property)
-        ensures { Clears self.old self.new node.0 state property }
-    {
-        let place = cell_place(node, state, property);
-        if place < self.cells.len() {
-            self.cells[place] = None;
-        }
     }
 }
 
