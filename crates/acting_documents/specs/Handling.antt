@@ -71,7 +71,8 @@ with_timer_taken number s =
 abbrev pub timer_effect : ℕ → Scene → Effect
 timer_effect number s =
     option_map_or
-    (λ timer. run_function (name_of (events.Timer number)) timer.function (with_timer_taken number s))
+    (λ timer.
+    run_function (name_of (events.Timer number)) timer.function (with_timer_taken number s))
     (timer_of number s.browser.timers) (no_effect s)
 
 -- All timers that are due at a moment, which is the time then, post their events.
@@ -103,7 +104,8 @@ event_effect (events.Focus node) s = run_handler (events.Focus node) node s
 event_effect (events.Blur node) s = run_handler (events.Blur node) node s
 event_effect (events.Click node) s = run_handler (events.Click node) node s
 event_effect (events.KeyDown key) s = event_effect_at (focus_of s) (events.KeyDown key) s
-event_effect (events.KeyUp key) s = event_effect_at (focus_of s) (events.KeyUp key) (with_key_released key s)
+event_effect (events.KeyUp key) s =
+    event_effect_at (focus_of s) (events.KeyUp key) (with_key_released key s)
 event_effect (events.Default key) s = default_action key s
 event_effect (events.Timer number) s = timer_effect number s
 event_effect (events.Fired item component message) s =

@@ -27,7 +27,8 @@ end_of_run (Reads base name go) h = end_of_run (go (member_value h.acting base n
 end_of_run (Writes base name value heap go) h =
     end_of_run go (record h { acting = with_member_set h.acting base name value heap })
 end_of_run (Calls base name arguments heap go) h =
-    end_of_run (go (reply_of_call h base name arguments heap).answer (reply_of_call h base name arguments heap).heap)
+    end_of_run (go (reply_of_call h base name arguments heap).answer
+    (reply_of_call h base name arguments heap).heap)
     (reply_of_call h base name arguments heap).hosted
 
 -- ---- in a document

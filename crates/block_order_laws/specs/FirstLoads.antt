@@ -70,7 +70,8 @@ pub record ComesToLoad (pid tag : ℕ) (sections : List (List ℕ)) (s : State) 
   pub behind : List (List ℕ)
   pub place : sections ≡ before ++ section ∷ behind
   pub quiet : AreQuiet pid tag before s
-  pub lines : HasModuleLines tag (step_of_section pid section (state_behind_turns pid before s)).text
+  pub lines : HasModuleLines tag
+      (step_of_section pid section (state_behind_turns pid before s)).text
   pub loads : IsNextLoad (page_amid_turn pid section (state_behind_turns pid before s)) l
 
 -- ---- the two lists

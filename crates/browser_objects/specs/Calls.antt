@@ -50,7 +50,8 @@ pub record CallOutcome : Type 0 where
   pub heap : List ObjectState
 
 -- a call answered so, and left this
-pub record Answers (called : CallResult) (answer : Value × Effect) (left : BrowserParts) : Type 0 where
+pub record Answers (called : CallResult) (answer : Value × Effect) (left : BrowserParts)
+    : Type 0 where
   pub value : answer.0 ≡ called.value
   pub effect : answer.1 ≡ called.effect
   pub state : left ≡ called.state
@@ -265,7 +266,8 @@ write_array arguments heap s =
 
 abbrev pub outcome_of_call : BrowserCall → Path → ℕ → List Value → List ObjectState → BrowserParts
     → CallOutcome
-outcome_of_call the.SetInterval base now arguments heap s = over heap (set_interval now arguments heap s)
+outcome_of_call the.SetInterval base now arguments heap s =
+    over heap (set_interval now arguments heap s)
 outcome_of_call the.ClearTimer base now arguments heap s = over heap (clear_timer arguments heap s)
 outcome_of_call the.LaunchDocument base now arguments heap s =
     over heap (with_path Launch (path_argument base arguments heap) s)

@@ -39,5 +39,7 @@ abbrev pub head_of : ℕ → SectionHead
 head_of table_id = record { table_id = table_id; extension = 0; version = 0; is_current = false }
 
 abbrev pub message_section : Message → List ℕ
-message_section (Indication dii) = section_bytes (head_of 0x3B) (message_bytes indication dii.transaction (dii_payload dii))
-message_section (Data ddb) = section_bytes (head_of 0x3C) (message_bytes data_block ddb.download (ddb_payload ddb))
+message_section (Indication dii) =
+    section_bytes (head_of 0x3B) (message_bytes indication dii.transaction (dii_payload dii))
+message_section (Data ddb) =
+    section_bytes (head_of 0x3C) (message_bytes data_block ddb.download (ddb_payload ddb))

@@ -32,4 +32,5 @@ abbrev pub HasCalled : ScriptHost → HostRef → List ℕ → List Value → Li
     → ScriptHost → List ObjectState → Type 0
 HasCalled old base name arguments heap answer new after =
     ForModules old.modules (λ modules. Replies new answer after
-    (reply_of_call (record { acting = old.stage.acting; modules = modules }) base name arguments heap))
+    (reply_of_call (record { acting = old.stage.acting; modules = modules }) base name arguments
+    heap))

@@ -63,7 +63,8 @@ answer_of_unlock stood a heap = if stood then gives (number 1) a heap else gives
 abbrev pub unlock : Path → HostParts → List ObjectState → Reply
 unlock path h heap =
     reply_with (without_lock path.component path.«module» h.modules)
-    (answer_of_unlock (is_some (lock_on h.modules.locks path.component path.«module»)) h.acting heap)
+    (answer_of_unlock (is_some (lock_on h.modules.locks path.component path.«module»)) h.acting
+    heap)
 
 -- ---- calls of the browser object
 
@@ -75,7 +76,8 @@ reply_of_effect (effects.Sound sound) value h heap =
     reply_with h.modules (gives value (with_line (sound_line sound) h.acting) heap)
 reply_of_effect (effects.Kept slot size) value h heap =
     reply_with h.modules (gives value (with_line (kept_line slot size) h.acting) heap)
-reply_of_effect (effects.Launch path) value h heap = reply_with h.modules (launch path h.acting heap)
+reply_of_effect (effects.Launch path) value h heap =
+    reply_with h.modules (launch path h.acting heap)
 reply_of_effect (effects.Lock path) value h heap = lock path h heap
 reply_of_effect (effects.Unlock path) value h heap = unlock path h heap
 

@@ -13,10 +13,14 @@ pub data Happening : Type 0 where
 -- what the modules are behind all of these
 abbrev pub modules_behind : Modules → List Happening → Modules
 modules_behind modules [] = modules
-modules_behind modules (Fed component section ∷ behind) = modules_behind (with_section component section modules) behind
-modules_behind modules (Mapped components ∷ behind) = modules_behind (with_map components modules) behind
-modules_behind modules (Locked component number ∷ behind) = modules_behind (with_lock component number modules) behind
-modules_behind modules (Unlocked component number ∷ behind) = modules_behind (without_lock component number modules) behind
+modules_behind modules (Fed component section ∷ behind) =
+    modules_behind (with_section component section modules) behind
+modules_behind modules (Mapped components ∷ behind) =
+    modules_behind (with_map components modules) behind
+modules_behind modules (Locked component number ∷ behind) =
+    modules_behind (with_lock component number modules) behind
+modules_behind modules (Unlocked component number ∷ behind) =
+    modules_behind (without_lock component number modules) behind
 
 -- from the start on
 abbrev pub behind_all : List Happening → Modules

@@ -72,7 +72,8 @@ writes_of (Writes base name value heap go) h =
     write_made h.acting base name (text_of heap value)
     ++ writes_of go (record h { acting = with_member_set h.acting base name value heap })
 writes_of (Calls base name arguments heap go) h =
-    writes_of (go (reply_of_call h base name arguments heap).answer (reply_of_call h base name arguments heap).heap)
+    writes_of (go (reply_of_call h base name arguments heap).answer
+    (reply_of_call h base name arguments heap).heap)
     (reply_of_call h base name arguments heap).hosted
 
 -- those of the program at a place, as the handler of an event
@@ -113,7 +114,8 @@ event_writes (events.Focus node) s = handler_writes (events.Focus node) node s
 event_writes (events.Blur node) s = handler_writes (events.Blur node) node s
 event_writes (events.Click node) s = handler_writes (events.Click node) node s
 event_writes (events.KeyDown key) s = writes_at (focus_of s) (events.KeyDown key) s
-event_writes (events.KeyUp key) s = writes_at (focus_of s) (events.KeyUp key) (with_key_released key s)
+event_writes (events.KeyUp key) s =
+    writes_at (focus_of s) (events.KeyUp key) (with_key_released key s)
 event_writes (events.Default key) s = []
 event_writes (events.Timer number) s = timer_writes number s
 event_writes (events.Fired item component message) s =

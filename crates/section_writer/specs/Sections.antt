@@ -13,9 +13,11 @@ version_byte head = head.version * 2 + (if head.is_current then 1 else 0)
 -- to the section's end; table_id_extension; the version; section_number and last_section_number 0; and the body
 abbrev pub front_bytes : SectionHead → List ℕ → List ℕ
 front_bytes head body =
-    head.table_id ∷ (0x80 + (length body + 9) / 256) ∷ (length body + 9) % 256 ∷ head.extension / 256 ∷ head.extension % 256
+    head.table_id ∷ (0x80 + (length body + 9) / 256) ∷ (length body + 9) % 256
+    ∷ head.extension / 256 ∷ head.extension % 256
     ∷ version_byte head ∷ 0 ∷ 0 ∷ body
 
 -- and its CRC_32 (annex A)
 abbrev pub section_bytes : SectionHead → List ℕ → List ℕ
-section_bytes head body = front_bytes head body ++ to_be_bytes w32 (remainder_of (front_bytes head body))
+section_bytes head body =
+    front_bytes head body ++ to_be_bytes w32 (remainder_of (front_bytes head body))

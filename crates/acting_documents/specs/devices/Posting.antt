@@ -17,8 +17,10 @@ with_notice (notices.Moment moment) a = with_due_events moment (record a { now =
 -- by the document
 abbrev pub post_effect : Notice → Scene → Effect
 post_effect (notices.Key key down) s = effect_of_change (key_posts down key) s
-post_effect (notices.Message component message) s = effect_of_change (message_posts component message.now) s
-post_effect (notices.Change component change) s = effect_of_change (change_posts component change.now) s
+post_effect (notices.Message component message) s =
+    effect_of_change (message_posts component message.now) s
+post_effect (notices.Change component change) s =
+    effect_of_change (change_posts component change.now) s
 post_effect (notices.Moment moment) s = due_effect moment s
 
 -- it comes to the document: a key does where the body lets it pass

@@ -81,7 +81,8 @@ without_launched kept = record kept { launched = None }
 -- it was taken, and where there was one the document's `unload` was handled
 abbrev pub IsHandled : Option Path → KeptDocument → KeptDocument → List ℕ → List ℕ → Type 0
 IsHandled None old new before after = (new ≡ without_launched old) × (after ≡ before)
-IsHandled (Some path) old new before after = Does unload_effect (without_launched old) new before after
+IsHandled (Some path) old new before after =
+    Does unload_effect (without_launched old) new before after
 
 pub record GivesWay (launched : Option Path) (old new : KeptDocument) (before after : List ℕ)
     : Type 0 where
