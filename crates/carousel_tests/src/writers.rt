@@ -53,18 +53,49 @@ fn is_refused(
     }
 }
 
+// The sections of a stream with the module of ten bytes, in blocks of four, written out by hand.
+const SECTIONS: [&[u8]; 4] = [
+    b"\x3B\x80\x33\x00\x00\x00\x00\x00\
+        \x11\x03\x10\x02\x00\x00\x00\x01\x00\x00\x00\x1E\
+        \x00\x00\x00\x01\x00\x04\x00\x00\x00\x00\x00\x00\x00\x00\x00\x00\x00\x00\
+        \x00\x01\x00\x01\x00\x00\x00\x0A\x01\x00\x00\x00\
+        \x20\x9B\x0D\x67",
+    b"\x3C\x80\x1F\x00\x00\x00\x00\x00\
+        \x11\x03\x10\x03\x00\x00\x00\x01\x00\x00\x00\x0A\
+        \x00\x01\x01\x00\x00\x00abcd\
+        \x37\xB1\x48\x9B",
+    b"\x3C\x80\x1F\x00\x00\x00\x00\x00\
+        \x11\x03\x10\x03\x00\x00\x00\x01\x00\x00\x00\x0A\
+        \x00\x01\x01\x00\x00\x01efgh\
+        \x75\x03\x6B\xC2",
+    b"\x3C\x80\x1D\x00\x00\x00\x00\x00\
+        \x11\x03\x10\x03\x00\x00\x00\x01\x00\x00\x00\x08\
+        \x00\x01\x01\x00\x00\x02ij\
+        \x77\x39\xBB\xD1",
+];
+
+// Appends the packet on PID 256 with this counter that has a section alone, which fits into it.
+fn push_packet_by_hand(out: &mut Vec<u8>, counter: u8, section: &[u8]) -> Result<(), NoMemory> {
+    out.extend_from_slice(b"\x47\x41\x00")?;
+    out.push(0x10 | counter)?;
+    out.push(0)?;
+    out.extend_from_slice(section)?;
+    for _stuffing in section.len()..183 {
+        out.push(0xFF)?;
+    }
+    Ok(())
+}
+
 #[test]
-fn a_stream_has_its_sections(rt: HostRuntime) -> Result<(), Fail> {
+fn a_stream_is_written_byte_for_byte(rt: HostRuntime) -> Result<(), Fail> {
     let alloc = rt.alloc();
-    let sent = [
-        Sent::Indication(1, 4, &[Entry(1, 1, 10, b"")]),
-        Sent::Block(1, 1, 0, b"abcd"),
-        Sent::Block(1, 1, 1, b"efgh"),
-        Sent::Block(1, 1, 2, b"ij"),
-    ];
-    let stream = Stream::of_sections(alloc, &sent)?;
+    let mut wanted = Vec::new(alloc);
+    push_packet_by_hand(&mut wanted, 0, SECTIONS[0])?;
+    push_packet_by_hand(&mut wanted, 1, SECTIONS[1])?;
+    push_packet_by_hand(&mut wanted, 2, SECTIONS[2])?;
+    push_packet_by_hand(&mut wanted, 3, SECTIONS[3])?;
     let bytes = write_stream(alloc, &files(alloc, b"abcdefghij")?)?;
-    assert!(rt; bytes.as_slice() == stream.bytes());
+    assert!(rt; bytes.as_slice() == wanted.as_slice());
     Ok(())
 }
 
@@ -126,7 +157,14 @@ fn bad_files_are_refused(rt: HostRuntime) -> Result<(), Fail> {
     files.rounds = 1;
     files.block_size = 0;
     assert!(rt; write_stream(alloc, &files).err() == Some(WriteRefusal::BadFiles));
+    files.block_size = 4001;
+    assert!(rt; write_stream(alloc, &files).err() == Some(WriteRefusal::BadFiles));
     files.block_size = 4;
+    files.pid = 15;
+    assert!(rt; write_stream(alloc, &files).err() == Some(WriteRefusal::BadFiles));
+    files.pid = 8191;
+    assert!(rt; write_stream(alloc, &files).err() == Some(WriteRefusal::BadFiles));
+    files.pid = 256;
     files.modules.push(FileModule {
         id: 1,
         version: 1,

@@ -6,7 +6,8 @@
 //! fail in the middle, a stream in pieces, a record without end. All have ample memory, and compare
 //! what was answered and written, so a layer that answers `NoMemory` fails here.
 //!
-//! `area_files` is of `bml_ports_std` alone, and `receivers` of `receiver_core`.
+//! `area_files` is of `bml_ports_std` alone, `receivers` of `receiver_core`, and `replayed_files` of
+//! `replay_files`.
 //!
 //! `Done` is reached in `pieces`, `BadRecord`, `OpenFault`, `ReadFault` and `WriteFault` in `faults`,
 //! `KeepFault` and `BadArea` in `kept_areas`, `TooLong` in `long_records`, and `Usage` by rows of
@@ -29,5 +30,7 @@ mod piece_sinks;
 mod pieces;
 #[cfg(test)]
 mod receivers;
+#[cfg(test)]
+mod replayed_files;
 #[cfg(test)]
 mod runs;
