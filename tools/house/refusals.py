@@ -37,14 +37,14 @@ EXCEPTIONS = [
     ("document_stages", r"Stage::\w+", "the exception of documents that act: the stage is not used again"),
     ("acting_documents", r"ActingDocument::\w+", "the exception of documents that act: it is not used again"),
     ("es_expressions", r"read_expression", "no clause speaks of the nodes then, and they aren't used again; whoever reads a program drops them all"),
-    ("dom_objects", r"get_node", "the tree isn't lent for writing; the counter of the styles may have risen (`sources`, `right_still`)"),
+    ("dom_objects", r"get_node", "the tree isn't lent for writing; the styles may keep more values, and count them (`sources`, `right_still`)"),
     ("es_values", r"Host::\w+", "the exception of runs: the host's state and the heap may be changed in part, and aren't used again"),
     ("bml_ports", r"Sink::\w+", "a failed write appends nothing (`bytes`), and is counted (`counted`)"),
     ("bml_ports", r"Keeper::load", "what is kept stays (`kept`); the failure is counted (`counted`)"),
     ("bml_ports", r"Keeper::store", "what is kept is what was, or the area (`stored`); the failure is counted (`counted`)"),
     ("bml_ports", r"World::\w+", "no byte is taken (`bytes`), the other port and the files stay (`other`, `files`), and the failure is counted (`counted`)"),
     ("replay_run", r"replay_files", "what `out` held stays at its beginning (`grows`); where the files are refused nothing is appended (`unchanged`)"),
-    ("display_list", r"Shower::show|show\w*", "the counter of the styles may have risen (`sources`, `right_still`); what `out` held stays at its beginning (`grows`)"),
+    ("display_list", r"Shower::show|show\w*", "the styles may keep more values, and count them (`sources`, `right_still`); what `out` held stays at its beginning (`grows`)"),
 ]
 
 KEEPS = re.compile(r"^(err|same|kept|keeps|before|stays|spends|spent|full|refused|none|lost|fixed|old|nodes)$")

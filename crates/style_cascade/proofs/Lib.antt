@@ -1,4 +1,5 @@
 pub mod PlaceLemmas
+pub mod MarkLemmas
 pub mod WriteLemmas
 pub mod SearchLemmas
 pub mod RuleLemmas
@@ -15,3 +16,7 @@ pub mod CascadeLaws
 pub mod TreeLaws
 pub mod KeptLemmas
 pub mod SaidLemmas
+pub mod OwedLemmas
+pub mod GetLemmas
+pub mod ForgetLemmas
+pub mod SetLemmas

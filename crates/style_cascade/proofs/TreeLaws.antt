@@ -11,6 +11,8 @@ use Rattle.style_reader.specs.declared.rules.Rule.{Rule}
 use Rattle.style_cascade.specs.Cascade.{Place, Sources, asked_places, first_own, own_value, place, places_above, said_to, said_value, style_value, write_of}
 use Rattle.style_cascade.specs.Keeping.{IsRight, StylesState}
 use Rattle.style_cascade.specs.Matching.{subject_of, subject_with, words_in}
+use Rattle.style_cascade.specs.devices.Kept.{element_around, value_around}
+use Rattle.style_cascade.specs.devices.Tables.{cell_of}
 use Rattle.style_cascade.specs.declared.states.State.{State}
 use Rattle.style_cascade.specs.declared.states.State.TheVariants as states
 use Rattle.style_cascade.specs.declared.subjects.Subject.{Subject}
@@ -43,6 +45,17 @@ said-same : (old new : List Item) → SameSubjects old new → (rules : List Rul
 unfolding said_value
 said-same old new same rules node state property = ap (option_and_then (said_to rules state property)) (subject_of-same old new same node)
 
+own-same : (old new : List Item) → SameSubjects old new → (sources : Sources) (node : ℕ) (state : State) (property : Property) → own_value new sources node state property ≡ own_value old sources node state property
+own-same old new same sources node state property = ap (λ (o : Option StyleValue). option_or (write_of sources node state property) (option_or (write_of sources node states.Normal property) o)) (said-same old new same sources.rules node state property)
+
+around-same : (old new : List Item) → KeepsPlaces old new → (present : ℕ → State) (values : List (Option StyleValue)) (node : ℕ) (property : Property) → value_around new present values node property ≡ value_around old present values node property
+unfolding value_around element_around
+around-same old new places present values node property = ap (λ (o : Option ℕ). option_map_or (λ up. cell_of values up (present up) property) (if is_inherited property then o else None) (Some (initial_of property))) (places.parents node)
+
+paths-same : (old new : List Item) → KeepsPlaces old new → (up : Option ℕ) → option_map_or (path_of new) up [] ≡ option_map_or (path_of old) up []
+paths-same old new places None = refl
+paths-same old new places (Some up) = places.paths up
+
 -- the styles of the one are those of the other
 pub right-same : (old new : List Item) → SameSubjects old new → (present : ℕ → State) (styles : StylesState) → IsRight old present styles → IsRight new present styles
 unfolding IsRight
@@ -50,21 +63,18 @@ right-same old new same present styles right =
     record {
       room = omega (arith, right.room, same.places.count);
       writes = right.writes;
+      room_kept = omega (arith, right.room_kept, same.places.count);
       said = λ node state property within. right.said node state property (omega (arith, within, same.places.count)) ∙ sym (said-same old new same styles.sources.rules node state property);
+      values = λ node state property value e. ap (λ (o : Option StyleValue). option_or o (value_around new present styles.kept.values node property)) (own-same old new same styles.sources node state property) ∙ ap (option_or (own_value old styles.sources node state property)) (around-same old new same.places present styles.kept.values node property) ∙ right.values node state property value e;
+      paths = λ node. same.places.paths node ∙ right.paths node ∙ ap (λ (l : List ℕ). node ∷ l) (sym (ap (λ (o : Option ℕ). option_map_or (path_of new) o []) (same.places.parents node) ∙ paths-same old new same.places (parent_of old node)));
+      parents = λ node up e. let was = right.parents node up (sym (same.places.parents node) ∙ e) in (was.0, omega (arith, was.1, same.places.count));
     }
-
-own-same : (old new : List Item) → SameSubjects old new → (sources : Sources) (node : ℕ) (state : State) (property : Property) → own_value new sources node state property ≡ own_value old sources node state property
-own-same old new same sources node state property = ap (λ (o : Option StyleValue). option_or (write_of sources node state property) (option_or (write_of sources node states.Normal property) o)) (said-same old new same sources.rules node state property)
 
 first_own-same : (old new : List Item) → SameSubjects old new → (sources : Sources) (property : Property) (places : List Place) → first_own new sources property places ≡ first_own old sources property places
 first_own-same old new same sources property [] = refl
 first_own-same old new same sources property (at ∷ more) =
     ap (λ (o : Option StyleValue). option_or o (first_own new sources property more)) (own-same old new same sources at.node at.state property)
     ∙ ap (option_or (own_value old sources at.node at.state property)) (first_own-same old new same sources property more)
-
-paths-same : (old new : List Item) → KeepsPlaces old new → (up : Option ℕ) → option_map_or (path_of new) up [] ≡ option_map_or (path_of old) up []
-paths-same old new places None = refl
-paths-same old new places (Some up) = places.paths up
 
 above-same : (old new : List Item) → KeepsPlaces old new → (present : ℕ → State) (node : ℕ) → places_above new present node ≡ places_above old present node
 above-same old new places present node = ap (map (λ up. place up (present up))) (ap (λ (o : Option ℕ). option_map_or (path_of new) o []) (places.parents node) ∙ paths-same old new places (parent_of old node))

@@ -1,7 +1,7 @@
 -- The value that an element has for a property in a state (CSS level 1, 1.3 and 3.2; that what
 -- scripts write counts first, and that an inherited value is that of the present state of the
 -- element above, is this project's own).
-use Rattle.std.specs.Prelude.{ℕ, ◌+◌, List, [], ◌∷◌, Option, None, is_some, map, option_and_then, unwrap_or, if◌then◌else◌}
+use Rattle.std.specs.Prelude.{ℕ, List, [], ◌∷◌, Option, None, is_some, map, option_and_then, unwrap_or, if◌then◌else◌}
 use Rattle.std.specs.Option.{option_map_or, option_or}
 use Rattle.dom_tree.specs.Items.{Item, parent_of}
 use Rattle.dom_tree.specs.Walks.{path_of}
@@ -85,14 +85,14 @@ style_value items sources present node state property =
     unwrap_or (first_own items sources property (asked_places items present node state property))
     (initial_of property)
 
--- how many of the places are asked: those up to and with the first that says something
-abbrev pub asked_count : List Item → Sources → Property → List Place → ℕ
-asked_count items sources property [] = 0
-asked_count items sources property (at ∷ more) =
-    1 + (if is_some (own_value items sources at.node at.state property) then 0
-    else asked_count items sources property more)
+-- those up to and with the first that says something
+abbrev pub up_to_said : List Item → Sources → Property → List Place → List Place
+up_to_said items sources property [] = []
+up_to_said items sources property (at ∷ more) =
+    at ∷ (if is_some (own_value items sources at.node at.state property) then []
+    else up_to_said items sources property more)
 
--- how many values are asked for that of the property
-unfoldable pub values_asked : List Item → Sources → (ℕ → State) → ℕ → State → Property → ℕ
-values_asked items sources present node state property =
-    asked_count items sources property (asked_places items present node state property)
+-- the chain of a value: where it is looked for, and all these places have this value
+unfoldable pub chain_of : List Item → Sources → (ℕ → State) → ℕ → State → Property → List Place
+chain_of items sources present node state property =
+    up_to_said items sources property (asked_places items present node state property)

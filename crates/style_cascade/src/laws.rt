@@ -1,7 +1,7 @@
 //! What the definitions of the cascade say together. Each function is a law: its contract is what
 //! it is for, and it does nothing when it runs.
 
-ghost use Rattle.std.specs.Prelude.{◌≡◌, ℕ, List, [], ◌∷◌, Option, Some, None, Contains, IsTrue, IsFalse, codes};
+ghost use Rattle.std.specs.Prelude.{◌≡◌, ℕ, List, [], ◌∷◌, Option, Some, None, true, Contains, IsTrue, IsFalse, codes};
 ghost use Rattle.bml_bytes.specs.Words.{is_same};
 ghost use Rattle.dom_tree.specs.Items.{Item, changed_at, parent_of, with_attribute, with_text};
 ghost use Rattle.dom_tree.specs.Walks.{IsTree};
@@ -11,9 +11,9 @@ ghost use Rattle.style_reader.specs.declared.declarations.Declaration.{Declarati
 ghost use Rattle.style_reader.specs.declared.properties.Property.{Property};
 ghost use Rattle.style_reader.specs.declared.properties.StyleValue.{StyleValue};
 ghost use Rattle.style_reader.specs.declared.rules.Rule.{Rule};
-ghost use Rattle.style_cascade.specs.Cascade.{Sources, own_value, style_value, unwritten, with_write, write_of};
+ghost use Rattle.style_cascade.specs.Cascade.{Place, Sources, chain_of, own_value, style_value, unwritten, with_write, write_of};
 ghost use Rattle.style_cascade.specs.Candidates.{inline_rules, inline_value, is_at_least, last_value, strongest};
-ghost use Rattle.style_cascade.specs.Keeping.{IsRight, StylesState};
+ghost use Rattle.style_cascade.specs.Keeping.{IsRight, StylesState, is_kept, kept_style, owed};
 ghost use Rattle.style_cascade.specs.Writes.{are_in_order};
 ghost use Rattle.style_cascade.specs.declared.states.State.{State};
 ghost use Rattle.style_cascade.specs.declared.subjects.Subject.{Subject};
@@ -99,11 +99,29 @@ pub fn law_of_writes()
         one ≡ other }
 {}
 
-/// Another text for a text node changes no value, and the styles are still those of the tree.
+/// What right styles keep is the value, and where it is kept so are all that it was inherited from.
+pub fn law_of_kept_values()
+    ensures value { (items : List Item) (states : ℕ → State) (styles : StylesState)
+        (node : ℕ) (state : State) (property : Property) →
+        IsRight items states styles → is_kept styles node state property ≡ true →
+        kept_style styles node state property
+        ≡ Some (style_value items styles.sources states node state property) }
+    ensures chain { (items : List Item) (states : ℕ → State) (styles : StylesState)
+        (node : ℕ) (state : State) (property : Property) (at : Place) →
+        IsRight items states styles → is_kept styles node state property ≡ true →
+        Contains (chain_of items styles.sources states node state property) at →
+        is_kept styles at.node at.state property ≡ true }
+{}
+
+/// Another text for a text node changes no value, and the styles are still those of the tree. No
+/// more is owed of them.
 pub fn law_of_text_writes()
     ensures right { (items : List Item) (node : ℕ) (text : List ℕ)
         (states : ℕ → State) (styles : StylesState) → IsRight items states styles →
         IsRight (changed_at (with_text text) node items) states styles }
+    ensures owed { (items : List Item) (node : ℕ) (text : List ℕ)
+        (states : ℕ → State) (styles : StylesState) →
+        owed (changed_at (with_text text) node items) states styles ≡ owed items states styles }
     ensures values { (items : List Item) (node : ℕ) (text : List ℕ)
         (sources : Sources) (present : ℕ → State) (at : ℕ) (state : State) (property : Property) →
         style_value (changed_at (with_text text) node items) sources present at state property
@@ -112,13 +130,18 @@ pub fn law_of_text_writes()
     law_of_text_changes();
 }
 
-/// Nor does another value for an attribute other than `id`, `class` and `style`.
+/// Nor does another value for an attribute other than `id`, `class` and `style`. No more is owed
+/// after another value of any attribute.
 pub fn law_of_attribute_writes()
     ensures right { (items : List Item) (node : ℕ) (name value : List ℕ)
         (states : ℕ → State) (styles : StylesState) →
         IsFalse (is_same name (codes "id")) → IsFalse (is_same name (codes "class")) →
         IsFalse (is_same name (codes "style")) → IsRight items states styles →
         IsRight (changed_at (with_attribute name value) node items) states styles }
+    ensures owed { (items : List Item) (node : ℕ) (name value : List ℕ)
+        (states : ℕ → State) (styles : StylesState) →
+        owed (changed_at (with_attribute name value) node items) states styles
+        ≡ owed items states styles }
     ensures values { (items : List Item) (node : ℕ) (name value : List ℕ)
         (sources : Sources) (present : ℕ → State) (at : ℕ) (state : State) (property : Property) →
         IsFalse (is_same name (codes "id")) → IsFalse (is_same name (codes "class")) →

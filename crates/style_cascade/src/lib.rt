@@ -24,10 +24,11 @@ mod states;
 mod styles;
 mod subjects;
 mod tables;
+mod values;
 
 pub use crate::laws::{
-    law_of_attribute_writes, law_of_inheritance, law_of_inline_values, law_of_states,
-    law_of_strongest, law_of_text_writes, law_of_writes,
+    law_of_attribute_writes, law_of_inheritance, law_of_inline_values, law_of_kept_values,
+    law_of_states, law_of_strongest, law_of_text_writes, law_of_writes,
 };
 pub use crate::states::{Focus, State};
 pub use crate::styles::Styles;

@@ -1,5 +1,5 @@
 -- A device of the proofs: a table of values, for each node, state and property one, or none.
-use Rattle.std.specs.Prelude.{◌≡◌, ℕ, zero, suc, ◌+◌, ◌*◌, List, [], ◌∷◌, ◌++◌, Option, Some, None, length, map, slice_get, IsTrue}
+use Rattle.std.specs.Prelude.{◌≡◌, ◌||◌, ℕ, Bool, zero, suc, ◌+◌, ◌*◌, ◌<◌, ◌≤◌, List, [], ◌∷◌, ◌++◌, Option, Some, None, is_some, length, map, slice_get, IsTrue}
 use Rattle.std.specs.Option.{option_flatten}
 use Rattle.style_reader.specs.Properties.{all_properties}
 use Rattle.style_reader.specs.Values.{fits}
@@ -21,6 +21,32 @@ cell_of cells node state property = option_flatten (slice_get cells (cell_place 
 pub record AreFitting (cells : List (Option StyleValue)) : Type 0 where
   pub each : (node : ℕ) (state : State) (property : Property) (value : StyleValue)
       → cell_of cells node state property ≡ Some value → IsTrue (fits property value)
+
+-- the node has a value of the property in some state
+unfoldable pub has_value : List (Option StyleValue) → ℕ → Property → Bool
+has_value cells node property =
+    (is_some (cell_of cells node states.Normal property)
+    || is_some (cell_of cells node states.Focus property))
+    || is_some (cell_of cells node states.Active property)
+
+-- these nodes have no value of the property in the state any more, and all else is as it was
+pub record ForgetsIn (old new : List (Option StyleValue)) (state : State) (property : Property)
+    (first end : ℕ) : Type 0 where
+  pub long : length new ≡ length old
+  pub inside : (node : ℕ) → first ≤ node → node < end → cell_of new node state property ≡ None
+  pub others : (node : ℕ) (at : State) (of : Property)
+      → ((at ≡ state) × (of ≡ property) × (first ≤ node) × (node < end) → ⊥)
+      → cell_of new node at of ≡ cell_of old node at of
+
+-- these nodes have no value of the property any more, and all else is as it was
+pub record Forgets (old new : List (Option StyleValue)) (property : Property) (first end : ℕ)
+    : Type 0 where
+  pub long : length new ≡ length old
+  pub inside : (node : ℕ) (state : State) → first ≤ node → node < end
+      → cell_of new node state property ≡ None
+  pub others : (node : ℕ) (state : State) (of : Property)
+      → ((of ≡ property) × (first ≤ node) × (node < end) → ⊥)
+      → cell_of new node state of ≡ cell_of old node state of
 
 -- ---- the finite map that a table stands for
 

@@ -2,6 +2,7 @@ use Rattle.std.proofs.Common.{ℕ, List}
 use Rattle.std.specs.Prelude.{IsFalse, codes}
 use Rattle.bml_bytes.specs.Words.{is_same}
 use Rattle.dom_tree.specs.Items.{Item, changed_at, with_attribute}
+use Rattle.style_cascade.proofs.OwedLemmas.{owed-same}
 use Rattle.style_cascade.proofs.TreeLaws.{SameSubjects, right-same, value-same}
 use Rattle.style_cascade.proofs.laws.law_of_attribute_writes.Goals as goal
 
@@ -19,3 +20,6 @@ returns-clause-right c = λ items node name value present styles id class style 
 
 pub returns-clause-values : goal.returns-clause-values
 returns-clause-values c = λ items node name value sources present at state property id class style. value-same items (changed_at (with_attribute name value) node items) (same c items node name value id class style) sources present at state property
+
+pub returns-clause-owed : goal.returns-clause-owed
+returns-clause-owed c = λ items node name value states styles. owed-same items (changed_at (with_attribute name value) node items) (c.law_of_attribute_changes.ensures.places items node name value) states styles

@@ -1,6 +1,7 @@
 use Rattle.std.proofs.Common.{ℕ, List}
 use Rattle.std.specs.Prelude.{codes}
 use Rattle.dom_tree.specs.Items.{Item, changed_at, with_text}
+use Rattle.style_cascade.proofs.OwedLemmas.{owed-same}
 use Rattle.style_cascade.proofs.TreeLaws.{SameSubjects, right-same, value-same, value_of-attributes}
 use Rattle.style_cascade.proofs.laws.law_of_text_writes.Goals as goal
 
@@ -18,3 +19,6 @@ returns-clause-right c = λ items node text present styles right. right-same ite
 
 pub returns-clause-values : goal.returns-clause-values
 returns-clause-values c = λ items node text sources present at state property. value-same items (changed_at (with_text text) node items) (same c items node text) sources present at state property
+
+pub returns-clause-owed : goal.returns-clause-owed
+returns-clause-owed c = λ items node text states styles. owed-same items (changed_at (with_text text) node items) (c.law_of_text_changes.ensures.places items node text) states styles
