@@ -11,3 +11,4 @@ pub mod NestedLemmas
 pub mod ChildLemmas
 pub mod SubtreeLemmas
 pub mod ChangeLemmas
+pub mod CopyLemmas

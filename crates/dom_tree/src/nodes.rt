@@ -2,6 +2,7 @@
 
 ghost use Rattle.std.specs.Prelude.{◌≡◌, [], None};
 
+use crate::map_copies::copied_attributes;
 use crate::node_ids::NodeId;
 use bml_bytes::{NoMemory, Text};
 use indexmap::IndexMap;
@@ -75,6 +76,22 @@ impl Node {
             NodeKind::Text(_) => false,
         }
     }
+
+    /// The same node again, with shared texts.
+    pub fn copy(&self) -> Result<Node, NoMemory>
+        ensures item { IfOk result (λ node. item_of node ≡ item_of self.now) }
+        ensures links { IfOk result (λ node. links_of node ≡ links_of self.now) }
+    {
+        let kind = self.kind.copy()?;
+        Ok(Node {
+            kind,
+            parent: self.parent,
+            first_child: self.first_child,
+            last_child: self.last_child,
+            next_sibling: self.next_sibling,
+            previous_sibling: self.previous_sibling,
+        })
+    }
 }
 
 /// What a node is.
@@ -85,6 +102,7 @@ pub enum NodeKind {
 }
 
 impl NodeKind {
+    ghost use Rattle.std.specs.Prelude.{IfOk};
     ghost use Rattle.dom_tree.specs.Items.Content.{Element};
     ghost use Rattle.dom_tree.specs.Links.{content_of};
 
@@ -96,6 +114,22 @@ impl NodeKind {
             tag,
             attributes: IndexMap::new(alloc),
         })
+    }
+
+    /// The same again, with shared texts.
+    pub fn copy(&self) -> Result<NodeKind, NoMemory>
+        ensures { IfOk result (λ kind. content_of kind ≡ content_of self.now) }
+    {
+        match self {
+            NodeKind::Element(element) => {
+                let element = element.copy()?;
+                Ok(NodeKind::Element(element))
+            }
+            NodeKind::Text(text) => {
+                let text = text.share()?;
+                Ok(NodeKind::Text(text))
+            }
+        }
     }
 }
 
@@ -130,5 +164,15 @@ impl ElementNode {
             (attributes_in_map self.new.attributes ≡ attributes_in_map self.old.attributes) }
     {
         Ok(self.attributes.insert(name, value)?)
+    }
+    /// The same element again, with shared texts.
+    pub fn copy(&self) -> Result<ElementNode, NoMemory>
+        ensures tag { IfOk result (λ element. element.tag ≡ self.now.tag) }
+        ensures attributes { IfOk result
+            (λ element. element.attributes.entries ≡ self.now.attributes.entries) }
+    {
+        let tag = self.tag.share()?;
+        let attributes = copied_attributes(&self.attributes)?;
+        Ok(ElementNode { tag, attributes })
     }
 }

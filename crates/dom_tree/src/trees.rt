@@ -8,6 +8,7 @@ ghost use Rattle.dom_tree.specs.Walks.{first, last, after, before, children_of, 
 
 mod building;
 mod changes;
+mod copies;
 
 use crate::node_ids::NodeId;
 use crate::nodes::{Node, NodeKind};
