@@ -15,12 +15,7 @@ pub fn copied_attributes(
     ensures { IfOk result (λ copy. copy.entries ≡ attributes.now.entries) }
 {
     let mut copy = IndexMap::with_capacity(*attributes.allocator(), attributes.len())?;
-    'entries: for place in 0..attributes.len() {
-        match attributes.get_index(place) {
-            Some((name, value)) => push_attribute(&mut copy, name, value)?,
-            None => unreachable!(),
-        }
-    }
+    push_attributes(attributes, &mut copy)?;
     Ok(copy)
 }
 
@@ -29,13 +24,39 @@ pub fn copied_ids(ids: &IndexMap<Text, NodeId>) -> Result<IndexMap<Text, NodeId>
     ensures { IfOk result (λ copy. copy.entries ≡ ids.now.entries) }
 {
     let mut copy = IndexMap::with_capacity(*ids.allocator(), ids.len())?;
-    'entries: for place in 0..ids.len() {
-        match ids.get_index(place) {
-            Some((id, node)) => push_id(&mut copy, id, *node)?,
+    push_ids(ids, &mut copy)?;
+    Ok(copy)
+}
+
+// Puts attributes into a map that has none.
+fn push_attributes(
+    attributes: &IndexMap<Text, Text>,
+    copy: &mut IndexMap<Text, Text>,
+) -> Result<(), NoMemory>
+    requires { copy.old.entries ≡ [] }
+    ensures { OnOk result (copy.new.entries ≡ attributes.now.entries) }
+{
+    'entries: for place in 0..attributes.len() {
+        match attributes.get_index(place) {
+            Some((name, value)) => push_attribute(copy, name, value)?,
             None => unreachable!(),
         }
     }
-    Ok(copy)
+    Ok(())
+}
+
+// Puts ids into a map that has none.
+fn push_ids(ids: &IndexMap<Text, NodeId>, copy: &mut IndexMap<Text, NodeId>) -> Result<(), NoMemory>
+    requires { copy.old.entries ≡ [] }
+    ensures { OnOk result (copy.new.entries ≡ ids.now.entries) }
+{
+    'entries: for place in 0..ids.len() {
+        match ids.get_index(place) {
+            Some((id, node)) => push_id(copy, id, *node)?,
+            None => unreachable!(),
+        }
+    }
+    Ok(())
 }
 
 // Puts an attribute behind those that are there.

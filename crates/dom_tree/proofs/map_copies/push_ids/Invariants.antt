@@ -1,5 +1,5 @@
 use Rattle.std.proofs.Common.{◌≡◌, take}
-use Rattle.dom_tree.proofs.map_copies.copied_ids.Given as goal
+use Rattle.dom_tree.proofs.map_copies.push_ids.Given as goal
 
 abbrev pub invariant-entries : goal.invariant-entries
 invariant-entries l = l.copy.entries ≡ take l.place l.ids.entries

@@ -1,9 +1,9 @@
 use Rattle.std.proofs.Common.{ℕ, List, [], ◌∷◌, ◌++◌, sym, ap, ◌∙◌}
 use Rattle.dom_tree.proofs.CopyLemmas.{none-before, take-more}
-use Rattle.dom_tree.proofs.map_copies.copied_attributes.Goals as goal
+use Rattle.dom_tree.proofs.map_copies.push_attributes.Goals as goal
 
 pub push_attribute-requires : goal.push_attribute-requires
-push_attribute-requires c = rw c.entries.invariant (none-before c.args.attributes.now.entries c.entries.place (c.in-Some.name.now, c.in-Some.value.now) c.len.ensures.unique (sym c.in-Some.ensures.entry))
+push_attribute-requires c = rw c.entries.invariant (none-before c.args.attributes.now.entries c.entries.place (c.in-Some.name.now, c.in-Some.value.now) c.len-place-end.ensures.unique (sym c.in-Some.ensures.entry))
 
 pub entries-preserved : goal.entries-preserved
 entries-preserved c =

@@ -1,10 +1,10 @@
 use Rattle.std.proofs.Common.{ℕ, List, [], ◌∷◌, ◌++◌, sym, ap, ◌∙◌}
 use Rattle.dom_tree.specs.declared.node_ids.NodeId.{NodeId}
 use Rattle.dom_tree.proofs.CopyLemmas.{none-before, take-more}
-use Rattle.dom_tree.proofs.map_copies.copied_ids.Goals as goal
+use Rattle.dom_tree.proofs.map_copies.push_ids.Goals as goal
 
 pub push_id-requires : goal.push_id-requires
-push_id-requires c = rw c.entries.invariant (none-before c.args.ids.now.entries c.entries.place (c.in-Some.id.now, c.in-Some.node.now) c.len.ensures.unique (sym c.in-Some.ensures.entry))
+push_id-requires c = rw c.entries.invariant (none-before c.args.ids.now.entries c.entries.place (c.in-Some.id.now, c.in-Some.node.now) c.len-place-end.ensures.unique (sym c.in-Some.ensures.entry))
 
 pub entries-preserved : goal.entries-preserved
 entries-preserved c =
