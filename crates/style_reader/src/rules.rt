@@ -8,7 +8,7 @@ ghost use Rattle.style_reader.specs.devices.Views.{KeepsFront, rules_by_part};
 
 use crate::comments::{has_comment, plain_text};
 use crate::declarations::{Declaration, declarations_in};
-use crate::selectors::{Selector, selectors_of};
+use crate::selectors::{Selector, copied_selectors, selectors_of};
 use crate::sheets::{Part, next_part};
 use bml_bytes::{NoMemory, Sequence, Text};
 use std::alloc::Global;
@@ -57,6 +57,15 @@ impl Rules {
         ensures fitting { AreFitting self.now }
     {
         self.rules.as_slice()
+    }
+
+    /// Equal rules of their own: what is appended to one of the two doesn't change the other. They
+    /// share their texts. The cost is the number of selectors and declarations.
+    pub fn copy(&self) -> Result<Rules, NoMemory>
+        ensures { IfOk result (λ rules. rules ≡ self.now) }
+    {
+        let rules = copied_rules(*self.rules.allocator(), self.rules.as_slice())?;
+        Ok(Rules { rules })
     }
 
     // Appends the rules of a sheet whose comments are spaces.
@@ -162,4 +171,27 @@ fn push_rule(selectors: &[u16], block: &[u16], rules: &mut Vec<Rule>) -> Result<
         })?;
     }
     Ok(())
+}
+
+// The same rules in a vector of their own.
+fn copied_rules(alloc: Global, rules: &[Rule]) -> Result<Vec<Rule>, NoMemory>
+    ensures { IfOk result (λ copy. copy.items ≡ rules.now) }
+{
+    let mut copy = Vec::with_capacity(alloc, rules.len())?;
+    'rules: for rule in rules {
+        copy.push(copied_rule(alloc, rule)?)?;
+    }
+    Ok(copy)
+}
+
+// The same rule again.
+fn copied_rule(alloc: Global, rule: &Rule) -> Result<Rule, NoMemory>
+    ensures { IfOk result (λ copy. copy ≡ rule.now) }
+{
+    let selectors = copied_selectors(alloc, rule.selectors.as_slice())?;
+    let declarations = Vec::from_slice(alloc, rule.declarations.as_slice())?;
+    Ok(Rule {
+        selectors: Sequence::from(selectors),
+        declarations: Sequence::from(declarations),
+    })
 }

@@ -65,6 +65,54 @@ impl Selector {
         let tag = if self.tag.is_some() { 1 } else { 0 };
         mark + pseudo_class + tag
     }
+
+    /// The same selector again. Both share their texts.
+    pub fn copy(&self) -> Result<Selector, NoMemory>
+        ensures { IfOk result (λ selector. selector ≡ self.now) }
+    {
+        let tag = match &self.tag {
+            Some(tag) => Some(tag.share()?),
+            None => None,
+        };
+        let mark = match &self.mark {
+            Some(mark) => Some(mark.copy()?),
+            None => None,
+        };
+        Ok(Selector {
+            tag,
+            mark,
+            pseudo_class: self.pseudo_class,
+        })
+    }
+}
+
+impl Mark {
+    // The same again, with a shared text.
+    fn copy(&self) -> Result<Mark, NoMemory>
+        ensures { IfOk result (λ mark. mark ≡ self.now) }
+    {
+        match self {
+            Mark::Class(name) => {
+                let name = name.share()?;
+                Ok(Mark::Class(name))
+            }
+            Mark::Id(name) => {
+                let name = name.share()?;
+                Ok(Mark::Id(name))
+            }
+        }
+    }
+}
+
+/// The same selectors in a vector of their own.
+pub fn copied_selectors(alloc: Global, selectors: &[Selector]) -> Result<Vec<Selector>, NoMemory>
+    ensures { IfOk result (λ copy. copy.items ≡ selectors.now) }
+{
+    let mut copy = Vec::with_capacity(alloc, selectors.len())?;
+    'selectors: for selector in selectors {
+        copy.push(selector.copy()?)?;
+    }
+    Ok(copy)
 }
 
 /// The selectors that stand between commas, where each of the texts there is one.
