@@ -27,7 +27,7 @@ columns-apart nodes (suc column) (suc other) node at n a e =
 column-short : (nodes column : ℕ) → column < 51 → column * nodes + nodes ≤ 51 * nodes
 column-short nodes column h = omega (arith, suc-mul column nodes, mul-le-mul_right {m = suc column} {n = 51} nodes (omega (arith, h)))
 
--- the cells of a node before the first of the second one are 51
+-- the cells of the first node are in the first 51 places
 row-small : (state : State) (property : Property) → cell_place 0 state property < 51
 row-small state property = omega (arith, cell_place-within 0 state property)
 
