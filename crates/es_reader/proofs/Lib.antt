@@ -47,3 +47,6 @@ pub mod LevelLaws
 pub mod TextLemmas
 pub mod ReaderLemmas
 pub mod WalkLemmas
+pub mod OwnerLemmas
+pub mod LocalLemmas
+pub mod LookupLemmas

@@ -8,6 +8,7 @@ use Rattle.es_expressions.specs.Trees.Trees.{NoTrees, OneMore}
 use Rattle.es_expressions.specs.Nodes.{NodeRow, IsTreeAt, AreTreesAt}
 use Rattle.es_reader.specs.Statements.{Declared, Item}
 use Rattle.es_reader.specs.Programs.{AreTreesOf, AreFunctionsOf, ToldFunction, ToldProgram, Tells, functions_of, top_trees}
+use Rattle.es_reader.specs.Locals.{LeadsDown}
 use Rattle.es_reader.specs.Walks.{IsStatement, Leads, StandsBehindChildren}
 
 -- a tree at a number
@@ -61,3 +62,13 @@ begun items told number t (inr (index, function, f, place, e)) = in-functions (f
 
 pub walks : (items : List Item) (told : ToldProgram) (start : ℕ) (places : List ℕ) (number : ℕ) → Tells items told → IsStatement told start → Leads told.rows start places number → StandsBehindChildren told.rows number
 walks items told start places number t s l = stands told.rows number (led-to told.rows start places number (begun items told start t s) l)
+
+led-below : (rows : List NodeRow) (start : ℕ) (places : List ℕ) (number : ℕ) → HasTree rows start → Leads rows start places number → LeadsDown rows start places number
+led-below rows start [] number t l = l
+led-below rows start (place ∷ places) number t (row, there, child, e, l) =
+    let s = stands rows start t in
+    let same : row ≡ s.row = same_Some row s.row (sym there ∙ s.there) in
+    (row, there, child, e, s.behind place child (ap (λ x. slice_get x.children place) (sym same) ∙ e), led-below rows child places number (child-of rows start t row there place child e) l)
+
+pub walks-down : (items : List Item) (told : ToldProgram) (start : ℕ) (places : List ℕ) (number : ℕ) → Tells items told → IsStatement told start → Leads told.rows start places number → LeadsDown told.rows start places number
+walks-down items told start places number t s l = led-below told.rows start places number (begun items told start t s) l

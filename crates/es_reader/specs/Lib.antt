@@ -15,3 +15,5 @@ pub mod Stops
 pub mod Sources
 pub mod Readers
 pub mod Walks
+pub mod Locals
+pub mod devices

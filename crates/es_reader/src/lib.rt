@@ -13,7 +13,8 @@
 //! `law_of_levels` that levels are those of the trees. `law_of_readers` and `law_of_the_reader` say
 //! that there is one function which tells of each text the program that it is, or none
 //! (`specs/Readers.antt`). `law_of_walks` says that each node which a statement leads to stands
-//! among the program's nodes, behind its children (`specs/Walks.antt`).
+//! among the program's nodes, behind its children (`specs/Walks.antt`). In which function a node
+//! stands, and which of its locals a name is, says `specs/Locals.antt`.
 #![tactic(auto)]
 
 mod declarations;
@@ -23,9 +24,11 @@ mod heads;
 mod heights;
 mod laws;
 mod level_laws;
+mod locals;
 mod marks;
 mod names;
 mod openings;
+mod owners;
 mod programs;
 mod reader;
 mod simples;

@@ -32,7 +32,7 @@ use std::mem;
 
 /// What tokens are: a program; one that is nested too deep; or Bad, with the place of the token
 /// with which no program goes on, or behind the last one.
-#[derive(Debug, Drop)]
+#[derive(Drop)]
 pub enum Reading {
     Whole(Program),
     TooDeep,
@@ -399,7 +399,7 @@ impl Reader {
             return Ok(Reading::TooDeep);
         }
         let variables = self.names.texts()?;
-        let program = Program::of(self.nodes, self.top, self.functions, variables);
+        let program = Program::of(self.nodes, self.top, self.functions, variables)?;
         Ok(Reading::Whole(program))
     }
 }

@@ -27,6 +27,7 @@ pub fn push_line(
         (b"expression", [text]) => text_expressions::push_told(alloc, text, out),
         (b"forms", [text]) => program_lines::push_told(alloc, text, Detail::Forms, out),
         (b"places", [text]) => program_lines::push_told(alloc, text, Detail::Places, out),
+        (b"locals", [text]) => program_lines::push_told(alloc, text, Detail::Locals, out),
         (b"variables", [text]) => program_lines::push_told(alloc, text, Detail::Variables, out),
         _ => push_line_of_nest(alloc, kind, fields, out),
     }

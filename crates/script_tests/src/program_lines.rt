@@ -10,12 +10,13 @@ use std::alloc::Global;
 // More than a line here has of steps through a tree.
 const MOST: u32 = 1_000;
 
-/// What is printed of a program: its nodes, its nodes with their places, or the names of its `var`s
-/// outside of functions.
+/// What is printed of a program: its nodes, its nodes with their places, those of a copy with the
+/// functions that they stand in, or the names of its `var`s outside of functions.
 #[derive(Clone, Copy)]
 pub enum Detail {
     Forms,
     Places,
+    Locals,
     Variables,
 }
 
@@ -60,7 +61,8 @@ fn word_of(form: Form) -> &'static [u8] {
     }
 }
 
-// A word for the form, `:` and the name where there is one, and `@` and the places if wanted.
+// A word for the form, `:` and the name where there is one, and `@` and the places if wanted, or what
+// is told of a local.
 fn push_node(program: &Program, number: u32, detail: Detail, out: &mut Line) {
     let Some(node) = program.node(number) else {
         return;
@@ -70,11 +72,28 @@ fn push_node(program: &Program, number: u32, detail: Detail, out: &mut Line) {
         out.byte(b':');
         out.text(name);
     }
-    if let Detail::Places = detail {
-        out.byte(b'@');
-        out.count(node.start as u64);
-        out.byte(b'-');
-        out.count(node.end as u64);
+    match detail {
+        Detail::Places => {
+            out.byte(b'@');
+            out.count(node.start as u64);
+            out.byte(b'-');
+            out.count(node.end as u64);
+        }
+        Detail::Locals => push_local(program, number, out),
+        Detail::Forms | Detail::Variables => {}
+    }
+}
+
+// `=` and the function that a node stands in, and `.` and the place of its name among the locals.
+fn push_local(program: &Program, number: u32, out: &mut Line) {
+    let Some(function) = program.function_of(number) else {
+        return;
+    };
+    out.byte(b'=');
+    out.count(u64::from(function));
+    if let Some(place) = program.local(number) {
+        out.byte(b'.');
+        out.count(u64::from(place));
     }
 }
 
@@ -199,9 +218,10 @@ fn push_whole(
             push_names(program.variables(), out);
             Ok(())
         }
-        Detail::Forms | Detail::Places => {
+        Detail::Forms | Detail::Places | Detail::Locals => {
+            let copied = program.copy()?;
             let mut open = Vec::new(alloc);
-            push_program(program, detail, &mut open, out)
+            push_program(&copied, detail, &mut open, out)
         }
     }
 }
