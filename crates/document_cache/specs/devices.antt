@@ -1,0 +1,2 @@
+-- Devices of the proofs.
+pub mod KeyLaws
