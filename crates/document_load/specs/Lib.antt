@@ -7,3 +7,4 @@ pub mod ScriptViews
 pub mod ScriptSteps
 pub mod NeedViews
 pub mod GiftViews
+pub mod ToldDocuments

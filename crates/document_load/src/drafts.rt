@@ -8,10 +8,11 @@ ghost use Rattle.document_load.specs.Drafts.{with_gift, draft_of};
 ghost use Rattle.document_load.specs.StyleTexts.{document_rules};
 ghost use Rattle.document_load.specs.Scripts.{AreScripts, HavePlaces, script_places_by, sources_of};
 ghost use Rattle.document_load.specs.ScriptViews.{told_handler};
+ghost use Rattle.document_load.specs.ToldDocuments.{told_document};
 ghost use Rattle.es_reader.specs.Readers.{Reader, IsReader};
 
 use crate::needs::{Needs, needs_of};
-use crate::scripts::{Handler, Scripts, scripts_of};
+use crate::scripts::{Handler, Scripts, copied_scripts, scripts_of};
 use crate::style_texts::rules_of_styles;
 use bml_bytes::{NoMemory, Text};
 use bml_reader::{DocFault, read_document};
@@ -39,6 +40,38 @@ pub struct Document {
 
     /// The numbers of the sources that are bad, ascending, where the first source has the number 1.
     pub bad: Vec<u32>,
+}
+
+impl Document {
+    /// An equal document of its own: what is written to one of the two doesn't change the other.
+    /// They share their texts and programs. The cost is the size of the tree and the rules, and the
+    /// number of the programs and handlers.
+    pub fn copy(&self) -> Result<Document, NoMemory>
+        ensures { IfOk result (λ document. told_document document ≡ told_document self.now) }
+    {
+        let tree = self.tree.copy()?;
+        let rules = self.rules.copy()?;
+        let Scripts {
+            programs,
+            elements: scripts,
+            handlers,
+            bad,
+        } = copied_scripts(
+            *self.programs.allocator(),
+            self.programs.as_slice(),
+            self.scripts.as_slice(),
+            self.handlers.as_slice(),
+            self.bad.as_slice(),
+        )?;
+        Ok(Document {
+            tree,
+            rules,
+            programs,
+            scripts,
+            handlers,
+            bad,
+        })
+    }
 }
 
 /// A document that was read, whose needs are waited for.

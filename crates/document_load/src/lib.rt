@@ -6,9 +6,10 @@
 //! [`Document`], which has the tree; the rules of its style texts: the texts of its `style`
 //! elements and what was given for its links (`specs/StyleTexts.antt`); and its scripts, those of
 //! its `script` elements and handler attributes: the programs of the good ones and the numbers of
-//! the bad ones (`specs/Scripts.antt`). What the definition of needs says of a part of a document
-//! stands in
-//! `law_of_needs`, and what gifts in order lead to in `law_of_gifts`.
+//! the bad ones (`specs/Scripts.antt`). [`Document::copy`] makes an equal document of its own, as
+//! `specs/ToldDocuments.antt` says what is told of a document. What the definition of needs says of
+//! a part of a document stands in `law_of_needs`, and what gifts in order lead to in
+//! `law_of_gifts`.
 #![tactic(auto)]
 
 mod drafts;

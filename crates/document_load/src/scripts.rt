@@ -76,6 +76,42 @@ pub fn scripts_of(
     Ok(reader.scripts)
 }
 
+/// The same programs, places, handlers and numbers in vectors of their own.
+pub fn copied_scripts(
+    alloc: Global,
+    programs: &[Program],
+    elements: &[u32],
+    handlers: &[Handler],
+    bad: &[u32],
+) -> Result<Scripts, NoMemory>
+    ensures programs { IfOk result (λ scripts. scripts.programs.items ≡ programs.now) }
+    ensures elements { IfOk result (λ scripts. scripts.elements.items ≡ elements.now) }
+    ensures handlers { IfOk result (λ scripts. scripts.handlers.items ≡ handlers.now) }
+    ensures bad { IfOk result (λ scripts. scripts.bad.items ≡ bad.now) }
+{
+    let elements = Vec::from_slice(alloc, elements)?;
+    let handlers = Vec::from_slice(alloc, handlers)?;
+    let bad = Vec::from_slice(alloc, bad)?;
+    let programs = copied_programs(alloc, programs)?;
+    Ok(Scripts {
+        programs,
+        elements,
+        handlers,
+        bad,
+    })
+}
+
+// The same programs in a vector of their own.
+fn copied_programs(alloc: Global, programs: &[Program]) -> Result<Vec<Program>, NoMemory>
+    ensures { IfOk result (λ copy. copy.items ≡ programs.now) }
+{
+    let mut copy = Vec::with_capacity(alloc, programs.len())?;
+    'programs: for program in programs {
+        copy.push(program.copy()?)?;
+    }
+    Ok(copy)
+}
+
 impl ScriptReader {
     // One that has read no source.
     fn new(alloc: Global) -> ScriptReader
