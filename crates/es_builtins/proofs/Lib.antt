@@ -8,3 +8,6 @@ pub mod FrontLemmas
 pub mod PartLemmas
 pub mod SplitLemmas
 pub mod WrittenLemmas
+pub mod DigitFrontLemmas
+pub mod WhiteLemmas
+pub mod ZeroLemmas

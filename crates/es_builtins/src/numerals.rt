@@ -1,28 +1,36 @@
 //! Numbers that are read and written in other bases than ten, and the codes of numbers.
 
-ghost use Rattle.std.specs.Prelude.{◌≡◌, ◌<◌, ◌≤◌, ◌^◌, ◌++◌, ◌∷◌, ℕ, suc, length, codes, drop, if◌then◌else◌, IfOk, OnOk};
+ghost use Rattle.std.specs.Prelude.{◌≡◌, ◌<◌, ◌≤◌, ◌^◌, ◌++◌, ◌∷◌, ℕ, suc, length, codes, take, drop, nat_lt, if◌then◌else◌, IfOk, OnOk};
 ghost use Rattle.std.specs.List.{prefix_len};
 ghost use Rattle.bml_bytes.specs.Numerals.{digit_character as spec_digit_character};
-ghost use Rattle.es_values.specs.Numerals.{is_digit_in as spec_is_digit_in, is_white as spec_is_white, without_white_front as spec_without_white_front};
+ghost use Rattle.es_values.specs.Numerals.{is_digit_in as spec_is_digit_in};
+ghost use Rattle.es_values.specs.devices.Runs.{is_zero, without_front};
 ghost use Rattle.es_builtins.specs.Numerals.{base_or_ten as spec_base_or_ten, begins_hex, code_of_number as spec_code_of_number, digits_at_front as spec_digits_at_front, digits_within, number_at_front as spec_number_at_front, number_text_in as spec_number_text_in, parsed, radix_of_number, signed_digits, signed_front as spec_signed_front, unsigned_front as spec_unsigned_front};
 
 use bml_bytes::{NoMemory, Text};
-use es_values::{Num, digit_value, number_of_digits, signed_number};
+use es_values::{Num, digit_value, number_of_digits, signed_number, trimmed};
 use std::alloc::Global;
 
 const MINUS: u16 = 0x2D;
 
 const PLUS: u16 = 0x2B;
 
+/// So many digits write a number out of range in each base, where the first of them isn't 0.
+const DIGITS_PAST_RANGE: usize = 33;
+
+/// Zeros in front of a number are passed by so many at once.
+const ZEROS: [u16; 512] = [0x30; 512];
+
 /// The number at the front of a text: white counts for nothing, then come a sign, `0x` where the
 /// radix is 16 or told by it, and as many digits as there are. The radix 0 is told by the text: 16
 /// behind `0x`, and else 10. NaN is the number of no digits, past the range, and of a radix outside
 /// of 2 to 36. (ECMA-262 second edition, 15.1.2.2, over whole numbers.)
-#[tactic(auto, unfolding(crate::specs::Numerals::parsed))]
+///
+/// White at either end changes nothing, and is passed as that of the number of a text is.
 pub fn parse_int(text: &[u16], radix: Num) -> Num
     ensures { result ≡ parsed text.now (radix_of_number radix) }
 {
-    signed_front(radix, without_white_front(text))
+    signed_front(radix, trimmed(text))
 }
 
 // The number at a front that may have a sign.
@@ -50,7 +58,7 @@ fn unsigned_front(negative: bool, radix: Num, text: &[u16]) -> Num
 
 // The number at a front that may have a `0x`, and is in this base without it.
 fn prefixed_front(negative: bool, base: u64, text: &[u16]) -> Num
-    requires some { 0 < base }
+    requires some { 2 ≤ base }
     requires most { base ≤ 36 }
     ensures { result ≡ (if begins_hex text.now
         then spec_number_at_front negative 16 (drop 2 text.now)
@@ -62,17 +70,34 @@ fn prefixed_front(negative: bool, base: u64, text: &[u16]) -> Num
     }
 }
 
-// The number that the longest digits at the front write.
+// The number that the longest digits at the front write. Behind the zeros in front no more digits are read
+// than tell whether it is in range.
 fn number_at_front(negative: bool, base: u64, text: &[u16]) -> Num
-    requires some { 0 < base }
+    requires some { 2 ≤ base }
     requires most { base ≤ 36 }
     ensures { result ≡ spec_number_at_front negative base text.now }
 {
-    let digits = digits_at_front(base, text);
-    if digits.is_empty() {
+    if !begins_with_digit(base, text) {
         return Num::NotANumber;
     }
+    let digits = digits_at_front(base, first_codes(without_zeros(text)));
     signed_number(negative, number_of_digits(base, digits))
+}
+
+fn begins_with_digit(base: u64, text: &[u16]) -> bool
+    ensures { result ≡ nat_lt 0 (length (spec_digits_at_front base text.now)) }
+{
+    match text {
+        [first, ..] => is_digit_in(base, *first),
+        [] => false,
+    }
+}
+
+// As many codes as can be digits of a number in range, and one more.
+fn first_codes(text: &[u16]) -> &[u16]
+    ensures { result.now ≡ take DIGITS_PAST_RANGE text.now }
+{
+    &text[..text.len().min(DIGITS_PAST_RANGE)]
 }
 
 fn digits_at_front(base: u64, text: &[u16]) -> &[u16]
@@ -97,25 +122,30 @@ fn is_digit_in(base: u64, code: u16) -> bool
     digit_value(code) < base
 }
 
-fn without_white_front(text: &[u16]) -> &[u16]
-    ensures { result.now ≡ spec_without_white_front text.now }
+// What stands behind the zeros in front.
+fn without_zeros(text: &[u16]) -> &[u16]
+    ensures { result.now ≡ without_front is_zero text.now }
 {
-    &text[white_count(text)..]
+    let mut rest = behind_zero_blocks(text);
+    'zeros: while let Some((first, more)) = rest.split_first() {
+        if *first != 0x30 {
+            return rest;
+        }
+        rest = more;
+    }
+    rest
 }
 
-// With how many white codes a text begins.
-fn white_count(text: &[u16]) -> usize
-    ensures count { result ≡ prefix_len spec_is_white text.now }
-    ensures bound { result ≤ length text.now }
+// The text behind the blocks of zeros in front.
+fn behind_zero_blocks(text: &[u16]) -> &[u16]
+    ensures { without_front is_zero result.now ≡ without_front is_zero text.now }
 {
-    text.iter().take_while(|code| is_white(**code)).count()
-}
-
-#[tactic(auto, unfolding(es_values::specs::Numerals::is_white))]
-fn is_white(code: u16) -> bool
-    ensures { result ≡ spec_is_white code }
-{
-    code == 0x20 || code == 0x09 || code == 0x0B || code == 0x0C
+    let zeros = &ZEROS;
+    let mut rest = text;
+    'copies: while let Some(more) = rest.strip_prefix(zeros) {
+        rest = more;
+    }
+    rest
 }
 
 /// The base that a number asks for: 2 to 36, and else ten.
