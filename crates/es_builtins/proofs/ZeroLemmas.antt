@@ -1,19 +1,19 @@
 -- Zeros in front of digits change no number, and of the digits behind them only so many are within the range.
 use Rattle.std.proofs.Common.{◌≡◌, ℕ, zero, suc, ◌+◌, ◌*◌, ◌^◌, ◌-◌, ◌<◌, ◌≤◌, Bool, true, false, cond, nat_eq, List, [], ◌∷◌, ◌++◌, length, refl, sym, ◌∙◌, ap, subst, arith}
-use Rattle.std.specs.Prelude.{◌&&◌, ◌||◌, ◌==◌, nat_le, nat_lt, map, min, replicate, take, drop, if◌then◌else◌, ℤ, pos, negsuc}
+use Rattle.std.specs.Prelude.{◌&&◌, nat_le, nat_lt, map, min, replicate, take, drop, if◌then◌else◌, pos, negsuc}
 use Rattle.std.specs.List.{prefix_len}
 use Rattle.std.specs.Cmp.Lexicographic.{pointwise, same_text}
 use Rattle.std.proofs.lemmas.Bool.{eqb-true}
 use Rattle.std.proofs.lemmas.Bool.Decides.{nat_tests}
 use Rattle.std.proofs.lemmas.List.{length-map, length-take-le, take-append-drop, take-take}
 use Rattle.std.proofs.lemmas.List.Sums.{prefix_len-le-length}
-use Rattle.std.proofs.Math.Nat.{mul-le-mul_left, mul-le-mul_right, one-mul, zero-mul, pow-le-pow_left, pow-le-pow_right}
+use Rattle.std.proofs.Math.Nat.{mul-le-mul_right, one-mul, zero-mul, pow-le-pow_left, pow-le-pow_right}
 use Rattle.bml_bytes.specs.Numbers.{number_in}
 use Rattle.es_values.specs.declared.numbers.Num.TheVariants.{NotANumber, Whole}
 use Rattle.es_values.specs.Numerals.{digit_value, is_digit_in, number_in_range, number_written, signed}
 use Rattle.es_values.specs.devices.Runs.{is_zero, without_front}
 use Rattle.es_builtins.specs.Numerals.{digits_at_front, number_at_front}
-use Rattle.es_builtins.proofs.DigitFrontLemmas.{both, front-digit, front-other}
+use Rattle.es_builtins.proofs.DigitFrontLemmas.{both, front-digit}
 
 -- a front that begins with a zero, and one that doesn't
 without-zero : (d : ℕ) (ds : List ℕ) → is_zero d ≡ true → without_front is_zero (d ∷ ds) ≡ without_front is_zero ds

@@ -1,4 +1,4 @@
-use Rattle.std.proofs.Common.{◌≡◌, false, true, take, sym, ◌∙◌, ap, arith}
+use Rattle.std.proofs.Common.{◌≡◌, true, take, sym, ◌∙◌, ap}
 use Rattle.std.specs.Prelude.{min, nat_lt, length}
 use Rattle.es_values.specs.Numerals.{number_written}
 use Rattle.es_values.specs.devices.Runs.{is_zero, without_front}
