@@ -79,16 +79,16 @@ parts_of_kept kept d k = record {
   body = ap (λ (x : KeptDocument). x.body) k.others;
 }
 
-kept_parts : (path path' : Path) (tree tree' : StyledTree) (items items' : ItemsState) (queue queue' : List Event) (programs : List ToldProgram) (handlers handlers' : List HandlerState) (globals globals' : List (List ℕ × Value)) (heap heap' : List ObjectState) (body body' : Option ℕ) (worked : ℕ) (lent : BrowserParts) (now : ℕ) (modules : ModulesState) (launched : Option Path)
+kept_parts : (path path' : Path) (tree tree' : StyledTree) (items items' : ItemsState) (queue queue' : List Event) (programs : List ToldProgram) (handlers handlers' : List HandlerState) (globals globals' : List (List ℕ × Value)) (heap heap' : List ObjectState) (body body' : Option ℕ) (worked owed : ℕ) (lent : BrowserParts) (now : ℕ) (modules : ModulesState) (launched : Option Path)
     → path ≡ path' → tree ≡ tree' → items ≡ items' → queue ≡ queue' → handlers ≡ handlers' → globals ≡ globals' → heap ≡ heap' → body ≡ body'
-    → (let x : KeptDocument = record { path = path; tree = tree; items = items; queue = queue; programs = programs; handlers = handlers; globals = globals; heap = heap; body = body; worked = worked; lent = lent; now = now; modules = modules; launched = launched } in x)
-    ≡ record { path = path'; tree = tree'; items = items'; queue = queue'; programs = programs; handlers = handlers'; globals = globals'; heap = heap'; body = body'; worked = worked; lent = lent; now = now; modules = modules; launched = launched }
-kept_parts path path' tree tree' items items' queue queue' programs handlers handlers' globals globals' heap heap' body body' worked lent now modules launched a b c d e f g h = cc
+    → (let x : KeptDocument = record { path = path; tree = tree; items = items; queue = queue; programs = programs; handlers = handlers; globals = globals; heap = heap; body = body; worked = worked; owed = owed; lent = lent; now = now; modules = modules; launched = launched } in x)
+    ≡ record { path = path'; tree = tree'; items = items'; queue = queue'; programs = programs; handlers = handlers'; globals = globals'; heap = heap'; body = body'; worked = worked; owed = owed; lent = lent; now = now; modules = modules; launched = launched }
+kept_parts path path' tree tree' items items' queue queue' programs handlers handlers' globals globals' heap heap' body body' worked owed lent now modules launched a b c d e f g h = cc
 
 pub kept_of_parts : (kept : KeptDocument) (d : Document) → AllZip Tells d.programs kept.programs → Parts kept d → IsDocument kept d
 kept_of_parts kept d z p = record {
   programs = z;
-  others = kept_parts kept.path d.path kept.tree d.tree kept.items d.items kept.queue d.queue kept.programs kept.handlers d.handlers kept.globals d.globals kept.heap d.heap kept.body (body_of d.tree.items) kept.worked kept.lent kept.now kept.modules kept.launched p.path p.tree p.items p.queue p.handlers p.globals p.heap p.body;
+  others = kept_parts kept.path d.path kept.tree d.tree kept.items d.items kept.queue d.queue kept.programs kept.handlers d.handlers kept.globals d.globals kept.heap d.heap kept.body (body_of d.tree.items) kept.worked kept.owed kept.lent kept.now kept.modules kept.launched p.path p.tree p.items p.queue p.handlers p.globals p.heap p.body;
 }
 
 -- ---- one behind the other
@@ -225,6 +225,7 @@ kept_in stage modules programs handlers globals heap body = record {
   heap = heap;
   body = number_of body;
   worked = stage.worked;
+  owed = stage.owed;
   lent = stage.acting.browser;
   now = stage.acting.now;
   modules = modules;
@@ -581,11 +582,11 @@ passes_none kept d key k body =
     let p = parts_of_kept kept d k in
     sym (ap (λ (b : Option ℕ). option_map_or (λ n. passes_list (normal_value d.tree n UsedKeyList) key) b false) (sym p.body ∙ body))
 
--- only how many values the styles worked out was changed
-still_document : (old middle : KeptDocument) (d : Document) → middle ≡ record old { worked = middle.worked } → IsDocument old d → IsDocument middle d
+-- only how many values the styles worked out and owe was changed
+still_document : (old middle : KeptDocument) (d : Document) → middle ≡ record old { worked = middle.worked; owed = middle.owed } → IsDocument old d → IsDocument middle d
 still_document old middle d same k =
     let p = parts_of_kept old d k in
-    subst (λ (x : KeptDocument). IsDocument x d) (sym same) (kept_of_parts (record old { worked = middle.worked }) d k.programs (record {
+    subst (λ (x : KeptDocument). IsDocument x d) (sym same) (kept_of_parts (record old { worked = middle.worked; owed = middle.owed }) d k.programs (record {
       path = p.path;
       tree = p.tree;
       items = p.items;
@@ -596,7 +597,7 @@ still_document old middle d same k =
       body = p.body;
     }))
 
-still_scene : (old middle : KeptDocument) (s : Scene) → middle ≡ record old { worked = middle.worked } → IsScene old s → IsScene middle s
+still_scene : (old middle : KeptDocument) (s : Scene) → middle ≡ record old { worked = middle.worked; owed = middle.owed } → IsScene old s → IsScene middle s
 still_scene old middle s same k = record {
   is = still_document old middle s.document same k.is;
   lent_is = ap (λ (x : KeptDocument). x.lent) same ∙ k.lent_is;
@@ -604,7 +605,7 @@ still_scene old middle s same k = record {
   modules = subst (λ (m : ModulesState). StandsFor m s.modules) (sym (ap (λ (x : KeptDocument). x.modules) same)) k.modules;
 }
 
-pub does_still : (effect : Scene → Effect) (old middle new : KeptDocument) (before after : List ℕ) → middle ≡ record old { worked = middle.worked } → DoesApart effect middle new before after → DoesApart effect old new before after
+pub does_still : (effect : Scene → Effect) (old middle new : KeptDocument) (before after : List ℕ) → middle ≡ record old { worked = middle.worked; owed = middle.owed } → DoesApart effect middle new before after → DoesApart effect old new before after
 does_still effect old middle new before after same x modules =
     let y = x modules in
     record {

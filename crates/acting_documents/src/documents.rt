@@ -1,7 +1,7 @@
 //! A document that acts.
 
 ghost use Rattle.std.specs.Io.{StartsWith};
-ghost use Rattle.std.specs.Prelude.{◌≡◌, ◌<◌, ◌^◌, ◌++◌, ℕ, List, [], None, map, length, IfOk, OnOk};
+ghost use Rattle.std.specs.Prelude.{◌≡◌, ◌+◌, ◌<◌, ◌≤◌, ◌^◌, ◌++◌, ℕ, List, [], None, map, length, IfOk, OnOk};
 ghost use Rattle.document_load.specs.Scripts.{HavePlaces, unnamed_places};
 ghost use Rattle.document_load.specs.ScriptViews.{told_handler};
 ghost use Rattle.es_shapes.specs.Codes.{declared_by};
@@ -73,6 +73,7 @@ impl Model for ActingDocument {
       heap = d.heap;
       body = number_of d.body;
       worked = d.host.stage.worked;
+      owed = d.host.stage.owed;
       lent = d.host.stage.acting.browser;
       now = d.host.stage.acting.now;
       modules = d.host.modules;
@@ -92,7 +93,8 @@ impl ActingDocument {
             (map told_handler document.handlers.items) }
         ensures { IfOk result (λ acting. acting
             ≡ kept_first path document.tree document.rules document.programs.items
-            (map told_handler document.handlers.items) acting.lent acting.now acting.modules) }
+            (map told_handler document.handlers.items) acting.owed acting.lent acting.now
+            acting.modules) }
     {
         if are_few_functions(&document.programs) {
             ActingDocument::of(alloc, path, document)
@@ -109,7 +111,8 @@ impl ActingDocument {
         requires few { length (declared_by document.programs.items) < 2 ^ 48 }
         ensures { IfOk result (λ acting. acting
             ≡ kept_first path document.tree document.rules document.programs.items
-            (map told_handler document.handlers.items) acting.lent acting.now acting.modules) }
+            (map told_handler document.handlers.items) acting.owed acting.lent acting.now
+            acting.modules) }
     {
         let Document {
             tree,
@@ -322,13 +325,17 @@ impl ActingDocument {
         push_stop_line(outcome, name, out)
     }
 
-    /// Appends the boxes, texts and pictures of the document, and its focus.
+    /// Appends the boxes, texts and pictures of the document, and its focus. No more values of
+    /// styles are worked out than were owed.
     pub fn show(&mut self, out: &mut Vec<u8>) -> Result<(), NoMemory>
         ensures shown { OnOk result ((d : TheDocument) → IsDocument self.old d
             → out.new.items ≡ out.old.items ++ document_lines d) }
-        ensures kept { self.new ≡ record self.old { worked = self.new.worked } }
+        ensures kept { self.new
+            ≡ record self.old { worked = self.new.worked; owed = self.new.owed } }
         ensures same { (modules : ModulesState)
             → Changes (λ s. s) (lent_modules modules self.old) (lent_modules modules self.new) }
+        ensures worked { self.new.worked ≤ self.old.worked + self.old.owed }
+        ensures owed { self.new.worked + self.new.owed ≤ self.old.worked + self.old.owed }
         ensures grows { StartsWith out.new.items out.old.items }
     {
         self.host.stage.show(out)
@@ -351,7 +358,7 @@ fn parts_of(
     handlers: Vec<Handler>,
 ) -> Result<(Stage, Handlers, Globals), NoMemory>
     ensures stage { IfOk result (λ made. made.0
-        ≡ first_stage path tree rules made.0.acting.browser made.0.acting.now) }
+        ≡ first_stage path tree rules made.0.owed made.0.acting.browser made.0.acting.now) }
     ensures handlers { IfOk result (λ made. made.1 ≡ map told_handler handlers.items) }
     ensures globals { IfOk result (λ made. made.2 ≡ []) }
 {
@@ -391,7 +398,7 @@ fn handlers_of(alloc: Global, handlers: Vec<Handler>) -> Result<(Handlers, Globa
 // What a document that was read acts on.
 fn stage_of(alloc: Global, path: Path, tree: Tree, rules: Rules) -> Result<Stage, NoMemory>
     ensures { IfOk result (λ stage. stage
-        ≡ first_stage path tree rules stage.acting.browser stage.acting.now) }
+        ≡ first_stage path tree rules stage.owed stage.acting.browser stage.acting.now) }
 {
     match Items::new(alloc, &path, &tree) {
         Ok(items) => stage_with(alloc, path, tree, rules, items),
@@ -412,7 +419,7 @@ fn stage_with(
 ) -> Result<Stage, NoMemory>
     requires { items ≡ first_items path tree }
     ensures { IfOk result (λ stage. stage
-        ≡ first_stage path tree rules stage.acting.browser stage.acting.now) }
+        ≡ first_stage path tree rules stage.owed stage.acting.browser stage.acting.now) }
 {
     match Styles::new(alloc, &tree, rules) {
         Ok(styles) => Ok(Stage::new(alloc, path, tree, styles, items)),

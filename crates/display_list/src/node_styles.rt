@@ -1,9 +1,9 @@
 //! What the styles of a document's elements say of their boxes and texts.
 
-ghost use Rattle.std.specs.Prelude.{◌≡◌, ◌<◌, length, IfOk, IsTrue};
+ghost use Rattle.std.specs.Prelude.{◌≡◌, ◌+◌, ◌<◌, ◌≤◌, length, IfOk, IsTrue};
 ghost use Rattle.dom_tree.specs.Items.{IsElement};
 ghost use Rattle.style_reader.specs.Values.{fits as spec_fits};
-ghost use Rattle.style_cascade.specs.Keeping.{IsRight};
+ghost use Rattle.style_cascade.specs.Keeping.{IsRight, owed};
 ghost use Rattle.style_cascade.specs.States.{present_state};
 ghost use Rattle.display_list.specs.Shown.{is_visible_value, no_style, node_style, number_in, present_value, shown_by, style_of};
 
@@ -42,6 +42,8 @@ pub fn node_styles_of(
         (λ node_styles. node_styles.items
         ≡ (shown_by tree.now styles.old.sources focus.now).styles) }
     ensures sources { styles.new.sources ≡ styles.old.sources }
+    ensures owed { styles.new.worked + owed tree.now (present_state focus.now) styles.new
+        ≤ styles.old.worked + owed tree.now (present_state focus.now) styles.old }
     ensures right { IsRight tree.now (present_state focus.now) styles.new }
 {
     let count = tree.node_count();
@@ -60,6 +62,8 @@ impl NodeStyle {
         ensures style { result
             ≡ node_style (present_value tree.now styles.old.sources focus.now) tree.now node.0 }
         ensures sources { styles.new.sources ≡ styles.old.sources }
+        ensures owed { styles.new.worked + owed tree.now (present_state focus.now) styles.new
+            ≤ styles.old.worked + owed tree.now (present_state focus.now) styles.old }
         ensures right { IsRight tree.now (present_state focus.now) styles.new }
     {
         match tree.tag(node) {
@@ -75,6 +79,8 @@ impl NodeStyle {
         ensures style { result
             ≡ style_of (present_value tree.now styles.old.sources focus.now node.0) }
         ensures sources { styles.new.sources ≡ styles.old.sources }
+        ensures owed { styles.new.worked + owed tree.now (present_state focus.now) styles.new
+            ≤ styles.old.worked + owed tree.now (present_state focus.now) styles.old }
         ensures right { IsRight tree.now (present_state focus.now) styles.new }
     {
         NodeStyle {
@@ -119,6 +125,8 @@ fn number(tree: &Tree, styles: &mut Styles, focus: &Focus, node: NodeId, propert
     ensures number { result ≡ number_in
         (present_value tree.now styles.old.sources focus.now node.0 property) }
     ensures sources { styles.new.sources ≡ styles.old.sources }
+    ensures owed { styles.new.worked + owed tree.now (present_state focus.now) styles.new
+        ≤ styles.old.worked + owed tree.now (present_state focus.now) styles.old }
     ensures right { IsRight tree.now (present_state focus.now) styles.new }
 {
     let value = styles.get(tree, node, focus.state_of(node), focus, property);
@@ -132,6 +140,8 @@ fn is_visible(tree: &Tree, styles: &mut Styles, focus: &Focus, node: NodeId) -> 
     ensures visible { result ≡ is_visible_value
         (present_value tree.now styles.old.sources focus.now node.0 Property.Visibility) }
     ensures sources { styles.new.sources ≡ styles.old.sources }
+    ensures owed { styles.new.worked + owed tree.now (present_state focus.now) styles.new
+        ≤ styles.old.worked + owed tree.now (present_state focus.now) styles.old }
     ensures right { IsRight tree.now (present_state focus.now) styles.new }
 {
     let value = styles.get(

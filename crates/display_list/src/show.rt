@@ -1,11 +1,11 @@
 //! The display list of a document.
 
-ghost use Rattle.std.specs.Prelude.{◌≡◌, ◌<◌, ◌++◌, codes, length, IfSome, OnOk};
+ghost use Rattle.std.specs.Prelude.{◌≡◌, ◌+◌, ◌<◌, ◌≤◌, ◌++◌, codes, length, IfSome, OnOk};
 ghost use Rattle.std.specs.Io.{StartsWith};
 ghost use Rattle.std.specs.List.{flat_map};
 ghost use Rattle.dom_tree.specs.Items.{IsElement};
 ghost use Rattle.dom_tree.specs.NodeNumbers.{number_of};
-ghost use Rattle.style_cascade.specs.Keeping.{IsRight};
+ghost use Rattle.style_cascade.specs.Keeping.{IsRight, owed};
 ghost use Rattle.style_cascade.specs.States.{present_state};
 ghost use Rattle.display_list.specs.Shown.{shown_by};
 ghost use Rattle.display_list.specs.Places.{boxes_of};
@@ -35,8 +35,9 @@ impl Shower {
 
     /// Appends the display list of a document: a line for each element that is drawn, the lines of
     /// the texts and the picture in it, and last a line for the focus. What it shows is worked out
-    /// from the tree, the styles and the focus alone. After `NoMemory` a front of these lines may
-    /// stand behind what `out` held.
+    /// from the tree, the styles and the focus alone. Each value is asked for in the present state
+    /// of its element, so that no more values are worked out than are owed: those that aren't kept
+    /// yet. After `NoMemory` a front of these lines may stand behind what `out` held.
     pub fn show(
         &mut self,
         tree: &Tree,
@@ -50,6 +51,10 @@ impl Shower {
             (shown_by tree.now styles.old.sources focus.now) (number_of focus.now.focus)) }
         ensures grows { StartsWith out.new.items out.old.items }
         ensures sources { styles.new.sources ≡ styles.old.sources }
+        ensures worked { styles.new.worked
+            ≤ styles.old.worked + owed tree.now (present_state focus.now) styles.old }
+        ensures owed { styles.new.worked + owed tree.now (present_state focus.now) styles.new
+            ≤ styles.old.worked + owed tree.now (present_state focus.now) styles.old }
         ensures right_still { IsRight tree.now (present_state focus.now) styles.new }
     {
         law_of_fronts();

@@ -7,10 +7,12 @@ use Rattle.style_cascade.specs.StyledTrees.{AreStylesOf}
 use Rattle.style_cascade.specs.declared.states.Focus.{Focus}
 use Rattle.document_stages.specs.Acting.{Acting}
 
--- what is acted on, and how many values its styles worked out
+-- what is acted on; how many values its styles worked out; and how many they owe: the number of
+-- pairs of an element and a property whose value in the element's present state isn't kept
 pub record StageState : Type 0 where
   pub acting : Acting
   pub worked : ℕ
+  pub owed : ℕ
 
 -- it is an element, where there is one
 abbrev pub IsElementOf : List Item → Option NodeId → Type 0

@@ -1,12 +1,12 @@
 //! What handlers and default actions act on.
 
 ghost use Rattle.std.specs.Io.{StartsWith};
-ghost use Rattle.std.specs.Prelude.{◌≡◌, ◌<◌, ◌^◌, ◌++◌, ℕ, [], false, None, drop, is_some, option_map, IfOk, OnOk};
+ghost use Rattle.std.specs.Prelude.{◌≡◌, ◌+◌, ◌<◌, ◌≤◌, ◌^◌, ◌++◌, ℕ, [], false, None, drop, is_some, option_map, IfOk, OnOk};
 ghost use Rattle.std.specs.Option.{option_map_or};
 ghost use Rattle.dom_tree.specs.Items.{IsElement};
 ghost use Rattle.dom_tree.specs.NodeNumbers.{number_of};
-ghost use Rattle.style_cascade.specs.Keeping.{IsRight};
-ghost use Rattle.style_cascade.specs.States.{is_node};
+ghost use Rattle.style_cascade.specs.Keeping.{IsRight, owed as owed_values};
+ghost use Rattle.style_cascade.specs.States.{is_node, present_state};
 ghost use Rattle.style_cascade.specs.StyledTrees.{AreStylesOf, styled_tree};
 ghost use Rattle.style_cascade.specs.declared.states.State.{State};
 ghost use Rattle.focus_keys.specs.Defaults.{action_of};
@@ -48,7 +48,8 @@ pub const NO_FOCUS: Focus = Focus {
 
 /// The parts of a document that its scripts see, its event items, what belongs to the receiver, the
 /// event whose handler runs, the path of the document that was launched, and what was printed since
-/// it began. Contracts see it as `Acting`, and how many values its styles worked out.
+/// it began. Contracts see it as `Acting`, how many values its styles worked out, and how many they
+/// owe.
 #[derive(Drop)]
 pub struct Stage {
     alloc: Global,
@@ -67,6 +68,8 @@ pub struct Stage {
 
 impl Model for Stage {
     ghost use Rattle.std.specs.Prelude.{◌<◌, ◌^◌};
+    ghost use Rattle.style_cascade.specs.Keeping.{owed as owed_values};
+    ghost use Rattle.style_cascade.specs.States.{present_state};
     ghost use Rattle.style_cascade.specs.StyledTrees.{styled_tree};
     ghost use Rattle.document_stages.specs.Stages.{IsStaged, StageState};
 
@@ -85,6 +88,7 @@ impl Model for Stage {
         text = s.text.items;
       };
       worked = s.styles.worked;
+      owed = owed_values s.tree (present_state s.focus) s.styles;
     } };
 
     ghost invariant = { λ s. IsStaged s.tree s.focus s.styles × (s.time < 2 ^ 62) };
@@ -107,6 +111,7 @@ impl Stage {
             text = [];
           };
           worked = styles.worked;
+          owed = owed_values tree (present_state no_focus) styles;
         } }
     {
         Stage {
@@ -133,6 +138,7 @@ impl Stage {
             ≡ record self.old.acting { browser = browser.old; now = now } }
         ensures given_back { browser.new ≡ self.old.acting.browser }
         ensures worked { self.new.worked ≡ self.old.worked }
+        ensures owed { self.new.owed ≡ self.old.owed }
     {
         mem::swap(&mut self.browser, browser);
         self.time = now;
@@ -234,6 +240,7 @@ impl Stage {
         ensures acting { self.new.acting
             ≡ record self.old.acting { queue = drop 1 self.old.acting.queue } }
         ensures worked { self.new.worked ≡ self.old.worked }
+        ensures owed { self.new.owed ≡ self.old.owed }
     {
         self.queue.take()
     }
@@ -275,6 +282,7 @@ impl Stage {
         ensures path { result ≡ self.old.acting.launched }
         ensures acting { self.new.acting ≡ record self.old.acting { launched = None } }
         ensures worked { self.new.worked ≡ self.old.worked }
+        ensures owed { self.new.owed ≡ self.old.owed }
     {
         mem::replace(&mut self.launched, None)
     }
@@ -469,11 +477,14 @@ impl Stage {
         }
     }
 
-    /// Appends the display list: the boxes, texts and pictures, and the focus.
+    /// Appends the display list: the boxes, texts and pictures, and the focus. No more values are
+    /// worked out than were owed.
     pub fn show(&mut self, out: &mut Vec<u8>) -> Result<(), NoMemory>
         ensures shown { OnOk result
             (out.new.items ≡ out.old.items ++ tree_lines self.old.acting.tree) }
         ensures acting { self.new.acting ≡ self.old.acting }
+        ensures worked { self.new.worked ≤ self.old.worked + self.old.owed }
+        ensures owed { self.new.worked + self.new.owed ≤ self.old.worked + self.old.owed }
         ensures grows { StartsWith out.new.items out.old.items }
     {
         Shower::new().show(&self.tree, &mut self.styles, &self.focus, out)

@@ -1,5 +1,5 @@
 -- What calls of a page come to, whatever state it is in.
-use Rattle.std.proofs.Common.{◌≡◌, ◌∙◌, ℕ, ◌+◌, ◌<◌, suc, Bool, true, false, List, [], ◌∷◌, ◌++◌, length, drop, refl, sym, ap, ap₂, subst, append_assoc, append-nil, arith}
+use Rattle.std.proofs.Common.{◌≡◌, ◌∙◌, ℕ, ◌+◌, ◌<◌, ◌≤◌, suc, Bool, true, false, List, [], ◌∷◌, ◌++◌, length, drop, refl, sym, ap, ap₂, subst, append_assoc, append-nil, arith}
 use Rattle.std.specs.Prelude.{zero, Option, Some, None, IfOk, OnOk, is_err, option_map, option_and_then, Result, Ok, Err}
 use Rattle.std.specs.Option.{option_map_or, option_or}
 use Rattle.std.specs.Io.{StartsWith}
@@ -28,7 +28,7 @@ use Rattle.page.specs.Dispatches.{dispatch, dispatches, event_in, load_at, most_
 use Rattle.page.specs.Inputs.{change_step, display_of, document_step, due_step, with_clock}
 use Rattle.page.specs.Loading.{load, loadable_reading, document_of_draft, wanted_path}
 use Rattle.page.specs.devices.Pendings.{Loads, loading_behind, wanted_at, wanted_of}
-use Rattle.page.specs.Standing.{AreDocuments, Begins, HasMade, HasMadeAmid, HasMadeOf, IsAlone, Makes, MakesAmid, MakesWith, MayMake, PageState, Posts, StandsAmid, StandsFor, TakesLoad, behind_launch, with_document}
+use Rattle.page.specs.Standing.{AreDocuments, Begins, HasMade, HasMadeAmid, HasMadeOf, IsAlone, Makes, MakesAmid, MakesWith, MayMake, PageState, Posts, StandsAmid, StandsFor, TakesLoad, behind_launch, page_owed, with_document}
 use Rattle.page.specs.State.{State, Step, Wanted, scene_in, stays_or_goes, step_behind, step_of, still}
 use Rattle.page.specs.State.Wanted.{NoDocument}
 use Rattle.page.specs.declared.loading.Load.{Load}
@@ -336,19 +336,19 @@ shown_without page before after is printed = record {
 rest_after : (longer front : List ℕ) → StartsWith longer front → longer ≡ front ++ drop (length front) longer
 rest_after longer front starts = sym (take-append-drop (length front) longer) ∙ ap (λ (l : List ℕ). l ++ drop (length front) longer) starts
 
--- a document whose styles worked out more values is the same
-abbrev pub with_worked : ℕ → KeptDocument → KeptDocument
-with_worked worked k = record k { worked = worked }
+-- a document whose styles worked out more values, and owe others, is the same
+abbrev pub with_worked : ℕ → ℕ → KeptDocument → KeptDocument
+with_worked worked owed k = record k { worked = worked; owed = owed }
 
-worked_is : (k : KeptDocument) (d : Document) (worked : ℕ) → IsDocument k d → IsDocument (with_worked worked k) d
-worked_is k d worked is = record { programs = is.programs; others = ap (with_worked worked) is.others }
+worked_is : (k : KeptDocument) (d : Document) (worked owed : ℕ) → IsDocument k d → IsDocument (with_worked worked owed k) d
+worked_is k d worked owed is = record { programs = is.programs; others = ap (with_worked worked owed) is.others }
 
 -- the document of a page that was shown
 abbrev with_shown : KeptDocument → PageState → PageState
 with_shown shown page = record page { document = Some shown; worked = shown.worked }
 
 pub shown_with : (page : PageState) (k new : KeptDocument) (before between after : List ℕ) → page.document ≡ Some k → between ≡ before ++ clock_line page.clock
-    → ((d : Document) → IsDocument k d → after ≡ between ++ document_lines d) → new ≡ with_worked new.worked k → StartsWith after between → Makes shown_step page (with_shown new page) before after
+    → ((d : Document) → IsDocument k d → after ≡ between ++ document_lines d) → new ≡ with_worked new.worked new.owed k → StartsWith after between → Makes shown_step page (with_shown new page) before after
 shown_with page k new before between after is printed shown same grows = record {
   text = clock_line page.clock ++ drop (length between) after;
   printed = rest_after after between grows ∙ ap (λ (l : List ℕ). l ++ drop (length between) after) printed ∙ append_assoc before (clock_line page.clock) (drop (length between) after);
@@ -359,7 +359,7 @@ shown_with page k new before between after is printed shown same grows = record 
         stands = record {
           modules_are = stands.modules_are;
           reader = stands.reader;
-          document = subst (AreDocuments (Some new)) (sym there.1) (subst (λ (x : KeptDocument). IsDocument x there.0) (sym same) (worked_is k there.0 new.worked there.2));
+          document = subst (AreDocuments (Some new)) (sym there.1) (subst (λ (x : KeptDocument). IsDocument x there.0) (sym same) (worked_is k there.0 new.worked new.owed there.2));
           wanted = stands.wanted;
           current = stands.current;
           clock = stands.clock;
@@ -376,18 +376,33 @@ displayed_without old page new before after (Ok done) view is same printed =
     subst (λ (p : PageState). Makes shown_step p new before after) view (subst (λ (p : PageState). Makes shown_step page p before after) (sym same) (shown_without page before after is printed))
 
 displayed_as : {A E : Type 0} (old page new : PageState) (k shown : KeptDocument) (before between after : List ℕ) (result : Result A E) → page ≡ old → page.document ≡ Some k → new ≡ with_shown shown page
-    → between ≡ before ++ clock_line page.clock → OnOk result ((d : Document) → IsDocument k d → after ≡ between ++ document_lines d) → shown ≡ with_worked shown.worked k → StartsWith after between → OnOk result (Makes shown_step old new before after)
+    → between ≡ before ++ clock_line page.clock → OnOk result ((d : Document) → IsDocument k d → after ≡ between ++ document_lines d) → shown ≡ with_worked shown.worked shown.owed k → StartsWith after between → OnOk result (Makes shown_step old new before after)
 displayed_as old page new k shown before between after (Err fault) view is same printed lines changes grows = tt
 displayed_as old page new k shown before between after (Ok done) view is same printed lines changes grows =
     subst (λ (p : PageState). Makes shown_step p new before after) view
     (subst (λ (p : PageState). Makes shown_step page p before after) (sym same) (shown_with page k shown before between after is printed lines changes grows))
 
 pub displayed_with : {A E : Type 0} (old page new : PageState) (k shown : KeptDocument) (before between after left : List ℕ) (called result : Result A E) → page ≡ old → page.document ≡ Some k → new ≡ with_shown shown page
-    → between ≡ before ++ clock_line page.clock → OnOk called ((d : Document) → IsDocument k d → after ≡ between ++ document_lines d) → shown ≡ with_worked shown.worked k → StartsWith after between → left ≡ after → result ≡ called
+    → between ≡ before ++ clock_line page.clock → OnOk called ((d : Document) → IsDocument k d → after ≡ between ++ document_lines d) → shown ≡ with_worked shown.worked shown.owed k → StartsWith after between → left ≡ after → result ≡ called
     → OnOk result (Makes shown_step old new before left)
 displayed_with {A} {E} old page new k shown before between after left called result view is same printed lines changes grows e called_is =
     subst (λ (r : Result A E). OnOk r (Makes shown_step old new before left)) (sym called_is)
     (subst (λ (l : List ℕ). OnOk called (Makes shown_step old new before l)) (sym e) (displayed_as old page new k shown before between after called view is same printed lines changes grows))
+
+-- no more values are worked out than were owed
+
+pub worked-shown : (old page new : PageState) (k shown : KeptDocument) → page ≡ old → page.worked ≡ option_map_or (λ d. d.worked) page.document 0 → page.document ≡ Some k → new ≡ with_shown shown page → shown.worked ≤ k.worked + k.owed
+    → new.worked ≤ old.worked + page_owed old
+worked-shown old page new k shown view working is same least =
+    let left : new.worked ≡ shown.worked = ap (λ (p : PageState). p.worked) same in
+    let before : old.worked ≡ k.worked = ap (λ (p : PageState). p.worked) (sym view) ∙ working ∙ ap (λ (o : Option KeptDocument). option_map_or (λ d. d.worked) o 0) is in
+    let owed : page_owed old ≡ k.owed = ap page_owed (sym view) ∙ ap (λ (o : Option KeptDocument). option_map_or (λ d. d.owed) o 0) is in
+    omega arith
+
+pub worked-still : (old page new : PageState) → page ≡ old → new ≡ page → new.worked ≤ old.worked + page_owed old
+worked-still old page new view same =
+    let left : new.worked ≡ old.worked = ap (λ (p : PageState). p.worked) (same ∙ view) in
+    omega arith
 
 -- ---- events
 

@@ -116,15 +116,15 @@ goes_on state pending place before w = record {
 
 -- it is the one that the draft opens
 opened_as : (read : Reader) (path : Path) (draft : DraftState) (items : List Item) (rules : List Rule) (programs : List ToldProgram) (handlers : List HandlerState) (bad : List ℕ) (document : KeptDocument)
-    → document ≡ kept_first path items rules programs handlers document.lent document.now document.modules → items ≡ draft.items → rules ≡ document_rules draft → AreScripts read (sources_of draft) programs handlers bad
+    → document ≡ kept_first path items rules programs handlers document.owed document.lent document.now document.modules → items ≡ draft.items → rules ≡ document_rules draft → AreScripts read (sources_of draft) programs handlers bad
     → IsDocument document (document_of_draft read path draft)
 opened_as read path draft items rules programs handlers bad document is items_are rules_are scripts = record {
   programs = subst (λ (told : List ToldProgram). AllZip Tells (programs_by read (sources_of draft)) told) (sym (ap (λ (d : KeptDocument). d.programs) is)) scripts.programs_are;
   others =
       is
-      ∙ ap (λ (i : List Item). kept_first path i rules programs handlers document.lent document.now document.modules) items_are
-      ∙ ap (λ (r : List Rule). kept_first path draft.items r programs handlers document.lent document.now document.modules) rules_are
-      ∙ ap (λ (h : List HandlerState). kept_first path draft.items (document_rules draft) programs h document.lent document.now document.modules) scripts.handlers_are
+      ∙ ap (λ (i : List Item). kept_first path i rules programs handlers document.owed document.lent document.now document.modules) items_are
+      ∙ ap (λ (r : List Rule). kept_first path draft.items r programs handlers document.owed document.lent document.now document.modules) rules_are
+      ∙ ap (λ (h : List HandlerState). kept_first path draft.items (document_rules draft) programs h document.owed document.lent document.now document.modules) scripts.handlers_are
       ∙ same_beside document (document_of_draft read path draft) programs (ap (λ (d : KeptDocument). d.programs) is) (ap (λ (d : KeptDocument). d.worked) is) (ap (λ (d : KeptDocument). d.launched) is);
 }
   where
@@ -139,7 +139,7 @@ opened_as read path draft items rules programs handlers bad document is items_ar
 pub is_loaded : (state : ModulesState) (pending : PendingState) (finished : Finished) (document : KeptDocument) (before after : List ℕ)
     → ((modules : Modules) → StandsFor state modules → are_settled modules pending.draft.needs ≡ true)
     → IsFinished state pending.draft finished
-    → document ≡ kept_first pending.path finished.tree finished.rules finished.programs.items (map told_handler finished.handlers.items) document.lent document.now document.modules
+    → document ≡ kept_first pending.path finished.tree finished.rules finished.programs.items (map told_handler finished.handlers.items) document.owed document.lent document.now document.modules
     → after ≡ before ++ load_lines pending.path finished.bad.items
     → Loads state (kept.Pending pending) (load.Loaded document) before after
 is_loaded state pending finished document before after settled from is printed = record {

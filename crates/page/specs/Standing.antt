@@ -1,5 +1,6 @@
 -- For which state a page stands, with the modules of the service. (This project's own.)
 use Rattle.std.specs.Prelude.{◌≡◌, ◌++◌, Bool, true, false, ℕ, List, [], Option, Some, None}
+use Rattle.std.specs.Option.{option_map_or}
 use Rattle.carousel_blocks.specs.declared.changes.Change.{Change}
 use Rattle.multipart_entities.specs.declared.paths.Path.{Path}
 use Rattle.module_locks.specs.Standing.{ModulesState}
@@ -68,6 +69,11 @@ page_area page = page.browser.area
 -- a call found no memory
 abbrev pub IsSpent : PageState → Type 0
 IsSpent page = page.spent ≡ true
+
+-- how many values of styles are owed: of the document that is there, the number of pairs of an
+-- element and a property whose value in the element's present state isn't kept, and 0 without one
+abbrev pub page_owed : PageState → ℕ
+page_owed page = option_map_or (λ document. document.owed) page.document 0
 
 -- ---- calls
 

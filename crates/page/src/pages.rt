@@ -1,7 +1,7 @@
 //! The page: what becomes of the documents that come, and of keys and the clock.
 
 ghost use Rattle.std.specs.Io.{StartsWith};
-ghost use Rattle.std.specs.Prelude.{◌≡◌, ◌<◌, ◌^◌, ◌∷◌, ◌++◌, ℕ, List, [], false, true, None, IfOk, IsErr, OnErr, OnOk, is_err};
+ghost use Rattle.std.specs.Prelude.{◌≡◌, ◌+◌, ◌<◌, ◌≤◌, ◌^◌, ◌∷◌, ◌++◌, ℕ, List, [], false, true, None, IfOk, IsErr, OnErr, OnOk, is_err};
 ghost use Rattle.acting_documents.specs.Notices.{IsInTime, notice_effect};
 ghost use Rattle.es_reader.specs.Readers.{Reader, IsReader};
 ghost use Rattle.event_queue.specs.Timers.{least_moment};
@@ -11,7 +11,7 @@ ghost use Rattle.module_locks.specs.Standing as of_modules;
 ghost use Rattle.page.specs.Dispatches.{dispatch as spec_dispatch, next_event, next_load, turn as spec_turn};
 ghost use Rattle.page.specs.Inputs.{change_step, display_of, document_step, due_step, key_step, message_step, with_random};
 ghost use Rattle.page.specs.devices.Pendings.{loading_behind};
-ghost use Rattle.page.specs.Standing.{Begins, IsSpent, KeepsBeside, Makes, MakesAmid, MakesWith, MayMake, Posts, StandsFor, TakesLoad, behind_launch, page_area};
+ghost use Rattle.page.specs.Standing.{Begins, IsSpent, KeepsBeside, Makes, MakesAmid, MakesWith, MayMake, Posts, StandsFor, TakesLoad, behind_launch, page_area, page_owed};
 ghost use Rattle.page.specs.State.{State, opening};
 ghost use Rattle.page.specs.declared.loading.Loading.TheVariants as kept;
 
@@ -260,12 +260,14 @@ impl Page {
     }
 
     /// Appends the display list: `show` with the time, and the boxes, texts and pictures of the
-    /// document, where there is one, and its focus.
+    /// document, where there is one, and its focus. No more values of styles are worked out than
+    /// were owed.
     pub fn show(&mut self, out: &mut Vec<u8>) -> Result<(), NoMemory>
         ensures shown { OnOk result (Makes (λ s. record { state = s; text = display_of s })
             self.old self.new out.old.items out.new.items) }
         ensures loading { self.new.loading ≡ self.old.loading }
         ensures clock { self.new.clock ≡ self.old.clock }
+        ensures worked { self.new.worked ≤ self.old.worked + page_owed self.old }
         ensures grows { StartsWith out.new.items out.old.items }
         ensures unspent { OnOk result (self.new.spent ≡ false) }
         ensures spent { OnErr result (IsSpent self.new) }
@@ -477,6 +479,7 @@ impl Page {
             self.old self.new out.old.items out.new.items) }
         ensures loading { self.new.loading ≡ self.old.loading }
         ensures clock { self.new.clock ≡ self.old.clock }
+        ensures worked { self.new.worked ≤ self.old.worked + page_owed self.old }
         ensures grows { StartsWith out.new.items out.old.items }
     {
         law_of_fronts();

@@ -152,7 +152,8 @@ fn acting_of(
         (map told_handler document.handlers.items) }
     ensures acting { IfOk result (λ acting. acting
         ≡ kept_first path document.tree document.rules document.programs.items
-        (map told_handler document.handlers.items) acting.lent acting.now acting.modules) }
+        (map told_handler document.handlers.items) acting.owed acting.lent acting.now
+        acting.modules) }
     ensures told { OnOk result
         (out.new.items ≡ out.old.items ++ load_lines path document.bad.items) }
     ensures grows { StartsWith out.new.items out.old.items }

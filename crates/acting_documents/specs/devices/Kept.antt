@@ -20,8 +20,8 @@ use Rattle.document_stages.specs.Stages.{StageState}
 use Rattle.acting_documents.specs.Documents.{Document, first_tree}
 use Rattle.acting_documents.specs.Runs.{no_event}
 
--- the document with what is told of its programs, which node is its body, how many values its styles worked out,
--- and what it is lent
+-- the document with what is told of its programs, which node is its body, how many values its
+-- styles worked out and how many they owe, and what it is lent
 pub record KeptDocument : Type 0 where
   pub path : Path
   pub tree : StyledTree
@@ -33,6 +33,9 @@ pub record KeptDocument : Type 0 where
   pub heap : List ObjectState
   pub body : Option ℕ
   pub worked : ℕ
+  -- the number of pairs of an element and a property whose value in the element's present state
+  -- isn't kept
+  pub owed : ℕ
   -- what it is lent while it acts: what belongs to the receiver, with the timers; the time; and the modules
   pub lent : BrowserParts
   pub now : ℕ
@@ -59,9 +62,10 @@ pub record IsDocument (kept : KeptDocument) (d : Document) : Type 0 where
   pub programs : AllZip Tells d.programs kept.programs
   pub others : kept ≡ kept_as kept d
 
--- what a document acts on before its scripts run, with these nodes and rules
-abbrev pub first_stage : Path → List Item → List Rule → BrowserParts → ℕ → StageState
-first_stage path items rules lent now =
+-- what a document acts on before its scripts run, with these nodes and rules, where its styles owe
+-- so many values
+abbrev pub first_stage : Path → List Item → List Rule → ℕ → BrowserParts → ℕ → StageState
+first_stage path items rules owed lent now =
     record {
       acting = record {
         path = path;
@@ -75,12 +79,13 @@ first_stage path items rules lent now =
         text = [];
       };
       worked = 0;
+      owed = owed;
     }
 
 -- a document before its scripts run, with these parts
 abbrev pub kept_first : Path → List Item → List Rule → List ToldProgram → List HandlerState
-    → BrowserParts → ℕ → ModulesState → KeptDocument
-kept_first path items rules programs handlers lent now modules =
+    → ℕ → BrowserParts → ℕ → ModulesState → KeptDocument
+kept_first path items rules programs handlers owed lent now modules =
     record {
       path = path;
       tree = first_tree items rules;
@@ -92,6 +97,7 @@ kept_first path items rules programs handlers lent now modules =
       heap = [];
       body = body_of items;
       worked = 0;
+      owed = owed;
       lent = lent;
       now = now;
       modules = modules;

@@ -35,7 +35,8 @@ impl ActingDocument {
     fn takes(&mut self, notice: Notice<'_>) -> bool
         ensures takes { (d : TheDocument)
             → IsDocument self.old d → result ≡ spec_takes notice.entry d }
-        ensures kept { self.new ≡ record self.old { worked = self.new.worked } }
+        ensures kept { self.new
+            ≡ record self.old { worked = self.new.worked; owed = self.new.owed } }
     {
         match notice {
             Notice::Key { key, .. } => self.passes(key),
@@ -46,7 +47,8 @@ impl ActingDocument {
     // Whether the body lets a key pass.
     fn passes(&mut self, key: u8) -> bool
         ensures passes { (d : TheDocument) → IsDocument self.old d → result ≡ spec_passes key d }
-        ensures kept { self.new ≡ record self.old { worked = self.new.worked } }
+        ensures kept { self.new
+            ≡ record self.old { worked = self.new.worked; owed = self.new.owed } }
     {
         let Some(body) = self.body else {
             return false;

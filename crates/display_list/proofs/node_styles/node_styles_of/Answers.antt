@@ -12,5 +12,6 @@ nodes-preserved c =
     record {
       each = (c.in_ok-push.ensures {u = tt}).items ∙ (λ i. c.nodes.invariant.each i ++ style i ∷ []) ∙ sym (map-range_with_len_more (node_style (present_value items c.args.styles.now.sources focus) items) 0 c.nodes.number c.nodes.number (omega arith));
       sources = c.at.ensures.sources ∙ c.nodes.invariant.sources;
+      owed_still = omega (arith, c.at.ensures.owed, c.nodes.invariant.owed_still);
       right = c.at.ensures.right;
     }

@@ -1,6 +1,6 @@
-use Rattle.std.proofs.Common.{ap}
+use Rattle.std.proofs.Common.{ap, refl}
 use Rattle.page.specs.contracts.pages.Page.{the_view}
-use Rattle.page.proofs.PageLaws.{displayed_with, displayed_without}
+use Rattle.page.proofs.PageLaws.{displayed_with, displayed_without, worked-shown, worked-still}
 use Rattle.page.proofs.pages.Page.push_display.Goals as goal
 use Rattle.page.proofs.pages.Page.push_display.Goals.{in-Some, in-None}
 
@@ -13,4 +13,13 @@ returns-clause-shown c =
       | in-None w ↦
           displayed_without c.args.self.now (the_view c.self.inside) (the_view c.match-self.self-inside) c.args.out.now.items c.match-self.out.items c.match-self.result
           c.self.view_is w.in-None.is (ap the_view w.self-inside-is) (cc c.in_ok-push_clock_line.ensures.ok)
+    ]
+
+pub returns-clause-worked : goal.returns-clause-worked
+returns-clause-worked c =
+    elim c.match-self.branch [
+      | in-Some w ↦
+          worked-shown c.args.self.now (the_view c.self.inside) (the_view c.match-self.self-inside) w.in-Some.document w.show.new.self
+          c.self.view_is refl w.in-Some.is (ap the_view w.self-inside-is) w.show.ensures.worked
+      | in-None w ↦ worked-still c.args.self.now (the_view c.self.inside) (the_view c.match-self.self-inside) c.self.view_is (ap the_view w.self-inside-is)
     ]
