@@ -391,17 +391,37 @@ displayed_with {A} {E} old page new k shown before between after left called res
 
 -- no more values are worked out than were owed
 
+owed-with : (page : PageState) (k : KeptDocument) → page.document ≡ Some k → page_owed page ≡ k.owed
+owed-with page k is = ap (λ (o : Option KeptDocument). option_map_or (λ d. d.owed) o 0) is
+
+worked-with : (page : PageState) (k : KeptDocument) → page.worked ≡ option_map_or (λ d. d.worked) page.document 0 → page.document ≡ Some k → page.worked ≡ k.worked
+worked-with page k working is = working ∙ ap (λ (o : Option KeptDocument). option_map_or (λ d. d.worked) o 0) is
+
 pub worked-shown : (old page new : PageState) (k shown : KeptDocument) → page ≡ old → page.worked ≡ option_map_or (λ d. d.worked) page.document 0 → page.document ≡ Some k → new ≡ with_shown shown page → shown.worked ≤ k.worked + k.owed
     → new.worked ≤ old.worked + page_owed old
 worked-shown old page new k shown view working is same least =
     let left : new.worked ≡ shown.worked = ap (λ (p : PageState). p.worked) same in
-    let before : old.worked ≡ k.worked = ap (λ (p : PageState). p.worked) (sym view) ∙ working ∙ ap (λ (o : Option KeptDocument). option_map_or (λ d. d.worked) o 0) is in
-    let owed : page_owed old ≡ k.owed = ap page_owed (sym view) ∙ ap (λ (o : Option KeptDocument). option_map_or (λ d. d.owed) o 0) is in
+    let before : old.worked ≡ k.worked = ap (λ (p : PageState). p.worked) (sym view) ∙ worked-with page k working is in
+    let owed : page_owed old ≡ k.owed = ap page_owed (sym view) ∙ owed-with page k is in
+    omega arith
+
+pub owed-shown : (old page new : PageState) (k shown : KeptDocument) → page ≡ old → page.worked ≡ option_map_or (λ d. d.worked) page.document 0 → page.document ≡ Some k → new ≡ with_shown shown page → shown.worked + shown.owed ≤ k.worked + k.owed
+    → new.worked + page_owed new ≤ old.worked + page_owed old
+owed-shown old page new k shown view working is same least =
+    let left : new.worked ≡ shown.worked = ap (λ (p : PageState). p.worked) same in
+    let owes : page_owed new ≡ shown.owed = ap page_owed same in
+    let before : old.worked ≡ k.worked = ap (λ (p : PageState). p.worked) (sym view) ∙ worked-with page k working is in
+    let owed : page_owed old ≡ k.owed = ap page_owed (sym view) ∙ owed-with page k is in
     omega arith
 
 pub worked-still : (old page new : PageState) → page ≡ old → new ≡ page → new.worked ≤ old.worked + page_owed old
 worked-still old page new view same =
     let left : new.worked ≡ old.worked = ap (λ (p : PageState). p.worked) (same ∙ view) in
+    omega arith
+
+pub owed-still : (old page new : PageState) → page ≡ old → new ≡ page → new.worked + page_owed new ≤ old.worked + page_owed old
+owed-still old page new view same =
+    let left : new.worked + page_owed new ≡ old.worked + page_owed old = ap (λ (p : PageState). p.worked + page_owed p) (same ∙ view) in
     omega arith
 
 -- ---- events

@@ -268,6 +268,8 @@ impl Page {
         ensures loading { self.new.loading ≡ self.old.loading }
         ensures clock { self.new.clock ≡ self.old.clock }
         ensures worked { self.new.worked ≤ self.old.worked + page_owed self.old }
+        ensures owed { self.new.worked + page_owed self.new
+            ≤ self.old.worked + page_owed self.old }
         ensures grows { StartsWith out.new.items out.old.items }
         ensures unspent { OnOk result (self.new.spent ≡ false) }
         ensures spent { OnErr result (IsSpent self.new) }
@@ -480,6 +482,8 @@ impl Page {
         ensures loading { self.new.loading ≡ self.old.loading }
         ensures clock { self.new.clock ≡ self.old.clock }
         ensures worked { self.new.worked ≤ self.old.worked + page_owed self.old }
+        ensures owed { self.new.worked + page_owed self.new
+            ≤ self.old.worked + page_owed self.old }
         ensures grows { StartsWith out.new.items out.old.items }
     {
         law_of_fronts();

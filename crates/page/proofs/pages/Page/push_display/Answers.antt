@@ -1,6 +1,6 @@
 use Rattle.std.proofs.Common.{ap, refl}
 use Rattle.page.specs.contracts.pages.Page.{the_view}
-use Rattle.page.proofs.PageLaws.{displayed_with, displayed_without, worked-shown, worked-still}
+use Rattle.page.proofs.PageLaws.{displayed_with, displayed_without, owed-shown, owed-still, worked-shown, worked-still}
 use Rattle.page.proofs.pages.Page.push_display.Goals as goal
 use Rattle.page.proofs.pages.Page.push_display.Goals.{in-Some, in-None}
 
@@ -22,4 +22,13 @@ returns-clause-worked c =
           worked-shown c.args.self.now (the_view c.self.inside) (the_view c.match-self.self-inside) w.in-Some.document w.show.new.self
           c.self.view_is refl w.in-Some.is (ap the_view w.self-inside-is) w.show.ensures.worked
       | in-None w ↦ worked-still c.args.self.now (the_view c.self.inside) (the_view c.match-self.self-inside) c.self.view_is (ap the_view w.self-inside-is)
+    ]
+
+pub returns-clause-owed : goal.returns-clause-owed
+returns-clause-owed c =
+    elim c.match-self.branch [
+      | in-Some w ↦
+          owed-shown c.args.self.now (the_view c.self.inside) (the_view c.match-self.self-inside) w.in-Some.document w.show.new.self
+          c.self.view_is refl w.in-Some.is (ap the_view w.self-inside-is) w.show.ensures.owed
+      | in-None w ↦ owed-still c.args.self.now (the_view c.self.inside) (the_view c.match-self.self-inside) c.self.view_is (ap the_view w.self-inside-is)
     ]
