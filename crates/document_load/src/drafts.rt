@@ -49,28 +49,14 @@ impl Document {
     pub fn copy(&self) -> Result<Document, NoMemory>
         ensures { IfOk result (λ document. told_document document ≡ told_document self.now) }
     {
-        let tree = self.tree.copy()?;
-        let rules = self.rules.copy()?;
-        let Scripts {
-            programs,
-            elements: scripts,
-            handlers,
-            bad,
-        } = copied_scripts(
+        let scripts = copied_scripts(
             *self.programs.allocator(),
             self.programs.as_slice(),
             self.scripts.as_slice(),
             self.handlers.as_slice(),
             self.bad.as_slice(),
         )?;
-        Ok(Document {
-            tree,
-            rules,
-            programs,
-            scripts,
-            handlers,
-            bad,
-        })
+        copied_with(&self.tree, &self.rules, scripts)
     }
 }
 
@@ -203,6 +189,38 @@ impl Draft {
             bad,
         })
     }
+}
+
+// The document with a copy of this tree, a copy of these rules, and these scripts.
+fn copied_with(tree: &Tree, rules: &Rules, scripts: Scripts) -> Result<Document, NoMemory>
+    ensures { IfOk result (λ document. told_document document ≡ record {
+      items = tree.now;
+      rules = rules.now;
+      programs = scripts.programs.items;
+      scripts = scripts.elements.items;
+      handlers = map told_handler scripts.handlers.items;
+      bad = scripts.bad.items;
+    }) }
+{
+    let (tree, rules) = copied_tree_and_rules(tree, rules)?;
+    Ok(Document {
+        tree,
+        rules,
+        programs: scripts.programs,
+        scripts: scripts.elements,
+        handlers: scripts.handlers,
+        bad: scripts.bad,
+    })
+}
+
+// An equal tree and equal rules of their own.
+fn copied_tree_and_rules(tree: &Tree, rules: &Rules) -> Result<(Tree, Rules), NoMemory>
+    ensures tree { IfOk result (λ copies. copies.0 ≡ tree.now) }
+    ensures rules { IfOk result (λ copies. copies.1 ≡ rules.now) }
+{
+    let tree = tree.copy()?;
+    let rules = rules.copy()?;
+    Ok((tree, rules))
 }
 
 // That many needs of which nothing is given.
