@@ -5,3 +5,4 @@ pub mod StatementLemmas
 pub mod BridgeLemmas
 pub mod FunctionLemmas
 pub mod MeaningLemmas
+pub mod PlaceLemmas

@@ -16,6 +16,7 @@ mod expression_shapes;
 mod functions;
 mod operations;
 mod operators;
+mod places;
 mod shapes;
 mod statement_shapes;
 mod told_laws;
@@ -26,6 +27,7 @@ pub use crate::functions::{
 };
 pub use crate::operations::{charge_all, charge_operation, operated};
 pub use crate::operators::{Operator, Sign};
+pub use crate::places::known_place;
 pub use crate::shapes::{
     DeclaratorShape, FirstShape, Shape, StatementShape, VisitorShape, declarator, expression,
     statement,

@@ -54,7 +54,8 @@ pub enum FirstShape {
 #[derive(Drop)]
 pub enum VisitorShape {
     VisitTarget(Code),
-    VisitVar(Text),
+    /// The name that is declared, and its declarator.
+    VisitVar(Text, Code),
 }
 
 impl VisitorShape {
@@ -64,7 +65,9 @@ impl VisitorShape {
     {
         match self {
             VisitorShape::VisitTarget(target) => Ok(VisitorShape::VisitTarget(*target)),
-            VisitorShape::VisitVar(name) => Ok(VisitorShape::VisitVar(name.share()?)),
+            VisitorShape::VisitVar(name, declarator) => {
+                Ok(VisitorShape::VisitVar(name.share()?, *declarator))
+            }
         }
     }
 }

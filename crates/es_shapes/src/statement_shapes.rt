@@ -152,9 +152,17 @@ fn visitor_shape(alloc: Global, programs: &[Program], code: Code) -> Result<Visi
         ≡ visitor_of (tree_of programs.now code)) }
 {
     match form_at(programs, code) {
-        Form::Var => Ok(VisitorShape::VisitVar(variable(alloc, programs, code)?)),
+        Form::Var => {
+            let name = variable(alloc, programs, code)?;
+            Ok(VisitorShape::VisitVar(name, first_declarator(programs, code)))
+        }
         _ => Ok(VisitorShape::VisitTarget(code)),
     }
+}
+
+// The first declarator of a `var`, and the `var` itself where there is none.
+fn first_declarator(programs: &[Program], code: Code) -> Code {
+    part(programs, code, 0).unwrap_or(code)
 }
 
 // The name of the first declarator of a `var`, and none where there is no declarator.

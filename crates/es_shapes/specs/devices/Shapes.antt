@@ -71,7 +71,7 @@ declared programs shape =
 unfoldable pub visitor_shaped : List ToldProgram → VisitorShape → Visitor
 visitor_shaped programs (seen.VisitTarget target) =
     VisitTarget (target_of (expression_at programs target))
-visitor_shaped programs (seen.VisitVar name) = VisitVar name
+visitor_shaped programs (seen.VisitVar name declarator) = VisitVar name
 
 -- the statement of a shape, of the node at this code
 unfoldable pub stated : List ToldProgram → Code → StatementShape → Statement
