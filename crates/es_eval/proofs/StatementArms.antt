@@ -373,12 +373,13 @@ unfolding visitor_shaped
 visit-target programs old new visitor target more next is on = rw is on
 
 pub visit-var : (programs : List ToldProgram) (old new : MachineState) (visitor : VisitorShape)
-    (name : List ℕ) (more : Place → Action Given) (next : Now) → visitor ≡ seen.VisitVar name
+    (name : List ℕ) (code : Code) (more : Place → Action Given) (next : Now)
+    → visitor ≡ seen.VisitVar name code
     → GoesOn programs old (step (more (NamePlace name))) new next
     → GoesOn programs old (behind
     (visited_place (enters programs) (visitor_shaped programs visitor)) more) new next
 unfolding visitor_shaped
-visit-var programs old new visitor name more next is on = rw is on
+visit-var programs old new visitor name code more next is on = rw is on
 
 -- ---- the names of an object
 

@@ -55,7 +55,7 @@ impl Machine {
             Shape::Truth(truth) => Ok(value(Value::Bool(truth))),
             Shape::Number(number) => Ok(value(Value::Number(Num::Whole(number)))),
             Shape::Text(text) => Ok(value(Value::Str(text))),
-            Shape::Name(name) => self.name_value(programs, &name),
+            Shape::Name(name) => self.name_value(programs, code, &name),
             Shape::Index(base, key) => self.enter_index(programs, base, key),
             Shape::Member(base, name) => self.enter_member(programs, base, name),
             Shape::Call(callee) => self.enter_callee(programs, code, callee),
@@ -138,13 +138,18 @@ impl Machine {
         ensures less { IfOk result (IsLess self.old self.new) }
     {
         match expression(programs, operand)? {
-            Shape::Name(name) => self.typeof_name(programs, &name),
+            Shape::Name(name) => self.typeof_name(programs, operand, &name),
             _ => self.evaluate_then(Work::Operand(OperandWork::Typeof), operand),
         }
     }
 
     // The name of the type of a name's value.
-    fn typeof_name(&mut self, programs: &[Program], name: &Text) -> Result<Now, NoMemory>
+    fn typeof_name(
+        &mut self,
+        programs: &[Program],
+        code: Code,
+        name: &Text,
+    ) -> Result<Now, NoMemory>
         ensures run { IfOk result (λ next. GoesOn programs.now self.old
             (as_value (step (spec_typeof_name name.now))) self.new next) }
         ensures live { IfOk result (IsNextLive self.new) }
@@ -153,7 +158,9 @@ impl Machine {
         if !self.take_step() {
             return Ok(stopped(StopCause::Budget));
         }
-        let found = self.read_name(programs, name)?.unwrap_or(Value::Undefined);
+        let found = self
+            .read_name(programs, code, name)?
+            .unwrap_or(Value::Undefined);
         Ok(value(self.type_text(&found)?))
     }
 

@@ -27,7 +27,8 @@ pub enum Leaf {
     Truth(bool),
     Number(i32),
     Text(Text),
-    Name(Text),
+    /// A name, and its node.
+    Name(Text, Code),
 }
 
 /// What a leaf gives, or why the script is stopped there.
@@ -49,7 +50,7 @@ pub fn leaf_at(programs: &[Program], code: Code) -> Result<Option<Leaf>, NoMemor
         Shape::Truth(truth) => Ok(Some(Leaf::Truth(truth))),
         Shape::Number(number) => Ok(Some(Leaf::Number(number))),
         Shape::Text(text) => Ok(Some(Leaf::Text(text))),
-        Shape::Name(name) => Ok(Some(Leaf::Name(name))),
+        Shape::Name(name) => Ok(Some(Leaf::Name(name, code))),
         _ => Ok(None),
     }
 }
@@ -84,7 +85,7 @@ impl Machine {
             Leaf::Truth(truth) => Ok(Found::Value(Value::Bool(*truth))),
             Leaf::Number(number) => Ok(Found::Value(Value::Number(Num::Whole(*number)))),
             Leaf::Text(text) => Ok(Found::Value(Value::Str(text.share()?))),
-            Leaf::Name(name) => match self.read_name(programs, name)? {
+            Leaf::Name(name, code) => match self.read_name(programs, *code, name)? {
                 Some(value) => Ok(Found::Value(value)),
                 None => Ok(Found::Stopped(StopCause::Unresolved)),
             },

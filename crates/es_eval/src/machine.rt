@@ -33,7 +33,9 @@ use crate::works::{Now, Work};
 use bml_bytes::{NoMemory, Text};
 use es_builtins::{Built, call_function, call_method, construct, law_of_rows, value_named};
 use es_reader::{FunctionDecl, Program};
-use es_shapes::{Code, Declared, Operator, charge_all, charge_operation, declaration, operated};
+use es_shapes::{
+    Code, Declared, Operator, charge_all, charge_operation, declaration, known_place, operated,
+};
 use es_values::{Budget, Heap, Num, Value};
 use std::marker::Model;
 
@@ -203,14 +205,19 @@ impl Machine {
         }
     }
 
-    /// The value of a name: a local, else a global, else what is built in.
+    /// The value of the name of a node: a local, else a global, else what is built in.
     #[tactic(auto, using(crate::proofs::NameLemmas::live_global))]
-    pub fn read_name(&self, programs: &[Program], name: &Text) -> Result<Option<Value>, NoMemory>
+    pub fn read_name(
+        &self,
+        programs: &[Program],
+        code: Code,
+        name: &Text,
+    ) -> Result<Option<Value>, NoMemory>
         ensures value { IfOk result
             (λ found. found ≡ named (world_of programs.now self.now) name.now) }
         ensures live { IfOk result (λ found. IfSome found (λ value. IsLive self.now.heap value)) }
     {
-        if let Some(value) = self.local(programs, name)? {
+        if let Some(value) = self.local(programs, code, name)? {
             return Ok(Some(value));
         }
         match self.globals.get(name) {
@@ -221,12 +228,17 @@ impl Machine {
 
     // The value of a local.
     #[tactic(auto, using(crate::proofs::NameLemmas::no_local, crate::proofs::NameLemmas::local_at, crate::proofs::NameLemmas::live_at))]
-    fn local(&self, programs: &[Program], name: &Text) -> Result<Option<Value>, NoMemory>
+    fn local(
+        &self,
+        programs: &[Program],
+        code: Code,
+        name: &Text,
+    ) -> Result<Option<Value>, NoMemory>
         ensures value { IfOk result
             (λ found. found ≡ spec_local (world_of programs.now self.now) name.now) }
         ensures live { IfOk result (λ found. IfSome found (λ value. IsLive self.now.heap value)) }
     {
-        let Some(place) = self.filled_slot(programs, name)? else {
+        let Some(place) = self.filled_slot(programs, code, name)? else {
             return Ok(None);
         };
         match self.frames.slot(place) {
@@ -235,29 +247,37 @@ impl Machine {
         }
     }
 
-    // The place of a name among the locals of the function that runs, where it is one of them.
-    fn slot_of(&self, programs: &[Program], name: &Text) -> Result<Option<u32>, NoMemory>
+    // The place of the name of a node among the locals of the function that runs, where it is one
+    // of them. A node of that function tells it.
+    fn slot_of(
+        &self,
+        programs: &[Program],
+        code: Code,
+        name: &Text,
+    ) -> Result<Option<u32>, NoMemory>
         ensures { IfOk result (λ found. found ≡ position (is_same name.now)
             (local_names programs.now (function_of self.now.frames))) }
     {
         let Some(declared) = self.frames.function() else {
             return Ok(None);
         };
-        let Some(function) = declaration(programs, declared) else {
-            return Ok(None);
-        };
-        match u32::try_from(function.locals.len()) {
-            Ok(_) => Ok(place_among(&function.locals, name)),
-            Err(_) => Err(NoMemory),
+        match known_place(programs, code, declared, name) {
+            Some(place) => Ok(place),
+            None => place_by_name(programs, declared, name),
         }
     }
 
     // The same, where the call that runs has a value there, as it always does.
     #[tactic(auto, using(crate::proofs::NameLemmas::no_local, crate::proofs::NameLemmas::no_value))]
-    fn filled_slot(&self, programs: &[Program], name: &Text) -> Result<Option<u32>, NoMemory>
+    fn filled_slot(
+        &self,
+        programs: &[Program],
+        code: Code,
+        name: &Text,
+    ) -> Result<Option<u32>, NoMemory>
         ensures { IfOk result (IsSlotOf programs.now self.now.frames name.now) }
     {
-        let Some(place) = self.slot_of(programs, name)? else {
+        let Some(place) = self.slot_of(programs, code, name)? else {
             return Ok(None);
         };
         if self.frames.slot(place).is_some() {
@@ -267,11 +287,12 @@ impl Machine {
         }
     }
 
-    /// Gives a name a value: a local, and else a global, which is made where it is new.
+    /// Gives the name of a node a value: a local, and else a global, which is made where it is new.
     #[tactic(auto, using(crate::proofs::MachineLemmas::stays_where_less))]
     pub fn write_name(
         &mut self,
         programs: &[Program],
+        code: Code,
         name: &Text,
         value: Value,
     ) -> Result<(), NoMemory>
@@ -280,7 +301,7 @@ impl Machine {
             ≡ with_name name.now value (world_of programs.now self.old)) }
         ensures stays { Stays self.old self.new }
     {
-        match self.filled_slot(programs, name)? {
+        match self.filled_slot(programs, code, name)? {
             Some(place) => {
                 self.frames.set_slot(place, value);
                 Ok(())
@@ -517,6 +538,25 @@ impl Machine {
         self.heap.is_sound();
         law_of_rows();
         call_method(base, name, args, &mut self.heap, &mut self.steps)
+    }
+}
+
+// The place of a name among the locals of a function, which are looked through. It is asked only of
+// a node that isn't told to stand in the function.
+fn place_by_name(
+    programs: &[Program],
+    declared: Declared,
+    name: &Text,
+) -> Result<Option<u32>, NoMemory>
+    ensures { IfOk result (λ found. found
+        ≡ position (is_same name.now) (names_at programs.now declared)) }
+{
+    let Some(function) = declaration(programs, declared) else {
+        return Ok(None);
+    };
+    match u32::try_from(function.locals.len()) {
+        Ok(_) => Ok(place_among(&function.locals, name)),
+        Err(_) => Err(NoMemory),
     }
 }
 

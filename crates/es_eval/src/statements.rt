@@ -175,7 +175,8 @@ impl Machine {
         ensures live { IfOk result (IsNextLive self.new) }
         ensures less { IfOk result (IsLess self.old self.new) }
     {
-        self.write_name(programs, name, given)?;
+        let declared = declarator_before(programs, code, next);
+        self.write_name(programs, declared, name, given)?;
         self.declare(programs, code, next)
     }
 
@@ -406,13 +407,21 @@ impl Machine {
             VisitorShape::VisitTarget(target) => {
                 self.enter_target(programs, target, Use::Visit(name, visit))
             }
-            VisitorShape::VisitVar(variable) => {
+            VisitorShape::VisitVar(local, code) => {
                 if !self.take_step() {
                     return Ok(stopped(StopCause::Budget));
                 }
-                self.on_place(programs, Use::Visit(name, visit), Place::Name(variable))
+                self.on_place(programs, Use::Visit(name, visit), Place::Name(local, code))
             }
         }
+    }
+}
+
+// The declarator of a `var` before the one at a place, and the `var` itself where there is none.
+fn declarator_before(programs: &[Program], code: Code, next: usize) -> Code {
+    match next.checked_sub(1) {
+        Some(place) => part(programs, code, place).unwrap_or(code),
+        None => code,
     }
 }
 

@@ -73,7 +73,7 @@ impl Machine {
         ensures less { IfOk result (IsLittle self.old self.new) }
     {
         match shape {
-            Shape::Name(name) => self.on_place(programs, purpose, Place::Name(name)),
+            Shape::Name(name) => self.on_place(programs, purpose, Place::Name(name, code)),
             Shape::Index(base, key) => {
                 self.evaluate_then(Work::Target(TargetWork::IndexBase(key, purpose)), base)
             }
@@ -82,13 +82,18 @@ impl Machine {
             }
             other => {
                 discard(other);
-                self.on_no_target(programs, purpose)
+                self.on_no_target(programs, code, purpose)
             }
         }
     }
 
     // What is no target is a name without codes.
-    fn on_no_target(&mut self, programs: &[Program], purpose: Use) -> Result<Now, NoMemory>
+    fn on_no_target(
+        &mut self,
+        programs: &[Program],
+        code: Code,
+        purpose: Use,
+    ) -> Result<Now, NoMemory>
         requires { AreLive self.old.heap (values_of_use purpose) }
         ensures run { IfOk result (λ next. GoesOn programs.now self.old
             (use_row programs.now purpose (NamePlace [])) self.new next) }
@@ -96,7 +101,7 @@ impl Machine {
         ensures less { IfOk result (IsLittle self.old self.new) }
     {
         match Text::of_codes(self.heap.allocator(), &[]) {
-            Ok(name) => self.on_place(programs, purpose, Place::Name(name)),
+            Ok(name) => self.on_place(programs, purpose, Place::Name(name, code)),
             Err(NoMemory) => {
                 discard(purpose);
                 Err(NoMemory)
@@ -393,19 +398,24 @@ impl Machine {
         ensures less { IfOk result (IsLess self.old self.new) }
     {
         match place {
-            Place::Name(name) => self.name_value(programs, &name),
+            Place::Name(name, code) => self.name_value(programs, code, &name),
             Place::Member(base, key) => self.read_member(base, key),
         }
     }
 
-    /// The value of a name, where something has it.
-    pub fn name_value(&mut self, programs: &[Program], name: &Text) -> Result<Now, NoMemory>
+    /// The value of the name of a node, where something has it.
+    pub fn name_value(
+        &mut self,
+        programs: &[Program],
+        code: Code,
+        name: &Text,
+    ) -> Result<Now, NoMemory>
         ensures run { IfOk result (λ next. GoesOn programs.now self.old
             (as_value (spec_read_name name.now)) self.new next) }
         ensures live { IfOk result (IsNextLive self.new) }
         ensures less { IfOk result (IsLess self.old self.new) }
     {
-        match self.read_name(programs, name)? {
+        match self.read_name(programs, code, name)? {
             Some(found) => Ok(value(found)),
             None => Ok(stopped(StopCause::Unresolved)),
         }
@@ -427,8 +437,8 @@ impl Machine {
         ensures less { IfOk result (IsLess self.old self.new) }
     {
         match place {
-            Place::Name(name) => {
-                self.write_name(programs, &name, given.share()?)?;
+            Place::Name(name, code) => {
+                self.write_name(programs, code, &name, given.share()?)?;
                 Ok(value(given))
             }
             Place::Member(base, key) => self.write_member(base, key, given),
@@ -493,7 +503,7 @@ impl Place {
         ensures { IfOk result (λ place. place ≡ self.now) }
     {
         match self {
-            Place::Name(name) => Ok(Place::Name(name.share()?)),
+            Place::Name(name, code) => Ok(Place::Name(name.share()?, *code)),
             Place::Member(base, key) => Ok(Place::Member(base.share()?, key.share()?)),
         }
     }

@@ -104,10 +104,10 @@ pub struct OpenCall {
     pub next: usize,
 }
 
-/// What a target names: a name, or the member of a value.
+/// What a target names: the name of a node, or the member of a value.
 #[derive(Drop)]
 pub enum Place {
-    Name(Text),
+    Name(Text, Code),
     Member(Value, Text),
 }
 

@@ -24,7 +24,7 @@ leaf_expression leaf_of.Null = Null
 leaf_expression (leaf_of.Truth truth) = Truth truth
 leaf_expression (leaf_of.Number number) = Number number
 leaf_expression (leaf_of.Text text) = Text text
-leaf_expression (leaf_of.Name name) = Name name
+leaf_expression (leaf_of.Name name code) = Name name
 
 -- a value is given, or the script is stopped
 abbrev pub found_run : Found → World → Next Value → Run

@@ -137,7 +137,7 @@ run_from programs m next = next_run programs next (world_of programs m) (rest pr
 
 abbrev pub values_of_place : Place → List Value
 values_of_place (placed.Member base key) = base ∷ []
-values_of_place (placed.Name name) = []
+values_of_place (placed.Name name code) = []
 
 abbrev pub values_of_use : Use → List Value
 values_of_use (use_of.Visit name visit) = Object visit.object ∷ []

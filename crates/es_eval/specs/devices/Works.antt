@@ -148,7 +148,7 @@ call_work_row programs (call.Constructed new) value = gives (object_or new value
 -- ---- targets
 
 abbrev pub place_of : Placed → Place
-place_of (placed.Name name) = NamePlace name
+place_of (placed.Name name code) = NamePlace name
 place_of (placed.Member base key) = MemberPlace base key
 
 abbrev pub visit_task : List ToldProgram → Visit → Task

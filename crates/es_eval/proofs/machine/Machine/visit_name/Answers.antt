@@ -11,9 +11,9 @@ pub returns-then-not-take_step-clause-run : goal.returns-then-not-take_step-clau
 returns-then-not-take_step-clause-run c =
     let more = use_row c.args.programs.now (VisitUse c.args.name c.args.visit) in
     visit-var c.args.programs.now c.args.self.now c.take_step.new.self c.args.visit.visitor
-    c.in-VisitVar.variable more c.stopped.result (sym c.in_ok-target.ensures ∙ c.in-VisitVar.is)
+    c.in-VisitVar.local c.in-VisitVar.code more c.stopped.result (sym c.in_ok-target.ensures ∙ c.in-VisitVar.is)
     (unstepped-run c.args.programs.now c.args.self.now c.take_step.new.self c.take_step.result
-    (more (NamePlace c.in-VisitVar.variable)) c.stopped.result c.take_step.ensures.step
+    (more (NamePlace c.in-VisitVar.local)) c.stopped.result c.take_step.ensures.step
     c.if-not-take_step.true c.stopped.ensures)
 
 pub returns-in-VisitTarget-clause-run : goal.returns-in-VisitTarget-clause-run
@@ -29,8 +29,8 @@ returns-else-not-take_step-clause-run c =
     let more = use_row c.args.programs.now (VisitUse c.args.name c.args.visit) in
     IfOk-weaker c.on_place.result _ _ (λ next on.
     visit-var c.args.programs.now c.args.self.now c.on_place.new.self c.args.visit.visitor
-    c.in-VisitVar.variable more next (sym c.in_ok-target.ensures ∙ c.in-VisitVar.is)
+    c.in-VisitVar.local c.in-VisitVar.code more next (sym c.in_ok-target.ensures ∙ c.in-VisitVar.is)
     (stepped-run c.args.programs.now c.args.self.now c.take_step.new.self c.on_place.new.self
-    c.take_step.result (more (NamePlace c.in-VisitVar.variable)) next c.take_step.ensures.step
+    c.take_step.result (more (NamePlace c.in-VisitVar.local)) next c.take_step.ensures.step
     c.if-not-take_step.false c.take_step.ensures.stays on))
     c.on_place.ensures.run
