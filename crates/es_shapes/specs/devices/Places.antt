@@ -1,5 +1,4 @@
--- The names of the locals of functions, and none where no function is told. (A device of the
--- proofs.)
+-- The names of the locals of functions. (A device of the proofs.)
 use Rattle.std.specs.Prelude.{ℕ, List, [], slice_get}
 use Rattle.std.specs.Option.{option_and_then, option_map_or}
 use Rattle.es_reader.specs.Programs.{ToldProgram}
