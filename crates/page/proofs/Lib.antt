@@ -1,5 +1,8 @@
 mod ActLemmas
+mod FollowLemmas
 mod GiftLaws
+mod MemoryLaws
 mod PageLaws
 mod PendingLaws
+mod ReadingLaws
 mod StandingLaws

@@ -1,6 +1,6 @@
 -- What calls of a page come to, whatever state it is in.
 use Rattle.std.proofs.Common.{◌≡◌, ◌∙◌, ℕ, ◌+◌, ◌<◌, ◌≤◌, suc, Bool, true, false, List, [], ◌∷◌, ◌++◌, length, drop, refl, sym, ap, ap₂, subst, append_assoc, append-nil, arith}
-use Rattle.std.specs.Prelude.{zero, Option, Some, None, IfOk, OnOk, is_err, option_map, option_and_then, Result, Ok, Err}
+use Rattle.std.specs.Prelude.{zero, Option, Some, None, IfOk, OnOk, is_err, option_map, option_and_then, Result, Ok, Err, option_to_list}
 use Rattle.std.specs.Option.{option_map_or, option_or}
 use Rattle.std.specs.Io.{StartsWith}
 use Rattle.std.proofs.lemmas.List.{take-append-drop}
@@ -17,7 +17,7 @@ use Rattle.module_locks.specs.Locks.{Modules, start_path}
 use Rattle.module_locks.specs.Standing.{ModulesState}
 use Rattle.module_store.specs.Lines.{line_of_change}
 use Rattle.multipart_entities.specs.declared.paths.Path.{Path}
-use Rattle.acting_documents.specs.Beginnings.{load_effect}
+use Rattle.acting_documents.specs.Beginnings.{load_effect, unload_effect}
 use Rattle.acting_documents.specs.Documents.{Document, document_lines}
 use Rattle.acting_documents.specs.devices.Doings.{IsScene}
 use Rattle.acting_documents.specs.Handling.{change_effect, due_effect, event_effect, without_first}
@@ -27,14 +27,18 @@ use Rattle.page.specs.devices.Acts.{Acts, ActsApart, HasActed, HasStayed, Lent, 
 use Rattle.page.specs.Dispatches.{dispatch, dispatches, event_in, load_at, most_dispatches, next_and, next_event, next_load, turn}
 use Rattle.page.specs.Inputs.{change_step, display_of, document_step, due_step, with_clock}
 use Rattle.page.specs.Loading.{load, loadable_reading, document_of_draft, wanted_path}
+use Rattle.page.specs.Remembering.{Loaded, loaded_at, loads_behind, loads_in, loads_of_turn}
+use Rattle.page.specs.devices.Memories.{MemoryState, RemembersBehind, RemembersTruly}
 use Rattle.page.specs.devices.Pendings.{Loads, loading_behind, wanted_at, wanted_of}
-use Rattle.page.specs.Standing.{AreDocuments, Begins, HasMade, HasMadeAmid, HasMadeOf, IsAlone, Makes, MakesAmid, MakesWith, MayMake, PageState, Posts, StandsAmid, StandsFor, TakesLoad, behind_launch, page_owed, with_document}
+use Rattle.page.specs.Standing.{AreDocuments, Begins, HasMade, HasMadeAmid, HasMadeOf, IsAlone, Makes, MakesAmid, MakesWith, MayMake, PageState, Posts, StandsAmid, StandsFor, TakesLoad, behind_launch, page_owed, with_document, Remembers, RemembersLoads, RemembersStill, memory_of, next_loads}
 use Rattle.page.specs.State.{State, Step, Wanted, scene_in, stays_or_goes, step_behind, step_of, still}
 use Rattle.page.specs.State.Wanted.{NoDocument}
 use Rattle.page.specs.declared.loading.Load.{Load}
 use Rattle.page.specs.declared.loading.Load.TheVariants as came
 use Rattle.page.specs.declared.loading.Loading.{Loading}
 use Rattle.page.specs.declared.loading.Loading.TheVariants as kept
+use Rattle.page.proofs.FollowLemmas.{Follows, follows_on, handled-follows, load-follows, reached_later, unload-follows}
+use Rattle.page.proofs.MemoryLaws.{remembers_both, remembers_none, truly_later}
 use Rattle.page.proofs.StandingLaws.{behind_change, nothing_read, stands_followed}
 
 -- ---- pages that differ in what stands for no part of a state
@@ -51,6 +55,9 @@ spent_stands page spent modules changes s stands = record {
   current = stands.current;
   clock = stands.clock;
   browser = stands.browser;
+  happened = stands.happened;
+  reached = stands.reached;
+  truly = stands.truly;
 }
 
 pub makes_spent : (step : State → Step) (old new : PageState) (before after : List ℕ) (spent : Bool) → Makes step old new before after → Makes step old (with_spent spent new) before after
@@ -91,6 +98,9 @@ alone document loading k is is_alone = subst (λ (o : Option KeptDocument). IsAl
 abbrev pub with_loading : Loading → PageState → PageState
 with_loading loading page = record page { loading = loading }
 
+abbrev pub with_memory : MemoryState → PageState → PageState
+with_memory memory page = record page { remembered = memory.remembered; hits = memory.hits; entries = memory.entries }
+
 -- where a document is kept, it is that of the state
 document_there : (page : PageState) (s : State) (k : KeptDocument) → page.document ≡ Some k → AreDocuments page.document s.document → (d : Document) × (s.document ≡ Some d) × IsDocument k d
 document_there page s k is are = by s.document refl (subst (λ (x : Option KeptDocument). AreDocuments x s.document) is are)
@@ -127,9 +137,9 @@ scene_of page modules changes s k d stands is = record {
 }
 
 -- the page behind what its document did where it launched none, amid changes that are still to be posted
-stayed_amid : (page : PageState) (lent given_back : ModulesState) (changes : List (ℕ × Change)) (s : State) (k : KeptDocument) (browser : BrowserParts) (text : List ℕ) (e : Effect) → page.loading ≡ kept.Nothing → StandsAmid page lent changes s
+stayed_amid : (page : PageState) (lent given_back : ModulesState) (changes : List (ℕ × Change)) (s : State) (k : KeptDocument) (browser : BrowserParts) (text : List ℕ) (e : Effect) → page.loading ≡ kept.Nothing → Follows s.modules e.scene.modules → StandsAmid page lent changes s
     → HasStayed k (record { browser = browser; modules = given_back }) text e → HasMadeAmid (with_document k browser page) given_back changes text (step_of s e)
-stayed_amid page lent given_back changes s k browser text e none stands stayed =
+stayed_amid page lent given_back changes s k browser text e none follows stands stayed =
     subst (λ (o : Option Path). HasMadeAmid (with_document k browser page) given_back changes text (step_behind e.text (stays_or_goes o s e.scene))) (sym stayed.launched_is) (record {
       stands = record {
         modules_are = stayed.modules;
@@ -139,17 +149,21 @@ stayed_amid page lent given_back changes s k browser text e none stands stayed =
         current = nothing_read page e.scene.modules changes none;
         clock = stands.clock;
         browser = stayed.browser_is;
+        happened = stands.happened ++ follows.more;
+        reached = reached_later s.modules e.scene.modules stands.happened stands.reached follows;
+        truly = truly_later stands.happened follows.more (memory_of page) stands.truly;
       };
       text_is = stayed.text_is ∙ sym (append-nil e.text);
     })
 
 -- the page behind what its document did, and launched or not
-pub made_of : (launched : Option Path) (page : PageState) (lent given_back : ModulesState) (s : State) (k : KeptDocument) (browser : BrowserParts) (text : List ℕ) (e : Effect) → page.loading ≡ kept.Nothing → StandsFor page lent s
+pub made_of : (launched : Option Path) (page : PageState) (lent given_back : ModulesState) (s : State) (k : KeptDocument) (browser : BrowserParts) (text : List ℕ) (e : Effect) → page.loading ≡ kept.Nothing → Follows s.modules e.scene.modules → StandsFor page lent s
     → HasActed launched k (record { browser = browser; modules = given_back }) text e → HasMade (behind_launch launched (with_document k browser page)) given_back text (step_of s e)
-made_of None page lent given_back s k browser text e none stands acted =
-    let made = stayed_amid page lent given_back [] s k browser text e none stands acted in
+made_of None page lent given_back s k browser text e none follows stands acted =
+    let made = stayed_amid page lent given_back [] s k browser text e none follows stands acted in
     record { stands = made.stands; text_is = made.text_is }
-made_of (Some path) page lent given_back s k browser text e none stands acted =
+made_of (Some path) page lent given_back s k browser text e none follows stands acted =
+    let gone = follows_on s.modules e.scene.modules (unload_effect e.scene).scene.modules follows (unload-follows e.scene) in
     subst (λ (o : Option Path). HasMade (behind_launch (Some path) (with_document k browser page)) given_back text (step_behind e.text (stays_or_goes o s e.scene))) (sym acted.launched_is) (record {
       stands = record {
         modules_are = acted.modules;
@@ -159,6 +173,9 @@ made_of (Some path) page lent given_back s k browser text e none stands acted =
         current = tt;
         clock = stands.clock;
         browser = ap (with_timers no_timers) acted.browser_is;
+        happened = stands.happened ++ gone.more;
+        reached = reached_later s.modules (unload_effect e.scene).scene.modules stands.happened stands.reached gone;
+        truly = truly_later stands.happened gone.more (memory_of page) stands.truly;
       };
       text_is = acted.text_is;
     })
@@ -168,26 +185,26 @@ same_text : (effect : Scene → Effect) (now : ℕ) (k new : KeptDocument) (lent
 same_text effect now k new lent given_back before after acts one other = same_behind before (acts one).text (acts other).text (sym (acts one).printed ∙ (acts other).printed)
 
 -- the page behind what its document did apart from the modules
-stayed_apart : (effect : Scene → Effect) (page : PageState) (k new : KeptDocument) (browser : BrowserParts) (before after : List ℕ) (acts : ActsApart effect page.clock k new page.browser browser before after)
+stayed_apart : (effect : Scene → Effect) (page : PageState) (k new : KeptDocument) (browser : BrowserParts) (before after : List ℕ) (acts : ActsApart effect page.clock k new page.browser browser before after) (follows : (s : Scene) → Follows s.modules (effect s).scene.modules)
     (modules : ModulesState) (changes : List (ℕ × Change)) (s : State) (d : Document) → page.loading ≡ kept.Nothing → StandsAmid page modules changes s → IsDocument k d
     → HasMadeAmid (with_document new browser page) modules changes (acts k.modules).text (step_of s (effect (scene_in s d)))
-stayed_apart effect page k new browser before after acts modules changes s d none stands is =
-    stayed_amid page modules modules changes s new browser (acts k.modules).text (effect (scene_in s d)) none stands
+stayed_apart effect page k new browser before after acts follows modules changes s d none stands is =
+    stayed_amid page modules modules changes s new browser (acts k.modules).text (effect (scene_in s d)) none (follows (scene_in s d)) stands
     (subst (λ (l : List ℕ). HasStayed new (record { browser = browser; modules = modules }) l (effect (scene_in s d))) (same_text effect page.clock k new page.browser browser before after acts modules k.modules)
     ((acts modules).acts (scene_in s d) (scene_of page modules changes s k d stands is)))
 
 document_with : (effect : Scene → Effect) (s : State) (d : Document) → s.document ≡ Some d → document_step effect s ≡ step_of s (effect (scene_in s d))
 document_with effect s d e = ap (λ (o : Option Document). option_map_or (λ d. step_of s (effect (scene_in s d))) o (still s)) e
 
-pub document_made : (effect : Scene → Effect) (page : PageState) (k new : KeptDocument) (browser : BrowserParts) (before after : List ℕ) → page.document ≡ Some k → page.loading ≡ kept.Nothing → ActsApart effect page.clock k new page.browser browser before after
-    → MakesAmid (document_step effect) page (with_document new browser page) before after
-document_made effect page k new browser before after is none acts = record {
+pub document_made : (effect : Scene → Effect) (page : PageState) (k new : KeptDocument) (browser : BrowserParts) (before after : List ℕ) → page.document ≡ Some k → page.loading ≡ kept.Nothing → ((s : Scene) → Follows s.modules (effect s).scene.modules)
+    → ActsApart effect page.clock k new page.browser browser before after → MakesAmid (document_step effect) page (with_document new browser page) before after
+document_made effect page k new browser before after is none follows acts = record {
   text = (acts k.modules).text;
   printed = (acts k.modules).printed;
   makes = λ modules changes s stands.
       let there = document_there page s k is stands.document in
       subst (HasMadeAmid (with_document new browser page) modules changes (acts k.modules).text) (sym (document_with effect s there.0 there.1))
-      (stayed_apart effect page k new browser before after acts modules changes s there.0 none stands there.2);
+      (stayed_apart effect page k new browser before after acts follows modules changes s there.0 none stands there.2);
 }
 
 -- what is made amid changes is made where there are none
@@ -201,13 +218,13 @@ makes_alone step old new before after made = record {
 }
 
 -- what is done by a call that may find no memory
-pub done_as : {A E : Type 0} (effect : Scene → Effect) (old page new : PageState) (k document : KeptDocument) (browser : BrowserParts) (before after : List ℕ) (result : Result A E) → page ≡ old → page.document ≡ Some k → page.loading ≡ kept.Nothing
+pub done_as : {A E : Type 0} (effect : Scene → Effect) (old page new : PageState) (k document : KeptDocument) (browser : BrowserParts) (before after : List ℕ) (result : Result A E) → page ≡ old → page.document ≡ Some k → page.loading ≡ kept.Nothing → ((s : Scene) → Follows s.modules (effect s).scene.modules)
     → new ≡ with_document document browser page → OnOk result (ActsApart effect page.clock k document page.browser browser before after) → OnOk result (MakesAmid (document_step effect) old new before after)
-done_as effect old page new k document browser before after (Err fault) view is none same acts = tt
-done_as effect old page new k document browser before after (Ok done) view is none same acts =
+done_as effect old page new k document browser before after (Err fault) view is none follows same acts = tt
+done_as effect old page new k document browser before after (Ok done) view is none follows same acts =
     subst (λ (p : PageState). MakesAmid (document_step effect) p new before after) view
     (subst (λ (p : PageState). MakesAmid (document_step effect) page p before after) (sym same)
-    (document_made effect page k document browser before after is none acts))
+    (document_made effect page k document browser before after is none follows acts))
 
 -- what the document does in a call that spends the page where it found no memory
 pub told_after : {A E : Type 0} (effect : Scene → Effect) (old page now : PageState) (before after : List ℕ) (called result : Result A E) → OnOk called (MakesAmid (document_step effect) old page before after) → result ≡ called → now ≡ with_spent (is_err called) page
@@ -215,6 +232,17 @@ pub told_after : {A E : Type 0} (effect : Scene → Effect) (old page now : Page
 told_after effect old page now before after (Err fault) result made same spent = makes_after (document_step effect) old page now before after (Err fault) result tt same spent
 told_after effect old page now before after (Ok done) result made same spent =
     makes_after (document_step effect) old page now before after (Ok done) result (makes_alone (document_step effect) old page before after made) same spent
+
+-- nothing is told where there is no document
+pub told_none : (effect : Scene → Effect) (old page new : PageState) (before : List ℕ) → page ≡ old → page.document ≡ None → new ≡ page → MakesAmid (document_step effect) old new before before
+told_none effect old page new before view is same =
+    subst (λ (p : PageState). MakesAmid (document_step effect) p new before before) view (subst (λ (p : PageState). MakesAmid (document_step effect) page p before before) (sym same) (record {
+      text = [];
+      printed = sym (append-nil before);
+      makes = λ modules changes s stands.
+          subst (HasMadeAmid page modules changes []) (sym (ap (λ (o : Option Document). option_map_or (λ d. step_of s (effect (scene_in s d))) o (still s)) (none_there page s is stands.document)))
+          (record { stands = stands; text_is = refl });
+    }))
 
 -- ---- moments
 
@@ -232,6 +260,9 @@ clock_moved moment page modules text s e has = by e.launched has
         current = has.stands.current;
         clock = refl;
         browser = has.stands.browser;
+        happened = has.stands.happened;
+        reached = has.stands.reached;
+        truly = has.stands.truly;
       };
       text_is = has.text_is;
     }
@@ -244,6 +275,9 @@ clock_moved moment page modules text s e has = by e.launched has
         current = has.stands.current;
         clock = refl;
         browser = has.stands.browser;
+        happened = has.stands.happened;
+        reached = has.stands.reached;
+        truly = has.stands.truly;
       };
       text_is = has.text_is;
     }
@@ -267,6 +301,9 @@ moved moment old page before after made = record {
         current = has.stands.current;
         clock = refl;
         browser = has.stands.browser;
+        happened = has.stands.happened;
+        reached = has.stands.reached;
+        truly = has.stands.truly;
       };
       text_is = has.text_is;
     }
@@ -364,6 +401,9 @@ shown_with page k new before between after is printed shown same grows = record 
           current = stands.current;
           clock = stands.clock;
           browser = stands.browser;
+          happened = stands.happened;
+          reached = stands.reached;
+          truly = stands.truly;
         };
         text_is = ap₂ (λ (a b : List ℕ). a ++ b) (ap clock_line stands.clock) lines ∙ sym (display_with s (Some there.0) there.1);
       };
@@ -452,7 +492,7 @@ event_made event launched lent given_back page k new browser before after is non
       let there = document_there page s k is stands.document in
       let scene = without_first (scene_in s there.0) in
       let acted = acts.acts scene (scene_of page lent [] s (queue_taken k) (taken_of there.0) stands (taken_is k there.0 there.2)) in
-      let made = made_of launched page lent given_back s new browser acts.text (event_effect event scene) none stands acted in
+      let made = made_of launched page lent given_back s new browser acts.text (event_effect event scene) none (handled-follows event scene) stands acted in
       subst (HasMadeOf true (behind_launch launched (with_document new browser page)) given_back acts.text s)
       (sym (event_there s there.0 event there.1 (ap first_of (sym (same_queue k there.0 there.2)) ∙ first))) (record { stands = made.stands; text_is = made.text_is });
 }
@@ -499,6 +539,9 @@ no_event_waits modules old page k taken before view is none e =
               current = stands.current;
               clock = stands.clock;
               browser = stands.browser;
+              happened = stands.happened;
+              reached = stands.reached;
+              truly = stands.truly;
             };
             text_is = refl;
           });
@@ -595,15 +638,16 @@ load_nothing modules old page loading before view is e =
     subst (λ (p : PageState). MayMake false modules modules next_load p (with_loading loading page) before before) view
     (subst (λ (l : Loading). MayMake false modules modules next_load page (with_loading l page) before before) (is ∙ sym e) (none_wanted modules page before is))
 
-load_waits : (modules : ModulesState) (page : PageState) (loading : Loading) (before after : List ℕ) → (page.loading ≡ kept.Nothing → ⊥) → Loads modules page.loading (came.Waits loading) before after
-    → MayMake false modules modules next_load page (with_loading loading page) before after
-load_waits modules page loading before after wanted loads = record {
+load_waits : (modules : ModulesState) (page : PageState) (memory : MemoryState) (loading : Loading) (before after : List ℕ) → (page.loading ≡ kept.Nothing → ⊥) → Loads modules page.loading (came.Waits loading) (memory_of page) memory before after
+    → MayMake false modules modules next_load page (with_memory memory (with_loading loading page)) before after
+load_waits modules page memory loading before after wanted loads = record {
   text = loads.text;
   printed = loads.printed;
   makes = λ s stands.
       let at = path_wanted page.loading wanted s.modules in
-      let goes = loads.loads s.modules stands.modules_are stands.current at.0 at.1 s.read stands.reader in
-      subst (HasMadeOf false (with_loading loading page) modules loads.text s) (sym (load_next s (wanted_of page.loading) at.0 None (sym stands.wanted) at.1 goes.none)) (record {
+      let came = loads.loads s.modules stands.modules_are stands.happened stands.reached stands.truly stands.current at.0 at.1 s.read stands.reader in
+      let goes = came.loads in
+      subst (HasMadeOf false (with_memory memory (with_loading loading page)) modules loads.text s) (sym (load_next s (wanted_of page.loading) at.0 None (sym stands.wanted) at.1 goes.none)) (record {
         stands = record {
           modules_are = stands.modules_are;
           reader = stands.reader;
@@ -612,20 +656,28 @@ load_waits modules page loading before after wanted loads = record {
           current = goes.current;
           clock = stands.clock;
           browser = stands.browser;
+          happened = stands.happened;
+          reached = stands.reached;
+          truly = came.remembers.truly;
         };
         text_is = goes.silent;
       });
 }
 
-load_refused : (modules : ModulesState) (page : PageState) (before after : List ℕ) → (page.loading ≡ kept.Nothing → ⊥) → Loads modules page.loading came.Refused before after
-    → MayMake true modules modules next_load page (record page { loading = kept.Nothing; document = None; worked = 0 }) before after
-load_refused modules page before after wanted loads = record {
+-- behind a document that was refused
+abbrev pub refused_page : MemoryState → PageState → PageState
+refused_page memory page = record (with_memory memory page) { loading = kept.Nothing; document = None; worked = 0 }
+
+load_refused : (modules : ModulesState) (page : PageState) (memory : MemoryState) (before after : List ℕ) → (page.loading ≡ kept.Nothing → ⊥) → Loads modules page.loading came.Refused (memory_of page) memory before after
+    → MayMake true modules modules next_load page (refused_page memory page) before after
+load_refused modules page memory before after wanted loads = record {
   text = loads.text;
   printed = loads.printed;
   makes = λ s stands.
       let at = path_wanted page.loading wanted s.modules in
-      let refused = loads.loads s.modules stands.modules_are stands.current at.0 at.1 s.read stands.reader in
-      subst (HasMadeOf true (record page { loading = kept.Nothing; document = None; worked = 0 }) modules loads.text s)
+      let what = loads.loads s.modules stands.modules_are stands.happened stands.reached stands.truly stands.current at.0 at.1 s.read stands.reader in
+      let refused = what.loads in
+      subst (HasMadeOf true (refused_page memory page) modules loads.text s)
       (sym (load_next s (wanted_of page.loading) at.0 (Some (Err refused.fault)) (sym stands.wanted) at.1 refused.reading_is)) (record {
         stands = record {
           modules_are = stands.modules_are;
@@ -635,6 +687,9 @@ load_refused modules page before after wanted loads = record {
           current = tt;
           clock = stands.clock;
           browser = stands.browser;
+          happened = stands.happened;
+          reached = stands.reached;
+          truly = what.remembers.truly;
         };
         text_is = refused.text_is;
       });
@@ -644,8 +699,8 @@ load_refused modules page before after wanted loads = record {
 abbrev unwanting : State → State
 unwanting s = record s { wanted = NoDocument }
 
-nothing_wanted : (page : PageState) (modules : ModulesState) (s : State) → StandsFor page modules s → StandsFor (with_loading kept.Nothing page) modules (unwanting s)
-nothing_wanted page modules s stands = record {
+nothing_wanted : (page : PageState) (memory : MemoryState) (modules : ModulesState) (s : State) → (stands : StandsFor page modules s) → RemembersTruly stands.happened memory → StandsFor (with_memory memory (with_loading kept.Nothing page)) modules (unwanting s)
+nothing_wanted page memory modules s stands truly = record {
   modules_are = stands.modules_are;
   reader = stands.reader;
   document = stands.document;
@@ -653,22 +708,26 @@ nothing_wanted page modules s stands = record {
   current = tt;
   clock = stands.clock;
   browser = stands.browser;
+  happened = stands.happened;
+  reached = stands.reached;
+  truly = truly;
 }
 
-load_made : (lent given_back : ModulesState) (page now : PageState) (k : KeptDocument) (before between after : List ℕ) → (page.loading ≡ kept.Nothing → ⊥) → Loads lent page.loading (came.Loaded k) before between
-    → Begins lent given_back k (with_loading kept.Nothing page) now between after → MayMake true lent given_back next_load page now before after
-load_made lent given_back page now k before between after wanted loads begins =
+load_made : (lent given_back : ModulesState) (page now : PageState) (memory : MemoryState) (k : KeptDocument) (before between after : List ℕ) → (page.loading ≡ kept.Nothing → ⊥) → Loads lent page.loading (came.Loaded k) (memory_of page) memory before between
+    → Begins lent given_back k (with_memory memory (with_loading kept.Nothing page)) now between after → MayMake true lent given_back next_load page now before after
+load_made lent given_back page now memory k before between after wanted loads begins =
     let acts = begins.acts in
-    let began = with_document begins.document begins.browser (with_loading kept.Nothing page) in
+    let began = with_document begins.document begins.browser (with_memory memory (with_loading kept.Nothing page)) in
     record {
       text = loads.text ++ acts.text;
       printed = acts.printed ∙ ap (λ (l : List ℕ). l ++ acts.text) loads.printed ∙ append_assoc before loads.text acts.text;
       makes = λ s stands.
           let at = path_wanted page.loading wanted s.modules in
-          let has = loads.loads s.modules stands.modules_are stands.current at.0 at.1 s.read stands.reader in
+          let what = loads.loads s.modules stands.modules_are stands.happened stands.reached stands.truly stands.current at.0 at.1 s.read stands.reader in
+          let has = what.loads in
           let d = document_of_draft s.read at.0 has.draft in
           let acted = acts.acts (scene_in s d) (scene_of page lent [] s k d stands has.document_is) in
-          let made = made_of begins.launched (with_loading kept.Nothing page) lent given_back (unwanting s) begins.document begins.browser acts.text (load_effect (scene_in s d)) refl (nothing_wanted page lent s stands) acted in
+          let made = made_of begins.launched (with_memory memory (with_loading kept.Nothing page)) lent given_back (unwanting s) begins.document begins.browser acts.text (load_effect (scene_in s d)) refl (load-follows (scene_in s d)) (nothing_wanted page memory lent s stands what.remembers.truly) acted in
           subst (λ (p : PageState). HasMadeOf true p given_back (loads.text ++ acts.text) s (next_load s)) (sym begins.new_is)
           (subst (HasMadeOf true (behind_launch begins.launched began) given_back (loads.text ++ acts.text) s)
           (sym (load_next s (wanted_of page.loading) at.0 (Some (Ok has.draft)) (sym stands.wanted) at.1 has.reading_is))
@@ -680,37 +739,85 @@ given_back_as : (made : Bool) (lent given_back : ModulesState) (step : State →
 given_back_as made lent given_back step old new before after is may = subst (λ (m : ModulesState). MayMake made lent m step old new before after) (sym is) may
 
 -- what was taken of a load is what the load makes of the state
-takes_load : (lent given_back : ModulesState) (page now : PageState) (what : Load) (made : Bool) (before middle after : List ℕ) → (page.loading ≡ kept.Nothing → ⊥) → Loads lent page.loading what before middle
-    → TakesLoad lent given_back what made (with_loading kept.Nothing page) now middle after → MayMake made lent given_back next_load page now before after
-takes_load lent given_back page now (came.Waits loading) made before middle after wanted loads takes =
+takes_load : (lent given_back : ModulesState) (page now : PageState) (memory : MemoryState) (what : Load) (made : Bool) (before middle after : List ℕ) → (page.loading ≡ kept.Nothing → ⊥) → Loads lent page.loading what (memory_of page) memory before middle
+    → TakesLoad lent given_back what made (with_memory memory (with_loading kept.Nothing page)) now middle after → MayMake made lent given_back next_load page now before after
+takes_load lent given_back page now memory (came.Waits loading) made before middle after wanted loads takes =
     may_make false made lent given_back next_load page now before after (sym takes.0)
     (given_back_as false lent given_back next_load page now before after takes.3
     (subst (λ (p : PageState). MayMake false lent lent next_load page p before after) (sym takes.1)
-    (subst (λ (l : List ℕ). MayMake false lent lent next_load page (with_loading loading page) before l) (sym takes.2) (load_waits lent page loading before middle wanted loads))))
-takes_load lent given_back page now came.Refused made before middle after wanted loads takes =
+    (subst (λ (l : List ℕ). MayMake false lent lent next_load page (with_memory memory (with_loading loading page)) before l) (sym takes.2) (load_waits lent page memory loading before middle wanted loads))))
+takes_load lent given_back page now memory came.Refused made before middle after wanted loads takes =
     may_make true made lent given_back next_load page now before after (sym takes.0)
     (given_back_as true lent given_back next_load page now before after takes.3
     (subst (λ (p : PageState). MayMake true lent lent next_load page p before after) (sym takes.1)
-    (subst (λ (l : List ℕ). MayMake true lent lent next_load page (record page { loading = kept.Nothing; document = None; worked = 0 }) before l) (sym takes.2) (load_refused lent page before middle wanted loads))))
-takes_load lent given_back page now (came.Loaded k) made before middle after wanted loads takes =
-    may_make true made lent given_back next_load page now before after (sym takes.0) (load_made lent given_back page now k before middle after wanted loads takes.1)
+    (subst (λ (l : List ℕ). MayMake true lent lent next_load page (refused_page memory page) before l) (sym takes.2) (load_refused lent page memory before middle wanted loads))))
+takes_load lent given_back page now memory (came.Loaded k) made before middle after wanted loads takes =
+    may_make true made lent given_back next_load page now before after (sym takes.0) (load_made lent given_back page now memory k before middle after wanted loads takes.1)
 
-pub load_taken : {E : Type 0} (lent given_back : ModulesState) (old page now : PageState) (loading emptied : Loading) (what : Load) (before middle after : List ℕ) (result : Result Bool E) → page ≡ old → loading ≡ page.loading → emptied ≡ kept.Nothing
-    → (loading ≡ kept.Nothing → ⊥) → Loads lent loading what before middle → IfOk result (λ made. TakesLoad lent given_back what made (with_loading emptied page) now middle after)
+pub load_taken : {E : Type 0} (lent given_back : ModulesState) (old page now : PageState) (memory : MemoryState) (loading emptied : Loading) (what : Load) (before middle after : List ℕ) (result : Result Bool E) → page ≡ old → loading ≡ page.loading → emptied ≡ kept.Nothing
+    → (loading ≡ kept.Nothing → ⊥) → Loads lent loading what (memory_of page) memory before middle → IfOk result (λ made. TakesLoad lent given_back what made (with_memory memory (with_loading emptied page)) now middle after)
     → IfOk result (λ made. MayMake made lent given_back next_load old now before after)
-load_taken lent given_back old page now loading emptied what before middle after (Err fault) view is none wanted loads takes = takes
-load_taken lent given_back old page now loading emptied what before middle after (Ok made) view is none wanted loads takes =
+load_taken lent given_back old page now memory loading emptied what before middle after (Err fault) view is none wanted loads takes = takes
+load_taken lent given_back old page now memory loading emptied what before middle after (Ok made) view is none wanted loads takes =
     subst (λ (p : PageState). MayMake made lent given_back next_load p now before after) view
-    (takes_load lent given_back page now what made before middle after (λ e. wanted (is ∙ e)) (subst (λ (l : Loading). Loads lent l what before middle) is loads)
-    (subst (λ (l : Loading). TakesLoad lent given_back what made (with_loading l page) now middle after) none takes))
+    (takes_load lent given_back page now memory what made before middle after (λ e. wanted (is ∙ e)) (subst (λ (l : Loading). Loads lent l what (memory_of page) memory before middle) is loads)
+    (subst (λ (l : Loading). TakesLoad lent given_back what made (with_memory memory (with_loading l page)) now middle after) none takes))
+
+-- ---- what is remembered of loads
+
+-- the load of what is wanted is remembered
+remembers_load : (modules : ModulesState) (page now : PageState) (memory : MemoryState) (what : Load) (before after : List ℕ) → (page.loading ≡ kept.Nothing → ⊥) → Loads modules page.loading what (memory_of page) memory before after → memory_of now ≡ memory
+    → RemembersLoads next_loads modules page now
+remembers_load modules page now memory what before after wanted loads same = λ s stands.
+    let at = path_wanted page.loading wanted s.modules in
+    let came = loads.loads s.modules stands.modules_are stands.happened stands.reached stands.truly stands.current at.0 at.1 s.read stands.reader in
+    let is : wanted_path s.wanted s.modules ≡ Some at.0 = ap (λ (w : Wanted). wanted_path w s.modules) (sym stands.wanted) ∙ at.1 in
+    let behind = subst (λ (o : Option Path). RemembersBehind stands.happened (option_to_list (option_and_then (loaded_at s.modules) o)) (memory_of page) memory) (sym is) came.remembers in
+    record {
+      remembered_is = ap (λ (m : MemoryState). m.remembered) same ∙ behind.remembered_is;
+      hits_are = ap (λ (m : MemoryState). m.hits) same ∙ behind.hits_are;
+    }
+
+pub load_remembered : {E : Type 0} (modules : ModulesState) (old page now : PageState) (memory : MemoryState) (loading : Loading) (what : Load) (before middle : List ℕ) (result : Result Bool E) → page ≡ old → loading ≡ page.loading → (loading ≡ kept.Nothing → ⊥)
+    → Loads modules loading what (memory_of page) memory before middle → memory_of now ≡ memory → OnOk result (RemembersLoads next_loads modules old now)
+load_remembered modules old page now memory loading what before middle (Err fault) view is wanted loads same = tt
+load_remembered modules old page now memory loading what before middle (Ok made) view is wanted loads same =
+    subst (λ (p : PageState). RemembersLoads next_loads modules p now) view
+    (remembers_load modules page now memory what before middle (λ e. wanted (is ∙ e)) (subst (λ (l : Loading). Loads modules l what (memory_of page) memory before middle) is loads) same)
+
+-- nothing is wanted
+pub nothing_remembered : (modules : ModulesState) (old page now : PageState) → page ≡ old → page.loading ≡ kept.Nothing → RemembersStill page now → RemembersLoads next_loads modules old now
+nothing_remembered modules old page now view none still =
+    subst (λ (p : PageState). RemembersLoads next_loads modules p now) view (λ s stands.
+    let wanted : s.wanted ≡ NoDocument = sym stands.wanted ∙ ap wanted_of none in
+    subst (λ (w : Wanted). Remembers (option_to_list (option_and_then (loaded_at s.modules) (wanted_path w s.modules))) page now) (sym wanted) (remembers_none stands.happened page now stands.truly still))
+
+-- an event loads nothing
+pub event_remembered : {E : Type 0} (result : Result Bool E) (modules : ModulesState) (old page now : PageState) → RemembersLoads next_loads modules old page → RemembersStill page now → OnOk result (RemembersLoads next_loads modules old now)
+event_remembered (Err fault) modules old page now loads still = tt
+event_remembered (Ok made) modules old page now loads still = λ s stands.
+    let has = loads s stands in
+    record { remembered_is = still.0 ∙ has.remembered_is; hits_are = still.1 ∙ has.hits_are }
+
+-- the same of a call that spends the page where it found no memory
+pub remembers_after : {A E : Type 0} (loads : State → List Loaded) (lent : ModulesState) (old page now : PageState) (called result : Result A E) → OnOk called (RemembersLoads loads lent old page) → result ≡ called → now ≡ with_spent (is_err called) page
+    → OnOk result (RemembersLoads loads lent old now)
+remembers_after {A} {E} loads lent old page now (Err fault) result remembers same spent = subst (λ (r : Result A E). OnOk r (RemembersLoads loads lent old now)) (sym same) tt
+remembers_after {A} {E} loads lent old page now (Ok done) result remembers same spent =
+    subst (λ (r : Result A E). OnOk r (RemembersLoads loads lent old now)) (sym same)
+    (subst (RemembersLoads loads lent old) (sym spent) (λ s stands. let has = remembers s stands in record { remembered_is = has.remembered_is; hits_are = has.hits_are }))
 
 -- ---- turns
 
 -- the page stands for a state behind this text, and so many dispatches of a turn are left
-pub record IsAhead (page : PageState) (modules : ModulesState) (text : List ℕ) (left : ℕ) (whole : Step) : Type 0 where
+pub record IsAhead (old page : PageState) (modules : ModulesState) (text : List ℕ) (left : ℕ) (whole : Step) (loads : List Loaded) : Type 0 where
   pub now : State
   pub stands : StandsFor page modules now
   pub whole_is : whole ≡ step_behind text (dispatches left now)
+  -- these loads were made so far
+  pub so_far : List Loaded
+  pub loads_are : loads ≡ so_far ++ loads_in left now
+  pub remembers : Remembers so_far old page
 
 -- in the midst of a turn, behind so many dispatches: these modules were lent to it, and these are there now
 pub record IsTurning (lent modules : ModulesState) (made : ℕ) (old page : PageState) (before after : List ℕ) : Type 0 where
@@ -718,16 +825,23 @@ pub record IsTurning (lent modules : ModulesState) (made : ℕ) (old page : Page
   pub printed : after ≡ before ++ text
   pub left : ℕ
   pub left_is : left + made ≡ most_dispatches
-  pub ahead : (s : State) → StandsFor old lent s → IsAhead page modules text left (turn s)
+  pub ahead : (s : State) → StandsFor old lent s → IsAhead old page modules text left (turn s) (loads_of_turn s)
 
 pub turn_begins : (modules : ModulesState) (page : PageState) (before : List ℕ) → IsTurning modules modules 0 page page before before
-unfolding turn
+unfolding turn loads_of_turn
 turn_begins modules page before = record {
   text = [];
   printed = sym (append-nil before);
   left = most_dispatches;
   left_is = omega arith;
-  ahead = λ s stands. record { now = s; stands = stands; whole_is = refl };
+  ahead = λ s stands. record {
+    now = s;
+    stands = stands;
+    whole_is = refl;
+    so_far = [];
+    loads_are = refl;
+    remembers = remembers_none stands.happened page page stands.truly (refl, refl);
+  };
 }
 
 -- the next dispatch, where there is one
@@ -738,6 +852,21 @@ next_made more s = refl
 none_left : (s : State) → dispatches zero s ≡ still s
 unfolding dispatches
 none_left s = refl
+
+next_loaded_in : (more : ℕ) (s : State) → loads_in (suc more) s ≡ next_loads s ++ loads_behind (loads_in more) (dispatch s)
+unfolding loads_in
+next_loaded_in more s = refl
+
+none_loaded_in : (s : State) → loads_in zero s ≡ []
+unfolding loads_in
+none_loaded_in s = refl
+
+-- the loads so far, and that of the next dispatch
+loads_ahead : (so_far loads : List Loaded) (left next : ℕ) (now : State) (o : Option Step) → left ≡ suc next → dispatch now ≡ o → loads ≡ so_far ++ loads_in left now → loads ≡ (so_far ++ next_loads now) ++ loads_behind (loads_in next) o
+loads_ahead so_far loads left next now o is e loads_are =
+    loads_are ∙ ap (λ (n : ℕ). so_far ++ loads_in n now) is
+    ∙ ap (λ (l : List Loaded). so_far ++ l) (next_loaded_in next now ∙ ap (λ (o : Option Step). next_loads now ++ loads_behind (loads_in next) o) e)
+    ∙ sym (append_assoc so_far (next_loads now) (loads_behind (loads_in next) o))
 
 pub most_is : most_dispatches ≡ 256
 unfolding most_dispatches
@@ -751,11 +880,11 @@ behind_both : (text more : List ℕ) (t : Step) → step_behind text (step_behin
 behind_both text more t = ap (λ (l : List ℕ). record { state = t.state; text = l }) (sym (append_assoc text more t.text))
 
 -- one dispatch more
-one_more : (page new : PageState) (modules given_back : ModulesState) (text more : List ℕ) (left next : ℕ) (whole : Step) → left ≡ suc next → (ahead : IsAhead page modules text left whole)
-    → HasMadeOf true new given_back more ahead.now (dispatch ahead.now) → IsAhead new given_back (text ++ more) next whole
-one_more page new modules given_back text more left next whole is ahead has = by (dispatch ahead.now) refl has
+one_more : (old page new : PageState) (modules given_back : ModulesState) (text more : List ℕ) (left next : ℕ) (whole : Step) (loads : List Loaded) → left ≡ suc next → (ahead : IsAhead old page modules text left whole loads)
+    → HasMadeOf true new given_back more ahead.now (dispatch ahead.now) → Remembers (next_loads ahead.now) page new → IsAhead old new given_back (text ++ more) next whole loads
+one_more old page new modules given_back text more left next whole loads is ahead has remembers = by (dispatch ahead.now) refl has
   where
-    by : (o : Option Step) → dispatch ahead.now ≡ o → HasMadeOf true new given_back more ahead.now o → IsAhead new given_back (text ++ more) next whole
+    by : (o : Option Step) → dispatch ahead.now ≡ o → HasMadeOf true new given_back more ahead.now o → IsAhead old new given_back (text ++ more) next whole loads
     by None e has = absurd has
     by (Some t) e has = record {
       now = t.state;
@@ -765,11 +894,14 @@ one_more page new modules given_back text more left next whole is ahead has = by
           ∙ ap (step_behind text) (next_made next ahead.now ∙ ap (next_and (dispatches next) ahead.now) e)
           ∙ behind_both text t.text (dispatches next t.state)
           ∙ ap (λ (l : List ℕ). step_behind (text ++ l) (dispatches next t.state)) (sym has.text_is);
+      so_far = ahead.so_far ++ next_loads ahead.now;
+      loads_are = loads_ahead ahead.so_far loads left next ahead.now (Some t) is e ahead.loads_are;
+      remembers = remembers_both ahead.so_far (next_loads ahead.now) old page new ahead.remembers remembers;
     }
 
 pub turn_goes : (lent modules given_back : ModulesState) (made : ℕ) (old page new : PageState) (before between after : List ℕ) → made < 256 → IsTurning lent modules made old page before between
-    → MayMake true modules given_back dispatch page new between after → IsTurning lent given_back (made + 1) old new before after
-turn_goes lent modules given_back made old page new before between after h turning may =
+    → MayMake true modules given_back dispatch page new between after → RemembersLoads next_loads modules page new → IsTurning lent given_back (made + 1) old new before after
+turn_goes lent modules given_back made old page new before between after h turning may remembers =
     let next = some_left turning.left made (turning.left_is ∙ most_is) h in
     record {
       text = turning.text ++ may.text;
@@ -778,16 +910,16 @@ turn_goes lent modules given_back made old page new before between after h turni
       left_is = omega (arith, turning.left_is, next.1);
       ahead = λ s stands.
           let ahead = turning.ahead s stands in
-          one_more page new modules given_back turning.text may.text turning.left next.0 (turn s) next.1 ahead (may.makes ahead.now ahead.stands);
+          one_more old page new modules given_back turning.text may.text turning.left next.0 (turn s) (loads_of_turn s) next.1 ahead (may.makes ahead.now ahead.stands) (remembers ahead.now ahead.stands);
     }
 
 -- behind the last dispatch
 ended_at : (new : PageState) (modules : ModulesState) (text : List ℕ) (now : State) (whole : Step) → StandsFor new modules now → whole ≡ step_behind text (still now) → HasMade new modules text whole
 ended_at new modules text now whole stands is = subst (HasMade new modules text) (sym is) (record { stands = stands; text_is = sym (append-nil text) })
 
-none_more : (page new : PageState) (modules given_back : ModulesState) (text more : List ℕ) (left next : ℕ) (whole : Step) → left ≡ suc next → (ahead : IsAhead page modules text left whole)
+none_more : (old page new : PageState) (modules given_back : ModulesState) (text more : List ℕ) (left next : ℕ) (whole : Step) (loads : List Loaded) → left ≡ suc next → (ahead : IsAhead old page modules text left whole loads)
     → HasMadeOf false new given_back more ahead.now (dispatch ahead.now) → HasMade new given_back (text ++ more) whole
-none_more page new modules given_back text more left next whole is ahead has = by (dispatch ahead.now) refl has
+none_more old page new modules given_back text more left next whole loads is ahead has = by (dispatch ahead.now) refl has
   where
     by : (o : Option Step) → dispatch ahead.now ≡ o → HasMadeOf false new given_back more ahead.now o → HasMade new given_back (text ++ more) whole
     by (Some t) e has = absurd has
@@ -806,7 +938,7 @@ turn_stops lent modules given_back made old page new before between after h turn
       printed = may.printed ∙ ap (λ (l : List ℕ). l ++ may.text) turning.printed ∙ append_assoc before turning.text may.text;
       makes = λ s stands.
           let ahead = turning.ahead s stands in
-          none_more page new modules given_back turning.text may.text turning.left next.0 (turn s) next.1 ahead (may.makes ahead.now ahead.stands);
+          none_more old page new modules given_back turning.text may.text turning.left next.0 (turn s) (loads_of_turn s) next.1 ahead (may.makes ahead.now ahead.stands);
     }
 
 zero_left : (left made : ℕ) → left + made ≡ 256 → made ≡ 256 → left ≡ zero
@@ -823,3 +955,30 @@ turn_ends lent modules made old page before after h turning =
           ended_at page modules turning.text ahead.now (turn s) ahead.stands
           (ahead.whole_is ∙ ap (λ (n : ℕ). step_behind turning.text (dispatches n ahead.now)) none ∙ ap (step_behind turning.text) (none_left ahead.now));
     }
+
+-- ---- what is remembered of turns
+
+-- behind the last dispatch, and behind none
+stops_remembering : (old page new : PageState) (modules given_back : ModulesState) (text more : List ℕ) (left next : ℕ) (whole : Step) (loads : List Loaded) → left ≡ suc next → (ahead : IsAhead old page modules text left whole loads)
+    → HasMadeOf false new given_back more ahead.now (dispatch ahead.now) → Remembers (next_loads ahead.now) page new → Remembers loads old new
+stops_remembering old page new modules given_back text more left next whole loads is ahead has remembers = by (dispatch ahead.now) refl has
+  where
+    by : (o : Option Step) → dispatch ahead.now ≡ o → HasMadeOf false new given_back more ahead.now o → Remembers loads old new
+    by (Some t) e has = absurd has
+    by None e has =
+        subst (λ (l : List Loaded). Remembers l old new) (sym (loads_ahead ahead.so_far loads left next ahead.now None is e ahead.loads_are ∙ append-nil (ahead.so_far ++ next_loads ahead.now)))
+        (remembers_both ahead.so_far (next_loads ahead.now) old page new ahead.remembers remembers)
+
+pub turn_stops_remembering : (lent modules given_back : ModulesState) (made : ℕ) (old page new : PageState) (before between after : List ℕ) → made < 256 → IsTurning lent modules made old page before between
+    → MayMake false modules given_back dispatch page new between after → RemembersLoads next_loads modules page new → RemembersLoads loads_of_turn lent old new
+turn_stops_remembering lent modules given_back made old page new before between after h turning may remembers = λ s stands.
+    let next = some_left turning.left made (turning.left_is ∙ most_is) h in
+    let ahead = turning.ahead s stands in
+    stops_remembering old page new modules given_back turning.text may.text turning.left next.0 (turn s) (loads_of_turn s) next.1 ahead (may.makes ahead.now ahead.stands) (remembers ahead.now ahead.stands)
+
+pub turn_ends_remembering : (lent modules : ModulesState) (made : ℕ) (old page : PageState) (before after : List ℕ) → made ≡ 256 → IsTurning lent modules made old page before after → RemembersLoads loads_of_turn lent old page
+turn_ends_remembering lent modules made old page before after h turning = λ s stands.
+    let none = zero_left turning.left made (turning.left_is ∙ most_is) h in
+    let ahead = turning.ahead s stands in
+    subst (λ (l : List Loaded). Remembers l old page)
+    (sym (ahead.loads_are ∙ ap (λ (n : ℕ). ahead.so_far ++ loads_in n ahead.now) none ∙ ap (λ (l : List Loaded). ahead.so_far ++ l) (none_loaded_in ahead.now) ∙ append-nil ahead.so_far)) ahead.remembers

@@ -1,5 +1,5 @@
 -- What becomes of what is kept of a document that is wanted, where changes in modules are posted.
-use Rattle.std.proofs.Common.{◌≡◌, ◌∙◌, ℕ, ◌<◌, Bool, true, false, cond, eqb, ◌&&◌, List, [], ◌∷◌, refl, sym, ap, ap₂, subst}
+use Rattle.std.proofs.Common.{◌≡◌, ◌∙◌, ℕ, ◌<◌, Bool, true, false, cond, eqb, ◌&&◌, List, [], ◌∷◌, ◌++◌, refl, sym, ap, ap₂, subst}
 use Rattle.std.specs.Prelude.{◌||◌, AllPairs, Option, Some, None, map}
 use Rattle.std.specs.Option.{option_map_or}
 use Rattle.std.specs.List.{list_any}
@@ -8,6 +8,7 @@ use Rattle.multipart_entities.specs.declared.paths.Path.{Path}
 use Rattle.carousel_blocks.specs.declared.changes.Change.{Change}
 use Rattle.psi_tables.specs.declared.components.Component.{Component}
 use Rattle.psi_tables.specs.Components.{AreApart}
+use Rattle.module_locks.specs.Histories.Happening.{Fed, Mapped}
 use Rattle.module_locks.specs.Locks.{Modules, changes_by, kept_on, look_up, start_path, start_path_as, with_map, with_section}
 use Rattle.module_locks.specs.Standing.{ModulesState}
 use Rattle.module_locks.specs.Standing as of_modules
@@ -21,8 +22,10 @@ use Rattle.page.specs.declared.loading.Loading.{Loading}
 use Rattle.page.specs.declared.loading.Loading.TheVariants as kept
 use Rattle.page.specs.devices.Pendings.{IsCurrent, loading_behind, loading_behind_all, unread_loading, wanted_at, wanted_of}
 use Rattle.page.specs.devices.PendingStates.{IsFound, IsStartPath, PendingState}
-use Rattle.page.specs.Standing.{PageState, StandsAmid, StandsFor}
+use Rattle.page.specs.Standing.{PageState, StandsAmid, StandsFor, memory_of}
 use Rattle.page.specs.State.{State, with_modules}
+use Rattle.page.proofs.FollowLemmas.{Follows, reached_later}
+use Rattle.page.proofs.MemoryLaws.{truly_later}
 
 -- ---- what is wanted stays so
 
@@ -55,6 +58,9 @@ stands_followed component change changes page modules s stands = record {
   current = stands.current;
   clock = stands.clock;
   browser = stands.browser;
+  happened = stands.happened;
+  reached = stands.reached;
+  truly = stands.truly;
 }
 
 -- ---- what several changes leave of a document that is wanted
@@ -216,8 +222,8 @@ current_in_maps found start modules components kept.Nothing apart is = subst (λ
 
 -- with other modules, and what is current there of the document that is wanted once these changes are posted
 stands_behind : (changes : List (ℕ × Change)) (page : PageState) (old new : ModulesState) (modules : Modules) (s : State) → StandsFor page old s → of_modules.StandsFor new modules
-    → IsCurrent modules (loading_behind_all changes page.loading) → StandsAmid page new changes (with_modules modules s)
-stands_behind changes page old new modules s stands are current = record {
+    → Follows s.modules modules → IsCurrent modules (loading_behind_all changes page.loading) → StandsAmid page new changes (with_modules modules s)
+stands_behind changes page old new modules s stands are follows current = record {
   modules_are = are;
   reader = stands.reader;
   document = stands.document;
@@ -225,6 +231,9 @@ stands_behind changes page old new modules s stands are current = record {
   current = current;
   clock = stands.clock;
   browser = stands.browser;
+  happened = stands.happened ++ follows.more;
+  reached = reached_later s.modules modules stands.happened stands.reached follows;
+  truly = truly_later stands.happened follows.more (memory_of page) stands.truly;
 }
 
 pub stands_in_sections : FoundInSections → StartInSections → (page : PageState) (old new : ModulesState) (s : State) (component : ℕ) (section : List ℕ) → StandsFor page old s
@@ -232,12 +241,13 @@ pub stands_in_sections : FoundInSections → StartInSections → (page : PageSta
     → StandsAmid page new (map (λ change. (component, change)) (changes_by component section s.modules)) (with_modules (with_section component section s.modules) s)
 stands_in_sections found start page old new s component section stands are =
     stands_behind (map (λ change. (component, change)) (changes_by component section s.modules)) page old new (with_section component section s.modules) s stands are
-    (current_in_sections found start s.modules component section page.loading stands.current)
+    (record { more = Fed component section ∷ []; reached = refl }) (current_in_sections found start s.modules component section page.loading stands.current)
 
 pub stands_in_maps : FoundInMaps → StartInMaps → (page : PageState) (old new : ModulesState) (s : State) (components : List Component) → AllPairs AreApart components → StandsFor page old s
     → of_modules.StandsFor new (with_map components s.modules) → StandsAmid page new (gone_by components s.modules.stored) (with_modules (with_map components s.modules) s)
 stands_in_maps found start page old new s components apart stands are =
-    stands_behind (gone_by components s.modules.stored) page old new (with_map components s.modules) s stands are (current_in_maps found start s.modules components page.loading apart stands.current)
+    stands_behind (gone_by components s.modules.stored) page old new (with_map components s.modules) s stands are
+    (record { more = Mapped components ∷ []; reached = refl }) (current_in_maps found start s.modules components page.loading apart stands.current)
 
 -- ---- a document that is there
 

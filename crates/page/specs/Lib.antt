@@ -4,4 +4,5 @@ pub mod Loading
 pub mod Dispatches
 pub mod Inputs
 pub mod devices
+pub mod Remembering
 pub mod Standing

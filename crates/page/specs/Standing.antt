@@ -1,7 +1,9 @@
 -- For which state a page stands, with the modules of the service. (This project's own.)
-use Rattle.std.specs.Prelude.{◌≡◌, ◌++◌, Bool, true, false, ℕ, List, [], Option, Some, None}
+use Rattle.std.specs.Prelude.{◌≡◌, ◌++◌, Bool, true, false, ℕ, List, [], Option, Some, None, ◌+◌, ◌-◌, ◌^◌, min, option_to_list}
 use Rattle.std.specs.Option.{option_map_or}
 use Rattle.carousel_blocks.specs.declared.changes.Change.{Change}
+use Rattle.document_cache.specs.Caching.{Entry}
+use Rattle.module_locks.specs.Histories.{Happening, behind_all}
 use Rattle.multipart_entities.specs.declared.paths.Path.{Path}
 use Rattle.module_locks.specs.Standing.{ModulesState}
 use Rattle.module_locks.specs.Standing as of_modules
@@ -14,6 +16,8 @@ use Rattle.acting_documents.specs.devices.Kept.{IsDocument, KeptDocument}
 use Rattle.acting_documents.specs.Beginnings.{load_effect}
 use Rattle.page.specs.devices.Acts.{Acts}
 use Rattle.page.specs.Inputs.{changes_step}
+use Rattle.page.specs.Remembering.{Loaded, hits_among, next_loaded, remembered_behind}
+use Rattle.page.specs.devices.Memories.{MemoryState, RemembersTruly}
 use Rattle.page.specs.devices.Pendings.{IsCurrent, loading_behind_all, wanted_of}
 use Rattle.page.specs.State.{State, Step, still}
 use Rattle.page.specs.declared.loading.Load.{Load}
@@ -29,9 +33,14 @@ pub record PageState : Type 0 where
   pub worked : ℕ
   -- whether a call found no memory
   pub spent : Bool
+  -- which loads it remembers, the last one in front, and how many of its loads were of a document that it
+  -- remembered
+  pub remembered : List Loaded
+  pub hits : ℕ
   -- devices of the proofs
   pub document : Option KeptDocument
   pub loading : Loading
+  pub entries : List Entry
 
 -- what is kept is the document that is there, or there is none
 abbrev pub AreDocuments : Option KeptDocument → Option Document → Type 0
@@ -39,6 +48,11 @@ AreDocuments None None = Unit {0}
 AreDocuments (Some kept) (Some d) = IsDocument kept d
 AreDocuments None (Some d) = ⊥
 AreDocuments (Some kept) None = ⊥
+
+-- a device: what it remembers
+abbrev pub memory_of : PageState → MemoryState
+memory_of page =
+    record { remembered = page.remembered; hits = page.hits; entries = page.entries }
 
 -- The page with these modules is in this state, and these changes in the modules, each with its component, are still to
 -- be posted to it. What it has read of a document that waits is what the modules have of it, unless one of them is of its
@@ -52,6 +66,10 @@ pub record StandsAmid (page : PageState) (modules : ModulesState) (changes : Lis
   pub current : IsCurrent s.modules (loading_behind_all changes page.loading)
   pub clock : page.clock ≡ s.clock
   pub browser : page.browser ≡ s.browser
+  -- devices: what happened to the modules from the start on, and what the page remembers of that
+  pub happened : List Happening
+  pub reached : s.modules ≡ behind_all happened
+  pub truly : RemembersTruly happened (memory_of page)
 
 -- The page with these modules is in this state, and each change in them was posted.
 abbrev pub StandsFor : PageState → ModulesState → State → Type 0
@@ -61,6 +79,25 @@ StandsFor page modules s = StandsAmid page modules [] s
 abbrev pub KeepsBeside : PageState → PageState → Type 0
 KeepsBeside old new =
     new ≡ record old { document = new.document; worked = new.worked; browser = new.browser }
+
+-- nothing more is remembered, and no hit is counted
+abbrev pub RemembersStill : PageState → PageState → Type 0
+RemembersStill old new = (new.remembered ≡ old.remembered) × (new.hits ≡ old.hits)
+
+-- These loads are remembered, and as many of them are counted as were of a document that was remembered when they came;
+-- the count stands still at 2^64 - 1.
+pub record Remembers (loads : List Loaded) (old new : PageState) : Type 0 where
+  pub remembered_is : new.remembered ≡ remembered_behind loads old.remembered
+  pub hits_are : new.hits ≡ min (old.hits + hits_among loads old.remembered) (2 ^ 64 - 1)
+
+-- a device: the load of the next dispatch, where it makes one
+abbrev pub next_loads : State → List Loaded
+next_loads s = option_to_list (next_loaded s)
+
+-- whatever state the page was in, with the modules that were lent to it, it remembers these loads of it
+abbrev pub RemembersLoads : (State → List Loaded) → ModulesState → PageState → PageState → Type 0
+RemembersLoads loads lent old new =
+    (s : State) → StandsFor old lent s → Remembers (loads s) old new
 
 -- the persistent area
 abbrev pub page_area : PageState → List ℕ

@@ -3,3 +3,4 @@ pub mod Gifts
 pub mod Acts
 pub mod PendingStates
 pub mod Pendings
+pub mod Memories

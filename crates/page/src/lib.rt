@@ -8,6 +8,8 @@
 //! which, and the crate `acting_documents` what a document does. A document that launches another
 //! one ends, and that one is wanted. `specs/Inputs.antt` has what comes to a page beside its turns,
 //! and what it shows. Which programs the scripts of a document are is told by a reader of programs.
+//! It remembers the documents of its last loads, and doesn't read one again of which nothing has
+//! come anew (`specs/Remembering.antt`).
 //! A page keeps less than its state, and is lent the modules for its turns: what it stands for with
 //! them is `specs/Standing.antt`, and [`law_of_posted_changes`] says that it goes on to stand for
 //! it with modules that changed, where each change was posted.
@@ -17,6 +19,7 @@ mod acts;
 mod laws;
 mod lines;
 mod loading;
+mod memory;
 mod pages;
 mod pending;
 

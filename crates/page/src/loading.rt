@@ -5,15 +5,21 @@ ghost use Rattle.std.specs.Prelude.{◌≡◌, ◌++◌, IfOk, OnOk};
 ghost use Rattle.page.specs.Lines.{refuse_line};
 ghost use Rattle.page.specs.declared.loading.Load.TheVariants as came;
 ghost use Rattle.page.specs.declared.loading.Loading.TheVariants as kept;
-ghost use Rattle.page.specs.devices.Pendings.{KnowsItsPlace, Loads, LoadsUnread, is_told_by as told_by, loading_behind, unread_loading, wanted_anew};
+ghost use Rattle.document_load.specs.ToldDocuments.{told_document};
+ghost use Rattle.module_locks.specs.Locks.{look_up};
+ghost use Rattle.module_locks.specs.Standing.{ForModules};
+ghost use Rattle.module_store.specs.Resources.Resource.{Found};
+ghost use Rattle.page.specs.devices.Memories.{HasPlaces};
+ghost use Rattle.page.specs.devices.Pendings.{KnowsItsPlace, Loads, LoadsRemembered, LoadsUnread, is_told_by as told_by, loading_behind, unread_loading, wanted_anew};
 
 use crate::lines::push_refuse_line;
-use crate::pending::Pending;
+use crate::memory::Memory;
+use crate::pending::{Pending, acting_of};
 use acting_documents::ActingDocument;
 use bml_bytes::NoMemory;
 use bml_reader::DocFault;
-use document_load::read_draft;
-use module_locks::{Change, Look, Modules};
+use document_load::{Document, read_draft};
+use module_locks::{Change, Look, Modules, law_of_seen_numbers};
 use multipart_entities::Path;
 use std::alloc::Global;
 use std::mem;
@@ -56,16 +62,23 @@ impl Loading {
     }
 
     /// Loads the document, where one is wanted, is found, and nothing that it needs is waited for;
-    /// or refuses it. Appends the lines that tell it.
-    pub fn load(self, alloc: Global, modules: &Modules, out: &mut Vec<u8>) -> Result<Load, NoMemory>
-        ensures loads { IfOk result
-            (λ load. Loads modules.now self load out.old.items out.new.items) }
+    /// or refuses it. Appends the lines that tell it. A document that is remembered isn't read, and
+    /// one that is loaded is remembered.
+    pub fn load(
+        self,
+        alloc: Global,
+        modules: &Modules,
+        memory: &mut Memory,
+        out: &mut Vec<u8>,
+    ) -> Result<Load, NoMemory>
+        ensures loads { IfOk result (λ load. Loads modules.now self load
+            memory.old memory.new out.old.items out.new.items) }
         ensures grows { StartsWith out.new.items out.old.items }
     {
         match self {
-            Loading::Start => load_start(alloc, modules, out),
-            Loading::At(path) => load_unread(alloc, modules, false, path, out),
-            Loading::Pending(pending) => pending.load(alloc, modules, out),
+            Loading::Start => load_start(alloc, modules, memory, out),
+            Loading::At(path) => load_unread(alloc, modules, memory, false, path, out),
+            Loading::Pending(pending) => pending.load(alloc, modules, memory, out),
             Loading::Nothing => Ok(Load::Waits(self)),
         }
     }
@@ -106,34 +119,80 @@ impl Loading {
 }
 
 // Loads the start document, which is found at the path that it has now.
-fn load_start(alloc: Global, modules: &Modules, out: &mut Vec<u8>) -> Result<Load, NoMemory>
-    ensures loads { IfOk result
-        (λ load. Loads modules.now kept.Start load out.old.items out.new.items) }
+fn load_start(
+    alloc: Global,
+    modules: &Modules,
+    memory: &mut Memory,
+    out: &mut Vec<u8>,
+) -> Result<Load, NoMemory>
+    ensures loads { IfOk result (λ load. Loads modules.now kept.Start load
+        memory.old memory.new out.old.items out.new.items) }
     ensures grows { StartsWith out.new.items out.old.items }
 {
     let path = modules.start_path()?;
-    load_unread(alloc, modules, true, path, out)
+    load_unread(alloc, modules, memory, true, path, out)
 }
 
-// Reads the document at a path, where it is found, and loads it, where nothing that it needs is
+// Loads the document at a path, where it is found, and is remembered, or nothing that it needs is
 // waited for.
 fn load_unread(
     alloc: Global,
     modules: &Modules,
+    memory: &mut Memory,
     is_start: bool,
     path: Path,
     out: &mut Vec<u8>,
 ) -> Result<Load, NoMemory>
-    ensures loads { IfOk result (λ load.
-        LoadsUnread modules.now is_start path load out.old.items out.new.items) }
+    ensures loads { IfOk result (λ load. LoadsUnread modules.now is_start path load
+        memory.old memory.new out.old.items out.new.items) }
     ensures knows { IfOk result (λ load. KnowsItsPlace modules.now load) }
     ensures grows { StartsWith out.new.items out.old.items }
 {
+    law_of_seen_numbers();
     let Look::Found(bytes) = modules.resource(&path) else {
         return Ok(Load::Waits(Loading::unread(is_start, path)));
     };
+    match memory.recall(modules, &path)? {
+        Some(document) => load_remembered(alloc, path, document, out),
+        None => load_read(alloc, modules, memory, is_start, path, bytes, out),
+    }
+}
+
+// Loads the document at a path that was remembered.
+fn load_remembered(
+    alloc: Global,
+    path: Path,
+    document: Document,
+    out: &mut Vec<u8>,
+) -> Result<Load, NoMemory>
+    requires { HasPlaces (told_document document) }
+    ensures loads { IfOk result (λ load. LoadsRemembered path (told_document document) load
+        out.old.items out.new.items) }
+    ensures grows { StartsWith out.new.items out.old.items }
+{
+    let acting = acting_of(alloc, path, document, out)?;
+    Ok(Load::Loaded(acting))
+}
+
+// Reads the document at a path, where these bytes are found, and loads it, where nothing that it
+// needs is waited for.
+fn load_read(
+    alloc: Global,
+    modules: &Modules,
+    memory: &mut Memory,
+    is_start: bool,
+    path: Path,
+    bytes: &[u8],
+    out: &mut Vec<u8>,
+) -> Result<Load, NoMemory>
+    requires { ForModules modules.now (λ modules. look_up modules path ≡ Found bytes.now) }
+    ensures loads { IfOk result (λ load. LoadsUnread modules.now is_start path load
+        memory.old memory.new out.old.items out.new.items) }
+    ensures knows { IfOk result (λ load. KnowsItsPlace modules.now load) }
+    ensures grows { StartsWith out.new.items out.old.items }
+{
     match read_draft(alloc, bytes, &path) {
-        Ok(draft) => Pending::new(is_start, path, draft).load(alloc, modules, out),
+        Ok(draft) => Pending::new(is_start, path, draft).load(alloc, modules, memory, out),
         Err(DocFault::NoMemory) => Err(NoMemory),
         Err(fault) => refuse(&path, fault, out),
     }

@@ -11,12 +11,14 @@ ghost use Rattle.module_locks.specs.Standing as of_modules;
 ghost use Rattle.page.specs.Dispatches.{dispatch as spec_dispatch, next_event, next_load, turn as spec_turn};
 ghost use Rattle.page.specs.Inputs.{change_step, display_of, document_step, due_step, key_step, message_step, with_random};
 ghost use Rattle.page.specs.devices.Pendings.{loading_behind};
-ghost use Rattle.page.specs.Standing.{Begins, IsSpent, KeepsBeside, Makes, MakesAmid, MakesWith, MayMake, Posts, StandsFor, TakesLoad, behind_launch, page_area, page_owed};
+ghost use Rattle.page.specs.Standing.{Begins, IsSpent, KeepsBeside, Makes, MakesAmid, MakesWith, MayMake, Posts, StandsFor, TakesLoad, behind_launch, page_area, page_owed, Remembers, RemembersLoads, RemembersStill, memory_of, next_loads};
+ghost use Rattle.page.specs.Remembering.{loads_of_turn};
 ghost use Rattle.page.specs.State.{State, opening};
 ghost use Rattle.page.specs.declared.loading.Loading.TheVariants as kept;
 
 use crate::acts::{Task, act, tell};
 use crate::loading::{Load, Loading};
+use crate::memory::Memory;
 use acting_documents::{ActingDocument, Notice};
 use bml_bytes::{AreaBytes, NoMemory, law_of_fronts};
 use browser_objects::BrowserState;
@@ -43,6 +45,7 @@ pub struct Page {
     alloc: Global,
     document: Option<ActingDocument>,
     loading: Loading,
+    memory: Memory,
     clock: u64,
     browser: BrowserState,
     spent: bool,
@@ -60,8 +63,11 @@ impl Model for Page {
       browser = p.browser;
       worked = option_map_or (λ document. document.worked) p.document 0;
       spent = p.spent;
+      remembered = p.memory.remembered;
+      hits = p.memory.hits;
       document = p.document;
       loading = p.loading;
+      entries = p.memory.entries;
     } };
 
     ghost invariant = { λ p. (p.clock < 2 ^ 62) × IsAlone p.document p.loading };
@@ -77,12 +83,16 @@ impl Page {
         ensures worked { IfOk result (λ page. page.worked ≡ 0) }
         ensures clock { IfOk result (λ page. page.clock ≡ 0) }
         ensures area { IfOk result (λ page. page_area page ≡ area) }
+        ensures remembered { IfOk result (λ page. page.remembered ≡ []) }
+        ensures hits { IfOk result (λ page. page.hits ≡ 0) }
     {
+        let memory = Memory::new(alloc)?;
         let browser = BrowserState::new(alloc, area)?;
         Ok(Page {
             alloc,
             document: None,
             loading: Loading::Start,
+            memory,
             clock: 0,
             browser,
             spent: false,
@@ -106,6 +116,7 @@ impl Page {
         ensures unspent { OnOk result (self.new.spent ≡ false) }
         ensures spent { OnErr result (IsSpent self.new) }
         ensures after_spent { IsSpent self.old → IsErr result }
+        ensures remembers { RemembersStill self.old self.new }
     {
         self.refuse_spent()?;
         self.loading.follow(component, change);
@@ -126,6 +137,7 @@ impl Page {
         ensures clock { self.new.clock ≡ self.old.clock }
         ensures spent { self.new.spent ≡ self.old.spent }
         ensures grows { StartsWith out.new.items out.old.items }
+        ensures remembers { RemembersStill self.old self.new }
     {
         law_of_fronts();
         push_change_line(component, change, out)?;
@@ -163,6 +175,7 @@ impl Page {
         ensures unspent { OnOk result (self.new.spent ≡ false) }
         ensures spent { OnErr result (IsSpent self.new) }
         ensures after_spent { IsSpent self.old → IsErr result }
+        ensures remembers { RemembersStill self.old self.new }
     {
         self.refuse_spent()?;
         let told = self.tell(Notice::Message { component, message }, out);
@@ -182,6 +195,7 @@ impl Page {
         ensures unspent { OnOk result (self.new.spent ≡ false) }
         ensures spent { OnErr result (IsSpent self.new) }
         ensures after_spent { IsSpent self.old → IsErr result }
+        ensures remembers { RemembersStill self.old self.new }
     {
         self.refuse_spent()?;
         let told = self.tell(Notice::Key { key: code, down }, out);
@@ -208,6 +222,7 @@ impl Page {
         ensures unspent { OnOk result (self.new.spent ≡ false) }
         ensures spent { OnErr result (IsSpent self.new) }
         ensures after_spent { IsSpent self.old → IsErr result }
+        ensures remembers { RemembersStill self.old self.new }
     {
         self.refuse_spent()?;
         let moved = self.move_to(moment, out);
@@ -232,6 +247,7 @@ impl Page {
         ensures unspent { OnOk result (self.new.spent ≡ false) }
         ensures spent { OnErr result (IsSpent self.new) }
         ensures after_spent { IsSpent self.old → IsErr result }
+        ensures remembers { RemembersStill self.old self.new }
     {
         self.refuse_spent()?;
         let added = match self.browser.random.push_back(word) {
@@ -244,10 +260,13 @@ impl Page {
     /// Makes a turn: at most 256 dispatches, each of which loads the wanted document, where it can
     /// be loaded, or else handles the event that waits longest; and appends what they print. The
     /// modules are those of the page's earlier turns, whose changes since were all posted. Scripts
-    /// may lock and unlock some of them.
+    /// may lock and unlock some of them. A load that is of a document which the page remembers doesn't
+    /// read it again, and changes no line.
     pub fn turn(&mut self, modules: &mut Modules, out: &mut Vec<u8>) -> Result<(), NoMemory>
         ensures turned { OnOk result (MakesWith modules.old modules.new spec_turn
             self.old self.new out.old.items out.new.items) }
+        ensures remembered { OnOk result ((s : State) → StandsFor self.old modules.old s
+            → Remembers (loads_of_turn s) self.old self.new) }
         ensures clock { self.new.clock ≡ self.old.clock }
         ensures grows { StartsWith out.new.items out.old.items }
         ensures unspent { OnOk result (self.new.spent ≡ false) }
@@ -274,6 +293,7 @@ impl Page {
         ensures unspent { OnOk result (self.new.spent ≡ false) }
         ensures spent { OnErr result (IsSpent self.new) }
         ensures after_spent { IsSpent self.old → IsErr result }
+        ensures remembers { RemembersStill self.old self.new }
     {
         self.refuse_spent()?;
         let shown = self.push_display(out);
@@ -288,6 +308,15 @@ impl Page {
             Some(document) => document.worked(),
             None => 0,
         }
+    }
+
+    /// How many loads were of a document that was remembered, of which nothing had come anew, and
+    /// nothing of what it needs: it wasn't read again. The count stands still at 2^64 - 1. This takes
+    /// no memory.
+    pub fn cache_hits(&self) -> u64
+        ensures { result ≡ self.now.hits }
+    {
+        self.memory.hits()
     }
 
     /// The persistent area.
@@ -331,6 +360,7 @@ impl Page {
         ensures clock { OnOk result (self.new.clock ≡ moment) }
         ensures kept { OnErr result (self.new.clock ≡ self.old.clock) }
         ensures grows { StartsWith out.new.items out.old.items }
+        ensures remembers { RemembersStill self.old self.new }
     {
         self.tell(Notice::Moment(moment), out)?;
         self.clock = moment;
@@ -343,6 +373,8 @@ impl Page {
             self.old self.new out.old.items out.new.items) }
         ensures clock { self.new.clock ≡ self.old.clock }
         ensures grows { StartsWith out.new.items out.old.items }
+        ensures remembers { OnOk result
+            (RemembersLoads loads_of_turn modules.old self.old self.new) }
     {
         law_of_fronts();
         'dispatches: for _dispatch in 0..MOST_DISPATCHES {
@@ -359,6 +391,7 @@ impl Page {
             self.old self.new out.old.items out.new.items) }
         ensures clock { self.new.clock ≡ self.old.clock }
         ensures grows { StartsWith out.new.items out.old.items }
+        ensures remembers { OnOk result (RemembersLoads next_loads modules.old self.old self.new) }
     {
         if self.load(modules, out)? {
             return Ok(true);
@@ -373,6 +406,7 @@ impl Page {
             self.old self.new out.old.items out.new.items) }
         ensures clock { self.new.clock ≡ self.old.clock }
         ensures grows { StartsWith out.new.items out.old.items }
+        ensures remembers { RemembersStill self.old self.new }
     {
         let Some(document) = &mut self.document else {
             return Ok(false);
@@ -393,12 +427,13 @@ impl Page {
             self.old self.new out.old.items out.new.items) }
         ensures clock { self.new.clock ≡ self.old.clock }
         ensures grows { StartsWith out.new.items out.old.items }
+        ensures remembers { OnOk result (RemembersLoads next_loads modules.old self.old self.new) }
     {
         let loading = mem::replace(&mut self.loading, Loading::Nothing);
         if let Loading::Nothing = loading {
             return Ok(false);
         }
-        let came = loading.load(self.alloc, modules, out)?;
+        let came = loading.load(self.alloc, modules, &mut self.memory, out)?;
         self.take_load(came, modules, out)
     }
 
@@ -417,6 +452,7 @@ impl Page {
             self.old self.new out.old.items out.new.items) }
         ensures clock { self.new.clock ≡ self.old.clock }
         ensures grows { StartsWith out.new.items out.old.items }
+        ensures memory { memory_of self.new ≡ memory_of self.old }
     {
         match came {
             Load::Waits(loading) => {
@@ -446,6 +482,7 @@ impl Page {
             self.old self.new out.old.items out.new.items) }
         ensures clock { self.new.clock ≡ self.old.clock }
         ensures grows { StartsWith out.new.items out.old.items }
+        ensures memory { memory_of self.new ≡ memory_of self.old }
     {
         let task = Task::Begin;
         let begun = act(
@@ -485,6 +522,7 @@ impl Page {
         ensures owed { self.new.worked + page_owed self.new
             ≤ self.old.worked + page_owed self.old }
         ensures grows { StartsWith out.new.items out.old.items }
+        ensures remembers { RemembersStill self.old self.new }
     {
         law_of_fronts();
         push_clock_line(self.clock, out)?;

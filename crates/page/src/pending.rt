@@ -1,23 +1,22 @@
 //! A document that was read, and the needs that it waits for.
 
 ghost use Rattle.std.specs.Io.{StartsWith};
-ghost use Rattle.std.specs.Prelude.{◌≡◌, ◌<◌, ◌++◌, true, None, IfOk, IfSome, OnOk, length, map};
-ghost use Rattle.acting_documents.specs.devices.Kept.{kept_first};
-ghost use Rattle.document_load.specs.Scripts.{HavePlaces};
-ghost use Rattle.document_load.specs.ScriptViews.{told_handler};
+ghost use Rattle.std.specs.Prelude.{◌≡◌, ◌<◌, true, None, IfOk, IfSome, OnOk, length};
+ghost use Rattle.document_load.specs.ToldDocuments.{told_document};
 ghost use Rattle.module_locks.specs.Standing.{ForModules};
 ghost use Rattle.page.specs.Loading.{are_settled};
 ghost use Rattle.page.specs.declared.loading.Loading.TheVariants as kept;
-ghost use Rattle.page.specs.Lines.{load_lines};
 ghost use Rattle.page.specs.devices.Gifts.{GivesFound, IsFinished, with_found};
-ghost use Rattle.page.specs.devices.Pendings.{KnowsItsPlace, Loads, LoadsSettled, WaitsAt, unread_loading};
+ghost use Rattle.page.specs.devices.Memories.{HasPlaces, Keeps};
+ghost use Rattle.page.specs.devices.Pendings.{KnowsItsPlace, Loads, LoadsDocument, LoadsSettled, Provides, WaitsAt, unread_loading};
 
 use crate::lines::push_load_lines;
 use crate::loading::{Load, Loading};
+use crate::memory::{Memory, numbered};
 use acting_documents::ActingDocument;
 use bml_bytes::NoMemory;
 use document_load::{Document, Draft};
-use module_locks::{Look, Modules};
+use module_locks::{Look, Modules, law_of_seen_numbers};
 use multipart_entities::Path;
 use std::alloc::Global;
 use std::marker::Model;
@@ -82,9 +81,15 @@ impl Pending {
 
     /// Loads the document with what is found of its needs, where none of them is waited for, and
     /// appends its lines. Else it goes on waiting.
-    pub fn load(self, alloc: Global, modules: &Modules, out: &mut Vec<u8>) -> Result<Load, NoMemory>
-        ensures loads { IfOk result
-            (λ load. Loads modules.now (kept.Pending self) load out.old.items out.new.items) }
+    pub fn load(
+        self,
+        alloc: Global,
+        modules: &Modules,
+        memory: &mut Memory,
+        out: &mut Vec<u8>,
+    ) -> Result<Load, NoMemory>
+        ensures loads { IfOk result (λ load. Loads modules.now (kept.Pending self) load
+            memory.old memory.new out.old.items out.new.items) }
         ensures knows { IfOk result (λ load. KnowsItsPlace modules.now load) }
         ensures grows { StartsWith out.new.items out.old.items }
     {
@@ -103,7 +108,7 @@ impl Pending {
                 place,
             }))),
             None => {
-                let acting = load_settled(alloc, modules, path, draft, out)?;
+                let acting = load_settled(alloc, modules, memory, path, draft, out)?;
                 Ok(Load::Loaded(acting))
             }
         }
@@ -123,39 +128,75 @@ impl Pending {
     }
 }
 
-// The document at a path that a draft is with what is found of its needs, none of which is waited
-// for. Appends its lines.
+// The document at a path that is loaded of a draft, of whose needs none is waited for. Appends its
+// lines.
 fn load_settled(
     alloc: Global,
     modules: &Modules,
+    memory: &mut Memory,
     path: Path,
     draft: Draft,
     out: &mut Vec<u8>,
 ) -> Result<ActingDocument, NoMemory>
-    ensures loads { IfOk result (λ document.
-        LoadsSettled modules.now path draft document out.old.items out.new.items) }
+    ensures loads { IfOk result (λ acting. LoadsSettled modules.now path draft acting
+        memory.old memory.new out.old.items out.new.items) }
     ensures grows { StartsWith out.new.items out.old.items }
 {
-    let document = finish(modules, draft)?;
+    let document = document_of(alloc, modules, memory, &path, draft)?;
     let acting = acting_of(alloc, path, document, out)?;
     Ok(acting)
 }
 
-// A document at a path that acts, in which nothing happened yet. Appends the lines of its load.
-fn acting_of(
+// The document of a draft at a path: the one that is remembered, or else the one that is made of it
+// with what is found of its needs.
+fn document_of(
+    alloc: Global,
+    modules: &Modules,
+    memory: &mut Memory,
+    path: &Path,
+    draft: Draft,
+) -> Result<Document, NoMemory>
+    ensures provides { IfOk result (λ document. Provides modules.now path.now draft
+        (told_document document) memory.old memory.new) }
+    ensures places { IfOk result (λ document. HasPlaces (told_document document)) }
+{
+    law_of_seen_numbers();
+    match memory.recall(modules, path)? {
+        Some(document) => Ok(document),
+        None => read_and_keep(alloc, modules, memory, path, draft),
+    }
+}
+
+// The document of a draft at a path, with what is found of its needs, which is remembered then.
+fn read_and_keep(
+    alloc: Global,
+    modules: &Modules,
+    memory: &mut Memory,
+    path: &Path,
+    draft: Draft,
+) -> Result<Document, NoMemory>
+    ensures finished { IfOk result
+        (λ document. IsFinished modules.now draft (told_document document)) }
+    ensures keeps { IfOk result (λ document. Keeps modules.now path.now draft.needs
+        (told_document document) memory.old memory.new) }
+    ensures places { IfOk result (λ document. HasPlaces (told_document document)) }
+{
+    let needs = numbered(alloc, modules, draft.needs())?;
+    let document = finish(modules, draft)?;
+    memory.keep(modules, path, needs, &document)?;
+    Ok(document)
+}
+
+/// A document at a path that acts, in which nothing happened yet. Appends the lines of its load.
+pub fn acting_of(
     alloc: Global,
     path: Path,
     document: Document,
     out: &mut Vec<u8>,
 ) -> Result<ActingDocument, NoMemory>
-    requires { HavePlaces document.scripts.items (length document.programs.items)
-        (map told_handler document.handlers.items) }
-    ensures acting { IfOk result (λ acting. acting
-        ≡ kept_first path document.tree document.rules document.programs.items
-        (map told_handler document.handlers.items) acting.owed acting.lent acting.now
-        acting.modules) }
-    ensures told { OnOk result
-        (out.new.items ≡ out.old.items ++ load_lines path document.bad.items) }
+    requires { HasPlaces (told_document document) }
+    ensures loads { IfOk result (λ acting. LoadsDocument path (told_document document) acting
+        out.old.items out.new.items) }
     ensures grows { StartsWith out.new.items out.old.items }
 {
     if push_load_lines(&path, document.bad.as_slice(), out).is_err() {
@@ -167,9 +208,9 @@ fn acting_of(
 
 // The document of a draft, to which what is found of its needs is given.
 fn finish(modules: &Modules, mut draft: Draft) -> Result<Document, NoMemory>
-    ensures finished { IfOk result (λ document. IsFinished modules.now draft document) }
-    ensures places { IfOk result (λ document. HavePlaces document.scripts.items
-        (length document.programs.items) (map told_handler document.handlers.items)) }
+    ensures finished { IfOk result
+        (λ document. IsFinished modules.now draft (told_document document)) }
+    ensures places { IfOk result (λ document. HasPlaces (told_document document)) }
 {
     give_all_found(modules, &mut draft)?;
     draft.finish()

@@ -6,9 +6,8 @@ use Rattle.module_locks.specs.Locks.{Modules}
 use Rattle.es_reader.specs.Readers.{Reader, IsReader}
 use Rattle.document_load.specs.Drafts.{DraftState, with_gift, with_gifts}
 use Rattle.document_load.specs.Scripts.{AreScripts, sources_of}
-use Rattle.document_load.specs.ScriptViews.{told_handler}
 use Rattle.document_load.specs.StyleTexts.{document_rules}
-use Rattle.document_load.specs.declared.drafts.Document.{Document}
+use Rattle.document_load.specs.ToldDocuments.{ToldDocument}
 use Rattle.page.specs.Loading.{text_at}
 
 -- the draft, where what is found of its need of that number is given
@@ -23,12 +22,16 @@ GivesFound state old new =
     old.given ≡ replicate (length old.needs) None
     → ForModules state (λ modules. new ≡ with_gifts (map (text_at modules) old.needs) old)
 
+-- the document of a draft
+pub record IsDocumentOf (draft : DraftState) (document : ToldDocument) : Type 0 where
+  pub tree_is : document.items ≡ draft.items
+  pub rules_are : document.rules ≡ document_rules draft
+  pub scripts_are : (read : Reader) → IsReader read → AreScripts read (sources_of draft)
+      document.programs document.handlers document.bad
+
 -- the document of a draft, to which what is found of its needs is given
-pub record IsFinished (state : ModulesState) (draft : DraftState) (document : Document)
+pub record IsFinished (state : ModulesState) (draft : DraftState) (document : ToldDocument)
     : Type 0 where
   pub given : DraftState
   pub found : GivesFound state draft given
-  pub tree_is : document.tree ≡ given.items
-  pub rules_are : document.rules ≡ document_rules given
-  pub scripts_are : (read : Reader) → IsReader read → AreScripts read (sources_of given)
-      document.programs.items (map told_handler document.handlers.items) document.bad.items
+  pub document_is : IsDocumentOf given document

@@ -1,18 +1,22 @@
 -- A device of the proofs: what is kept of a document that is wanted, and what comes of its load, whatever the
 -- state stands for.
-use Rattle.std.specs.Prelude.{◌≡◌, ◌==◌, ◌&&◌, Bool, true, false, if◌then◌else◌, ℕ, List, [], ◌∷◌, ◌++◌, slice_get, Option, Some, None, Result, Ok, Err}
+use Rattle.std.specs.Prelude.{◌≡◌, ◌==◌, ◌&&◌, Bool, true, false, if◌then◌else◌, ℕ, List, [], ◌∷◌, ◌++◌, length, map, option_to_list, replicate, slice_get, Option, Some, None, Result, Ok, Err}
 use Rattle.bml_reader.specs.declared.faults.DocFault.{DocFault}
 use Rattle.carousel_blocks.specs.declared.changes.Change.{Change}
 use Rattle.multipart_entities.specs.declared.paths.Path.{Path}
+use Rattle.module_locks.specs.Histories.{Happening, behind_all}
 use Rattle.module_locks.specs.Locks.{Modules, look_up}
 use Rattle.module_store.specs.Resources.Resource.{Waiting}
 use Rattle.module_locks.specs.Standing.{ForModules, ModulesState}
 use Rattle.es_reader.specs.Readers.{Reader, IsReader}
-use Rattle.document_load.specs.Drafts.{DraftState}
+use Rattle.document_load.specs.Drafts.{DraftState, with_gifts}
 use Rattle.document_load.specs.Scripts.{bad_numbers, sources_of}
-use Rattle.acting_documents.specs.devices.Kept.{IsDocument, KeptDocument}
+use Rattle.document_load.specs.ToldDocuments.{ToldDocument}
+use Rattle.acting_documents.specs.devices.Kept.{IsDocument, KeptDocument, kept_first}
 use Rattle.page.specs.Lines.{load_lines, refuse_line}
-use Rattle.page.specs.Loading.{are_settled, loadable_reading, document_of_draft, wanted_path}
+use Rattle.page.specs.Loading.{loadable_reading, document_of_draft, text_at, wanted_path}
+use Rattle.page.specs.Remembering.{loaded_at}
+use Rattle.page.specs.devices.Memories.{FitsModule, HasDocument, MemoryState, RemembersBehind, RemembersTruly}
 use Rattle.page.specs.devices.PendingStates.{IsFound, IsStartPath}
 use Rattle.page.specs.State.{Wanted}
 use Rattle.page.specs.State.Wanted.{StartDocument, DocumentAt, NoDocument}
@@ -109,29 +113,70 @@ LoadsAs read modules wanted path load.Refused text =
 LoadsAs read modules wanted path (load.Loaded document) text =
     IsLoaded read path (loadable_reading modules path) document text
 
--- A text was printed, and this came of what was kept of a document that is wanted.
-pub record Loads (state : ModulesState) (old : Loading) (new : Load) (before after : List ℕ)
-    : Type 0 where
+-- the same, and the load, where there is one, is remembered
+pub record LoadsTruly (read : Reader) (modules : Modules) (happened : List Happening)
+    (wanted : Wanted) (path : Path) (new : Load) (text : List ℕ)
+    (memory_before memory_after : MemoryState) : Type 0 where
+  pub loads : LoadsAs read modules wanted path new text
+  pub remembers : RemembersBehind happened (option_to_list (loaded_at modules path)) memory_before
+      memory_after
+
+-- A text was printed, and this came of what was kept of a document that is wanted, and of what is remembered.
+pub record Loads (state : ModulesState) (old : Loading) (new : Load)
+    (memory_before memory_after : MemoryState) (before after : List ℕ) : Type 0 where
   pub text : List ℕ
   pub printed : after ≡ before ++ text
-  pub loads : ForModules state (λ modules. IsCurrent modules old → (path : Path)
+  pub loads : ForModules state (λ modules. (happened : List Happening)
+      → modules ≡ behind_all happened → RemembersTruly happened memory_before
+      → IsCurrent modules old → (path : Path)
       → wanted_path (wanted_of old) modules ≡ Some path → (read : Reader) → IsReader read
-      → LoadsAs read modules (wanted_of old) path new text)
+      → LoadsTruly read modules happened (wanted_of old) path new text memory_before
+      memory_after)
 
 -- The same of a document that wasn't read, and is at this path.
 pub record LoadsUnread (state : ModulesState) (is_start : Bool) (path : Path) (new : Load)
-    (before after : List ℕ) : Type 0 where
+    (memory_before memory_after : MemoryState) (before after : List ℕ) : Type 0 where
   pub text : List ℕ
   pub printed : after ≡ before ++ text
-  pub loads : ForModules state (λ modules. IsStartPath is_start modules path
-      → (read : Reader) → IsReader read
-      → LoadsAs read modules (wanted_at is_start path) path new text)
+  pub loads : ForModules state (λ modules. (happened : List Happening)
+      → modules ≡ behind_all happened → RemembersTruly happened memory_before
+      → IsStartPath is_start modules path → (read : Reader) → IsReader read
+      → LoadsTruly read modules happened (wanted_at is_start path) path new text memory_before
+      memory_after)
 
--- The same of the document that is loaded of a draft at a path, where nothing that it needs is waited for.
-abbrev pub LoadsSettled : ModulesState → Path → DraftState → KeptDocument → List ℕ → List ℕ → Type 0
-LoadsSettled state path draft document before after =
-    (is_start : Bool) (place : ℕ)
-    → ForModules state (λ modules. are_settled modules draft.needs ≡ true)
-    → Loads state
-    (kept.Pending (record { is_start = is_start; path = path; draft = draft; place = place }))
-    (load.Loaded document) before after
+-- The same of a document that is loaded.
+pub record LoadsDocument (path : Path) (document : ToldDocument)
+    (acting : KeptDocument) (before after : List ℕ) : Type 0 where
+  pub acting_is : acting
+      ≡ kept_first path document.items document.rules document.programs document.handlers
+      acting.owed acting.lent acting.now acting.modules
+  pub printed : after ≡ before ++ load_lines path document.bad
+
+-- it came of a load
+abbrev pub LoadsRemembered : Path → ToldDocument → Load → List ℕ → List ℕ → Type 0
+LoadsRemembered path document (load.Waits loading) before after = ⊥
+LoadsRemembered path document load.Refused before after = ⊥
+LoadsRemembered path document (load.Loaded acting) before after =
+    LoadsDocument path document acting before after
+
+-- a draft, to which what is found now of its needs is given
+abbrev pub given_now : Modules → DraftState → DraftState
+given_now modules draft = with_gifts (map (text_at modules) draft.needs) draft
+
+-- a draft to which nothing is given yet is read anew, or its document is remembered
+abbrev pub Provides : ModulesState → Path → DraftState → ToldDocument → MemoryState → MemoryState
+    → Type 0
+Provides state path draft document memory_before memory_after =
+    ForModules state (λ modules. (happened : List Happening) → modules ≡ behind_all happened
+    → RemembersTruly happened memory_before
+    → draft.given ≡ replicate (length draft.needs) None → FitsModule path
+    → loadable_reading modules path ≡ Some (Ok (given_now modules draft))
+    → HasDocument modules happened path document memory_before memory_after)
+
+-- The document that is loaded of a draft at a path, where nothing that it needs is waited for.
+pub record LoadsSettled (state : ModulesState) (path : Path) (draft : DraftState)
+    (acting : KeptDocument) (memory_before memory_after : MemoryState)
+    (before after : List ℕ) : Type 0 where
+  pub document : ToldDocument
+  pub provided : Provides state path draft document memory_before memory_after
+  pub acting_is : LoadsDocument path document acting before after
