@@ -33,6 +33,9 @@ clock_gone state page s moment is stands =
       current = stands.page.current;
       clock = refl;
       browser = stands.page.browser;
+      happened = stands.page.happened;
+      reached = stands.page.reached;
+      truly = stands.page.truly;
     }))
 
 -- no timer is due by its end
