@@ -1,13 +1,13 @@
 -- What a page remembers of its loads: what is found for a load, what is kept of one, and which loads are of a document
 -- that is remembered.
-use Rattle.std.proofs.Common.{◌≡◌, ◌∙◌, ℕ, ◌+◌, ◌-◌, ◌<◌, ◌≤◌, ◌^◌, suc, Bool, true, false, cond, eqb, ◌&&◌, ◌||◌, not, List, [], ◌∷◌, ◌++◌, length, filter, take, refl, sym, ap, ap₂, subst, append_assoc, append-nil, arith}
-use Rattle.std.specs.Prelude.{zero, All, IfOk, OnErr, OnOk, min, Option, Some, None, Result, Ok, Err, is_some, map, option_and_then, option_map, option_to_list, slice_get}
+use Rattle.std.proofs.Common.{◌≡◌, ◌∙◌, ℕ, ◌+◌, ◌-◌, ◌≤◌, ◌^◌, suc, Bool, true, false, cond, eqb, ◌&&◌, ◌||◌, not, List, [], ◌∷◌, ◌++◌, length, filter, take, refl, sym, ap, ap₂, subst, append_assoc, append-nil, arith}
+use Rattle.std.specs.Prelude.{zero, All, IfOk, OnErr, OnOk, min, Option, Some, None, Result, Ok, Err, is_some, map, option_and_then, option_map, slice_get}
 use Rattle.std.specs.List.{list_all, list_any}
 use Rattle.std.proofs.lemmas.List.{length-append, length-map, length-take, take_all, take-map}
 use Rattle.std.proofs.lemmas.List.Elements.{All-nil, All-cons, All-head, All-tail, All-filter, All-take, All-append, All-weaker, filter_passes}
 use Rattle.std.proofs.lemmas.List.Filters.{length-filter_both}
-use Rattle.document_cache.specs.Caching.{Entry, brought_to_front, cached_under, entries_of, is_same_key, kept_in_front, most_documents, others_of}
-use Rattle.document_cache.specs.devices.KeyLaws.{is_same_key-true, is_same_key-same}
+use Rattle.document_cache.specs.Caching.{Entry, brought_to_front, cached_under, entries_of, is_same_key, kept_in_front, others_of}
+use Rattle.document_cache.specs.devices.KeyLaws.{is_same_key-true}
 use Rattle.document_cache.specs.declared.caches.Cached.{Cached}
 use Rattle.document_cache.specs.declared.keys.CacheKey.{CacheKey}
 use Rattle.document_load.specs.Drafts.{DraftState}

@@ -1,8 +1,8 @@
 -- What the load of a document comes to.
-use Rattle.std.proofs.Common.{◌≡◌, ◌∙◌, ℕ, suc, ◌+◌, ◌<◌, ◌^◌, Bool, true, false, cond, ◌&&◌, List, [], ◌∷◌, ◌++◌, take, drop, refl, sym, ap, ap₂, subst, append-nil, IfOk, arith}
+use Rattle.std.proofs.Common.{◌≡◌, ◌∙◌, ℕ, suc, ◌+◌, ◌<◌, ◌^◌, Bool, true, false, ◌&&◌, List, [], ◌∷◌, ◌++◌, take, drop, refl, sym, ap, ap₂, subst, append-nil, IfOk, arith}
 use Rattle.std.specs.Prelude.{zero, length, replicate, Option, Some, None, Result, Ok, Err, All, map, option_and_then, option_to_list, slice_get}
 use Rattle.std.specs.List.{AllZip}
-use Rattle.document_load.specs.Drafts.{DraftState, draft_of, with_gifts}
+use Rattle.document_load.specs.Drafts.{DraftState, draft_of}
 use Rattle.document_load.specs.Scripts.{AreScripts, HandlerState, programs_by, sources_of}
 use Rattle.document_load.specs.StyleTexts.{document_rules}
 use Rattle.document_load.specs.ToldDocuments.{ToldDocument, told_document}
@@ -31,7 +31,7 @@ use Rattle.page.proofs.ReadingLaws.{NumbersTell, PathsStay, reading_where}
 use Rattle.acting_documents.specs.Documents.{Document}
 use Rattle.acting_documents.specs.devices.Kept.{IsDocument, KeptDocument, kept_as, kept_first}
 use Rattle.page.specs.Lines.{load_lines, refuse_line}
-use Rattle.page.specs.Loading.{are_settled, is_settled, loadable_reading, reading_in, reading_if_settled, document_of_draft, text_at, wanted_path}
+use Rattle.page.specs.Loading.{are_settled, is_settled, loadable_reading, reading_in, reading_if_settled, document_of_draft, wanted_path}
 use Rattle.page.specs.devices.PendingStates.{IsFound, IsStartPath, PendingState}
 use Rattle.page.specs.devices.Pendings.{IsCurrent, Loads, LoadsDocument, LoadsRemembered, LoadsSettled, LoadsTruly, LoadsUnread, Provides, WaitsAt, given_now, unread_loading, wanted_at, wanted_of}
 use Rattle.page.specs.State.{Wanted}

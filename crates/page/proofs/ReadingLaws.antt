@@ -1,5 +1,5 @@
 -- What is loaded at a path stays so, where the same is seen of the document and of what it needs.
-use Rattle.std.proofs.Common.{◌≡◌, ◌∙◌, ℕ, ◌+◌, ◌-◌, ◌<◌, ◌^◌, Bool, true, false, cond, eqb, ltb, ◌&&◌, ◌||◌, List, [], ◌∷◌, ◌++◌, refl, sym, ap, ap₂, subst}
+use Rattle.std.proofs.Common.{◌≡◌, ◌∙◌, ℕ, ◌+◌, ◌-◌, ◌<◌, ◌^◌, Bool, true, false, cond, ◌&&◌, List, [], ◌∷◌, ◌++◌, refl, sym, ap, ap₂, subst}
 use Rattle.std.specs.Prelude.{All, Option, Some, None, Result, Ok, Err, is_some, map}
 use Rattle.std.specs.Option.{option_map_or, option_or}
 use Rattle.std.specs.List.{list_all}
@@ -20,9 +20,9 @@ use Rattle.multipart_entities.specs.declared.paths.Path.{Path}
 use Rattle.module_locks.specs.Histories.{Happening, behind_all}
 use Rattle.module_locks.specs.Locks.{Modules, kept_now, kept_of, kept_on, look_kept, look_up, seen, seen_number}
 use Rattle.module_store.specs.Copies.{KeptModule}
-use Rattle.module_store.specs.Resources.{Resource, look, look_at, look_behind, look_by, look_in, look_unless, presence_at, presence_in, presence_unless}
+use Rattle.module_store.specs.Resources.{Resource, look, look_behind, look_by, look_in, look_unless, presence_at, presence_in, presence_unless}
 use Rattle.module_store.specs.Resources.Resource.{Found, Waiting, Missing}
-use Rattle.module_store.specs.Store.{Stored, messages_of_component, number_of}
+use Rattle.module_store.specs.Store.{messages_of_component, number_of}
 use Rattle.page.specs.Loading.{are_settled, given_draft, is_settled, loadable_reading, reading_if_settled, reading_in, text_at, text_found}
 use Rattle.page.specs.Remembering.{is_same_number, number_at, tells_delivery}
 use Rattle.page.specs.devices.Memories.{FitsModule, is_as_kept, numbered}

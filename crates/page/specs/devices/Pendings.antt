@@ -1,6 +1,6 @@
 -- A device of the proofs: what is kept of a document that is wanted, and what comes of its load, whatever the
 -- state stands for.
-use Rattle.std.specs.Prelude.{◌≡◌, ◌==◌, ◌&&◌, Bool, true, false, if◌then◌else◌, ℕ, List, [], ◌∷◌, ◌++◌, length, map, option_to_list, replicate, slice_get, Option, Some, None, Result, Ok, Err}
+use Rattle.std.specs.Prelude.{◌≡◌, ◌==◌, ◌&&◌, Bool, false, if◌then◌else◌, ℕ, List, [], ◌∷◌, ◌++◌, length, map, option_to_list, replicate, slice_get, Option, Some, None, Result, Ok, Err}
 use Rattle.bml_reader.specs.declared.faults.DocFault.{DocFault}
 use Rattle.carousel_blocks.specs.declared.changes.Change.{Change}
 use Rattle.multipart_entities.specs.declared.paths.Path.{Path}

@@ -1,5 +1,5 @@
 use Rattle.std.proofs.Common.{subst, sym, rules}
-use Rattle.std.specs.Prelude.{IfOk, Option, option_map}
+use Rattle.std.specs.Prelude.{IfOk, option_map}
 use Rattle.document_load.specs.ToldDocuments.{told_document}
 use Rattle.page.specs.devices.Memories.{MemoryState, Recalls}
 use Rattle.page.specs.devices.Pendings.{LoadsUnread}
