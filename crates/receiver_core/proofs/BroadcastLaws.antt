@@ -29,7 +29,7 @@ use Rattle.receiver_core.specs.BroadcastCalls.{MakesInput}
 use Rattle.receiver_core.specs.Broadcasts.{BroadcastState, HasMade, HasOutcome, Makes, StandsFor}
 use Rattle.receiver_core.specs.Outputs.{Piece, with_piece}
 use Rattle.receiver_core.specs.State.{State, opening, services, wants}
-use Rattle.receiver_core.specs.Turns.{Step, due_turn, key_turn, messages_of_reading, of_page, page_turn, section_messages, step_of_modules, step_of_section, step_of_table, step_of_tag, turn}
+use Rattle.receiver_core.specs.Turns.{Step, due_turn, key_turn, messages_of_reading, of_page, page_turn, section_messages, step_of_component, step_of_modules, step_of_section, step_of_table, step_of_tag, turn}
 use Rattle.receiver_core.specs.Turns.{with_changes, with_handled, with_messages, with_modules, with_turn}
 use Rattle.receiver_core.specs.declared.broadcast.Input.TheVariants as handed
 use Rattle.receiver_core.proofs.PostingLaws.{in_component}
@@ -234,6 +234,38 @@ passes passing state pid section before unread none = record {
       (sym (step_unread s pid section None (unread_by state s pid stands unread) (tag_by state s pid None stands none)))
       (record { stands = handled_unread passing state s pid section stands unread; text_is = refl });
 }
+
+-- a section of a table, and one of the component on its PID, are taken so
+
+step_table : (s : State) (pid : ℕ) (section : List ℕ) → reads_table s.selection (services s).service pid ≡ true
+    → step_of_section pid section s ≡ step_of_table (with_handled pid section s)
+step_table s pid section read = rw read refl
+
+read_by : (state : BroadcastState) (s : State) (pid : ℕ) → StandsFor state s → reads_table state.services.selection state.services.service pid ≡ true → reads_table s.selection (services s).service pid ≡ true
+read_by state s pid stands read = subst (λ (x : ServicesState). reads_table x.selection x.service pid ≡ true) (services_are state s stands) read
+
+made_as : (step other : State → Step) (old new : BroadcastState) (before after : List ℕ) → ((s : State) → StandsFor old s → other s ≡ step s)
+    → Makes step old new before after → Makes other old new before after
+made_as step other old new before after same made = record {
+  text = made.text;
+  printed = made.printed;
+  makes = λ s stands. subst (λ (t : Step). HasMade new made.text t) (sym (same s stands)) (made.makes s stands);
+}
+
+pub taken_as_table : {A E : Type 0} (result : Result A E) (old new : BroadcastState) (pid : ℕ) (section before after : List ℕ) → reads_table old.services.selection old.services.service pid ≡ true
+    → OnOk result (Makes (λ s. step_of_table (with_handled pid section s)) old new before after) → OnOk result (Makes (step_of_section pid section) old new before after)
+taken_as_table (Err refusal) old new pid section before after read made = tt
+taken_as_table (Ok done) old new pid section before after read made =
+    made_as (λ s. step_of_table (with_handled pid section s)) (step_of_section pid section) old new before after
+    (λ s stands. step_table s pid section (read_by old s pid stands read)) made
+
+pub taken_as_data : {A E : Type 0} (result : Result A E) (old new : BroadcastState) (pid component : ℕ) (section before after : List ℕ) → reads_table old.services.selection old.services.service pid ≡ false
+    → tag_in old.services.map pid ≡ Some component → OnOk result (Makes (λ s. step_of_component component section (with_handled pid section s)) old new before after)
+    → OnOk result (Makes (step_of_section pid section) old new before after)
+taken_as_data (Err refusal) old new pid component section before after unread there made = tt
+taken_as_data (Ok done) old new pid component section before after unread there made =
+    made_as (λ s. step_of_component component section (with_handled pid section s)) (step_of_section pid section) old new before after
+    (λ s stands. step_unread s pid section (Some component) (unread_by old s pid stands unread) (tag_by old s pid (Some component) stands there)) made
 
 -- ---- a section of a component
 
