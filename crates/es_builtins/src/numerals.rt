@@ -70,8 +70,8 @@ fn prefixed_front(negative: bool, base: u64, text: &[u16]) -> Num
     }
 }
 
-// The number that the longest digits at the front write. Behind the zeros in front no more digits are read
-// than tell whether it is in range.
+// The number that the longest digits at the front write. Behind the zeros in front no more digits
+// are read than tell whether it is in range.
 fn number_at_front(negative: bool, base: u64, text: &[u16]) -> Num
     requires some { 2 ≤ base }
     requires most { base ≤ 36 }

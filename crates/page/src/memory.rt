@@ -52,8 +52,8 @@ impl Memory {
         self.hits
     }
 
-    /// A copy of the document of the load at a path, where it is remembered, and nothing of it or of
-    /// what it needs has come anew. Such a load is counted, and in front then.
+    /// A copy of the document of the load at a path, where it is remembered, and nothing of it or
+    /// of what it needs has come anew. Such a load is counted, and in front then.
     pub fn recall(&mut self, modules: &Modules, path: &Path) -> Result<Option<Document>, NoMemory>
         ensures recalls { IfOk result (λ found. Recalls modules.now path.now
             (option_map told_document found) self.old self.new) }
@@ -109,8 +109,8 @@ impl Memory {
         }
     }
 
-    /// Remembers the load of a document at a path, with its needs and the numbers of what is seen of
-    /// them, where its module is seen.
+    /// Remembers the load of a document at a path, with its needs and the numbers of what is seen
+    /// of them, where its module is seen.
     pub fn keep(
         &mut self,
         modules: &Modules,

@@ -34,8 +34,8 @@ use std::mem;
 /// The most dispatches of a turn; this project's own limit.
 const MOST_DISPATCHES: u32 = 256;
 
-/// A page of the data broadcast: the document that is there or wanted, the time, and what belongs to
-/// the receiver: the registers, the persistent area and the random words, with the timers.
+/// A page of the data broadcast: the document that is there or wanted, the time, and what belongs
+/// to the receiver: the registers, the persistent area and the random words, with the timers.
 ///
 /// What came to it before a turn is handled in it, by [`turn`](Page::turn). Once a call has
 /// answered
@@ -99,8 +99,8 @@ impl Page {
         })
     }
 
-    /// Takes a change in a module of a component: appends its line, and posts the events of the event
-    /// items that are told of it. Those behind it are still to be posted.
+    /// Takes a change in a module of a component: appends its line, and posts the events of the
+    /// event items that are told of it. Those behind it are still to be posted.
     pub fn post_change(
         &mut self,
         component: u8,
@@ -158,9 +158,9 @@ impl Page {
         }
     }
 
-    /// Posts the events of the event items of the document that fire for a message of a component, in
-    /// document order. A post where 256 events wait is lost, which a line tells, and its firing isn't
-    /// noted. Nothing is dispatched.
+    /// Posts the events of the event items of the document that fire for a message of a component,
+    /// in document order. A post where 256 events wait is lost, which a line tells, and its firing
+    /// isn't noted. Nothing is dispatched.
     pub fn post_message(
         &mut self,
         component: u8,
@@ -183,9 +183,9 @@ impl Page {
     }
 
     /// Posts what a key does that is pressed (`down`) or released: where the used-key-list of the
-    /// document's body has the key's group, `keydown` and then `default`, or `keyup`; and behind the
-    /// data button the events of the event items that are told of it. A post where 256 events wait is
-    /// lost, which a line tells. Nothing is dispatched.
+    /// document's body has the key's group, `keydown` and then `default`, or `keyup`; and behind
+    /// the data button the events of the event items that are told of it. A post where 256 events
+    /// wait is lost, which a line tells. Nothing is dispatched.
     pub fn post_key(&mut self, code: u8, down: bool, out: &mut Vec<u8>) -> Result<(), NoMemory>
         ensures posted { OnOk result
             (Makes (key_step code down) self.old self.new out.old.items out.new.items) }
@@ -260,8 +260,8 @@ impl Page {
     /// Makes a turn: at most 256 dispatches, each of which loads the wanted document, where it can
     /// be loaded, or else handles the event that waits longest; and appends what they print. The
     /// modules are those of the page's earlier turns, whose changes since were all posted. Scripts
-    /// may lock and unlock some of them. A load that is of a document which the page remembers doesn't
-    /// read it again, and changes no line.
+    /// may lock and unlock some of them. A load that is of a document which the page remembers
+    /// doesn't read it again, and changes no line.
     pub fn turn(&mut self, modules: &mut Modules, out: &mut Vec<u8>) -> Result<(), NoMemory>
         ensures turned { OnOk result (MakesWith modules.old modules.new spec_turn
             self.old self.new out.old.items out.new.items) }
@@ -311,8 +311,8 @@ impl Page {
     }
 
     /// How many loads were of a document that was remembered, of which nothing had come anew, and
-    /// nothing of what it needs: it wasn't read again. The count stands still at 2^64 - 1. This takes
-    /// no memory.
+    /// nothing of what it needs: it wasn't read again. The count stands still at 2^64 - 1. This
+    /// takes no memory.
     pub fn cache_hits(&self) -> u64
         ensures { result ≡ self.now.hits }
     {
@@ -438,8 +438,8 @@ impl Page {
     }
 
     // Takes what came of a load, where there is no document, and none is wanted beside it: goes on
-    // waiting, or has the document that is loaded, or none where it is refused. Tells whether it was
-    // loaded or refused.
+    // waiting, or has the document that is loaded, or none where it is refused. Tells whether it
+    // was loaded or refused.
     fn take_load(
         &mut self,
         came: Load,

@@ -61,8 +61,8 @@ fn word_of(form: Form) -> &'static [u8] {
     }
 }
 
-// A word for the form, `:` and the name where there is one, and `@` and the places if wanted, or what
-// is told of a local.
+// A word for the form, `:` and the name where there is one, and `@` and the places if wanted, or
+// what is told of a local.
 fn push_node(program: &Program, number: u32, detail: Detail, out: &mut Line) {
     let Some(node) = program.node(number) else {
         return;

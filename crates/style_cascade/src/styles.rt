@@ -23,8 +23,8 @@ use style_reader::{Property, Rules, StyleValue};
 
 /// The styles of a document: its rules, its inline texts, what scripts have written, and the values
 /// that were worked out. Contracts see the rules and the writes, and which values are kept; whether
-/// the styles are those of a tree as it is now is the relation `IsRight`. The tree may be changed by
-/// other texts, and by attributes other than `id`, `class` and `style`.
+/// the styles are those of a tree as it is now is the relation `IsRight`. The tree may be changed
+/// by other texts, and by attributes other than `id`, `class` and `style`.
 #[derive(Drop)]
 pub struct Styles {
     // what contracts see: all that they say is in the table
@@ -106,8 +106,8 @@ impl Styles {
     ghost use Rattle.style_cascade.specs.devices.Getting.{Gets, with_kept};
     ghost use Rattle.style_cascade.specs.devices.Kept.{kept_value};
 
-    /// The styles of a document with these rules. Nothing is written yet, and no value is kept. What
-    /// rules and inline texts say is worked out here, in a time that grows with the number of
+    /// The styles of a document with these rules. Nothing is written yet, and no value is kept.
+    /// What rules and inline texts say is worked out here, in a time that grows with the number of
     /// selectors and declarations, and with the number of elements and of their different classes.
     pub fn new(alloc: Global, tree: &Tree, rules: Rules) -> Result<Styles, NoMemory>
         ensures sources { IfOk result (λ styles. styles.sources ≡ unwritten rules) }
@@ -139,8 +139,8 @@ impl Styles {
 
     /// The number of values, each of one property of one node in one state, that were worked out
     /// since `new`: those that were asked for, by a caller or for another value, and weren't kept.
-    /// What rules and inline texts say of each node is found in `new`, and isn't counted. The number
-    /// stands still at 2^64 - 1.
+    /// What rules and inline texts say of each node is found in `new`, and isn't counted. The
+    /// number stands still at 2^64 - 1.
     pub fn worked(&self) -> u64
         ensures { result ≡ self.now.worked }
     {
@@ -187,8 +187,8 @@ impl Styles {
 
     /// A script writes a value into the style of an element for a state. Values that may hang on it
     /// aren't kept any more: those of the property, of the element and, where it is inherited, of
-    /// all in it. That clears a byte for each of them and each state, and none where the property is
-    /// inherited and none of its values was kept for the element itself.
+    /// all in it. That clears a byte for each of them and each state, and none where the property
+    /// is inherited and none of its values was kept for the element itself.
     pub fn set(
         &mut self,
         tree: &Tree,
