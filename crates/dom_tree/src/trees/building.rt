@@ -25,6 +25,7 @@ impl Tree {
         Ok(Tree {
             nodes,
             ids: IndexMap::new(alloc),
+            longest_id: 0,
         })
     }
 

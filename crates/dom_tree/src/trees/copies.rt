@@ -17,7 +17,11 @@ impl Tree {
     {
         let nodes = copied_nodes(*self.nodes.allocator(), self.nodes.as_slice())?;
         let ids = copied_ids(&self.ids)?;
-        Ok(Tree { nodes, ids })
+        Ok(Tree {
+            nodes,
+            ids,
+            longest_id: self.longest_id,
+        })
     }
 }
 
