@@ -1,6 +1,6 @@
 -- What event items match.
 use Rattle.std.proofs.Common.{◌≡◌, ◌≢◌, ◌↔◌, ℕ, Bool, true, false, ◌&&◌, List, [], ◌∷◌, Option, Some, None, refl, sym, ap, ◌∙◌}
-use Rattle.std.specs.Prelude.{◌==◌, find, if◌then◌else◌}
+use Rattle.std.specs.Prelude.{◌==◌, ◌||◌, find, if◌then◌else◌}
 use Rattle.std.specs.Option.{option_map_or}
 use Rattle.std.proofs.lemmas.Bool.{and_left, and_parts, and_right, and_from, eq-eqb, eqb-true}
 use Rattle.bml_bytes.specs.Words.{is_same}
@@ -8,7 +8,7 @@ use Rattle.event_messages.specs.declared.messages.Message.{Message}
 use Rattle.event_items.specs.declared.asked.Asked.{Asked}
 use Rattle.event_items.specs.declared.asked.Asked.TheVariants.{Anything, Exactly, NoNumber}
 use Rattle.event_items.specs.declared.asked.AskedComponent.{AskedComponent}
-use Rattle.event_items.specs.declared.asked.AskedComponent.TheVariants.{AnyComponent, NoComponent}
+use Rattle.event_items.specs.declared.asked.AskedComponent.TheVariants.{AnyComponent, Component, NoComponent}
 use Rattle.event_queue.specs.declared.item_kinds.ItemKind.{ItemKind}
 use Rattle.event_queue.specs.declared.item_kinds.ItemKind.TheVariants as kinds
 use Rattle.event_queue.specs.ItemKinds.{all_kinds, kind_name, kind_named}
@@ -124,6 +124,37 @@ own-group component group message item e passes =
     let of_component = and_parts (is_component item.component component) _ kind.1 in
     let of_group = and_parts (answers item.group message.group) _ of_component.1 in
     answered item.group group message.group e of_group.0
+
+-- an id or a version other than 255 is that one alone, and so is a component
+own-number : (asked number : ℕ) (any same : Bool) → (asked == any_id) ≡ any → (asked == number) ≡ same → asked ≢ any_id → (any || same) ≡ true → number ≡ asked
+own-number asked number true same any_is same_is other passes = absurd (other (eqb-true asked any_id any_is))
+own-number asked number false same any_is same_is other passes = sym (eqb-true asked number (same_is ∙ passes))
+
+answered_alone : (asked : Asked) (own number : ℕ) → asked ≡ Exactly own → own ≢ any_id → answers_or_any asked number ≡ true → number ≡ own
+answered_alone asked own number e other passes =
+    own-number own number (own == any_id) (own == number) refl refl other (sym (ap (λ (a : Asked). answers_or_any a number) e) ∙ passes)
+
+pub own-id : (component own : ℕ) (message : Message) (item : EventItem) → item.id ≡ Exactly own → own ≢ any_id → matches_message component message item ≡ true → message.id ≡ own
+own-id component own message item e other passes =
+    let kind = and_parts (is_kind kinds.EventMessageFired item) _ passes in
+    let of_component = and_parts (is_component item.component component) _ kind.1 in
+    let of_group = and_parts (answers item.group message.group) _ of_component.1 in
+    let of_id = and_parts (answers_or_any item.id message.id) _ of_group.1 in
+    answered_alone item.id own message.id e other of_id.0
+
+pub own-version : (component own : ℕ) (message : Message) (item : EventItem) → item.version ≡ Exactly own → own ≢ any_id → matches_message component message item ≡ true → message.version ≡ own
+own-version component own message item e other passes =
+    let kind = and_parts (is_kind kinds.EventMessageFired item) _ passes in
+    let of_component = and_parts (is_component item.component component) _ kind.1 in
+    let of_group = and_parts (answers item.group message.group) _ of_component.1 in
+    let of_id = and_parts (answers_or_any item.id message.id) _ of_group.1 in
+    answered_alone item.version own message.version e other of_id.1
+
+pub own-component : (component own : ℕ) (message : Message) (item : EventItem) → item.component ≡ Component own → matches_message component message item ≡ true → component ≡ own
+own-component component own message item e passes =
+    let kind = and_parts (is_kind kinds.EventMessageFired item) _ passes in
+    let of_component = and_parts (is_component item.component component) _ kind.1 in
+    sym (eqb-true own component (sym (ap (λ (a : AskedComponent). is_component a component) e) ∙ of_component.0))
 
 -- ---- modules
 
