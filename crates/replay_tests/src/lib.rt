@@ -3,11 +3,12 @@
 //!
 //! What the built program shows over files stands in the rows of `tables/` and in those of the tools
 //! that run them, which cost no proof; and here what they can't show: openings, reads and writes that
-//! fail in the middle, a stream in pieces, a record without end. All have ample memory, and compare
-//! what was answered and written, so a layer that answers `NoMemory` fails here.
+//! fail in the middle, a stream in pieces, a record without end, and what a page counts and no run
+//! prints. All have ample memory, and compare what was answered and written, so a layer that answers
+//! `NoMemory` fails here.
 //!
-//! `area_files` is of `bml_ports_std` alone, `receivers` of `receiver_core`, and `replayed_files` of
-//! `replay_files`.
+//! `area_files` is of `bml_ports_std` alone, `receivers` of `receiver_core`, `remembered` of `page` over
+//! the modules that its sections bring, and `replayed_files` of `replay_files`.
 //!
 //! `Done` is reached in `pieces`, `BadRecord`, `OpenFault`, `ReadFault` and `WriteFault` in `faults`,
 //! `KeepFault` and `BadArea` in `kept_areas`, `TooLong` in `long_records`, and `Usage` by rows of
@@ -30,6 +31,8 @@ mod piece_sinks;
 mod pieces;
 #[cfg(test)]
 mod receivers;
+#[cfg(test)]
+mod remembered;
 #[cfg(test)]
 mod replayed_files;
 #[cfg(test)]
