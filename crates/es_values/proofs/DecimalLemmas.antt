@@ -1,8 +1,8 @@
 -- The decimal text of a number, digit by digit.
-use Rattle.std.proofs.Common.{◌≡◌, ℕ, zero, suc, ◌+◌, ◌/◌, ◌%◌, ◌<◌, ◌≤◌, Bool, true, false, List, [], ◌∷◌, ◌++◌, length, refl, sym, ◌∙◌, ap, arith, ◌⊎◌, inl, inr, length-append}
+use Rattle.std.proofs.Common.{◌≡◌, ℕ, zero, suc, ◌+◌, ◌/◌, ◌%◌, ◌^◌, ◌<◌, ◌≤◌, Bool, true, false, List, [], ◌∷◌, ◌++◌, length, refl, sym, ◌∙◌, ap, arith, ◌⊎◌, inl, inr, length-append}
 use Rattle.std.specs.Prelude.{nat_lt, nat_eq, ◌&&◌}
 use Rattle.std.proofs.lemmas.Bool.Decides.{nat_tests}
-use Rattle.std.proofs.Math.Nat.{mod-eq_of_lt}
+use Rattle.std.proofs.Math.Nat.{mod-eq_of_lt, pow-suc}
 use Rattle.bml_bytes.specs.Numerals.{decimal_digits, decimal_within, digit_character}
 use Rattle.bml_bytes.specs.Words.{is_same}
 
@@ -49,6 +49,23 @@ decimal_digits-more (suc m) h =
 
 pub length-decimal_digits : (n : ℕ) → 10 ≤ n → length (decimal_digits (n / 10)) + 1 ≡ length (decimal_digits n)
 length-decimal_digits n h = sym (ap length (decimal_digits-more n h) ∙ length-append (decimal_digits (n / 10)) ((48 + n % 10) ∷ []))
+
+-- a number below a power of ten has at most so many digits
+pub few-digits : (more n : ℕ) → n < 10 ^ suc more → length (decimal_digits n) ≤ suc more
+few-digits zero n h =
+    let power : 10 ^ suc zero ≡ 10 = refl in
+    let small : n < 10 = omega arith in
+    let one = ap length (decimal_digits-one n small) in
+    omega (arith, one)
+few-digits (suc more) n h =
+    elim (small_or_large n) [
+      | inl small ↦ let one = ap length (decimal_digits-one n small) in omega (arith, one)
+      | inr large ↦
+          let power = pow-suc 10 (suc more) in
+          let below : n / 10 < 10 ^ suc more = omega (arith, power) in
+          let rest = few-digits more (n / 10) below in
+          omega (arith, rest, length-decimal_digits n large)
+    ]
 
 and-false : (b : Bool) → (b && false) ≡ false
 and-false true = refl

@@ -23,13 +23,19 @@ pub fn index_name(alloc: Global, place: u32) -> Result<Text, NoMemory>
     Ok(Text::of_codes(alloc, &name)?)
 }
 
+// No index has more digits in its decimal text.
+const MOST_INDEX_CODES: usize = 10;
+
 /// The place whose element has this name, and None where it is no element's: only the decimal text of 0
-/// to 2,147,483,646 is one's.
+/// to 2,147,483,646 is one's. A name that is longer than these isn't read.
 #[tactic(auto, unfolding(crate::specs::Heaps::index_of))]
 pub fn index_of_name(name: &Text) -> Option<u32>
     ensures index { result ≡ index_of name.now }
     ensures bound { ForSome result (λ place. place < 2147483647) }
 {
+    if name.len() > MOST_INDEX_CODES {
+        return None;
+    }
     let number = decimal_number(name.codes());
     if number < 2_147_483_647 && is_decimal_text(name.codes(), number) {
         Some(number as u32)
