@@ -1,6 +1,6 @@
 -- What a program tells of a name is its place among the locals of the function that it stands in.
 use Rattle.std.proofs.Common.{◌≡◌, ◌∙◌, ◌↔◌, ◌&&◌, ℕ, Bool, true, false, List, [], ◌∷◌, Option, Some, None, refl, sym, ap, nat_eq}
-use Rattle.std.specs.Prelude.{slice_get}
+use Rattle.std.specs.Prelude.{IsSome, is_some, slice_get}
 use Rattle.std.specs.Cmp.Lexicographic.{pointwise}
 use Rattle.std.specs.List.{position}
 use Rattle.std.specs.Option.{option_map_or}
@@ -67,3 +67,13 @@ place_known told node function found name result stands is named local =
         sym here.at_place
         ∙ ap (λ (n : List ℕ). position (is_same n) here.declared.locals) is_name
         ∙ ap (position (is_same name)) (sym names) ∙ p
+
+-- a node that stands elsewhere, or has another name, isn't known
+pub known_elsewhere : {A : Type 0} (told : ToldProgram) (node function : ℕ) (found : Option ℕ) (name : List ℕ) (result : Option A)
+    → ((other : ℕ) → (found ≡ Some other) ↔ StandsIn told node other)
+    → ((found ≡ Some function) → ⊥) → result ≡ None
+    → (IsSome result) ↔ (StandsIn told node function × (name_told told.rows node ≡ Some name))
+known_elsewhere told node function found name result stands other none = (
+  λ some. absurd (let clash : true ≡ false = sym some ∙ ap (λ (r : Option _). is_some r) none in cc clash),
+  λ is. absurd (other ((stands function).1 is.0)),
+)

@@ -1,6 +1,6 @@
 //! Nodes of programs, by their numbers.
 
-ghost use Rattle.std.specs.Prelude.{◌≡◌, ◌≤◌, ◌+◌, ◌<◌, ◌^◌, ℕ, IfSome, List, option_map, slice_get};
+ghost use Rattle.std.specs.Prelude.{◌≡◌, ◌≤◌, ◌+◌, ◌<◌, ◌^◌, ℕ, IfSome, List, length, option_map, slice_get};
 ghost use Rattle.std.specs.Option.{option_map_or};
 ghost use Rattle.es_expressions.specs.Trees.Trees.{NoTrees, OneMore};
 ghost use Rattle.es_reader.specs.Programs.{ToldProgram};
@@ -146,7 +146,8 @@ pub fn listed_statement(programs: &[Program], listing: Listing, place: usize) ->
 
 /// How many children a node has.
 pub fn part_count(programs: &[Program], code: Code) -> usize
-    ensures { (place : ℕ) → result ≤ place → trees_from programs.now code place ≡ NoTrees }
+    ensures count { result ≡ length (children_of programs.now code) }
+    ensures end { (place : ℕ) → result ≤ place → trees_from programs.now code place ≡ NoTrees }
 {
     children(programs, code).len()
 }

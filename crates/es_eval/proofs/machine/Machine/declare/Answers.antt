@@ -38,7 +38,7 @@ returns-clause-run c =
     elim c.loop-place-test.branch [
       | else-loop-place-test w ↦
           let past : c.part_count-place-end.result ≤ c.loop-place.place = omega arith in
-          c.part_count-place-end.ensures c.loop-place.place past
+          c.part_count-place-end.ensures.end c.loop-place.place past
       | then-loop-place-test+in_default w ↦ w.in_default.ensures.part
     ] in
     declare-end c.args.programs.now c.loop-place.self c.args.self.now c.args.code
