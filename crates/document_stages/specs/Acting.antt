@@ -169,8 +169,8 @@ with_timers_fired (suc more) moment a =
     option_map_or (λ number. with_timers_fired more moment (with_timer_fired moment number a))
     (first_due moment a.browser.timers) a
 
--- All timers that are due at a moment fire, in ascending number. Each fires once, since its next moment comes later, and
--- there are no more than so many.
+-- All timers that are due at a moment fire, in ascending number. Where the moment doesn't go past one at which a timer
+-- was due, each fires once, since its next moment comes later; and there are no more than so many.
 abbrev pub with_due_events : ℕ → Acting → Acting
 with_due_events moment a = with_timers_fired most_timers moment a
 

@@ -307,7 +307,8 @@ impl Stage {
     }
 
     /// The clock goes to a moment, and all timers that are due then fire, in ascending number: their
-    /// events are posted.
+    /// events are posted. Each fires once where the moment doesn't go past one at which a timer was
+    /// due, as the moments that a page passes don't.
     pub fn post_due(&mut self, moment: u64) -> Result<(), NoMemory>
         requires { moment < 2 ^ 62 }
         ensures posted { OnOk result (self.new.acting
