@@ -7,8 +7,11 @@ ghost use Rattle.es_eval.specs.Actions.{Next};
 ghost use Rattle.es_eval.specs.Calls.{Body};
 ghost use Rattle.es_eval.specs.Rows.{Evaluation, expression_row};
 ghost use Rattle.es_shapes.specs.Syntax.{Function as AnyFunction};
+ghost use Rattle.es_reader.specs.Programs.{ToldProgram};
 ghost use Rattle.es_shapes.specs.devices.Parts.{expression_at};
-ghost use Rattle.es_eval.specs.devices.Leaves.{GivesAt, IsRowAt, leaf_expression, values_of_found};
+ghost use Rattle.es_shapes.specs.devices.Shapes.{shaped};
+ghost use Rattle.es_eval.specs.devices.Leaves.{Finds, IsRowAt, leaf_expression, values_of_found};
+ghost use Rattle.es_eval.specs.devices.Works.{enters};
 ghost use Rattle.es_eval.specs.devices.Machines.{AreLive, Stays, world_of};
 
 use crate::laws::law_of_unfolding;
@@ -39,28 +42,37 @@ pub enum Found {
 }
 
 /// The leaf at a node, and None where the node has parts.
-#[tactic(auto, unfolding(es_shapes::specs::devices::Shapes::shaped))]
 pub fn leaf_at(programs: &[Program], code: Code) -> Result<Option<Leaf>, NoMemory>
     ensures { IfOk result (λ found. IfSome found
         (λ leaf. expression_at programs.now code ≡ leaf_expression leaf)) }
 {
-    match expression(programs, code)? {
-        Shape::This => Ok(Some(Leaf::This)),
-        Shape::Null => Ok(Some(Leaf::Null)),
-        Shape::Truth(truth) => Ok(Some(Leaf::Truth(truth))),
-        Shape::Number(number) => Ok(Some(Leaf::Number(number))),
-        Shape::Text(text) => Ok(Some(Leaf::Text(text))),
-        Shape::Name(name) => Ok(Some(Leaf::Name(name, code))),
-        _ => Ok(None),
+    let shape = expression(programs, code)?;
+    Ok(leaf_of(code, shape))
+}
+
+/// The leaf that a shape is, and None where it has parts.
+#[tactic(auto, unfolding(es_shapes::specs::devices::Shapes::shaped))]
+#[inline(always)]
+pub fn leaf_of(code: Code, shape: Shape) -> Option<Leaf>
+    ensures { IfSome result (λ leaf. (programs : List ToldProgram)
+        → shaped programs code shape ≡ leaf_expression leaf) }
+{
+    match shape {
+        Shape::This => Some(Leaf::This),
+        Shape::Null => Some(Leaf::Null),
+        Shape::Truth(truth) => Some(Leaf::Truth(truth)),
+        Shape::Number(number) => Some(Leaf::Number(number)),
+        Shape::Text(text) => Some(Leaf::Text(text)),
+        Shape::Name(name) => Some(Leaf::Name(name, code)),
+        _ => None,
     }
 }
 
 impl Machine {
     /// What a leaf gives, behind its step.
     pub fn leaf_value(&mut self, programs: &[Program], leaf: &Leaf) -> Result<Found, NoMemory>
-        ensures gives { IfOk result (λ found. (code : Code)
-            → expression_at programs.now code ≡ leaf_expression leaf.now
-            → GivesAt programs.now code self.old found self.new) }
+        ensures finds { IfOk result (Finds programs.now
+            (enters programs.now (leaf_expression leaf.now)) self.old self.new) }
         ensures live { IfOk result (λ found. AreLive self.new.heap (values_of_found found)) }
         ensures stays { Stays self.old self.new }
     {

@@ -19,6 +19,7 @@
 //! (`specs/devices/Machines.antt`), and each arm says of which row its run is.
 #![tactic(auto)]
 
+mod assignments;
 mod calls;
 mod evaluator;
 mod expressions;
@@ -32,6 +33,7 @@ mod open_calls;
 mod operands;
 mod outcomes;
 mod scripts;
+mod shorts;
 mod statements;
 mod targets;
 mod works;

@@ -1,28 +1,38 @@
 //! Statements.
 
-ghost use Rattle.std.specs.Prelude.{◌≡◌, ◌≤◌, ◌<◌, [], List, length, IfOk};
+ghost use Rattle.std.specs.Prelude.{◌≡◌, ◌≤◌, ◌<◌, [], List, length, IfOk, Some, if◌then◌else◌};
+ghost use Rattle.std.specs.Option.{option_map_or};
 ghost use Rattle.es_reader.specs.Programs.{ToldProgram};
 ghost use Rattle.es_values.specs.Heaps.{IsLive};
+ghost use Rattle.es_values.specs.Values.{truth_of};
 ghost use Rattle.es_eval.specs.declared.works.Given.TheVariants.{Broke as GivenBroke, Continued as GivenContinued, Normal as GivenNormal, Value as GivenValue};
 ghost use Rattle.es_eval.specs.declared.works.StatementWork.TheVariants.{Declared as DeclaredItem};
 ghost use Rattle.es_eval.specs.declared.works.Use.TheVariants.{Visit as VisitUse};
 ghost use Rattle.es_eval.specs.declared.works.Work.TheVariants.{Statement as StatementItem};
 ghost use Rattle.es_eval.specs.Actions.{behind, gives};
-ghost use Rattle.es_shapes.specs.devices.Parts.{statement_at, statements_from};
-ghost use Rattle.es_eval.specs.devices.Machines.{AreLive, GoesOn, IsLess, IsNextLive, IsWorkLive, burden, values_of_given, weight};
-ghost use Rattle.es_eval.specs.Rows.{statement_row, statements as spec_statements, visit_all, visited_place};
-ghost use Rattle.es_shapes.specs.devices.Shapes.{stated, visitor_shaped};
-ghost use Rattle.es_eval.specs.devices.Works.{as_completion, declares, enters, loop_again, loop_body, loop_task, runs, starts_loop, statement_work_row, turns, use_row, visit_task};
+ghost use Rattle.es_shapes.specs.devices.Parts.{expression_at, statement_at, statements_from};
+ghost use Rattle.es_eval.specs.devices.Leaves.{short_expression};
+ghost use Rattle.es_eval.specs.devices.Machines.{AreLive, GoesOn, IsLess, IsNextLive, IsWorkLive, MachineState, burden, values_of_given, values_of_next, weight, weight_of_next};
+ghost use Rattle.es_eval.specs.Rows.{gives_normal, return_row, statement_row, statements as spec_statements, visit_all, visited_place};
+ghost use Rattle.es_eval.specs.Rows.Completion.{Normal};
+ghost use Rattle.es_shapes.specs.Sources.{target_of};
+ghost use Rattle.es_shapes.specs.Syntax.Expression.{Assign, Update};
+ghost use Rattle.es_shapes.specs.Syntax.Target.{NameTarget};
+ghost use Rattle.es_shapes.specs.devices.Shapes.{shaped, stated, visitor_shaped};
+ghost use Rattle.es_eval.specs.devices.Works.{as_completion, declares, enters, evaluates, executes, loop_again, loop_body, loop_task, runs, starts_loop, statement_work_row, turns, use_row, visit_task};
 
+use crate::assignments::name_at;
+use crate::leaves::Found;
 use crate::machine::Machine;
 use crate::nexts::stopped;
 use crate::outcomes::StopCause;
+use crate::shorts::{Short, short_at, short_of};
 use crate::works::{Given, Loop, Now, Place, StatementWork, Use, Visit, Work};
 use bml_bytes::{NoMemory, Text};
 use es_reader::Program;
 use es_shapes::{
-    Code, FirstShape, Listing, StatementShape, VisitorShape, declarator, listed_statement, part,
-    part_count, statement,
+    Code, FirstShape, Listing, Operator, Shape, StatementShape, VisitorShape, declarator,
+    expression, listed_statement, part, part_count, statement,
 };
 use es_values::Value;
 
@@ -60,20 +70,19 @@ impl Machine {
             StatementShape::Block => self.run_listed(programs, Listing::Inner(code), 0),
             StatementShape::Var => self.declare(programs, code, 0),
             StatementShape::Empty => Ok(Now::Gives(Given::Normal)),
-            StatementShape::Evaluate(expression) => {
-                self.evaluate_then(Work::Statement(StatementWork::Discard), expression)
-            }
-            StatementShape::If(test, body) => {
-                self.evaluate_then(Work::Statement(StatementWork::If(body)), test)
-            }
+            StatementShape::Evaluate(expression) => self.enter_expression(programs, expression),
+            StatementShape::If(test, body) => self.enter_if(programs, test, body),
             StatementShape::IfElse(test, body, other) => {
-                self.evaluate_then(Work::Statement(StatementWork::IfElse(body, other)), test)
+                self.enter_if_else(programs, test, body, other)
             }
-            StatementShape::While(test, body) => self.turn(Loop {
-                test: Some(test),
-                update: None,
-                body,
-            }),
+            StatementShape::While(test, body) => {
+                let given_loop = Loop {
+                    test: Some(test),
+                    update: None,
+                    body,
+                };
+                self.turn(programs, given_loop)
+            }
             StatementShape::For(first, test, update, body) => {
                 self.start_loop(programs, first, Loop { test, update, body })
             }
@@ -85,10 +94,302 @@ impl Machine {
             }
             StatementShape::Continue => Ok(Now::Gives(Given::Continued)),
             StatementShape::Break => Ok(Now::Gives(Given::Broke)),
-            StatementShape::Return(Some(value)) => {
-                self.evaluate_then(Work::Statement(StatementWork::Return), value)
-            }
+            StatementShape::Return(Some(value)) => self.enter_return(programs, value),
             StatementShape::Return(None) => { Ok(Now::Gives(Given::Returned(Value::Undefined))) }
+        }
+    }
+
+    // An expression as a statement. Where it is short, or assigns what is short to a name, no item waits
+    // for it.
+    #[tactic(auto, unfolding(es_shapes::specs::devices::Shapes::shaped))]
+    fn enter_expression(&mut self, programs: &[Program], code: Code) -> Result<Now, NoMemory>
+        ensures run { IfOk result (λ next. GoesOn programs.now self.old
+            (as_completion (behind (evaluates programs.now code) gives_normal)) self.new next) }
+        ensures live { IfOk result (IsNextLive self.new) }
+        ensures less { IfOk result (IsLess self.old self.new) }
+    {
+        match expression(programs, code)? {
+            Shape::Assign(target, right) => self.enter_assign(programs, code, target, right),
+            Shape::Update(operator, target, right) => {
+                self.enter_operation(programs, code, operator, target, right)
+            }
+            other => self.enter_shape(programs, code, other),
+        }
+    }
+
+    // The same of any other shape.
+    fn enter_shape(
+        &mut self,
+        programs: &[Program],
+        code: Code,
+        shape: Shape,
+    ) -> Result<Now, NoMemory>
+        requires { expression_at programs.now code ≡ shaped programs.now code shape }
+        ensures run { IfOk result (λ next. GoesOn programs.now self.old
+            (as_completion (behind (evaluates programs.now code) gives_normal)) self.new next) }
+        ensures live { IfOk result (IsNextLive self.new) }
+        ensures less { IfOk result (IsLess self.old self.new) }
+    {
+        match short_of(programs, code, shape)? {
+            Some(short) => self.do_short(programs, &short),
+            None => self.evaluate_then(Work::Statement(StatementWork::Discard), code),
+        }
+    }
+
+    // The same, where it is short.
+    fn do_short(&mut self, programs: &[Program], short: &Short) -> Result<Now, NoMemory>
+        ensures run { IfOk result (λ next. (code : Code)
+            → expression_at programs.now code ≡ short_expression short.now
+            → GoesOn programs.now self.old
+            (as_completion (behind (evaluates programs.now code) gives_normal)) self.new next) }
+        ensures live { IfOk result (IsNextLive self.new) }
+        ensures less { IfOk result (IsLess self.old self.new) }
+    {
+        match self.short_value(programs, short)? {
+            Found::Value(_) => Ok(Now::Gives(Given::Normal)),
+            Found::Stopped(cause) => Ok(stopped(cause)),
+        }
+    }
+
+    // An assignment as a statement.
+    fn enter_assign(
+        &mut self,
+        programs: &[Program],
+        code: Code,
+        target: Code,
+        right: Code,
+    ) -> Result<Now, NoMemory>
+        requires { expression_at programs.now code
+            ≡ Assign (target_of (expression_at programs.now target))
+            (expression_at programs.now right) }
+        ensures run { IfOk result (λ next. GoesOn programs.now self.old
+            (as_completion (behind (evaluates programs.now code) gives_normal)) self.new next) }
+        ensures live { IfOk result (IsNextLive self.new) }
+        ensures less { IfOk result (IsLess self.old self.new) }
+    {
+        match short_at(programs, right)? {
+            Some(short) => self.assign_short(programs, code, target, &short),
+            None => self.evaluate_then(Work::Statement(StatementWork::Discard), code),
+        }
+    }
+
+    // The same, where the right side is short.
+    fn assign_short(
+        &mut self,
+        programs: &[Program],
+        code: Code,
+        target: Code,
+        short: &Short,
+    ) -> Result<Now, NoMemory>
+        requires { expression_at programs.now code
+            ≡ Assign (target_of (expression_at programs.now target))
+            (short_expression short.now) }
+        ensures run { IfOk result (λ next. GoesOn programs.now self.old
+            (as_completion (behind (evaluates programs.now code) gives_normal)) self.new next) }
+        ensures live { IfOk result (IsNextLive self.new) }
+        ensures less { IfOk result (IsLess self.old self.new) }
+    {
+        match name_at(programs, target)? {
+            Some(name) => self.assign_name(programs, code, target, &name, short),
+            None => self.evaluate_then(Work::Statement(StatementWork::Discard), code),
+        }
+    }
+
+    // The same, where the target is a name, too.
+    fn assign_name(
+        &mut self,
+        programs: &[Program],
+        code: Code,
+        target: Code,
+        name: &Text,
+        short: &Short,
+    ) -> Result<Now, NoMemory>
+        requires { expression_at programs.now code
+            ≡ Assign (NameTarget name.now) (short_expression short.now) }
+        ensures run { IfOk result (λ next. GoesOn programs.now self.old
+            (as_completion (behind (evaluates programs.now code) gives_normal)) self.new next) }
+        ensures live { IfOk result (IsNextLive self.new) }
+        ensures less { IfOk result (IsLess self.old self.new) }
+    {
+        match self.assigned_value(programs, name, target, short)? {
+            Found::Value(_) => Ok(Now::Gives(Given::Normal)),
+            Found::Stopped(cause) => Ok(stopped(cause)),
+        }
+    }
+
+    // An assignment with an operator as a statement.
+    fn enter_operation(
+        &mut self,
+        programs: &[Program],
+        code: Code,
+        operator: Operator,
+        target: Code,
+        right: Code,
+    ) -> Result<Now, NoMemory>
+        requires { expression_at programs.now code
+            ≡ Update operator (target_of (expression_at programs.now target))
+            (expression_at programs.now right) }
+        ensures run { IfOk result (λ next. GoesOn programs.now self.old
+            (as_completion (behind (evaluates programs.now code) gives_normal)) self.new next) }
+        ensures live { IfOk result (IsNextLive self.new) }
+        ensures less { IfOk result (IsLess self.old self.new) }
+    {
+        match short_at(programs, right)? {
+            Some(short) => self.operation_short(programs, code, operator, target, &short),
+            None => self.evaluate_then(Work::Statement(StatementWork::Discard), code),
+        }
+    }
+
+    // The same, where the right side is short.
+    fn operation_short(
+        &mut self,
+        programs: &[Program],
+        code: Code,
+        operator: Operator,
+        target: Code,
+        short: &Short,
+    ) -> Result<Now, NoMemory>
+        requires { expression_at programs.now code
+            ≡ Update operator (target_of (expression_at programs.now target))
+            (short_expression short.now) }
+        ensures run { IfOk result (λ next. GoesOn programs.now self.old
+            (as_completion (behind (evaluates programs.now code) gives_normal)) self.new next) }
+        ensures live { IfOk result (IsNextLive self.new) }
+        ensures less { IfOk result (IsLess self.old self.new) }
+    {
+        match name_at(programs, target)? {
+            Some(name) => self.operation_name(programs, code, operator, target, &name, short),
+            None => self.evaluate_then(Work::Statement(StatementWork::Discard), code),
+        }
+    }
+
+    // The same, where the target is a name, too.
+    fn operation_name(
+        &mut self,
+        programs: &[Program],
+        code: Code,
+        operator: Operator,
+        target: Code,
+        name: &Text,
+        short: &Short,
+    ) -> Result<Now, NoMemory>
+        requires { expression_at programs.now code
+            ≡ Update operator (NameTarget name.now) (short_expression short.now) }
+        ensures run { IfOk result (λ next. GoesOn programs.now self.old
+            (as_completion (behind (evaluates programs.now code) gives_normal)) self.new next) }
+        ensures live { IfOk result (IsNextLive self.new) }
+        ensures less { IfOk result (IsLess self.old self.new) }
+    {
+        match self.updated_value(programs, operator, name, target, short)? {
+            Found::Value(_) => Ok(Now::Gives(Given::Normal)),
+            Found::Stopped(cause) => Ok(stopped(cause)),
+        }
+    }
+
+    // `return` with a value.
+    fn enter_return(&mut self, programs: &[Program], code: Code) -> Result<Now, NoMemory>
+        ensures run { IfOk result (λ next. GoesOn programs.now self.old
+            (as_completion (return_row (enters programs.now)
+            (Some (expression_at programs.now code)))) self.new next) }
+        ensures live { IfOk result (IsNextLive self.new) }
+        ensures less { IfOk result (IsLess self.old self.new) }
+    {
+        match short_at(programs, code)? {
+            Some(short) => self.return_short(programs, &short),
+            None => self.evaluate_then(Work::Statement(StatementWork::Return), code),
+        }
+    }
+
+    // The same, where the value is short.
+    fn return_short(&mut self, programs: &[Program], short: &Short) -> Result<Now, NoMemory>
+        ensures run { IfOk result (λ next. (code : Code)
+            → expression_at programs.now code ≡ short_expression short.now
+            → GoesOn programs.now self.old (as_completion (return_row (enters programs.now)
+            (Some (expression_at programs.now code)))) self.new next) }
+        ensures live { IfOk result (IsNextLive self.new) }
+        ensures less { IfOk result (IsLess self.old self.new) }
+    {
+        match self.short_value(programs, short)? {
+            Found::Value(found) => Ok(Now::Gives(Given::Returned(found))),
+            Found::Stopped(cause) => Ok(stopped(cause)),
+        }
+    }
+
+    // `if`.
+    fn enter_if(&mut self, programs: &[Program], test: Code, body: Code) -> Result<Now, NoMemory>
+        ensures run { IfOk result (λ next. GoesOn programs.now self.old
+            (as_completion (behind (evaluates programs.now test) (λ value.
+            if truth_of value then executes programs.now body else gives Normal)))
+            self.new next) }
+        ensures live { IfOk result (IsNextLive self.new) }
+        ensures less { IfOk result (IsLess self.old self.new) }
+    {
+        match short_at(programs, test)? {
+            Some(short) => self.if_short(programs, &short, body),
+            None => self.evaluate_then(Work::Statement(StatementWork::If(body)), test),
+        }
+    }
+
+    // The same, where the test is short.
+    fn if_short(&mut self, programs: &[Program], short: &Short, body: Code) -> Result<Now, NoMemory>
+        ensures run { IfOk result (λ next. (code : Code)
+            → expression_at programs.now code ≡ short_expression short.now
+            → GoesOn programs.now self.old
+            (as_completion (behind (evaluates programs.now code) (λ value.
+            if truth_of value then executes programs.now body else gives Normal)))
+            self.new next) }
+        ensures live { IfOk result (IsNextLive self.new) }
+        ensures less { IfOk result (IsLess self.old self.new) }
+    {
+        match self.short_value(programs, short)? {
+            Found::Value(given) => Ok(chosen(&given, body, None)),
+            Found::Stopped(cause) => Ok(stopped(cause)),
+        }
+    }
+
+    // `if` with `else`.
+    fn enter_if_else(
+        &mut self,
+        programs: &[Program],
+        test: Code,
+        body: Code,
+        other: Code,
+    ) -> Result<Now, NoMemory>
+        ensures run { IfOk result (λ next. GoesOn programs.now self.old
+            (as_completion (behind (evaluates programs.now test) (λ value.
+            if truth_of value then executes programs.now body
+            else executes programs.now other))) self.new next) }
+        ensures live { IfOk result (IsNextLive self.new) }
+        ensures less { IfOk result (IsLess self.old self.new) }
+    {
+        match short_at(programs, test)? {
+            Some(short) => self.choose_short(programs, &short, body, other),
+            None => {
+                self.evaluate_then(Work::Statement(StatementWork::IfElse(body, other)), test)
+            }
+        }
+    }
+
+    // The same, where the test is short.
+    fn choose_short(
+        &mut self,
+        programs: &[Program],
+        short: &Short,
+        body: Code,
+        other: Code,
+    ) -> Result<Now, NoMemory>
+        ensures run { IfOk result (λ next. (code : Code)
+            → expression_at programs.now code ≡ short_expression short.now
+            → GoesOn programs.now self.old
+            (as_completion (behind (evaluates programs.now code) (λ value.
+            if truth_of value then executes programs.now body
+            else executes programs.now other))) self.new next) }
+        ensures live { IfOk result (IsNextLive self.new) }
+        ensures less { IfOk result (IsLess self.old self.new) }
+    {
+        match self.short_value(programs, short)? {
+            Found::Value(given) => Ok(chosen(&given, body, Some(other))),
+            Found::Stopped(cause) => Ok(stopped(cause)),
         }
     }
 
@@ -144,14 +445,8 @@ impl Machine {
             } else {
                 other
             })),
-            StatementWork::Test(given_loop) => {
-                if given.truth() {
-                    self.run_body(given_loop)
-                } else {
-                    Ok(Now::Gives(Given::Normal))
-                }
-            }
-            StatementWork::NextTurn(given_loop) => self.turn(given_loop),
+            StatementWork::Test(given_loop) => self.tested(given_loop, &given),
+            StatementWork::NextTurn(given_loop) => self.turn(programs, given_loop),
             StatementWork::Object(visitor, body) => self.visit_all(programs, visitor, body, &given),
             StatementWork::Return => Ok(Now::Gives(Given::Returned(given))),
             StatementWork::Statements(_, _) | StatementWork::Body(_) | StatementWork::Visiting(_) =>
@@ -190,8 +485,8 @@ impl Machine {
     {
         match item {
             StatementWork::Statements(listing, next) => self.run_listed(programs, listing, next),
-            StatementWork::Body(given_loop) => self.go_on_in(given_loop),
-            StatementWork::NextTurn(given_loop) => self.turn(given_loop),
+            StatementWork::Body(given_loop) => self.go_on_in(programs, given_loop),
+            StatementWork::NextTurn(given_loop) => self.turn(programs, given_loop),
             StatementWork::Visiting(visit) => self.visit_next(programs, visit),
             _ => Ok(Now::Gives(Given::Normal)),
         }
@@ -206,7 +501,7 @@ impl Machine {
         ensures less { IfOk result (IsLess self.old self.new) }
     {
         match item {
-            StatementWork::Body(given_loop) => self.go_on_in(given_loop),
+            StatementWork::Body(given_loop) => self.go_on_in(programs, given_loop),
             StatementWork::Visiting(visit) => self.visit_next(programs, visit),
             _ => Ok(Now::Gives(Given::Continued)),
         }
@@ -273,7 +568,7 @@ impl Machine {
         ensures less { IfOk result (IsLess self.old self.new) }
     {
         match first {
-            FirstShape::NoFirst => self.turn(given_loop),
+            FirstShape::NoFirst => self.turn(programs, given_loop),
             FirstShape::FirstExpression(expression) => self.evaluate_then(
                 Work::Statement(StatementWork::NextTurn(given_loop)),
                 expression,
@@ -288,19 +583,76 @@ impl Machine {
         }
     }
 
-    // A turn: the test, where there is one, or else the body.
-    fn turn(&mut self, given_loop: Loop) -> Result<Now, NoMemory>
-        ensures run { IfOk result (λ next. (programs : List ToldProgram)
-            → GoesOn programs self.old
-            (as_completion (turns programs (loop_task programs given_loop))) self.new next) }
+    // A turn: the test, where there is one, or else the body. The value of a short test is there at
+    // once.
+    fn turn(&mut self, programs: &[Program], given_loop: Loop) -> Result<Now, NoMemory>
+        ensures run { IfOk result (λ next. GoesOn programs.now self.old
+            (as_completion (turns programs.now (loop_task programs.now given_loop))) self.new
+            next) }
         ensures live { IfOk result (IsNextLive self.new) }
         ensures less { IfOk result (IsLess self.old self.new) }
     {
         match given_loop.test {
-            Some(test) => {
-                self.evaluate_then(Work::Statement(StatementWork::Test(given_loop)), test)
-            }
+            Some(test) => self.enter_test(programs, test, given_loop),
             None => self.run_body(given_loop),
+        }
+    }
+
+    // The test of a turn, and then the body, where it holds.
+    fn enter_test(
+        &mut self,
+        programs: &[Program],
+        test: Code,
+        given_loop: Loop,
+    ) -> Result<Now, NoMemory>
+        ensures run { IfOk result (λ next. GoesOn programs.now self.old
+            (as_completion (behind (evaluates programs.now test) (λ value.
+            if truth_of value then loop_body programs.now given_loop else gives Normal)))
+            self.new next) }
+        ensures live { IfOk result (IsNextLive self.new) }
+        ensures less { IfOk result (IsLess self.old self.new) }
+    {
+        match short_at(programs, test)? {
+            Some(short) => self.test_short(programs, &short, given_loop),
+            None => self.evaluate_then(Work::Statement(StatementWork::Test(given_loop)), test),
+        }
+    }
+
+    // The same, where the test is short.
+    fn test_short(
+        &mut self,
+        programs: &[Program],
+        short: &Short,
+        given_loop: Loop,
+    ) -> Result<Now, NoMemory>
+        ensures run { IfOk result (λ next. (code : Code)
+            → expression_at programs.now code ≡ short_expression short.now
+            → GoesOn programs.now self.old
+            (as_completion (behind (evaluates programs.now code) (λ value.
+            if truth_of value then loop_body programs.now given_loop else gives Normal)))
+            self.new next) }
+        ensures live { IfOk result (IsNextLive self.new) }
+        ensures less { IfOk result (IsLess self.old self.new) }
+    {
+        match self.short_value(programs, short)? {
+            Found::Value(given) => self.tested(given_loop, &given),
+            Found::Stopped(cause) => Ok(stopped(cause)),
+        }
+    }
+
+    // What follows the value of a test.
+    fn tested(&mut self, given_loop: Loop, given: &Value) -> Result<Now, NoMemory>
+        ensures run { IfOk result (λ next. (programs : List ToldProgram)
+            → GoesOn programs self.old (as_completion
+            (if truth_of given.now then loop_body programs given_loop else gives Normal)) self.new
+            next) }
+        ensures live { IfOk result (IsNextLive self.new) }
+        ensures less { IfOk result (IsLess self.old self.new) }
+    {
+        if given.truth() {
+            self.run_body(given_loop)
+        } else {
+            Ok(Now::Gives(Given::Normal))
         }
     }
 
@@ -319,18 +671,57 @@ impl Machine {
     }
 
     // What comes behind the body, and then the next turn.
-    fn go_on_in(&mut self, given_loop: Loop) -> Result<Now, NoMemory>
-        ensures run { IfOk result (λ next. (programs : List ToldProgram)
-            → GoesOn programs self.old (as_completion (loop_again programs given_loop)) self.new
-            next) }
+    fn go_on_in(&mut self, programs: &[Program], given_loop: Loop) -> Result<Now, NoMemory>
+        ensures run { IfOk result (λ next. GoesOn programs.now self.old
+            (as_completion (loop_again programs.now given_loop)) self.new next) }
         ensures live { IfOk result (IsNextLive self.new) }
         ensures less { IfOk result (IsLess self.old self.new) }
     {
         match given_loop.update {
-            Some(update) => {
+            Some(update) => self.enter_update(programs, update, given_loop),
+            None => self.turn(programs, given_loop),
+        }
+    }
+
+    // The part behind each turn, and then the next turn.
+    fn enter_update(
+        &mut self,
+        programs: &[Program],
+        update: Code,
+        given_loop: Loop,
+    ) -> Result<Now, NoMemory>
+        ensures run { IfOk result (λ next. GoesOn programs.now self.old
+            (as_completion (behind (evaluates programs.now update)
+            (λ value. turns programs.now (loop_task programs.now given_loop)))) self.new next) }
+        ensures live { IfOk result (IsNextLive self.new) }
+        ensures less { IfOk result (IsLess self.old self.new) }
+    {
+        match short_at(programs, update)? {
+            Some(short) => self.update_short(programs, &short, given_loop),
+            None => {
                 self.evaluate_then(Work::Statement(StatementWork::NextTurn(given_loop)), update)
             }
-            None => self.turn(given_loop),
+        }
+    }
+
+    // The same, where it is short.
+    fn update_short(
+        &mut self,
+        programs: &[Program],
+        short: &Short,
+        given_loop: Loop,
+    ) -> Result<Now, NoMemory>
+        ensures run { IfOk result (λ next. (code : Code)
+            → expression_at programs.now code ≡ short_expression short.now
+            → GoesOn programs.now self.old
+            (as_completion (behind (evaluates programs.now code)
+            (λ value. turns programs.now (loop_task programs.now given_loop)))) self.new next) }
+        ensures live { IfOk result (IsNextLive self.new) }
+        ensures less { IfOk result (IsLess self.old self.new) }
+    {
+        match self.short_value(programs, short)? {
+            Found::Value(_) => self.turn(programs, given_loop),
+            Found::Stopped(cause) => Ok(stopped(cause)),
         }
     }
 
@@ -422,6 +813,23 @@ fn declarator_before(programs: &[Program], code: Code, next: usize) -> Code {
     match next.checked_sub(1) {
         Some(place) => part(programs, code, place).unwrap_or(code),
         None => code,
+    }
+}
+
+// The statement that a test chooses, and the normal completion where there is none.
+fn chosen(test: &Value, body: Code, other: Option<Code>) -> Now
+    ensures run { (programs : List ToldProgram) (m : MachineState) → GoesOn programs m
+        (as_completion (if truth_of test.now then executes programs body
+        else option_map_or (executes programs) other (gives Normal))) m result }
+    ensures live { values_of_next result ≡ [] }
+    ensures less { weight_of_next result ≤ 11 }
+{
+    if test.truth() {
+        return Now::Execute(body);
+    }
+    match other {
+        Some(code) => Now::Execute(code),
+        None => Now::Gives(Given::Normal),
     }
 }
 

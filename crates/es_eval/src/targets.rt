@@ -509,8 +509,8 @@ impl Place {
     }
 }
 
-// One less or one more.
-fn stepped(down: bool, number: Num) -> Num
+/// One less or one more.
+pub fn stepped(down: bool, number: Num) -> Num
     ensures { result ≡ spec_stepped down number }
 {
     if down {
@@ -520,8 +520,8 @@ fn stepped(down: bool, number: Num) -> Num
     }
 }
 
-// The number behind a step where its operator stands in front, and else the one before it.
-fn if_in_front(in_front: bool, behind: Num, before: Num) -> Num
+/// The number behind a step where its operator stands in front, and else the one before it.
+pub fn if_in_front(in_front: bool, behind: Num, before: Num) -> Num
     ensures { result ≡ (if in_front then behind else before) }
 {
     if in_front { behind } else { before }

@@ -1,22 +1,23 @@
--- Names, literals and `this`: which expression each is, and what it gives behind its step. (A device of the proofs.)
+-- Leaves and short expressions: which expression each is, and what it gives behind its step. (A device of the proofs.)
 use Rattle.std.specs.Prelude.{List, [], ◌∷◌, ◌≡◌}
 use Rattle.es_reader.specs.Programs.{ToldProgram}
 use Rattle.es_values.specs.declared.values.Value.{Value}
-use Rattle.es_shapes.specs.declared.codes.Code.{Code}
 use Rattle.es_shapes.specs.Syntax.{Expression, Function}
-use Rattle.es_shapes.specs.Syntax.Expression.{This, Null, Truth, Number, Text, Name}
+use Rattle.es_shapes.specs.Syntax.Expression.{This, Null, Truth, Number, Text, Name, Binary, Stepped}
+use Rattle.es_shapes.specs.Syntax.Target.{NameTarget}
 use Rattle.es_eval.specs.declared.leaves.Found.{Found}
 use Rattle.es_eval.specs.declared.leaves.Found.TheVariants as found_of
 use Rattle.es_eval.specs.declared.leaves.Leaf.{Leaf}
 use Rattle.es_eval.specs.declared.leaves.Leaf.TheVariants as leaf_of
+use Rattle.es_eval.specs.declared.shorts.Short.{Short}
+use Rattle.es_eval.specs.declared.shorts.Short.TheVariants as short_of
 use Rattle.es_eval.specs.declared.outcomes.Outcome.TheVariants.{Stopped}
-use Rattle.es_eval.specs.Actions.{Next}
+use Rattle.es_eval.specs.Actions.{Action, Next}
 use Rattle.es_eval.specs.Calls.{Body}
 use Rattle.es_eval.specs.Rows.{Evaluation, expression_row}
 use Rattle.es_eval.specs.Worlds.{World, Run}
 use Rattle.es_eval.specs.Worlds.Run.{Over}
 use Rattle.es_eval.specs.devices.Machines.{MachineState, world_of}
-use Rattle.es_eval.specs.devices.Works.{evaluates}
 
 abbrev pub leaf_expression : Leaf → Expression
 leaf_expression leaf_of.This = This
@@ -25,6 +26,13 @@ leaf_expression (leaf_of.Truth truth) = Truth truth
 leaf_expression (leaf_of.Number number) = Number number
 leaf_expression (leaf_of.Text text) = Text text
 leaf_expression (leaf_of.Name name code) = Name name
+
+abbrev pub short_expression : Short → Expression
+short_expression (short_of.Leaf leaf) = leaf_expression leaf
+short_expression (short_of.Binary operator left right) =
+    Binary operator (leaf_expression left) (leaf_expression right)
+short_expression (short_of.Stepped in_front down name code) =
+    Stepped in_front down (NameTarget name)
 
 -- a value is given, or the script is stopped
 abbrev pub found_run : Found → World → Next Value → Run
@@ -40,8 +48,8 @@ abbrev pub IsRowAt : List Function → Body → Evaluation → Expression → Wo
 IsRowAt functions body ev e w found next =
     expression_row functions body ev e w next ≡ found_run found w next
 
--- the expression at a node, with its step, gives this, whatever comes behind
-abbrev pub GivesAt : List ToldProgram → Code → MachineState → Found → MachineState → Type 0
-GivesAt programs code old found new =
-    (next : Next Value) → evaluates programs code (world_of programs old) next
+-- the action gives this, whatever comes behind
+abbrev pub Finds : List ToldProgram → Action Value → MachineState → MachineState → Found → Type 0
+Finds programs action old new found =
+    (next : Next Value) → action (world_of programs old) next
     ≡ found_run found (world_of programs new) next

@@ -1,5 +1,7 @@
 use Rattle.std.proofs.lemmas.Result.{IfOk-weaker}
 use Rattle.es_eval.specs.Members.{read_member}
+use Rattle.es_eval.specs.devices.Leaves.{leaf_expression}
+use Rattle.es_eval.specs.devices.Works.{as_value}
 use Rattle.es_eval.proofs.LeafLemmas.{given-leaf, stopped-leaf}
 use Rattle.es_eval.proofs.machine.Machine.member_of_leaf.Goals as goal
 
@@ -7,16 +9,16 @@ pub returns-in-Value-clause-run : goal.returns-in-Value-clause-run
 returns-in-Value-clause-run c =
     let programs = c.args.programs.now in
     IfOk-weaker c.read_member.result _ _
-    (λ next run code is. given-leaf programs code c.args.self.now c.leaf_value.new.self
-    c.read_member.new.self c.in_ok-base.field-0 c.in-Value.base
-    (λ base. read_member base c.args.name) next
-    (c.in_ok-base.ensures.gives code is) c.in-Value.is c.leaf_value.ensures.stays
+    (λ next run code is. given-leaf programs code (leaf_expression c.args.leaf.now)
+    c.args.self.now c.leaf_value.new.self c.read_member.new.self c.in_ok-base.field-0 c.in-Value.base
+    (λ base. as_value (read_member base c.args.name)) next
+    c.in_ok-base.ensures.finds is c.in-Value.is c.leaf_value.ensures.stays
     (run programs)) c.read_member.ensures.run
 
 pub returns-in-Stopped-clause-run : goal.returns-in-Stopped-clause-run
 returns-in-Stopped-clause-run c code is =
     let programs = c.args.programs.now in
-    stopped-leaf programs code c.args.self.now c.leaf_value.new.self
-    c.in_ok-base.field-0 c.in-Stopped.cause
-    (λ base. read_member base c.args.name) c.stopped.result
-    (c.in_ok-base.ensures.gives code is) c.in-Stopped.is c.stopped.ensures
+    stopped-leaf programs code (leaf_expression c.args.leaf.now)
+    c.args.self.now c.leaf_value.new.self c.in_ok-base.field-0 c.in-Stopped.cause
+    (λ base. as_value (read_member base c.args.name)) c.stopped.result
+    c.in_ok-base.ensures.finds is c.in-Stopped.is c.stopped.ensures

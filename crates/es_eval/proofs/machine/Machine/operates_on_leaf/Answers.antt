@@ -1,5 +1,7 @@
 use Rattle.std.proofs.lemmas.Result.{IfOk-weaker}
 use Rattle.es_eval.specs.Operations.{operates}
+use Rattle.es_eval.specs.devices.Leaves.{leaf_expression}
+use Rattle.es_eval.specs.devices.Works.{as_value}
 use Rattle.es_eval.proofs.LeafLemmas.{given-leaf, stopped-leaf}
 use Rattle.es_eval.proofs.machine.Machine.operates_on_leaf.Goals as goal
 
@@ -7,16 +9,16 @@ pub returns-in-Value-clause-run : goal.returns-in-Value-clause-run
 returns-in-Value-clause-run c =
     let programs = c.args.programs.now in
     IfOk-weaker c.operates.result _ _
-    (λ next run code is. given-leaf programs code c.args.self.now c.leaf_value.new.self
-    c.operates.new.self c.in_ok-given.field-0 c.in-Value.given
-    (operates c.args.operator c.args.left.now) next
-    (c.in_ok-given.ensures.gives code is) c.in-Value.is c.leaf_value.ensures.stays
+    (λ next run code is. given-leaf programs code (leaf_expression c.args.leaf.now)
+    c.args.self.now c.leaf_value.new.self c.operates.new.self c.in_ok-given.field-0 c.in-Value.given
+    (λ value. as_value (operates c.args.operator c.args.left.now value)) next
+    c.in_ok-given.ensures.finds is c.in-Value.is c.leaf_value.ensures.stays
     (run programs)) c.operates.ensures.run
 
 pub returns-in-Stopped-clause-run : goal.returns-in-Stopped-clause-run
 returns-in-Stopped-clause-run c code is =
     let programs = c.args.programs.now in
-    stopped-leaf programs code c.args.self.now c.leaf_value.new.self
-    c.in_ok-given.field-0 c.in-Stopped.cause
-    (operates c.args.operator c.args.left.now) c.stopped.result
-    (c.in_ok-given.ensures.gives code is) c.in-Stopped.is c.stopped.ensures
+    stopped-leaf programs code (leaf_expression c.args.leaf.now)
+    c.args.self.now c.leaf_value.new.self c.in_ok-given.field-0 c.in-Stopped.cause
+    (λ value. as_value (operates c.args.operator c.args.left.now value)) c.stopped.result
+    c.in_ok-given.ensures.finds is c.in-Stopped.is c.stopped.ensures

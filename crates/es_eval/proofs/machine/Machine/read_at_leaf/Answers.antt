@@ -2,6 +2,8 @@ use Rattle.std.proofs.lemmas.Result.{IfOk-weaker}
 use Rattle.es_eval.specs.Actions.{as_text, behind}
 use Rattle.es_eval.specs.Members.{read_member}
 use Rattle.es_eval.specs.Rows.{with_members}
+use Rattle.es_eval.specs.devices.Leaves.{leaf_expression}
+use Rattle.es_eval.specs.devices.Works.{as_value}
 use Rattle.es_eval.proofs.LeafLemmas.{given-leaf, stopped-leaf}
 use Rattle.es_eval.proofs.machine.Machine.read_at_leaf.Goals as goal
 
@@ -9,16 +11,16 @@ pub returns-in-Value-clause-run : goal.returns-in-Value-clause-run
 returns-in-Value-clause-run c =
     let programs = c.args.programs.now in
     IfOk-weaker c.read_index.result _ _
-    (λ next run code is. given-leaf programs code c.args.self.now c.leaf_value.new.self
-    c.read_index.new.self c.in-Ok.found c.in-Value.key
-    (λ key. with_members c.args.base (behind (as_text key) (λ key. read_member c.args.base key))) next
-    (c.in-Ok.ensures.gives code is) c.in-Value.is c.in-Ok.ensures.stays
+    (λ next run code is. given-leaf programs code (leaf_expression c.args.leaf.now)
+    c.args.self.now c.leaf_value.new.self c.read_index.new.self c.in-Ok.found c.in-Value.key
+    (λ key. as_value (with_members c.args.base (behind (as_text key) (λ key. read_member c.args.base key)))) next
+    c.in-Ok.ensures.finds is c.in-Value.is c.in-Ok.ensures.stays
     (run programs)) c.read_index.ensures.run
 
 pub returns-in-Stopped-clause-run : goal.returns-in-Stopped-clause-run
 returns-in-Stopped-clause-run c code is =
     let programs = c.args.programs.now in
-    stopped-leaf programs code c.args.self.now c.leaf_value.new.self
-    c.in-Ok.found c.in-Stopped.cause
-    (λ key. with_members c.args.base (behind (as_text key) (λ key. read_member c.args.base key))) c.stopped.result
-    (c.in-Ok.ensures.gives code is) c.in-Stopped.is c.stopped.ensures
+    stopped-leaf programs code (leaf_expression c.args.leaf.now)
+    c.args.self.now c.leaf_value.new.self c.in-Ok.found c.in-Stopped.cause
+    (λ key. as_value (with_members c.args.base (behind (as_text key) (λ key. read_member c.args.base key)))) c.stopped.result
+    c.in-Ok.ensures.finds is c.in-Stopped.is c.stopped.ensures

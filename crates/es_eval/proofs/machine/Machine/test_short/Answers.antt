@@ -1,0 +1,27 @@
+use Rattle.std.proofs.lemmas.Result.{IfOk-weaker}
+use Rattle.std.specs.Prelude.{if◌then◌else◌}
+use Rattle.es_values.specs.Values.{truth_of}
+use Rattle.es_eval.specs.Actions.{gives}
+use Rattle.es_eval.specs.Rows.Completion.{Normal}
+use Rattle.es_eval.specs.devices.Leaves.{short_expression}
+use Rattle.es_eval.specs.devices.Works.{as_completion, loop_body}
+use Rattle.es_eval.proofs.LeafLemmas.{given-leaf, stopped-leaf}
+use Rattle.es_eval.proofs.machine.Machine.test_short.Goals as goal
+
+pub returns-in-Value-clause-run : goal.returns-in-Value-clause-run
+returns-in-Value-clause-run c =
+    let programs = c.args.programs.now in
+    IfOk-weaker c.tested.result _ _
+    (λ next run code is. given-leaf programs code (short_expression c.args.short.now)
+    c.args.self.now c.short_value.new.self c.tested.new.self c.in_ok-given.field-0 c.in-Value.given
+    (λ value. as_completion (if truth_of value then loop_body programs c.args.given_loop else gives Normal)) next
+    c.in_ok-given.ensures.finds is c.in-Value.is c.short_value.ensures.stays
+    (run programs)) c.tested.ensures.run
+
+pub returns-in-Stopped-clause-run : goal.returns-in-Stopped-clause-run
+returns-in-Stopped-clause-run c code is =
+    let programs = c.args.programs.now in
+    stopped-leaf programs code (short_expression c.args.short.now)
+    c.args.self.now c.short_value.new.self c.in_ok-given.field-0 c.in-Stopped.cause
+    (λ value. as_completion (if truth_of value then loop_body programs c.args.given_loop else gives Normal)) c.stopped.result
+    c.in_ok-given.ensures.finds is c.in-Stopped.is c.stopped.ensures
