@@ -297,6 +297,7 @@ impl ActingDocument {
         ensures does { (before : List ℕ) → Does no_effect self.old self.new before before }
         ensures apart { (before : List ℕ)
             → DoesApart no_effect self.old self.new before before }
+        ensures modules { self.new.modules ≡ self.old.modules }
     {
         self.host.stage.prepare(CurrentEvent::none());
     }

@@ -17,11 +17,12 @@ use dom_objects::CurrentEvent;
 impl ActingDocument {
     /// Takes what it is told, and posts the events of that. A key posts what it does where the body
     /// lets it pass; a message and a change come to the event items; and the timers fire that are
-    /// due at a moment, to which the clock goes.
+    /// due at a moment, to which the clock goes. The modules that it is lent stay as they are.
     pub fn tell(&mut self, notice: Notice<'_>, out: &mut Vec<u8>) -> Result<(), NoMemory>
         requires { IsInTime notice }
         ensures does { OnOk result
             (DoesApart (notice_effect notice.entry) self.old self.new out.old.items out.new.items) }
+        ensures modules { self.new.modules ≡ self.old.modules }
         ensures grows { StartsWith out.new.items out.old.items }
     {
         if !self.takes(notice) {
@@ -65,6 +66,7 @@ impl ActingDocument {
         requires { IsInTime notice }
         ensures does { OnOk result
             (DoesApart (post_effect notice.entry) self.old self.new out.old.items out.new.items) }
+        ensures modules { self.new.modules ≡ self.old.modules }
         ensures grows { StartsWith out.new.items out.old.items }
     {
         self.host.stage.prepare(CurrentEvent::none());
