@@ -27,7 +27,7 @@ use crate::machine::Machine;
 use crate::nexts::stopped;
 use crate::outcomes::StopCause;
 use crate::shorts::{Short, short_at, short_of};
-use crate::works::{Given, Loop, Now, Place, StatementWork, Use, Visit, Work};
+use crate::works::{Given, Loop, Now, Place, StatementWork, Use, Visit, Work, discard};
 use bml_bytes::{NoMemory, Text};
 use es_reader::Program;
 use es_shapes::{
@@ -131,7 +131,11 @@ impl Machine {
         ensures less { IfOk result (IsLess self.old self.new) }
     {
         match short_of(programs, code, shape)? {
-            Some(short) => self.do_short(programs, &short),
+            Some(short) => {
+                let next = self.do_short(programs, &short);
+                discard(short);
+                next
+            }
             None => self.evaluate_then(Work::Statement(StatementWork::Discard), code),
         }
     }
@@ -168,7 +172,11 @@ impl Machine {
         ensures less { IfOk result (IsLess self.old self.new) }
     {
         match short_at(programs, right)? {
-            Some(short) => self.assign_short(programs, code, target, &short),
+            Some(short) => {
+                let next = self.assign_short(programs, code, target, &short);
+                discard(short);
+                next
+            }
             None => self.evaluate_then(Work::Statement(StatementWork::Discard), code),
         }
     }
@@ -235,7 +243,11 @@ impl Machine {
         ensures less { IfOk result (IsLess self.old self.new) }
     {
         match short_at(programs, right)? {
-            Some(short) => self.operation_short(programs, code, operator, target, &short),
+            Some(short) => {
+                let next = self.operation_short(programs, code, operator, target, &short);
+                discard(short);
+                next
+            }
             None => self.evaluate_then(Work::Statement(StatementWork::Discard), code),
         }
     }
@@ -295,7 +307,11 @@ impl Machine {
         ensures less { IfOk result (IsLess self.old self.new) }
     {
         match short_at(programs, code)? {
-            Some(short) => self.return_short(programs, &short),
+            Some(short) => {
+                let next = self.return_short(programs, &short);
+                discard(short);
+                next
+            }
             None => self.evaluate_then(Work::Statement(StatementWork::Return), code),
         }
     }
@@ -325,7 +341,11 @@ impl Machine {
         ensures less { IfOk result (IsLess self.old self.new) }
     {
         match short_at(programs, test)? {
-            Some(short) => self.if_short(programs, &short, body),
+            Some(short) => {
+                let next = self.if_short(programs, &short, body);
+                discard(short);
+                next
+            }
             None => self.evaluate_then(Work::Statement(StatementWork::If(body)), test),
         }
     }
@@ -363,7 +383,11 @@ impl Machine {
         ensures less { IfOk result (IsLess self.old self.new) }
     {
         match short_at(programs, test)? {
-            Some(short) => self.choose_short(programs, &short, body, other),
+            Some(short) => {
+                let next = self.choose_short(programs, &short, body, other);
+                discard(short);
+                next
+            }
             None => {
                 self.evaluate_then(Work::Statement(StatementWork::IfElse(body, other)), test)
             }
@@ -613,7 +637,11 @@ impl Machine {
         ensures less { IfOk result (IsLess self.old self.new) }
     {
         match short_at(programs, test)? {
-            Some(short) => self.test_short(programs, &short, given_loop),
+            Some(short) => {
+                let next = self.test_short(programs, &short, given_loop);
+                discard(short);
+                next
+            }
             None => self.evaluate_then(Work::Statement(StatementWork::Test(given_loop)), test),
         }
     }
@@ -697,7 +725,11 @@ impl Machine {
         ensures less { IfOk result (IsLess self.old self.new) }
     {
         match short_at(programs, update)? {
-            Some(short) => self.update_short(programs, &short, given_loop),
+            Some(short) => {
+                let next = self.update_short(programs, &short, given_loop);
+                discard(short);
+                next
+            }
             None => {
                 self.evaluate_then(Work::Statement(StatementWork::NextTurn(given_loop)), update)
             }

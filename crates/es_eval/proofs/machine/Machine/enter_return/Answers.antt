@@ -4,6 +4,6 @@ use Rattle.es_eval.proofs.machine.Machine.enter_return.Goals as goal
 
 pub returns-in-Some-clause-run : goal.returns-in-Some-clause-run
 returns-in-Some-clause-run c =
-    IfOk-weaker c.return_short.result _ _
+    IfOk-weaker c.return_short-next.result _ _
     (λ next run. run c.args.code (is-short c.args.programs.now c.args.code
-    c.in_ok-short.field-0 c.in-Some.short c.in_ok-short.ensures c.in-Some.is)) c.return_short.ensures.run
+    c.in_ok-short.field-0 c.in-Some.short c.in_ok-short.ensures c.in-Some.is)) c.return_short-next.ensures.run
