@@ -41,13 +41,32 @@ const OTHER_VERSION: &[Sent] = &[
     Sent::Block(1, 2, 0, OTHER),
 ];
 
-/// A page with its modules, and the lines that it has given.
+/// What is done with a page: it takes sections, or the key is pressed so many times.
+enum Step {
+    Take(&'static [Sent]),
+    Press(usize),
+}
+
+// Both documents come, and each launches the other one.
+const LAUNCHES: &[Step] = &[Step::Take(BOTH), Step::Press(3)];
+
+// The same, and another document comes in module 1 behind the second launch.
+const LAUNCHES_OF_ANOTHER: &[Step] = &[
+    Step::Take(BOTH),
+    Step::Press(2),
+    Step::Take(OTHER_VERSION),
+    Step::Press(3),
+];
+
+/// A page with its modules, the lines that it has given, and how many loads it had counted behind
+/// the sections of each step and behind each key.
 #[derive(Drop)]
 struct Shown {
     alloc: Global,
     page: Page,
     modules: Modules,
     out: Vec<u8>,
+    hits: Vec<u64>,
 }
 
 impl Shown {
@@ -61,7 +80,23 @@ impl Shown {
             page,
             modules,
             out: Vec::new(alloc),
+            hits: Vec::new(alloc),
         })
+    }
+
+    fn obey(&mut self, step: &Step) -> Result<(), Unbuilt> {
+        match step {
+            Step::Take(all) => self.take_all(all),
+            Step::Press(times) => Ok(self.press(*times)?),
+        }
+    }
+
+    fn take_all(&mut self, all: &[Sent]) -> Result<(), Unbuilt> {
+        for sent in all {
+            self.take(sent)?;
+        }
+        self.hits.push(self.page.cache_hits())?;
+        Ok(())
     }
 
     // Takes a section of the data, with its turn.
@@ -75,55 +110,54 @@ impl Shown {
         Ok(())
     }
 
-    // Presses the key, with its turn, in which the document launches the other one. Answers how many
-    // loads so far were of a document that was remembered.
-    fn hits_behind_key(&mut self) -> Result<u64, NoMemory> {
-        self.page.post_key(KEY, true, &mut self.out)?;
-        self.page.turn(&mut self.modules, &mut self.out)?;
-        Ok(self.page.cache_hits())
+    // Presses the key, each time with its turn, in which the document launches the other one.
+    fn press(&mut self, times: usize) -> Result<(), NoMemory> {
+        for _ in 0..times {
+            self.page.post_key(KEY, true, &mut self.out)?;
+            self.page.turn(&mut self.modules, &mut self.out)?;
+            self.hits.push(self.page.cache_hits())?;
+        }
+        Ok(())
     }
+}
+
+// What a page has shown behind these steps.
+fn shown_behind(alloc: Global, steps: &[Step]) -> Result<Shown, Unbuilt> {
+    let mut shown = Shown::new(alloc)?;
+    for step in steps {
+        shown.obey(step)?;
+    }
+    Ok(shown)
+}
+
+// Whether a page counted so many loads and gave these lines behind these steps.
+fn has_shown(alloc: Global, steps: &[Step], hits: &[u64], lines: &[u8]) -> Result<bool, Unbuilt> {
+    let shown = shown_behind(alloc, steps)?;
+    Ok(shown.hits.as_slice() == hits && shown.out.as_slice() == lines)
 }
 
 // The first load of each document isn't a hit, and each later one is: neither module comes anew.
 #[test]
 fn documents_launched_again_are_remembered(rt: HostRuntime) -> Result<(), Fail> {
-    let mut shown = Shown::new(rt.alloc())?;
-    for sent in BOTH {
-        shown.take(sent)?;
-    }
-    assert_eq!(rt; shown.page.cache_hits(), 0);
-    for hits in [0, 1, 2] {
-        assert_eq!(rt; shown.hits_behind_key()?, hits);
-    }
     let lines: &[u8] = b"module 40 0000 01 100\nload /40/0000\nmodule 40 0001 01 100\n\
         launch /40/0001\nload /40/0001\nlaunch /40/0000\nload /40/0000\n\
         launch /40/0001\nload /40/0001\n";
-    assert!(rt; shown.out.as_slice() == lines);
+    let well = has_shown(rt.alloc(), LAUNCHES, &[0, 0, 1, 2], lines)?;
+    assert!(rt; well);
     Ok(())
 }
 
-// Another delivery of module 1 has a number of its own, so what is remembered under its path isn't the
-// same document: the third launch isn't a hit. The first document stays remembered, as its module stays
-// held, and the one that came is remembered from its load on.
+// Another delivery of module 1 has a number of its own, so what is remembered under its path isn't
+// the same document: the third launch isn't a hit. The first document stays remembered, as its
+// module stays held, and the one that came is remembered from its load on.
 #[test]
 fn a_document_that_came_anew_is_not_remembered(rt: HostRuntime) -> Result<(), Fail> {
-    let mut shown = Shown::new(rt.alloc())?;
-    for sent in BOTH {
-        shown.take(sent)?;
-    }
-    for hits in [0, 1] {
-        assert_eq!(rt; shown.hits_behind_key()?, hits, "before it came");
-    }
-    for sent in OTHER_VERSION {
-        shown.take(sent)?;
-    }
-    for hits in [1, 2, 3] {
-        assert_eq!(rt; shown.hits_behind_key()?, hits, "behind it");
-    }
     let lines: &[u8] = b"module 40 0000 01 100\nload /40/0000\nmodule 40 0001 01 100\n\
         launch /40/0001\nload /40/0001\nlaunch /40/0000\nload /40/0000\nmodule 40 0001 02 104\n\
         launch /40/0001\nload /40/0001\nlaunch /40/0000\nload /40/0000\n\
         launch /40/0001\nload /40/0001\n";
-    assert!(rt; shown.out.as_slice() == lines);
+    let hits = &[0, 0, 1, 1, 1, 2, 3];
+    let well = has_shown(rt.alloc(), LAUNCHES_OF_ANOTHER, hits, lines)?;
+    assert!(rt; well);
     Ok(())
 }
