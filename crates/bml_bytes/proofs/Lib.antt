@@ -2,8 +2,10 @@ pub mod CodeLaws
 pub mod Elements
 pub mod FieldLaws
 pub mod Fronts
+pub mod HashLemmas
 pub mod NumberLaws
 pub mod NumeralLaws
+pub mod OrderLemmas
 pub mod OwnCodeLaws
 pub mod TestLaws
 pub mod WordLaws

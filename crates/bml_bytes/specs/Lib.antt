@@ -5,3 +5,4 @@ pub mod Numbers
 pub mod Numerals
 pub mod Refusals
 pub mod Words
+pub mod devices

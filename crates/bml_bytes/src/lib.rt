@@ -9,6 +9,7 @@
 
 mod area;
 mod cursors;
+mod hashes;
 mod laws;
 mod line_fields;
 mod numerals;

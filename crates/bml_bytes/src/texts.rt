@@ -4,29 +4,46 @@ ghost use Rattle.std.specs.Prelude.{◌≡◌, ◌<◌, [], ◌∷◌, length, s
 ghost use Rattle.std.specs.Io.{StartsWith};
 ghost use Rattle.bml_bytes.specs.Codes.{bytes_of, code_bytes, codes, is_high as spec_is_high, is_pair as spec_is_pair};
 ghost use Rattle.bml_bytes.specs.Words.{is_same, is_same_in_any_case};
+ghost use Rattle.std.specs.Cmp.Lexicographic.{slice_cmp};
+ghost use Rattle.std.specs.Ordering.{nat_cmp};
 
+use crate::hashes::hash_of;
 use crate::refusals::NoMemory;
 use crate::words::{is_word, is_word_in_any_case};
 use std::alloc::Global;
+use std::cmp::Ordering;
 use std::hash::{Hash, Hasher};
 use std::marker::Model;
-use std::rc::RcSlice;
+use std::rc::Rc;
+
+// How many codes of two texts that are put in order are compared at once.
+const BLOCK: usize = 64;
+
+// The codes of a text, and their hash.
+#[derive(Debug, Drop)]
+struct TextBody {
+    codes: Vec<u16>,
+    hash: u64,
+}
 
 /// A text of a document, a script or a stream: a list of codes, which copies share. Contracts see the
 /// list of its codes. A code above 255 is a character of EUC-JP that takes two bytes, and every other
-/// code is a byte that stands for itself.
+/// code is a byte that stands for itself. A text keeps a hash of its codes, so that to look it up in a
+/// map doesn't read them.
 #[derive(Debug, Drop)]
 pub struct Text {
-    codes: RcSlice<u16>,
+    body: Rc<TextBody>,
 }
 
 impl Model for Text {
-    ghost use Rattle.std.specs.Prelude.{List, ℕ};
-    ghost use Rattle.std.specs.Rc.{rc_slice_items};
+    ghost use Rattle.std.specs.Prelude.{List, ℕ, ◌≡◌};
+    ghost use Rattle.bml_bytes.specs.devices.Hashes.{text_hash};
 
     ghost Value = { List ℕ };
 
-    ghost view = { λ text. rc_slice_items text.codes };
+    ghost view = { λ text. text.body.value.codes.items };
+
+    ghost invariant = { λ text. text.body.value.hash ≡ text_hash text.body.value.codes.items };
 }
 
 impl Text {
@@ -40,30 +57,40 @@ impl Text {
             found.push(code)?;
             rest = behind;
         }
-        let codes = RcSlice::from_vec(found)?;
-        Ok(Text { codes })
+        Text::of_vec(found)
     }
 
     /// The text that has just these codes.
     pub fn of_codes(alloc: Global, codes: &[u16]) -> Result<Text, NoMemory>
         ensures { IfOk result (λ text. text ≡ codes.now) }
     {
-        let codes = RcSlice::from_slice(alloc, codes)?;
-        Ok(Text { codes })
+        let mut own = Vec::with_capacity(alloc, codes.len())?;
+        own.extend_from_slice(codes)?;
+        Text::of_vec(own)
+    }
+
+    /// The text that has just these codes, which aren't copied.
+    pub fn of_vec(codes: Vec<u16>) -> Result<Text, NoMemory>
+        ensures { IfOk result (λ text. text ≡ codes.items) }
+    {
+        let alloc = *codes.allocator();
+        let hash = hash_of(&codes);
+        let body = Rc::new(alloc, TextBody { codes, hash })?;
+        Ok(Text { body })
     }
 
     /// The number of its codes.
     pub fn len(&self) -> usize
         ensures { result ≡ length self.now }
     {
-        self.codes.len()
+        self.codes().len()
     }
 
     /// The code at a place, counted from 0, and None past the last one.
     pub fn code(&self, place: usize) -> Option<u16>
         ensures { result ≡ slice_get self.now place }
     {
-        self.codes.as_slice().get(place).copied()
+        self.codes().get(place).copied()
     }
 
     /// Whether it is this word of ASCII.
@@ -84,7 +111,15 @@ impl Text {
     pub fn codes(&self) -> &[u16]
         ensures { result.now ≡ self.now }
     {
-        self.codes.as_slice()
+        self.body.codes.as_slice()
+    }
+
+    /// How the codes of two texts stand to each other: by the first place at which they differ, and
+    /// where one of them ends before that, it is less.
+    pub fn order(&self, other: &Text) -> Ordering
+        ensures { result ≡ slice_cmp nat_cmp self.now other.now }
+    {
+        order_of(self.codes(), other.codes())
     }
 
     /// Appends the bytes of the text: two for a code above 255, and one for every other. Where it finds no
@@ -103,8 +138,8 @@ impl Text {
     pub fn share(&self) -> Result<Text, NoMemory>
         ensures { IfOk result (λ text. text ≡ self.now) }
     {
-        let codes = self.codes.clone()?;
-        Ok(Text { codes })
+        let body = self.body.clone()?;
+        Ok(Text { body })
     }
 }
 
@@ -119,7 +154,7 @@ impl PartialEq for Text {
     ghost laws = { Prim.search (comparing, rules) };
 
     fn eq(&self, other: &Text) -> bool {
-        self.codes() == other.codes()
+        self.body.hash == other.body.hash && self.codes() == other.codes()
     }
 }
 
@@ -135,13 +170,35 @@ impl Hash for Text {
     ghost use Rattle.std.specs.Cmp.Rules.{hashing};
     ghost use Rattle.std.proofs.Common.{rules};
 
-    ghost hash_input = { fed.slice fed.u16 };
+    ghost use Rattle.bml_bytes.specs.devices.Hashes.{text_hash};
+
+    ghost hash_input = { λ codes. fed.u64 (text_hash codes) };
 
     ghost respects_eq = { Prim.search (hashing, rules) };
 
     fn hash<H: Hasher>(&self, state: &mut H) {
-        self.codes().hash(state);
+        self.body.hash.hash(state);
     }
+}
+
+// How two lists of codes stand to each other. Blocks that are the same at their fronts are passed.
+#[tactic(auto, using(crate::proofs::OrderLemmas::behind_block))]
+fn order_of(codes: &[u16], others: &[u16]) -> Ordering
+    ensures { result ≡ slice_cmp nat_cmp codes.now others.now }
+{
+    let mut left = codes;
+    let mut right = others;
+    'blocks: while left.len() > BLOCK {
+        let (block, behind) = left.split_at(BLOCK);
+        match right.strip_prefix(block) {
+            Some(rest) => {
+                left = behind;
+                right = rest;
+            }
+            None => return left.cmp(right),
+        }
+    }
+    left.cmp(right)
 }
 
 // Appends the bytes of one code.

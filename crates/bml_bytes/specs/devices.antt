@@ -1,0 +1,2 @@
+-- Devices of the proofs, which nobody has to believe.
+pub mod Hashes
