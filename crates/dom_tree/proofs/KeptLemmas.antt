@@ -157,7 +157,7 @@ has_id-put-by id name value parent (Element tag attributes) h is_id = has_id-giv
 has_id-put-by id name value parent (Text text) h is_id = absurd (cc h)
 
 -- an element's new id, and another text
-pub has_id-put : (items : List Item) (n : ℕ) (item : Item) (id name value : List ℕ) → slice_get items n ≡ Some item → IsElement items n → is_same name (codes "id") ≡ true → has_id id (with_attribute name value item) ≡ is_same id value
+has_id-put : (items : List Item) (n : ℕ) (item : Item) (id name value : List ℕ) → slice_get items n ≡ Some item → IsElement items n → is_same name (codes "id") ≡ true → has_id id (with_attribute name value item) ≡ is_same id value
 has_id-put items n item id name value got element is_id = has_id-put-by id name value item.parent item.content (subst IsSome (tag_of-item items n item got) element) is_id
 
 -- the id that an element had

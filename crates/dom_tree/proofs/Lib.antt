@@ -7,7 +7,6 @@ pub mod EntryLemmas
 pub mod NeighbourLemmas
 pub mod IdLemmas
 pub mod KeptLemmas
-pub mod LongestLemmas
 pub mod NestedLemmas
 pub mod ChildLemmas
 pub mod SubtreeLemmas

@@ -82,10 +82,6 @@ pub record AreLinked (items : List Item) (links : List Links) : Type 0 where
 abbrev pub IsIndexOf : {S : Type 0} → HashMap (List ℕ) NodeId S → List Item → Type 0
 IsIndexOf ids items = (id : List ℕ) → number_of (get is_same ids id) ≡ node_of_id items id
 
--- no id in the map is longer than this
-abbrev pub AreNoLonger : {S : Type 0} → ℕ → HashMap (List ℕ) NodeId S → Type 0
-AreNoLonger longest ids = (id : List ℕ) → longest < length id → get is_same ids id ≡ None
-
 -- what a tree keeps stands for a tree: the nodes lead to each other, and the map leads from ids to
 -- nodes
 pub record IsKept {S : Type 0} (nodes : List Node) (ids : HashMap (List ℕ) NodeId S) : Type 0 where

@@ -27,9 +27,6 @@ pub struct Tree {
 
     // for each id the first node that has it
     ids: IndexMap<Text, NodeId>,
-
-    // no id there is longer, so a longer text isn't even hashed when it is looked up
-    longest_id: usize,
 }
 
 impl Model for Tree {
@@ -38,12 +35,11 @@ impl Model for Tree {
 
     ghost Value = { List Item };
 
-    ghost use Rattle.dom_tree.specs.Links.{items_in, AreNoLonger, IsKept};
+    ghost use Rattle.dom_tree.specs.Links.{items_in, IsKept};
 
     ghost view = { λ tree. items_in tree.nodes.items };
 
-    ghost invariant = { λ tree.
-        IsKept tree.nodes.items tree.ids × AreNoLonger tree.longest_id tree.ids };
+    ghost invariant = { λ tree. IsKept tree.nodes.items tree.ids };
 }
 
 impl Tree {
@@ -132,16 +128,12 @@ impl Tree {
     }
 
     /// The first element in document order whose attribute `id` is this text, case and white
-    /// included (HTML 4, 7.5.2). A text longer than any id that the tree ever had is answered by its
-    /// length; for every other the cost is that of one look-up by the text's hash.
+    /// included (HTML 4, 7.5.2). The cost is that of one look-up by the text's hash.
     pub fn by_id(&self, id: &Text) -> Option<NodeId>
         ensures first { number_of result ≡ node_of_id self.now id.now }
         ensures element { IfSome result
             (λ node. (node.0 < length self.now) × IsElement self.now node.0) }
     {
-        if id.len() > self.longest_id {
-            return None;
-        }
         self.ids.get(id).copied()
     }
 

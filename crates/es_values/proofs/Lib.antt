@@ -7,7 +7,6 @@ pub mod JoinLemmas
 pub mod LawLemmas
 pub mod LengthLemmas
 pub mod ListSteps
-pub mod LongNameLemmas
 pub mod NumberLemmas
 pub mod OrderLemmas
 pub mod ReverseLemmas

@@ -1,6 +1,6 @@
 -- A device of the proofs: the slots in which the properties of an object stand in order of insertion, some of
 -- them empty, and an index of the names' places among them.
-use Rattle.std.specs.Prelude.{◌≡◌, ◌<◌, ℕ, suc, ◌+◌, nat_le, Bool, false, if◌then◌else◌, List, [], ◌∷◌, length, map, Option, Some, None, option_map, is_some}
+use Rattle.std.specs.Prelude.{◌≡◌, ℕ, suc, ◌+◌, nat_le, Bool, false, if◌then◌else◌, List, [], ◌∷◌, map, Option, Some, None, option_map, is_some}
 use Rattle.std.specs.Option.{option_map_or}
 use Rattle.std.specs.List.{filter_map, IsDistinct}
 use Rattle.std.specs.Map.{lookup}
@@ -16,11 +16,6 @@ standing slots = filter_map (λ slot. slot) slots
 -- no two of the properties have the same name
 abbrev pub HaveOwnNames : List (List ℕ × Value) → Type 0
 HaveOwnNames properties = IsDistinct is_same (map (λ property. property.0) properties)
-
--- none of the properties has a name longer than this
-abbrev pub HaveNamesUpTo : ℕ → List (List ℕ × Value) → Type 0
-HaveNamesUpTo longest properties =
-    (name : List ℕ) → longest < length name → lookup (is_same name) properties ≡ None
 
 -- the slot has a property of this name
 abbrev pub is_named : List ℕ → Option (List ℕ × Value) → Bool

@@ -8,7 +8,7 @@ ghost use Rattle.indexmap.specs.IndexMap.{insert_all, insert_entry, spare};
 ghost use Rattle.bml_bytes.specs.Words.{is_same};
 ghost use Rattle.es_values.specs.Arrays.{element_at};
 ghost use Rattle.es_values.specs.Heaps.{cut_at, is_element_from as spec_is_element_from};
-ghost use Rattle.es_values.specs.Slots.{HaveNamesUpTo, HaveOwnNames, Indexes, IsIndexOfNames, is_element_name, placed, standing};
+ghost use Rattle.es_values.specs.Slots.{HaveOwnNames, Indexes, IsIndexOfNames, is_element_name, placed, standing};
 ghost use Rattle.es_values.specs.devices.Indices.{AreKept, indices_of};
 
 use crate::indices::{Indices, greatest, indices_from, lacks, with_name, without_name};
@@ -30,15 +30,12 @@ pub struct Properties {
     places: IndexMap<Text, usize>,
     slots: Vec<Option<(Text, Value)>>,
     indices: Indices,
-
-    // no name is longer, so a longer text isn't even hashed when it is looked up
-    longest_name: usize,
 }
 
 impl Model for Properties {
     ghost use Rattle.std.specs.Prelude.{List, ℕ};
     ghost use Rattle.es_values.specs.declared.values.Value.{Value as ScriptValue};
-    ghost use Rattle.es_values.specs.Slots.{HaveNamesUpTo, Indexes, standing};
+    ghost use Rattle.es_values.specs.Slots.{Indexes, standing};
     ghost use Rattle.es_values.specs.devices.Indices.{AreKept, indices_of};
 
     ghost Value = { List (List ℕ × ScriptValue) };
@@ -47,8 +44,7 @@ impl Model for Properties {
 
     ghost invariant = { λ properties.
         Indexes properties.places.entries properties.slots.items
-        × AreKept properties.indices (indices_of (standing properties.slots.items))
-        × HaveNamesUpTo properties.longest_name (standing properties.slots.items) };
+        × AreKept properties.indices (indices_of (standing properties.slots.items)) };
 }
 
 impl Properties {
@@ -60,7 +56,6 @@ impl Properties {
             places: IndexMap::new(alloc),
             slots: Vec::new(alloc),
             indices: Some(BTreeSet::new(alloc)),
-            longest_name: 0,
         }
     }
 
@@ -88,21 +83,11 @@ impl Properties {
     pub fn get(&self, name: &Text) -> Option<&Value>
         ensures { option_copied result ≡ lookup (is_same name.now) self.now }
     {
-        if self.is_too_long(name) {
-            return None;
-        }
         let place = self.places.get(name)?;
         match &self.slots[*place] {
             Some((_, value)) => Some(value),
             None => None,
         }
-    }
-
-    // Whether a name is longer than any that there ever was, so that no property has it.
-    fn is_too_long(&self, name: &Text) -> bool
-        ensures { result ≡ true → lookup (is_same name.now) self.now ≡ None }
-    {
-        name.len() > self.longest_name
     }
 
     /// Whether there is a property of this name.
@@ -135,7 +120,6 @@ impl Properties {
             &mut self.places,
             &mut self.slots,
             &mut self.indices,
-            &mut self.longest_name,
             property,
         );
         Ok(())
@@ -163,7 +147,6 @@ impl Properties {
             &mut self.places,
             &mut self.slots,
             &mut self.indices,
-            &mut self.longest_name,
             properties,
         );
         Ok(())
@@ -173,9 +156,6 @@ impl Properties {
     pub fn replace(&mut self, name: Text, value: Value)
         ensures { self.new ≡ set_value (is_same name) self.old value }
     {
-        if self.is_too_long(&name) {
-            return;
-        }
         if let Some(place) = self.places.get(&name) {
             set_slot(&mut self.slots, *place, (name, value));
         }
@@ -187,9 +167,6 @@ impl Properties {
         ensures there { result ≡ is_some (lookup (is_same name.now) self.old) }
         ensures without { self.new ≡ remove_entry (is_same name.now) self.old }
     {
-        if self.is_too_long(name) {
-            return false;
-        }
         match self.places.swap_remove(name) {
             Some(place) => {
                 self.slots[place] = None;
@@ -335,7 +312,6 @@ fn put_properties(
     places: &mut IndexMap<Text, usize>,
     slots: &mut Vec<Option<(Text, Value)>>,
     indices: &mut Indices,
-    longest_name: &mut usize,
     properties: Vec<Property>,
 )
     requires indexed { Indexes places.old.entries slots.old.items }
@@ -346,11 +322,9 @@ fn put_properties(
         ≡ insert_all is_same (standing slots.old.items) properties.items }
     ensures kept { AreKept indices.old (indices_of (standing slots.old.items))
         → AreKept indices.new (indices_of (standing slots.new.items)) }
-    ensures longest { HaveNamesUpTo longest_name.old (standing slots.old.items)
-        → HaveNamesUpTo longest_name.new (standing slots.new.items) }
 {
     for property in properties {
-        put_property(places, slots, indices, longest_name, property);
+        put_property(places, slots, indices, property);
     }
 }
 
@@ -359,7 +333,6 @@ fn put_property(
     places: &mut IndexMap<Text, usize>,
     slots: &mut Vec<Option<(Text, Value)>>,
     indices: &mut Indices,
-    longest_name: &mut usize,
     property: Property,
 )
     requires indexed { Indexes places.old.entries slots.old.items }
@@ -370,14 +343,11 @@ fn put_property(
         ≡ insert_entry is_same (standing slots.old.items) property.0 property.1 }
     ensures kept { AreKept indices.old (indices_of (standing slots.old.items))
         → AreKept indices.new (indices_of (standing slots.new.items)) }
-    ensures longest { HaveNamesUpTo longest_name.old (standing slots.old.items)
-        → HaveNamesUpTo longest_name.new (standing slots.new.items) }
     ensures places { spare places.old ≤ spare places.new + 1 }
     ensures slots { vec_len slots.new ≤ vec_len slots.old + 1 }
     ensures capacity { vec_capacity slots.old ≤ vec_capacity slots.new }
 {
     let Property { name, slot } = property;
-    *longest_name = (*longest_name).max(name.len());
     match places.get(&name) {
         Some(place) => slots[*place] = Some(slot),
         None => {

@@ -25,7 +25,6 @@ impl Tree {
         Ok(Tree {
             nodes,
             ids: IndexMap::new(alloc),
-            longest_id: 0,
         })
     }
 

@@ -76,7 +76,6 @@ impl Tree {
         ensures places { KeepsPlaces self.old self.new }
     {
         let put = put_id(&mut self.nodes, &mut self.ids, node, &name, value, 1)?;
-        self.longest_id = self.longest_id.max(put.id.len());
         index_one_more(&mut self.ids, put.id, node);
         Ok(())
     }
@@ -92,7 +91,6 @@ impl Tree {
         ensures places { KeepsPlaces self.old self.new }
     {
         let put = put_id(&mut self.nodes, &mut self.ids, node, name, value, 2)?;
-        self.longest_id = self.longest_id.max(put.id.len());
         index_had(&mut self.ids, &self.nodes, name, put.had);
         index_anew(&mut self.ids, &self.nodes, name, put.id);
         Ok(())

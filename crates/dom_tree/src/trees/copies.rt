@@ -17,11 +17,7 @@ impl Tree {
     {
         let nodes = copied_nodes(*self.nodes.allocator(), self.nodes.as_slice())?;
         let ids = copied_ids(&self.ids)?;
-        Ok(Tree {
-            nodes,
-            ids,
-            longest_id: self.longest_id,
-        })
+        Ok(Tree { nodes, ids })
     }
 }
 

@@ -14,7 +14,6 @@ loop-property-preserved c = record {
       ∙ (ap (λ (es : List (List ℕ × Value)). insert_entry is_same es c.in-Some.property.0 c.in-Some.property.1) c.loop-property.invariant.done
       ∙ sym (insert_all-last (standing c.args.slots.now.items) c.loop-property.yielded c.in-Some.property));
   kept = λ first. c.put_property.ensures.kept (c.loop-property.invariant.kept first);
-  longest = λ first. c.put_property.ensures.longest (c.loop-property.invariant.longest first);
   places = omega (arith, c.put_property.ensures.places, c.in-Some.ensures.steps);
   slots = omega (arith, c.put_property.ensures.slots, c.put_property.ensures.capacity, c.in-Some.ensures.steps);
 }

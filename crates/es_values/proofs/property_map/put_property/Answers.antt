@@ -1,5 +1,5 @@
 use Rattle.std.proofs.Common.{◌∙◌, ◌++◌, ◌∷◌, [], ℕ, List, ap, arith, sym, subst}
-use Rattle.std.specs.Prelude.{Option, Some, is_some, if◌then◌else◌, length, max, option_to_list, slice_set}
+use Rattle.std.specs.Prelude.{Option, Some, is_some, if◌then◌else◌, option_to_list, slice_set}
 use Rattle.std.specs.Map.{lookup}
 use Rattle.indexmap.specs.IndexMap.{insert_entry}
 use Rattle.bml_bytes.specs.Words.{is_same}
@@ -9,7 +9,6 @@ use Rattle.es_values.specs.Heaps.{index_of}
 use Rattle.es_values.specs.Slots.{Indexes, standing}
 use Rattle.es_values.specs.devices.Indices.{AreKept, indices_of}
 use Rattle.es_values.proofs.IndexLemmas.{kept-behind, kept-replaced}
-use Rattle.es_values.proofs.LongNameLemmas.{names-put}
 use Rattle.es_values.proofs.SlotLemmas.{found-none, indexes-added, indexes-replaced, on-ok, place-standing, place-within, standing-added, standing-replaced}
 use Rattle.es_values.proofs.property_map.put_property.Goals as goal
 
@@ -43,8 +42,8 @@ returns-in-None-clause-indexed c =
     let placed = on-ok c.insert-placed.result _ (c.insert-placed.ensures.succeeds c.requires.places) c.insert-placed.ensures.entries in
     let pushed = c.push-pushed.ensures.items ∙ ap (λ t. if t then slots ++ Some slot ∷ [] else slots) (c.push-pushed.ensures.succeeds c.requires.slots) in
     subst (Indexes c.insert-placed.new.self.entries) (sym pushed)
-    (indexes-added places c.insert-placed.new.self.entries slots slot.0 slot.1 c.len-in-None.result c.requires.indexed k
-    (placed ∙ ap (λ (n : List ℕ). insert_entry is_same places n c.len-in-None.result) c.property.invariant) (omega arith))
+    (indexes-added places c.insert-placed.new.self.entries slots slot.0 slot.1 c.len.result c.requires.indexed k
+    (placed ∙ ap (λ (n : List ℕ). insert_entry is_same places n c.len.result) c.property.invariant) (omega arith))
 
 pub returns-in-None-clause-standing : goal.returns-in-None-clause-standing
 returns-in-None-clause-standing c =
@@ -82,24 +81,3 @@ returns-in-None-clause-kept c first =
     kept-behind c.with_name.result (standing slots) (standing c.push-pushed.new.self.items) slot.0 slot.1
     (ap standing pushed ∙ standing-added slots slot.0 slot.1 nowhere) absent
     (subst (λ (n : List ℕ). AreKept c.with_name.result (indices_of (standing slots) ++ option_to_list (index_of n))) c.property.invariant named)
-
-pub returns-in-Some-clause-longest : goal.returns-in-Some-clause-longest
-returns-in-Some-clause-longest c first =
-    let slot = c.property.inside.slot in
-    let places = c.args.places.now.entries in
-    let slots = c.args.slots.now.items in
-    let k = ap (λ (n : List ℕ). lookup (is_same n) places) (sym c.property.invariant) ∙ sym c.in-Some.ensures.value in
-    names-put c.args.longest_name.now c.max.result (standing slots) (standing (slice_set slots c.in-Some.place.now (Some slot))) slot.0 slot.1
-    (c.max.ensures ∙ ap (max c.args.longest_name.now) (c.len.ensures ∙ ap length c.property.invariant))
-    (standing-replaced slot.0 slot.1 slots c.in-Some.place.now (sym (c.requires.indexed.found slot.0) ∙ k)) first
-
-pub returns-in-None-clause-longest : goal.returns-in-None-clause-longest
-returns-in-None-clause-longest c first =
-    let slot = c.property.inside.slot in
-    let places = c.args.places.now.entries in
-    let slots = c.args.slots.now.items in
-    let k = ap (λ (n : List ℕ). lookup (is_same n) places) (sym c.property.invariant) ∙ sym c.in-None.ensures.value in
-    let pushed = c.push-pushed.ensures.items ∙ ap (λ t. if t then slots ++ Some slot ∷ [] else slots) (c.push-pushed.ensures.succeeds c.requires.slots) in
-    names-put c.args.longest_name.now c.max.result (standing slots) (standing c.push-pushed.new.self.items) slot.0 slot.1
-    (c.max.ensures ∙ ap (max c.args.longest_name.now) (c.len.ensures ∙ ap length c.property.invariant))
-    (ap standing pushed ∙ standing-added slots slot.0 slot.1 (sym (c.requires.indexed.found slot.0) ∙ k)) first

@@ -7,7 +7,7 @@ use Rattle.dom_tree.proofs.KeptLemmas.{IsKept-attribute, last-attribute}
 use Rattle.dom_tree.proofs.trees.Tree.add_attribute.Goals as goal
 
 pub invariant_of-self-2 : goal.invariant_of-self-2
-invariant_of-self-2 c = (IsKept-attribute c.self.inside.nodes.items c.put_attribute.new.nodes.items c.self.inside.ids c.args.node.0 c.args.name c.args.value c.in_ok-put_attribute.ensures.ok c.put_attribute.ensures.links (sym c.is_id.ensures ∙ c.if-is_id.false) c.self.invariant.0, c.self.invariant.1)
+invariant_of-self-2 c = IsKept-attribute c.self.inside.nodes.items c.put_attribute.new.nodes.items c.self.inside.ids c.args.node.0 c.args.name c.args.value c.in_ok-put_attribute.ensures.ok c.put_attribute.ensures.links (sym c.is_id.ensures ∙ c.if-is_id.false) c.self.invariant
 
 pub returns-clause-ok : goal.returns-clause-ok
 returns-clause-ok c =

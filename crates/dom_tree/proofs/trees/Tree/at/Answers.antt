@@ -12,10 +12,10 @@ got : (c : goal.After-index) → slice_get c.self.inside.nodes.items c.args.node
 got c = slice_get_read c.self.inside.nodes.items (length c.self.inside.nodes.items) c.args.node.0 c.index.result.now refl (within-nodes c.self.inside.nodes.items c.args.self.now c.args.node.0 c.self.view_is c.requires) c.index.ensures
 
 leads : (c : goal.After-index) → LeadsTo c.args.self.now c.args.node.0 c.index.result.now
-leads c = subst (λ (items : List Item). LeadsTo items c.args.node.0 c.index.result.now) c.self.view_is (LeadsTo-at c.self.inside.nodes.items c.args.node.0 c.index.result.now c.self.invariant.0.linked (got c))
+leads c = subst (λ (items : List Item). LeadsTo items c.args.node.0 c.index.result.now) c.self.view_is (LeadsTo-at c.self.inside.nodes.items c.args.node.0 c.index.result.now c.self.invariant.linked (got c))
 
 tree : (c : goal.After-index) → IsTree c.args.self.now
-tree c = subst (λ (items : List Item). IsTree items) c.self.view_is c.self.invariant.0.tree
+tree c = subst (λ (items : List Item). IsTree items) c.self.view_is c.self.invariant.tree
 
 item : (c : goal.After-index) → slice_get c.args.self.now c.args.node.0 ≡ Some (item_of c.index.result.now)
 item c = ap (λ (items : List Item). slice_get items c.args.node.0) (sym c.self.view_is) ∙ slice_get-map item_of c.self.inside.nodes.items c.args.node.0 ∙ ap (option_map item_of) (got c)

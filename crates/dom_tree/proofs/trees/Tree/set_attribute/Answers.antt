@@ -7,7 +7,7 @@ use Rattle.dom_tree.proofs.KeptLemmas.{IsKept-attribute}
 use Rattle.dom_tree.proofs.trees.Tree.set_attribute.Goals as goal
 
 pub invariant_of-self-2 : goal.invariant_of-self-2
-invariant_of-self-2 c = (IsKept-attribute c.self.inside.nodes.items c.put_shared.new.nodes.items c.self.inside.ids c.args.node.0 c.args.name.now c.args.value c.in_ok-put_shared.ensures.ok c.put_shared.ensures.links (sym c.is_id.ensures ∙ c.if-is_id.false) c.self.invariant.0, c.self.invariant.1)
+invariant_of-self-2 c = IsKept-attribute c.self.inside.nodes.items c.put_shared.new.nodes.items c.self.inside.ids c.args.node.0 c.args.name.now c.args.value c.in_ok-put_shared.ensures.ok c.put_shared.ensures.links (sym c.is_id.ensures ∙ c.if-is_id.false) c.self.invariant
 
 pub returns-clause-places : goal.returns-clause-places
 returns-clause-places c =

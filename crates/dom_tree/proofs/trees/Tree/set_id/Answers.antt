@@ -1,15 +1,14 @@
-use Rattle.std.proofs.Common.{◌≡◌, ℕ, List, length, sym, ap, subst, ◌∙◌}
-use Rattle.std.specs.Prelude.{false, max, IfSome}
+use Rattle.std.proofs.Common.{◌≡◌, ℕ, List, sym, ap, subst, ◌∙◌}
+use Rattle.std.specs.Prelude.{false, IfSome}
 use Rattle.indexmap.specs.IndexMap.{get}
 use Rattle.bml_bytes.specs.Words.{is_same}
 use Rattle.dom_tree.specs.Items.{Item, IsElement, changed_at, with_attribute}
 use Rattle.dom_tree.specs.Walks.{KeepsPlaces, node_of_id}
 use Rattle.dom_tree.specs.NodeNumbers.{number_of}
-use Rattle.dom_tree.specs.Links.{items_in, IsKept}
+use Rattle.dom_tree.specs.Links.{items_in}
 use Rattle.dom_tree.specs.declared.nodes.Node.{Node}
 use Rattle.dom_tree.proofs.ShapeLemmas.{KeepsPlaces-same, with_attribute-same}
 use Rattle.dom_tree.proofs.KeptLemmas.{IsKept-id-anew}
-use Rattle.dom_tree.proofs.LongestLemmas.{AreNoLonger-put}
 use Rattle.dom_tree.proofs.trees.Tree.set_id.Goals as goal
 
 pub invariant_of-self-2 : goal.invariant_of-self-2
@@ -23,7 +22,7 @@ invariant_of-self-2 c =
     let room = c.put_id.new.ids in
     let first = c.index_had.new.ids in
     let second = c.index_anew.new.ids in
-    let kept : IsKept new second = IsKept-id-anew nodes new c.self.inside.ids room first second n name value had
+    IsKept-id-anew nodes new c.self.inside.ids room first second n name value had
     (subst (λ (i : List Item). IsElement i n) (sym c.self.view_is) c.requires.element)
     c.in_ok-put.ensures.had
     c.in_ok-put.ensures.ok c.put_id.ensures.links c.requires.name c.put_id.ensures.entries
@@ -31,13 +30,7 @@ invariant_of-self-2 c =
     c.index_had.ensures.others
     (subst (λ (q : List ℕ). number_of (get is_same second q) ≡ node_of_id (items_in new) q) c.in_ok-put.ensures.id (subst (λ (ns : List Node). number_of (get is_same second c.in_ok-put.put.id) ≡ node_of_id (items_in ns) c.in_ok-put.put.id) c.deref-2.ensures.value c.index_anew.ensures.here))
     (subst (λ (q : List ℕ). (other : List ℕ) → is_same q other ≡ false → get is_same second other ≡ get is_same first other) c.in_ok-put.ensures.id c.index_anew.ensures.others)
-    c.self.invariant.0 in
-    let greatest = c.max-self-inside.ensures ∙ ap (max c.self.inside.longest_id) (c.len.ensures ∙ ap length c.in_ok-put.ensures.id) in (
-      kept,
-      AreNoLonger-put nodes new c.self.inside.ids second n name value c.self.inside.longest_id c.max-self-inside.result
-          (subst (λ (i : List Item). IsElement i n) (sym c.self.view_is) c.requires.element)
-          c.in_ok-put.ensures.ok c.requires.name greatest c.self.invariant.0 c.self.invariant.1 kept,
-    )
+    c.self.invariant
 
 pub returns-clause-places : goal.returns-clause-places
 returns-clause-places c =

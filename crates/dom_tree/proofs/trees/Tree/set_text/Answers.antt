@@ -17,7 +17,7 @@ is_text : (c : goal.Joined-index_mut) → IsText (items_in c.self.inside.nodes.i
 is_text c = subst (λ (items : List Item). IsText items c.args.node.0) (sym c.self.view_is) c.requires
 
 pub invariant_of-self : goal.invariant_of-self
-invariant_of-self c = (IsKept-text c.self.inside.nodes.items c.self.inside.ids c.args.node.0 c.index_mut.result.now c.args.text (got c) (is_text c) c.self.invariant.0, c.self.invariant.1)
+invariant_of-self c = IsKept-text c.self.inside.nodes.items c.self.inside.ids c.args.node.0 c.index_mut.result.now c.args.text (got c) (is_text c) c.self.invariant
 
 same : (c : goal.Joined-index_mut) → items_in (slice_set c.self.inside.nodes.items c.args.node.0 (set_text-node c.index_mut.result.now c.args.text)) ≡ changed_at (with_text c.args.text) c.args.node.0 c.args.self.now
 same c = set_text-items c.self.inside.nodes.items c.args.node.0 c.index_mut.result.now c.args.text (got c) (is_text c) ∙ ap (changed_at (with_text c.args.text) c.args.node.0) c.self.view_is

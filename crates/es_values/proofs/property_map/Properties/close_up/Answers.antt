@@ -2,7 +2,7 @@ use Rattle.std.proofs.Common.{◌∙◌, ℕ, List, ap, subst, sym, rules}
 use Rattle.std.specs.Prelude.{is_some}
 use Rattle.std.proofs.lemmas.List.Elements.{filter_from_retain}
 use Rattle.es_values.specs.declared.values.Value.{Value}
-use Rattle.es_values.specs.Slots.{HaveNamesUpTo, HaveOwnNames, Indexes, IsIndexOfNames, standing}
+use Rattle.es_values.specs.Slots.{HaveOwnNames, Indexes, IsIndexOfNames, standing}
 use Rattle.es_values.specs.devices.Indices.{AreKept, indices_of}
 use Rattle.es_values.proofs.SlotLemmas.{names-index, standing-full}
 use Rattle.es_values.proofs.property_map.Properties.close_up.Goals as goal
@@ -30,5 +30,4 @@ invariant_of-self c =
     let kept = filter_from_retain _ (λ s. is_some s) (λ f s b g call. search rules) _ _ _ c.retain.ensures.filtered in (
       subst (Indexes c.renumber.new.places.entries) c.deref.ensures.value c.renumber.ensures,
       subst (λ (es : List (List ℕ × Value)). AreKept c.self.inside.indices (indices_of es)) (sym (ap standing kept ∙ standing-full slots)) c.self.invariant.1,
-      subst (HaveNamesUpTo c.self.inside.longest_name) (sym (ap standing kept ∙ standing-full slots)) c.self.invariant.2,
     )

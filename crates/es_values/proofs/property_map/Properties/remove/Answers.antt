@@ -1,12 +1,11 @@
 use Rattle.std.proofs.Common.{◌∙◌, ℕ, List, ap, arith, subst, sym}
-use Rattle.std.specs.Prelude.{Option, None, is_some, slice_set}
+use Rattle.std.specs.Prelude.{Option, is_some}
 use Rattle.std.specs.BTreeSet.{BTreeSet}
 use Rattle.std.specs.Map.{lookup, remove_entry}
 use Rattle.bml_bytes.specs.Words.{is_same}
 use Rattle.es_values.specs.declared.values.Value.{Value}
 use Rattle.es_values.specs.Slots.{standing}
 use Rattle.es_values.specs.devices.Indices.{AreKept, indices_of}
-use Rattle.es_values.proofs.LongNameLemmas.{names-removed}
 use Rattle.es_values.proofs.SlotLemmas.{found-none, indexes-cleared, place-standing, place-within, removed-absent, standing-cleared}
 use Rattle.es_values.proofs.property_map.Properties.remove.Goals as goal
 
@@ -24,7 +23,6 @@ invariant_of-self c =
       indexes-cleared c.self.inside.places.entries c.swap_remove.new.self.entries slots name c.in-Some.place c.self.invariant.0 (sym c.in-Some.ensures.value) c.in-Some.ensures.updates.0,
       subst (λ (es : List (List ℕ × Value)). AreKept c.without_name.result (indices_of es)) (sym (standing-cleared name slots c.in-Some.place here))
           (c.without_name.ensures (standing slots) taken (sym (place-standing name slots) ∙ ap is_some here)),
-      names-removed c.self.inside.longest_name (standing slots) (standing (slice_set slots c.in-Some.place None)) name (standing-cleared name slots c.in-Some.place here) c.self.invariant.2,
     )
 
 pub returns-in-Some-clause-there : goal.returns-in-Some-clause-there
@@ -51,6 +49,3 @@ returns-in-None-clause-without c =
     let name = c.args.name.now in
     let absent = found-none name c.self.inside.slots.items (sym (c.self.invariant.0.found name) ∙ sym c.in-None.ensures.value) in
     c.self.view_is ∙ sym (removed-absent name c.args.self.now (ap (lookup (is_same name)) (sym c.self.view_is) ∙ absent))
-
-pub returns-then-is_too_long-clause-without : goal.returns-then-is_too_long-clause-without
-returns-then-is_too_long-clause-without c = sym (removed-absent c.args.name.now c.args.self.now (c.is_too_long.ensures c.if-is_too_long.true))

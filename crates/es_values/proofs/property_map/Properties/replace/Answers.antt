@@ -3,7 +3,6 @@ use Rattle.std.specs.Map.{lookup, set_value}
 use Rattle.bml_bytes.specs.Words.{is_same}
 use Rattle.es_values.specs.Slots.{Indexes, standing}
 use Rattle.es_values.proofs.IndexLemmas.{kept-replaced}
-use Rattle.es_values.proofs.LongNameLemmas.{names-replaced}
 use Rattle.es_values.proofs.SlotLemmas.{found-none, indexes-replaced, place-within}
 use Rattle.es_values.proofs.TurnLemmas.{set-nothing, standing-inserted, standing-set}
 use Rattle.es_values.proofs.property_map.Properties.replace.Goals as goal
@@ -18,7 +17,6 @@ invariant_of-self c =
     let step = standing-inserted c.args.name c.args.value slots c.in-Some.place.now here in (
       subst (Indexes c.self.inside.places.entries) (sym c.set_slot.ensures) (indexes-replaced c.self.inside.places.entries slots c.args.name c.args.value c.in-Some.place.now c.self.invariant.0 (sym c.in-Some.ensures.value)),
       kept-replaced c.self.inside.indices (standing slots) (standing c.set_slot.new.slots.items) c.args.name c.args.value (ap standing c.set_slot.ensures ∙ step.0) step.1 c.self.invariant.1,
-      names-replaced c.self.inside.longest_name (standing slots) (standing c.set_slot.new.slots.items) c.args.name c.args.value (ap standing c.set_slot.ensures ∙ step.0) step.1 c.self.invariant.2,
     )
 
 pub returns-in-Some : goal.returns-in-Some
@@ -32,6 +30,3 @@ pub returns-in_default : goal.returns-in_default
 returns-in_default c =
     let absent = found-none c.args.name c.self.inside.slots.items (sym (c.self.invariant.0.found c.args.name) ∙ sym c.in_default.ensures.value) in
     set-nothing c.args.name c.args.value c.args.self.now (ap (lookup (is_same c.args.name)) (sym c.self.view_is) ∙ absent)
-
-pub returns-then-is_too_long : goal.returns-then-is_too_long
-returns-then-is_too_long c = set-nothing c.args.name c.args.value c.args.self.now (c.is_too_long.ensures c.if-is_too_long.true)

@@ -10,7 +10,6 @@ use Rattle.es_values.specs.Heaps.{cut_at}
 use Rattle.es_values.specs.Slots.{HaveOwnNames, Indexes, is_element_name, standing}
 use Rattle.es_values.specs.devices.Indices.{indices_of}
 use Rattle.es_values.proofs.IndexLemmas.{kept-none}
-use Rattle.es_values.proofs.LongNameLemmas.{names-filtered}
 use Rattle.es_values.proofs.SlotLemmas.{names-kept, standing-kept}
 use Rattle.es_values.proofs.property_map.Properties.retain_below.Goals as goal
 
@@ -39,11 +38,7 @@ returns c =
     ap standing kept ∙ (standing-kept stays c.self.inside.slots.items ∙ ap (cut_at c.args.place) c.self.view_is)
 
 pub invariant_of-self : goal.invariant_of-self
-invariant_of-self c =
-    let stays = λ (n : List ℕ). not (is_element_name c.args.place n) in
-    let slots = c.self.inside.slots.items in
-    let kept = filter_same _ (λ s. option_map_or (λ p. not (is_element_name c.args.place p.0)) s false) _ (λ s b g call. search rules) _ _ c.retain-2.ensures.filtered in (
-      subst (Indexes c.renumber.new.places.entries) c.deref.ensures.value c.renumber.ensures,
-      kept-none (indices_of (standing c.retain-2.new.self.items)),
-      names-filtered c.self.inside.longest_name (standing slots) (standing c.retain-2.new.self.items) (λ p. stays p.0) (ap standing kept ∙ standing-kept stays slots) c.self.invariant.2,
-    )
+invariant_of-self c = (
+  subst (Indexes c.renumber.new.places.entries) c.deref.ensures.value c.renumber.ensures,
+  kept-none (indices_of (standing c.retain-2.new.self.items)),
+)
