@@ -1,7 +1,7 @@
 -- The fields of a table or a message, read from the front of its bytes: a value, and the bytes behind it. There is no
 -- field where the bytes end before, and no number where an element is no byte. (This project's own words for
 -- "uimsbf" and the bytes of ISO/IEC 13818-1, 2.2.6.)
-use Rattle.std.specs.Prelude.{◌≡◌, ◌<◌, ◌^◌, ℕ, nat_le, nat_lt, Bool, ◌&&◌, if◌then◌else◌, List, [], ◌∷◌, ◌++◌, length, take, drop, Option, Some, None, option_map}
+use Rattle.std.specs.Prelude.{◌≡◌, ◌<◌, ◌^◌, ℕ, nat_le, nat_lt, ◌&&◌, if◌then◌else◌, List, [], ◌∷◌, ◌++◌, length, take, drop, Option, Some, None, option_map}
 use Rattle.std.specs.List.{list_all}
 use Rattle.bml_bytes.specs.Numbers.{big_bytes, big_number}
 

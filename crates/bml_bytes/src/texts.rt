@@ -169,7 +169,6 @@ impl Hash for Text {
     ghost use Rattle.std.specs.Hash as fed;
     ghost use Rattle.std.specs.Cmp.Rules.{hashing};
     ghost use Rattle.std.proofs.Common.{rules};
-
     ghost use Rattle.bml_bytes.specs.devices.Hashes.{text_hash};
 
     ghost hash_input = { λ codes. fed.u64 (text_hash codes) };
