@@ -1,5 +1,5 @@
 -- The indices of elements, which are kept in ascending order beside the properties.
-use Rattle.std.proofs.Common.{◌≡◌, ℕ, zero, suc, ◌+◌, ◌<◌, ◌≤◌, Bool, true, false, not, List, [], ◌∷◌, ◌++◌, length, refl, sym, ◌∙◌, ap, subst, arith, Bor}
+use Rattle.std.proofs.Common.{◌≡◌, ℕ, zero, suc, ◌+◌, ◌^◌, ◌<◌, ◌≤◌, Bool, true, false, not, List, [], ◌∷◌, ◌++◌, length, refl, sym, ◌∙◌, ap, subst, arith, Bor}
 use Rattle.std.specs.Prelude.{◌&&◌, ◌||◌, nat_le, if◌then◌else◌, slice_get, Option, Some, None, is_some, option_to_list, count_by, filter}
 use Rattle.std.specs.Option.{option_map_or}
 use Rattle.std.specs.declared.cmp.Ordering.{Ordering}
@@ -23,6 +23,7 @@ use Rattle.es_values.specs.declared.values.Value.{Value}
 use Rattle.es_values.specs.Heaps.{cut_at, index_of, is_element_from}
 use Rattle.es_values.specs.Slots.{is_element_name}
 use Rattle.es_values.specs.devices.Indices.{AreKept, indices_of}
+use Rattle.es_values.proofs.DecimalLemmas.{few-digits}
 use Rattle.es_values.proofs.JoinLemmas.{index_of-digits, index_of-is}
 use Rattle.es_values.proofs.LawLemmas.{same-itself}
 use Rattle.es_values.proofs.SlotLemmas.{same-name}
@@ -314,3 +315,17 @@ cut-none place (p ∷ ps) h = by (is_element_from place p) (sym (sum_by-cons (λ
     by : (t : Bool) → (if t then 1 else 0) + count_by (is_element_from place) ps ≡ 0 → (count_by (is_element_from place) ps ≡ 0 → cut_at place ps ≡ ps) → (if not t then p ∷ cut_at place ps else cut_at place ps) ≡ p ∷ ps
     by true e more = let no : 1 + count_by (is_element_from place) ps ≡ 0 = e in absurd (omega (arith, no))
     by false e more = let none : 0 + count_by (is_element_from place) ps ≡ 0 = e in ap (λ l. p ∷ l) (more (omega (arith, none)))
+
+-- Long names
+
+-- a name of more than ten codes is no index
+pub long-no_index : (name : List ℕ) → 10 < length name → None ≡ index_of name
+long-no_index name h = by (index_of name) refl
+  where
+    by : (o : Option ℕ) → index_of name ≡ o → None ≡ o
+    by None e = refl
+    by (Some i) e =
+        let is = index_of-is name i e in
+        let below : i < 10 ^ 10 = omega (arith, is.1) in
+        let few = few-digits 9 i below in
+        absurd (omega (arith, h, few, ap length is.0))

@@ -1,6 +1,6 @@
 -- That an array's indices are below its length.
 use Rattle.std.proofs.Common.{◌≡◌, ℕ, zero, suc, ◌+◌, ◌-◌, ◌/◌, ◌<◌, ◌≤◌, Bool, true, false, List, [], ◌∷◌, ◌++◌, length, refl, sym, ◌∙◌, ap, subst, arith}
-use Rattle.std.specs.Prelude.{All, Option, Some, None, unwrap_or, cond, filter, max, nat_le, nat_lt, not, is_some, pos, negsuc, ◌&&◌, if◌then◌else◌, option_to_list, slice_set}
+use Rattle.std.specs.Prelude.{All, Option, Some, None, unwrap_or, cond, max, nat_le, nat_lt, not, is_some, pos, negsuc, ◌&&◌, if◌then◌else◌, option_to_list, slice_set}
 use Rattle.std.specs.List.{cons_option, filter_map, flat_map, range_with_len}
 use Rattle.std.specs.Option.{ForSome, option_map_or}
 use Rattle.std.specs.Map.{lookup, remove_entry}

@@ -1,11 +1,9 @@
 -- Runs of codes of one kind at the front and at the end of a text are passed block by block.
-use Rattle.std.proofs.Common.{◌≡◌, ℕ, suc, ◌+◌, ◌-◌, ◌<◌, ◌≤◌, nat_eq, Bool, true, false, cond, List, [], ◌∷◌, ◌++◌, length, take, drop, reverse, refl, sym, ◌∙◌, ap, arith}
+use Rattle.std.proofs.Common.{◌≡◌, ℕ, suc, ◌+◌, ◌-◌, ◌≤◌, Bool, true, false, cond, List, [], ◌∷◌, ◌++◌, length, take, drop, reverse, refl, sym, ◌∙◌, ap, arith}
 use Rattle.std.specs.Prelude.{◌&&◌}
 use Rattle.std.specs.List.{list_all, prefix_len, suffix_len}
-use Rattle.std.specs.Cmp.Lexicographic.{pointwise, same_text}
 use Rattle.std.proofs.lemmas.List.{length-append, length-reverse, reverse-append, take-append-drop, take-append-le}
 use Rattle.std.proofs.lemmas.List.Folds.{list_all-append}
-use Rattle.std.proofs.lemmas.Grind.{reverse_onto}
 use Rattle.es_values.specs.devices.Runs.{without_end, without_front}
 
 pub both : (a b : Bool) → (a && b) ≡ true → (a ≡ true) × (b ≡ true)
@@ -30,11 +28,6 @@ pub front-block : (p : ℕ → Bool) (n : ℕ) (text block behind : List ℕ) �
 front-block p n text block behind e f h =
     sym (front-append p block behind h)
     ∙ ap (without_front p) (ap (λ z. z ++ behind) e ∙ (ap (λ z. take n text ++ z) f ∙ take-append-drop n text))
-
--- and so is a copy of it
-pub front-copy : (p : ℕ → Bool) (text block behind : List ℕ) → pointwise nat_eq (take (length block) text) block ≡ true → behind ≡ drop (length block) text → list_all p block ≡ true → without_front p behind ≡ without_front p text
-front-copy p text block behind e f h =
-    front-block p (length block) text block behind (sym (same_text (take (length block) text) block (sym e))) f h
 
 prefix-append : (p : ℕ → Bool) (a b : List ℕ) → list_all p a ≡ true → prefix_len p (a ++ b) ≡ length a + prefix_len p b
 prefix-append p [] b h = let none : prefix_len p b ≡ 0 + prefix_len p b = omega arith in none
@@ -67,8 +60,3 @@ pub end-block : (p : ℕ → Bool) (n : ℕ) (text before block : List ℕ) → 
 end-block p n text before block e f h =
     sym (end-append p before block h)
     ∙ ap (without_end p) (ap (λ z. z ++ block) e ∙ (ap (λ z. take n text ++ z) f ∙ take-append-drop n text))
-
--- and so is a copy of it
-pub end-copy : (p : ℕ → Bool) (text before block : List ℕ) → pointwise nat_eq (drop (length text - length block) text) block ≡ true → before ≡ take (length text - length block) text → list_all p block ≡ true → without_end p before ≡ without_end p text
-end-copy p text before block e f h =
-    end-block p (length text - length block) text before block f (sym (same_text (drop (length text - length block) text) block (sym e))) h

@@ -1,11 +1,11 @@
 -- Zeros in front of digits change no number, and behind them only so many digits are within the range.
 use Rattle.std.proofs.Common.{◌≡◌, ℕ, zero, suc, ◌+◌, ◌*◌, ◌^◌, ◌-◌, ◌<◌, ◌≤◌, Bool, true, false, cond, List, [], ◌∷◌, length, refl, sym, ◌∙◌, ap, subst, arith}
-use Rattle.std.specs.Prelude.{◌&&◌, ◌||◌, ◌==◌, nat_le, nat_lt, map, min, take, drop, if◌then◌else◌, ℤ, pos, negsuc}
+use Rattle.std.specs.Prelude.{◌&&◌, nat_le, nat_lt, map, min, drop, if◌then◌else◌, pos, negsuc}
 use Rattle.std.specs.List.{list_all, prefix_len}
-use Rattle.std.proofs.lemmas.Bool.{eqb-true, ltb-true}
+use Rattle.std.proofs.lemmas.Bool.{eqb-true}
 use Rattle.std.proofs.lemmas.Bool.Decides.{nat_tests}
 use Rattle.std.proofs.lemmas.List.{length-map}
-use Rattle.std.proofs.Math.Nat.{mul-le-mul_left, mul-le-mul_right, one-mul, zero-mul, pow-le-pow_left, pow-le-pow_right}
+use Rattle.std.proofs.Math.Nat.{mul-le-mul_right, one-mul, zero-mul, pow-le-pow_left, pow-le-pow_right}
 use Rattle.bml_bytes.specs.Numbers.{number_in}
 use Rattle.es_values.specs.declared.numbers.Num.TheVariants.{NotANumber, Whole}
 use Rattle.es_values.specs.Numerals.{are_digits, digit_value, is_digit_in, number_in_range, number_written, signed, signed_numeral}

@@ -26,7 +26,9 @@ impl Heap {
         let alloc = self.allocator();
         let mut codes = Vec::with_capacity(alloc, plain_length(value))?;
         self.push_text(value, &mut codes)?;
-        Text::of_codes(alloc, &codes)
+        // Only the text of an array hasn't exactly the room that it was given.
+        codes.shrink_to_fit();
+        Text::of_vec(codes)
     }
 
     /// The number of a value: of objects, functions and host references that of their text. (ToNumber,
@@ -75,7 +77,9 @@ impl Heap {
             let mut codes = Vec::with_capacity(alloc, room)?;
             self.push_text(left, &mut codes)?;
             self.push_text(right, &mut codes)?;
-            let text = Text::of_codes(alloc, &codes)?;
+            // Only with an array on a side is the room not exactly used.
+            codes.shrink_to_fit();
+            let text = Text::of_vec(codes)?;
             return Ok(Value::Str(text));
         }
         let left = self.to_number(left)?;
@@ -105,7 +109,7 @@ impl Heap {
         ensures { IfOk result (λ order. order ≡ order_of self.now left.now right.now) }
     {
         match (left, right) {
-            (Value::Str(text), Value::Str(other)) => Ok(Some(text.codes().cmp(other.codes()))),
+            (Value::Str(text), Value::Str(other)) => Ok(Some(text.order(other))),
             _ => {
                 let left = self.to_number(left)?;
                 let right = self.to_number(right)?;

@@ -13,8 +13,8 @@ const MOST_MAGNITUDE: u64 = 4_294_967_296;
 /// More digits than these write a number past that one in each base, where the first of them isn't 0.
 const MOST_DIGITS: usize = 32;
 
-/// How many codes of a long text are passed at once, by one comparison with as many in front of them.
-const BLOCK: usize = 512;
+/// How many codes of a long text are tested at once, and passed if all of them are white or zeros.
+const BLOCK: usize = 64;
 
 /// The number that a text means: white at both ends counts for nothing, and what is left is empty, which
 /// is 0, decimal digits behind `+`, behind `-` or alone, or `0x` and hexadecimal digits. Every other text,
@@ -199,95 +199,79 @@ fn without_zeros(digits: &[u16]) -> &[u16]
     rest
 }
 
-// The text behind a first block of white and those that repeat it.
+// The text behind the blocks of white in front.
 fn behind_white_blocks(text: &[u16]) -> &[u16]
     ensures text { spec_without_white_front result.now ≡ spec_without_white_front text.now }
     ensures bound { length result.now ≤ length text.now }
 {
-    if text.len() < BLOCK {
-        return text;
+    let mut rest = text;
+    'white: while rest.len() >= BLOCK {
+        let (block, behind) = rest.split_at(BLOCK);
+        if !is_all_white(block) {
+            return rest;
+        }
+        rest = behind;
     }
-    let (block, behind) = text.split_at(BLOCK);
-    if !is_all_white(block) {
-        return text;
-    }
-    behind_copies(block, behind)
+    rest
 }
 
-// The text in front of a last block of white and those that repeat it.
+// The text before the blocks of white at the end.
 fn before_white_blocks(text: &[u16]) -> &[u16]
     ensures text { without_end spec_is_white result.now ≡ without_end spec_is_white text.now }
     ensures bound { length result.now ≤ length text.now }
 {
-    if text.len() < BLOCK {
-        return text;
+    let mut rest = text;
+    'white: while rest.len() >= BLOCK {
+        let (before, block) = rest.split_at(rest.len() - BLOCK);
+        if !is_all_white(block) {
+            return rest;
+        }
+        rest = before;
     }
-    let (before, block) = text.split_at(text.len() - BLOCK);
-    if !is_all_white(block) {
-        return text;
-    }
-    before_copies(block, before)
+    rest
 }
 
-// The text behind a first block of zeros and those that repeat it.
+// The text behind the blocks of zeros in front.
 fn behind_zero_blocks(text: &[u16]) -> &[u16]
     ensures text { without_front is_zero result.now ≡ without_front is_zero text.now }
     ensures bound { length result.now ≤ length text.now }
 {
-    if text.len() < BLOCK {
-        return text;
-    }
-    let (block, behind) = text.split_at(BLOCK);
-    if !is_all_zeros(block) {
-        return text;
-    }
-    behind_copies(block, behind)
-}
-
-// The text behind the blocks at its front that repeat this one. Whatever all codes of the block are, none
-// but such codes were passed.
-fn behind_copies<'a>(block: &[u16], text: &'a [u16]) -> &'a [u16]
-    requires { 0 < length block.now }
-    ensures front { (p : ℕ → Bool) → list_all p block.now ≡ true
-        → without_front p result.now ≡ without_front p text.now }
-    ensures bound { length result.now ≤ length text.now }
-{
     let mut rest = text;
-    'copies: while let Some(more) = rest.strip_prefix(block) {
-        rest = more;
+    'zeros: while rest.len() >= BLOCK {
+        let (block, behind) = rest.split_at(BLOCK);
+        if !is_all_zeros(block) {
+            return rest;
+        }
+        rest = behind;
     }
     rest
 }
 
-// The text before the blocks at its end that repeat this one.
-fn before_copies<'a>(block: &[u16], text: &'a [u16]) -> &'a [u16]
-    requires { 0 < length block.now }
-    ensures end { (p : ℕ → Bool) → list_all p block.now ≡ true
-        → without_end p result.now ≡ without_end p text.now }
-    ensures bound { length result.now ≤ length text.now }
-{
-    let mut rest = text;
-    'copies: while let Some(fewer) = rest.strip_suffix(block) {
-        rest = fewer;
-    }
-    rest
-}
-
+// Whether each code of a block is white. All of them are read, so that many are tested at once.
 fn is_all_white(block: &[u16]) -> bool
     ensures { result ≡ list_all spec_is_white block.now }
 {
-    block.iter().all(|code| is_white(*code))
+    let mut all = true;
+    for code in block {
+        all &= is_white(*code);
+    }
+    all
 }
 
+// Whether each code of a block is the digit 0. All of them are read, as those of white are.
 fn is_all_zeros(block: &[u16]) -> bool
     ensures { result ≡ list_all is_zero block.now }
 {
-    block.iter().all(|code| *code == 0x30)
+    let mut all = true;
+    for code in block {
+        all &= *code == 0x30;
+    }
+    all
 }
 
 #[tactic(auto, unfolding(crate::specs::Numerals::is_white))]
 fn is_white(code: u16) -> bool
     ensures { result ≡ spec_is_white code }
 {
-    code == 0x20 || code == 0x09 || code == 0x0B || code == 0x0C
+    (code == 0x20) | (code == 0x09) | (code == 0x0B) | (code == 0x0C)
 }

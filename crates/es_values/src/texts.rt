@@ -20,7 +20,7 @@ pub fn index_name(alloc: Global, place: u32) -> Result<Text, NoMemory>
 {
     let mut name = Vec::new(alloc);
     push_number(i64::from(place), &mut name)?;
-    Ok(Text::of_codes(alloc, &name)?)
+    Text::of_vec(name)
 }
 
 // No index has more digits in its decimal text.

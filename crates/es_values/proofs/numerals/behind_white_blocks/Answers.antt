@@ -1,11 +1,13 @@
-use Rattle.std.proofs.Common.{◌≡◌, true, sym, ◌∙◌}
+use Rattle.std.proofs.Common.{◌≡◌, true, sym, ◌∙◌, arith}
 use Rattle.std.specs.List.{list_all}
 use Rattle.es_values.specs.Numerals.{is_white}
 use Rattle.es_values.proofs.RunLemmas.{front-block}
 use Rattle.es_values.proofs.numerals.behind_white_blocks.Goals as goal
 
-pub returns-clause-text : goal.returns-clause-text
-returns-clause-text c =
+pub white-preserved : goal.white-preserved
+white-preserved c =
     let all : list_all is_white c.split_at.result.0.now ≡ true = sym c.is_all_white.ensures ∙ c.if-not-is_all_white.false in
-    c.behind_copies.ensures.front is_white all
-    ∙ front-block is_white 512 c.args.text.now c.split_at.result.0.now c.split_at.result.1.now c.split_at.ensures.front c.split_at.ensures.back all
+    record {
+      text = front-block is_white 64 c.white.rest.now c.split_at.result.0.now c.split_at.result.1.now c.split_at.ensures.front c.split_at.ensures.back all ∙ c.white.invariant.text;
+      bound = omega arith;
+    }
