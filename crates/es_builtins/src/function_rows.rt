@@ -154,7 +154,7 @@ pub fn codes_row(heap: &Heap, args: &[Value], budget: &mut Budget) -> Result<Bui
         return Ok(Built::OverBudget);
     }
     let codes = codes_of(heap, args)?;
-    let text = Text::of_codes(heap.allocator(), &codes)?;
+    let text = Text::of_vec(codes)?;
     till.close(budget);
     Ok(Built::Value(Value::Str(text)))
 }

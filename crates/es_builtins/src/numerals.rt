@@ -172,7 +172,7 @@ pub fn number_text_in(alloc: Global, base: u32, number: Num) -> Result<Text, NoM
         Num::Whole(whole) => {
             let mut digits = Vec::new(alloc);
             push_signed_digits(base, whole, &mut digits)?;
-            Text::of_codes(alloc, &digits)
+            Text::of_vec(digits)
         }
     }
 }

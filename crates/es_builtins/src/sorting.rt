@@ -26,7 +26,7 @@ pub fn sorted(heap: &Heap, values: &[Value]) -> Result<Vec<Value>, NoMemory>
     ensures live { IfOk result (λ sorted. All (IsLive heap.now) sorted.items) }
 {
     let mut keyed = with_texts(heap, values)?;
-    keyed.sort_by(|one, other| one.text.codes().cmp(other.text.codes()))?;
+    keyed.sort_by(|one, other| one.text.order(&other.text))?;
     let mut sorted = Vec::with_capacity(heap.allocator(), values.len())?;
     push_values(keyed, &mut sorted)?;
     push_undefined(values, &mut sorted)?;
