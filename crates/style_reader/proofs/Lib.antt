@@ -1,5 +1,7 @@
 pub mod CommentSteps
+pub mod RunLemmas
 pub mod NumberLemmas
+pub mod ZeroLemmas
 pub mod PieceLemmas
 pub mod WordLemmas
 pub mod SelectorLemmas

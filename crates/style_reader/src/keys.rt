@@ -1,25 +1,41 @@
 //! Groups of keys.
 
-ghost use Rattle.std.specs.Prelude.{◌≡◌, ◌≤◌, ◌<◌, [], ◌∷◌, length, position, MatchOption, IfSome};
-ghost use Rattle.std.specs.List.{join_with_byte, list_all, list_any};
-ghost use Rattle.style_reader.specs.Characters.{is_white as spec_is_white, is_word as spec_is_word};
-ghost use Rattle.style_reader.specs.Values.{group_among as spec_group_among, group_words, is_key_word as spec_is_key_word, key_groups as spec_key_groups, words_of};
+ghost use Rattle.std.specs.Prelude.{◌≡◌, ◌≤◌, ◌<◌, [], ◌∷◌, length, position, MatchOption, IfSome, if◌then◌else◌};
+ghost use Rattle.std.specs.List.{join_with_byte};
+ghost use Rattle.style_reader.specs.Characters.{is_white as spec_is_white};
+ghost use Rattle.style_reader.specs.Values.{group_words, key_groups as spec_key_groups, words_of};
 
 use crate::characters::{is_white, without_white_front};
 use crate::properties::StyleValue;
 use bml_bytes::is_word_in_any_case;
 
-/// The groups that the words of a text name, at least one, in any order.
+/// The groups that the words of a text name, at least one, in any order. The text is read once.
 pub fn key_groups(text: &[u16]) -> Option<StyleValue>
     ensures { result ≡ spec_key_groups (words_of text.now) }
 {
-    if next_word(text).is_none() || !are_key_words(text) {
+    let mut some = false;
+    let mut basic = false;
+    let mut data_button = false;
+    let mut numeric_tuning = false;
+    let mut rest = text;
+    'words: while let Some((word, more)) = next_word(rest) {
+        let is_basic = is_word_in_any_case(word, "basic");
+        let is_data_button = is_word_in_any_case(word, "data-button");
+        let is_numeric_tuning = is_word_in_any_case(word, "numeric-tuning");
+        if !(is_basic | is_data_button | is_numeric_tuning) {
+            return None;
+        }
+        some = true;
+        basic |= is_basic;
+        data_button |= is_data_button;
+        numeric_tuning |= is_numeric_tuning;
+        rest = more;
+    }
+    if !some {
         return None;
     }
-    let basic = group_among(text, "basic", 1);
-    let data_button = group_among(text, "data-button", 2);
-    let numeric_tuning = group_among(text, "numeric-tuning", 4);
-    Some(StyleValue::Keys(basic + (data_button + numeric_tuning)))
+    let groups = group_if(basic, 1) + (group_if(data_button, 2) + group_if(numeric_tuning, 4));
+    Some(StyleValue::Keys(groups))
 }
 
 /// The words of the groups, in the order of their numbers.
@@ -40,46 +56,12 @@ pub fn group_text(groups: u8) -> &'static str
     }
 }
 
-// The group, where a word of the text names it, and else 0.
-fn group_among(text: &[u16], word: &str, group: u8) -> u8
-    ensures value { result ≡ spec_group_among (words_of text.now) word.now group }
+// The group, where it is named, and else 0.
+fn group_if(named: bool, group: u8) -> u8
+    ensures value { result ≡ (if named then group else 0) }
     ensures small { result ≤ group }
 {
-    if has_word(text, word) { group } else { 0 }
-}
-
-fn has_word(text: &[u16], word: &str) -> bool
-    ensures { result ≡ list_any (spec_is_word word.now) (words_of text.now) }
-{
-    let mut rest = text;
-    'words: while let Some((first, more)) = next_word(rest) {
-        if is_word_in_any_case(first, word) {
-            return true;
-        }
-        rest = more;
-    }
-    false
-}
-
-fn are_key_words(text: &[u16]) -> bool
-    ensures { result ≡ list_all spec_is_key_word (words_of text.now) }
-{
-    let mut rest = text;
-    'words: while let Some((first, more)) = next_word(rest) {
-        if !is_key_word(first) {
-            return false;
-        }
-        rest = more;
-    }
-    true
-}
-
-fn is_key_word(word: &[u16]) -> bool
-    ensures { result ≡ spec_is_key_word word.now }
-{
-    is_word_in_any_case(word, "basic")
-        || is_word_in_any_case(word, "data-button")
-        || is_word_in_any_case(word, "numeric-tuning")
+    if named { group } else { 0 }
 }
 
 /// The first word of a text, parted by white, and what stands behind it. None where it has none.

@@ -1,5 +1,5 @@
 -- A device of the proofs: what the values that the code keeps stand for, and steps of the code.
-use Rattle.std.specs.Prelude.{◌≡◌, ℕ, ◌==◌, min, Bool, true, ◌&&◌, if◌then◌else◌, List, [], ◌∷◌, length, take, Option, Some, None, codes as ascii}
+use Rattle.std.specs.Prelude.{◌≡◌, ℕ, ◌==◌, min, nat_lt, Bool, true, ◌&&◌, if◌then◌else◌, List, [], ◌∷◌, length, take, Option, Some, None, codes as ascii}
 use Rattle.std.specs.Borrow.{Bor}
 use Rattle.std.specs.List.{after_first, before_first, list_all, list_any, slice_split}
 use Rattle.bml_bytes.specs.Numerals.{decimal_number, is_decimal_digit}
@@ -43,6 +43,10 @@ before_unit text = if is_word (ascii "px") (unit_of text) then Some (without_uni
 -- a number, or one past every range
 abbrev pub capped : ℕ → ℕ
 capped number = min number 4294967296
+
+-- a number that is not past every range
+abbrev pub in_reach : ℕ → Option ℕ
+in_reach number = if nat_lt number 4294967296 then Some number else None
 
 -- the number of a text without a sign
 abbrev pub count_in : UnitInCode → List ℕ → Option ℕ
