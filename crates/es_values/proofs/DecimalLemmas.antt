@@ -1,5 +1,5 @@
 -- The decimal text of a number, digit by digit.
-use Rattle.std.proofs.Common.{◌≡◌, ℕ, zero, suc, ◌+◌, ◌/◌, ◌%◌, ◌^◌, ◌<◌, ◌≤◌, Bool, true, false, List, [], ◌∷◌, ◌++◌, length, refl, sym, ◌∙◌, ap, arith, ◌⊎◌, inl, inr, length-append}
+use Rattle.std.proofs.Common.{◌≡◌, ℕ, zero, suc, ◌+◌, ◌/◌, ◌%◌, ◌^◌, ◌<◌, ◌≤◌, Bool, true, false, List, [], ◌∷◌, ◌++◌, length, refl, sym, ◌∙◌, ap, arith, ◌⊎◌, inl, inr, append_assoc, length-append}
 use Rattle.std.specs.Prelude.{nat_lt, nat_eq, ◌&&◌}
 use Rattle.std.proofs.lemmas.Bool.Decides.{nat_tests}
 use Rattle.std.proofs.Math.Nat.{mod-eq_of_lt, pow-suc}
@@ -49,6 +49,18 @@ decimal_digits-more (suc m) h =
 
 pub length-decimal_digits : (n : ℕ) → 10 ≤ n → length (decimal_digits (n / 10)) + 1 ≡ length (decimal_digits n)
 length-decimal_digits n h = sym (ap length (decimal_digits-more n h) ∙ length-append (decimal_digits (n / 10)) ((48 + n % 10) ∷ []))
+
+-- what stands in front of the digits of a number, and its last digit behind them
+pub behind-one : (front before : List ℕ) (n : ℕ) → n < 10 → before ≡ front → before ++ (48 + n % 10) ∷ [] ≡ front ++ decimal_digits n
+behind-one front before n h e =
+    let digit = mod-eq_of_lt {n = n} {m = 10} h in
+    rw (e, decimal_digits-one n h, digit) refl
+
+pub behind-more : (front before : List ℕ) (n : ℕ) → 10 ≤ n → before ≡ front ++ decimal_digits (n / 10) → before ++ (48 + n % 10) ∷ [] ≡ front ++ decimal_digits n
+behind-more front before n h e =
+    ap (λ text. text ++ (48 + n % 10) ∷ []) e
+    ∙ (append_assoc front (decimal_digits (n / 10)) ((48 + n % 10) ∷ [])
+    ∙ ap (λ digits. front ++ digits) (sym (decimal_digits-more n h)))
 
 -- a number below a power of ten has at most so many digits
 pub few-digits : (more n : ℕ) → n < 10 ^ suc more → length (decimal_digits n) ≤ suc more

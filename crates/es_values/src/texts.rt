@@ -11,15 +11,15 @@ ghost use Rattle.es_values.specs.Slots.{is_element_name};
 
 use crate::numbers::Num;
 use crate::values::Value;
-use bml_bytes::{NoMemory, Text, push_decimal};
+use bml_bytes::{NoMemory, Text};
 use std::alloc::Global;
 
 /// The name of the element at a place: its decimal text.
 pub fn index_name(alloc: Global, place: u32) -> Result<Text, NoMemory>
     ensures { IfOk result (λ name. name ≡ decimal_digits place) }
 {
-    let mut name = Vec::new(alloc);
-    push_number(i64::from(place), &mut name)?;
+    let mut name = Vec::with_capacity(alloc, digit_count(place))?;
+    push_digits(u64::from(place), &mut name)?;
     Text::of_vec(name)
 }
 
@@ -156,9 +156,21 @@ fn push_number_text(number: Num, out: &mut Vec<u16>) -> Result<(), NoMemory>
 fn push_number(number: i64, out: &mut Vec<u16>) -> Result<(), NoMemory>
     ensures { OnOk result (out.new.items ≡ out.old.items ++ signed_decimal_digits number) }
 {
-    let mut digits = Vec::new(*out.allocator());
-    push_decimal(number, &mut digits)?;
-    push_ascii(&digits, out)
+    if number < 0 {
+        out.push(45)?;
+    }
+    push_digits(number.unsigned_abs(), out)
+}
+
+// Appends the digits of a number in base ten.
+fn push_digits(number: u64, out: &mut Vec<u16>) -> Result<(), NoMemory>
+    ensures { OnOk result (out.new.items ≡ out.old.items ++ decimal_digits number) }
+{
+    if number >= 10 {
+        push_digits(number / 10, out)?;
+    }
+    out.push(48 + (number % 10) as u16)?;
+    Ok(())
 }
 
 fn number_length(number: Num) -> usize
