@@ -1,5 +1,5 @@
--- The hash that a text keeps of its codes. All that anybody asks of it is that equal texts have
--- equal ones.
+-- A device of the code: the hash that a text keeps of its codes. All that anybody asks of it is that
+-- equal texts have equal ones. (This project's own.)
 use Rattle.std.specs.Prelude.{ℕ, ◌+◌, ◌*◌, ◌%◌, ◌^◌, List, [], ◌∷◌}
 
 -- a hash with one word more
