@@ -17,6 +17,7 @@ mod functions;
 mod operations;
 mod operators;
 mod places;
+mod plains;
 mod shapes;
 mod statement_shapes;
 mod told_laws;
@@ -28,6 +29,7 @@ pub use crate::functions::{
 pub use crate::operations::{charge_all, charge_operation, operated};
 pub use crate::operators::{Operator, Sign};
 pub use crate::places::known_place;
+pub use crate::plains::{is_plain, name_at};
 pub use crate::shapes::{
     DeclaratorShape, FirstShape, Shape, StatementShape, VisitorShape, declarator, expression,
     statement,
