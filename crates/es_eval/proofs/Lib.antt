@@ -10,7 +10,9 @@ pub mod FurtherLemmas
 pub mod UnboundedLemmas
 pub mod MachineLemmas
 pub mod ArmLemmas
-pub mod LeafLemmas
+pub mod PlainLemmas
+pub mod EnterLemmas
+pub mod GivenLemmas
 pub mod ShapeRows
 pub mod TargetLemmas
 pub mod NameLemmas

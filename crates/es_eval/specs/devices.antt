@@ -6,4 +6,4 @@ pub mod Declaring
 pub mod Works
 pub mod Machines
 pub mod Leading
-pub mod Leaves
+pub mod Plains

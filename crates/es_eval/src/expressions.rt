@@ -1,26 +1,29 @@
 //! Expressions.
 
-ghost use Rattle.std.specs.Prelude.{◌≡◌, ◌≤◌, List, IfOk};
+ghost use Rattle.std.specs.Prelude.{◌≡◌, ◌≤◌, [], List, IfOk, if◌then◌else◌};
 ghost use Rattle.es_reader.specs.Programs.{ToldProgram};
 ghost use Rattle.es_eval.specs.declared.works.Given.TheVariants.{Value as GivenValue};
-ghost use Rattle.es_eval.specs.Actions.{step};
+ghost use Rattle.es_eval.specs.Actions.{behind, step};
 ghost use Rattle.es_shapes.specs.Codes.{declared_by};
 ghost use Rattle.es_shapes.specs.devices.Parts.{expression_at, parts_from};
 ghost use Rattle.es_eval.specs.devices.Machines.{GoesOn, IsLess, IsNextLive, IsWorkLive, burden, weight};
 ghost use Rattle.es_eval.specs.Rows.{call_row, delete_row, expression_row, typeof_name as spec_typeof_name};
 ghost use Rattle.es_shapes.specs.devices.Shapes.{shaped};
-ghost use Rattle.es_shapes.specs.Syntax.Expression.{Typeof};
+ghost use Rattle.es_shapes.specs.Syntax.Expression.{Name, Typeof};
 ghost use Rattle.es_eval.specs.Unbounded.{called};
-ghost use Rattle.es_eval.specs.devices.Works.{as_value, does, enters, evaluates};
+ghost use Rattle.es_eval.specs.declared.works.Callee.TheVariants.{Value as CalleeValue};
+ghost use Rattle.es_eval.specs.devices.Works.{as_value, calls_with, does, enters, evaluates};
+ghost use Rattle.es_values.specs.Values.{truth_of};
 
 use crate::laws::law_of_unfolding;
 use crate::machine::Machine;
 use crate::nexts::{stopped, value};
 use crate::outcomes::StopCause;
+use crate::plains::{Found, LEVELS};
 use crate::works::{CallWork, MemberWork, Now, OperandWork, Use, Work, discard};
 use bml_bytes::{NoMemory, Text};
 use es_reader::Program;
-use es_shapes::{Code, Shape, expression};
+use es_shapes::{Code, Shape, expression, is_plain, name_at};
 use es_values::{Num, Value};
 
 impl Machine {
@@ -81,7 +84,7 @@ impl Machine {
                 self.evaluate_then(Work::Operand(OperandWork::Or(right)), left)
             }
             Shape::Choice(test, first, second) => {
-                self.evaluate_then(Work::Operand(OperandWork::Choice(first, second)), test)
+                self.enter_choice(programs, test, first, second)
             }
             Shape::Assign(target, right) => {
                 self.enter_target(programs, target, Use::Assign(right))
@@ -124,7 +127,73 @@ impl Machine {
             Shape::Member(base, name) => {
                 self.step_then(Work::Call(CallWork::MemberBase(name, call)), base)
             }
-            _ => self.evaluate_then(Work::Call(CallWork::Callee(call)), callee),
+            _ => self.enter_other_callee(programs, call, callee),
+        }
+    }
+
+    // A callee that is no member. The value of a name is there at once.
+    fn enter_other_callee(
+        &mut self,
+        programs: &[Program],
+        call: Code,
+        callee: Code,
+    ) -> Result<Now, NoMemory>
+        ensures run { IfOk result (λ next. GoesOn programs.now self.old
+            (as_value (behind (evaluates programs.now callee)
+            (λ value. calls_with programs.now (CalleeValue value) [] call 1))) self.new next) }
+        ensures live { IfOk result (IsNextLive self.new) }
+        ensures less { IfOk result (IsLess self.old self.new) }
+    {
+        match name_at(programs, callee) {
+            Some(name) => self.enter_named_callee(programs, call, callee, name),
+            None => self.evaluate_then(Work::Call(CallWork::Callee(call)), callee),
+        }
+    }
+
+    // A callee that is a name.
+    fn enter_named_callee(
+        &mut self,
+        programs: &[Program],
+        call: Code,
+        callee: Code,
+        name: &Text,
+    ) -> Result<Now, NoMemory>
+        requires { expression_at programs.now callee ≡ Name name.now }
+        ensures run { IfOk result (λ next. GoesOn programs.now self.old
+            (as_value (behind (evaluates programs.now callee)
+            (λ value. calls_with programs.now (CalleeValue value) [] call 1))) self.new next) }
+        ensures live { IfOk result (IsNextLive self.new) }
+        ensures less { IfOk result (IsLess self.old self.new) }
+    {
+        if !self.take_step() {
+            return Ok(stopped(StopCause::Budget));
+        }
+        law_of_unfolding();
+        self.put(Work::Call(CallWork::Callee(call)))?;
+        self.name_value(programs, callee, name)
+    }
+
+    // A choice of two by a test. The value of a plain test is there at once.
+    fn enter_choice(
+        &mut self,
+        programs: &[Program],
+        test: Code,
+        first: Code,
+        second: Code,
+    ) -> Result<Now, NoMemory>
+        ensures run { IfOk result (λ next. GoesOn programs.now self.old
+            (as_value (behind (evaluates programs.now test) (λ value.
+            if truth_of value then evaluates programs.now first
+            else evaluates programs.now second))) self.new next) }
+        ensures live { IfOk result (IsNextLive self.new) }
+        ensures less { IfOk result (IsLess self.old self.new) }
+    {
+        if !is_plain(programs, test, LEVELS) {
+            return self.evaluate_then(Work::Operand(OperandWork::Choice(first, second)), test);
+        }
+        match self.plain_value(programs, test, LEVELS)? {
+            Found::Value(given) => Ok(Now::Evaluate(if given.truth() { first } else { second })),
+            Found::Stopped(cause) => Ok(stopped(cause)),
         }
     }
 

@@ -19,21 +19,19 @@
 //! (`specs/devices/Machines.antt`), and each arm says of which row its run is.
 #![tactic(auto)]
 
-mod assignments;
 mod calls;
 mod evaluator;
 mod expressions;
 mod globals;
 mod laws;
-mod leaves;
 mod machine;
 mod members;
 mod nexts;
 mod open_calls;
 mod operands;
 mod outcomes;
+mod plains;
 mod scripts;
-mod shorts;
 mod statements;
 mod targets;
 mod works;

@@ -8,23 +8,21 @@ ghost use Rattle.es_eval.specs.Actions.{as_text, behind};
 ghost use Rattle.es_eval.specs.devices.Machines.{GoesOn, IsLess, IsNextLive, IsWorkLive};
 ghost use Rattle.es_eval.specs.Members.{delete_index as spec_delete_index, delete_member as spec_delete_member, read_member as spec_read_member, text_member as spec_text_member};
 ghost use Rattle.es_eval.specs.Rows.{with_members};
-ghost use Rattle.es_eval.specs.devices.Leaves.{leaf_expression};
 ghost use Rattle.es_eval.specs.devices.Works.{as_value, evaluates, is_without_members, member_row};
-ghost use Rattle.es_shapes.specs.devices.Parts.{expression_at};
 
-use crate::leaves::{Found, Leaf, leaf_at};
 use crate::machine::Machine;
 use crate::nexts::{stopped, value};
 use crate::outcomes::StopCause;
+use crate::plains::{Found, LEVELS};
 use crate::works::{MemberWork, Now, Work, discard};
 use bml_bytes::{NoMemory, Text};
 use es_builtins::function_member;
 use es_reader::Program;
-use es_shapes::Code;
+use es_shapes::{Code, is_plain};
 use es_values::{Num, Value};
 
 impl Machine {
-    /// A member by its name: first its base. A leaf's value is there at once.
+    /// A member by its name: first its base. The value of a plain one is there at once.
     pub fn enter_member(
         &mut self,
         programs: &[Program],
@@ -37,27 +35,10 @@ impl Machine {
         ensures live { IfOk result (IsNextLive self.new) }
         ensures less { IfOk result (IsLess self.old self.new) }
     {
-        match leaf_at(programs, base)? {
-            Some(leaf) => self.member_of_leaf(programs, &leaf, name),
-            None => self.evaluate_then(Work::Member(MemberWork::MemberBase(name)), base),
+        if !is_plain(programs, base, LEVELS) {
+            return self.evaluate_then(Work::Member(MemberWork::MemberBase(name)), base);
         }
-    }
-
-    // The same, where the base is a leaf.
-    fn member_of_leaf(
-        &mut self,
-        programs: &[Program],
-        leaf: &Leaf,
-        name: Text,
-    ) -> Result<Now, NoMemory>
-        ensures run { IfOk result (λ next. (code : Code)
-            → expression_at programs.now code ≡ leaf_expression leaf.now
-            → GoesOn programs.now self.old (as_value (behind (evaluates programs.now code)
-            (λ base. spec_read_member base name))) self.new next) }
-        ensures live { IfOk result (IsNextLive self.new) }
-        ensures less { IfOk result (IsLess self.old self.new) }
-    {
-        match self.leaf_value(programs, leaf)? {
+        match self.plain_value(programs, base, LEVELS)? {
             Found::Value(base) => self.read_member(base, name),
             Found::Stopped(cause) => Ok(stopped(cause)),
         }
@@ -77,28 +58,10 @@ impl Machine {
         ensures live { IfOk result (IsNextLive self.new) }
         ensures less { IfOk result (IsLess self.old self.new) }
     {
-        match leaf_at(programs, base)? {
-            Some(leaf) => self.index_of_leaf(programs, &leaf, key),
-            None => self.evaluate_then(Work::Member(MemberWork::IndexBase(key)), base),
+        if !is_plain(programs, base, LEVELS) {
+            return self.evaluate_then(Work::Member(MemberWork::IndexBase(key)), base);
         }
-    }
-
-    // The same, where the base is a leaf.
-    fn index_of_leaf(
-        &mut self,
-        programs: &[Program],
-        leaf: &Leaf,
-        key: Code,
-    ) -> Result<Now, NoMemory>
-        ensures run { IfOk result (λ next. (code : Code)
-            → expression_at programs.now code ≡ leaf_expression leaf.now
-            → GoesOn programs.now self.old (as_value (behind (evaluates programs.now code)
-            (λ base. behind (evaluates programs.now key) (λ key. with_members base
-            (behind (as_text key) (λ key. spec_read_member base key)))))) self.new next) }
-        ensures live { IfOk result (IsNextLive self.new) }
-        ensures less { IfOk result (IsLess self.old self.new) }
-    {
-        match self.leaf_value(programs, leaf)? {
+        match self.plain_value(programs, base, LEVELS)? {
             Found::Value(base) => self.enter_key(programs, base, key),
             Found::Stopped(cause) => Ok(stopped(cause)),
         }
@@ -113,36 +76,10 @@ impl Machine {
         ensures live { IfOk result (IsNextLive self.new) }
         ensures less { IfOk result (IsLess self.old self.new) }
     {
-        let found = match leaf_at(programs, key) {
-            Ok(found) => found,
-            Err(NoMemory) => {
-                discard(base);
-                return Err(NoMemory);
-            }
-        };
-        match found {
-            Some(leaf) => self.read_at_leaf(programs, base, &leaf),
-            None => self.evaluate_then(Work::Member(MemberWork::IndexKey(base)), key),
+        if !is_plain(programs, key, LEVELS) {
+            return self.evaluate_then(Work::Member(MemberWork::IndexKey(base)), key);
         }
-    }
-
-    // The member of a base by a key that is a leaf.
-    fn read_at_leaf(
-        &mut self,
-        programs: &[Program],
-        base: Value,
-        leaf: &Leaf,
-    ) -> Result<Now, NoMemory>
-        requires { IsLive self.old.heap base }
-        ensures run { IfOk result (λ next. (code : Code)
-            → expression_at programs.now code ≡ leaf_expression leaf.now
-            → GoesOn programs.now self.old
-            (as_value (behind (evaluates programs.now code) (λ key. with_members base
-            (behind (as_text key) (λ key. spec_read_member base key))))) self.new next) }
-        ensures live { IfOk result (IsNextLive self.new) }
-        ensures less { IfOk result (IsLess self.old self.new) }
-    {
-        let found = match self.leaf_value(programs, leaf) {
+        let found = match self.plain_value(programs, key, LEVELS) {
             Ok(found) => found,
             Err(NoMemory) => {
                 discard(base);

@@ -1,6 +1,6 @@
 //! Operators of expressions: what is done with the values of their operands.
 
-ghost use Rattle.std.specs.Prelude.{◌≡◌, List, IfOk};
+ghost use Rattle.std.specs.Prelude.{◌≡◌, List, IfOk, true};
 ghost use Rattle.es_reader.specs.Programs.{ToldProgram};
 ghost use Rattle.es_values.specs.declared.values.Value.TheVariants.{Number};
 ghost use Rattle.es_values.specs.Heaps.{IsLive};
@@ -11,17 +11,17 @@ ghost use Rattle.es_eval.specs.Operations.{operates, signs};
 ghost use Rattle.es_shapes.specs.Operators.{signed_number, type_text as spec_type_text};
 ghost use Rattle.es_eval.specs.Rows.{last_value};
 ghost use Rattle.es_shapes.specs.devices.Parts.{expression_at, parts_from};
-ghost use Rattle.es_eval.specs.devices.Leaves.{leaf_expression};
+ghost use Rattle.es_shapes.specs.devices.Plains.{is_plain as spec_is_plain};
 ghost use Rattle.es_eval.specs.devices.Works.{as_value, enters, evaluates, operand_row};
 
-use crate::leaves::{Found, Leaf, leaf_at};
 use crate::machine::Machine;
 use crate::nexts::{stopped, value};
 use crate::outcomes::StopCause;
-use crate::works::{Now, OperandWork, Work, discard};
+use crate::plains::{Found, LEVELS};
+use crate::works::{Now, OperandWork, Work};
 use bml_bytes::{NoMemory, Text};
 use es_reader::Program;
-use es_shapes::{Code, Operator, Sign, part};
+use es_shapes::{Code, Operator, Sign, is_plain, part};
 use es_values::{Num, Value};
 
 impl Machine {
@@ -67,7 +67,8 @@ impl Machine {
         }
     }
 
-    /// The operands of an operator, from the left one on. A leaf's value is there at once.
+    /// The operands of an operator, from the left one on. The value of a plain one is
+    /// there at once.
     pub fn enter_left(
         &mut self,
         programs: &[Program],
@@ -81,29 +82,10 @@ impl Machine {
         ensures live { IfOk result (IsNextLive self.new) }
         ensures less { IfOk result (IsLess self.old self.new) }
     {
-        match leaf_at(programs, left)? {
-            Some(leaf) => self.left_leaf(programs, operator, &leaf, right),
-            None => { self.evaluate_then(Work::Operand(OperandWork::Left(operator, right)), left) }
+        if !is_plain(programs, left, LEVELS) {
+            return self.evaluate_then(Work::Operand(OperandWork::Left(operator, right)), left);
         }
-    }
-
-    // The same, where the left one is a leaf.
-    fn left_leaf(
-        &mut self,
-        programs: &[Program],
-        operator: Operator,
-        leaf: &Leaf,
-        right: Code,
-    ) -> Result<Now, NoMemory>
-        ensures run { IfOk result (λ next. (code : Code)
-            → expression_at programs.now code ≡ leaf_expression leaf.now
-            → GoesOn programs.now self.old
-            (as_value (behind (evaluates programs.now code) (λ value. behind
-            (evaluates programs.now right) (operates operator value)))) self.new next) }
-        ensures live { IfOk result (IsNextLive self.new) }
-        ensures less { IfOk result (IsLess self.old self.new) }
-    {
-        match self.leaf_value(programs, leaf)? {
+        match self.plain_value(programs, left, LEVELS)? {
             Found::Value(given) => self.enter_right(programs, operator, given, right),
             Found::Stopped(cause) => Ok(stopped(cause)),
         }
@@ -124,37 +106,29 @@ impl Machine {
         ensures live { IfOk result (IsNextLive self.new) }
         ensures less { IfOk result (IsLess self.old self.new) }
     {
-        let found = match leaf_at(programs, right) {
-            Ok(found) => found,
-            Err(NoMemory) => {
-                discard(left);
-                return Err(NoMemory);
-            }
-        };
-        match found {
-            Some(leaf) => self.operates_on_leaf(programs, operator, &left, &leaf),
-            None => { self.evaluate_then(Work::Operand(OperandWork::Right(operator, left)), right) }
+        if !is_plain(programs, right, LEVELS) {
+            return self.evaluate_then(Work::Operand(OperandWork::Right(operator, left)), right);
         }
+        self.operates_on_plain(programs, operator, &left, right)
     }
 
-    // What an operator gives of a value and a leaf.
-    fn operates_on_leaf(
+    // What an operator gives of a value and a plain expression.
+    fn operates_on_plain(
         &mut self,
         programs: &[Program],
         operator: Operator,
         left: &Value,
-        leaf: &Leaf,
+        right: Code,
     ) -> Result<Now, NoMemory>
-        requires { IsLive self.old.heap left.now }
-        ensures run { IfOk result (λ next. (code : Code)
-            → expression_at programs.now code ≡ leaf_expression leaf.now
-            → GoesOn programs.now self.old
-            (as_value (behind (evaluates programs.now code) (operates operator left.now)))
+        requires left { IsLive self.old.heap left.now }
+        requires right { spec_is_plain 4 (expression_at programs.now right) ≡ true }
+        ensures run { IfOk result (λ next. GoesOn programs.now self.old
+            (as_value (behind (evaluates programs.now right) (operates operator left.now)))
             self.new next) }
         ensures live { IfOk result (IsNextLive self.new) }
         ensures less { IfOk result (IsLess self.old self.new) }
     {
-        match self.leaf_value(programs, leaf)? {
+        match self.plain_value(programs, right, LEVELS)? {
             Found::Value(given) => self.operates(operator, left, &given),
             Found::Stopped(cause) => Ok(stopped(cause)),
         }
@@ -237,8 +211,8 @@ impl Machine {
     }
 }
 
-// What a sign makes of a number.
-fn signed(sign: Sign, number: Num) -> Num
+/// What a sign makes of a number.
+pub fn signed(sign: Sign, number: Num) -> Num
     ensures { Number result ≡ signed_number sign number }
 {
     match sign {

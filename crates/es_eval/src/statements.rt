@@ -11,28 +11,22 @@ ghost use Rattle.es_eval.specs.declared.works.Use.TheVariants.{Visit as VisitUse
 ghost use Rattle.es_eval.specs.declared.works.Work.TheVariants.{Statement as StatementItem};
 ghost use Rattle.es_eval.specs.Actions.{behind, gives};
 ghost use Rattle.es_shapes.specs.devices.Parts.{expression_at, statement_at, statements_from};
-ghost use Rattle.es_eval.specs.devices.Leaves.{short_expression};
 ghost use Rattle.es_eval.specs.devices.Machines.{AreLive, GoesOn, IsLess, IsNextLive, IsWorkLive, MachineState, burden, values_of_given, values_of_next, weight, weight_of_next};
 ghost use Rattle.es_eval.specs.Rows.{gives_normal, return_row, statement_row, statements as spec_statements, visit_all, visited_place};
 ghost use Rattle.es_eval.specs.Rows.Completion.{Normal};
-ghost use Rattle.es_shapes.specs.Sources.{target_of};
-ghost use Rattle.es_shapes.specs.Syntax.Expression.{Assign, Update};
-ghost use Rattle.es_shapes.specs.Syntax.Target.{NameTarget};
-ghost use Rattle.es_shapes.specs.devices.Shapes.{shaped, stated, visitor_shaped};
+ghost use Rattle.es_shapes.specs.devices.Shapes.{stated, visitor_shaped};
 ghost use Rattle.es_eval.specs.devices.Works.{as_completion, declares, enters, evaluates, executes, loop_again, loop_body, loop_task, runs, starts_loop, statement_work_row, turns, use_row, visit_task};
 
-use crate::assignments::name_at;
-use crate::leaves::Found;
 use crate::machine::Machine;
 use crate::nexts::stopped;
 use crate::outcomes::StopCause;
-use crate::shorts::{Short, short_at, short_of};
-use crate::works::{Given, Loop, Now, Place, StatementWork, Use, Visit, Work, discard};
+use crate::plains::{Found, LEVELS};
+use crate::works::{Given, Loop, Now, Place, StatementWork, Use, Visit, Work};
 use bml_bytes::{NoMemory, Text};
 use es_reader::Program;
 use es_shapes::{
-    Code, FirstShape, Listing, Operator, Shape, StatementShape, VisitorShape, declarator,
-    expression, listed_statement, part, part_count, statement,
+    Code, FirstShape, Listing, StatementShape, VisitorShape, declarator, is_plain,
+    listed_statement, part, part_count, statement,
 };
 use es_values::Value;
 
@@ -99,200 +93,17 @@ impl Machine {
         }
     }
 
-    // An expression as a statement. Where it is short, or assigns what is short to a name, no item waits
-    // for it.
-    #[tactic(auto, unfolding(es_shapes::specs::devices::Shapes::shaped))]
+    // An expression as a statement. Where it is plain, no item waits for it.
     fn enter_expression(&mut self, programs: &[Program], code: Code) -> Result<Now, NoMemory>
         ensures run { IfOk result (λ next. GoesOn programs.now self.old
             (as_completion (behind (evaluates programs.now code) gives_normal)) self.new next) }
         ensures live { IfOk result (IsNextLive self.new) }
         ensures less { IfOk result (IsLess self.old self.new) }
     {
-        match expression(programs, code)? {
-            Shape::Assign(target, right) => self.enter_assign(programs, code, target, right),
-            Shape::Update(operator, target, right) => {
-                self.enter_operation(programs, code, operator, target, right)
-            }
-            other => self.enter_shape(programs, code, other),
+        if !is_plain(programs, code, LEVELS) {
+            return self.evaluate_then(Work::Statement(StatementWork::Discard), code);
         }
-    }
-
-    // The same of any other shape.
-    fn enter_shape(
-        &mut self,
-        programs: &[Program],
-        code: Code,
-        shape: Shape,
-    ) -> Result<Now, NoMemory>
-        requires { expression_at programs.now code ≡ shaped programs.now code shape }
-        ensures run { IfOk result (λ next. GoesOn programs.now self.old
-            (as_completion (behind (evaluates programs.now code) gives_normal)) self.new next) }
-        ensures live { IfOk result (IsNextLive self.new) }
-        ensures less { IfOk result (IsLess self.old self.new) }
-    {
-        match short_of(programs, code, shape)? {
-            Some(short) => {
-                let next = self.do_short(programs, &short);
-                discard(short);
-                next
-            }
-            None => self.evaluate_then(Work::Statement(StatementWork::Discard), code),
-        }
-    }
-
-    // The same, where it is short.
-    fn do_short(&mut self, programs: &[Program], short: &Short) -> Result<Now, NoMemory>
-        ensures run { IfOk result (λ next. (code : Code)
-            → expression_at programs.now code ≡ short_expression short.now
-            → GoesOn programs.now self.old
-            (as_completion (behind (evaluates programs.now code) gives_normal)) self.new next) }
-        ensures live { IfOk result (IsNextLive self.new) }
-        ensures less { IfOk result (IsLess self.old self.new) }
-    {
-        match self.short_value(programs, short)? {
-            Found::Value(_) => Ok(Now::Gives(Given::Normal)),
-            Found::Stopped(cause) => Ok(stopped(cause)),
-        }
-    }
-
-    // An assignment as a statement.
-    fn enter_assign(
-        &mut self,
-        programs: &[Program],
-        code: Code,
-        target: Code,
-        right: Code,
-    ) -> Result<Now, NoMemory>
-        requires { expression_at programs.now code
-            ≡ Assign (target_of (expression_at programs.now target))
-            (expression_at programs.now right) }
-        ensures run { IfOk result (λ next. GoesOn programs.now self.old
-            (as_completion (behind (evaluates programs.now code) gives_normal)) self.new next) }
-        ensures live { IfOk result (IsNextLive self.new) }
-        ensures less { IfOk result (IsLess self.old self.new) }
-    {
-        match short_at(programs, right)? {
-            Some(short) => {
-                let next = self.assign_short(programs, code, target, &short);
-                discard(short);
-                next
-            }
-            None => self.evaluate_then(Work::Statement(StatementWork::Discard), code),
-        }
-    }
-
-    // The same, where the right side is short.
-    fn assign_short(
-        &mut self,
-        programs: &[Program],
-        code: Code,
-        target: Code,
-        short: &Short,
-    ) -> Result<Now, NoMemory>
-        requires { expression_at programs.now code
-            ≡ Assign (target_of (expression_at programs.now target))
-            (short_expression short.now) }
-        ensures run { IfOk result (λ next. GoesOn programs.now self.old
-            (as_completion (behind (evaluates programs.now code) gives_normal)) self.new next) }
-        ensures live { IfOk result (IsNextLive self.new) }
-        ensures less { IfOk result (IsLess self.old self.new) }
-    {
-        match name_at(programs, target)? {
-            Some(name) => self.assign_name(programs, code, target, &name, short),
-            None => self.evaluate_then(Work::Statement(StatementWork::Discard), code),
-        }
-    }
-
-    // The same, where the target is a name, too.
-    fn assign_name(
-        &mut self,
-        programs: &[Program],
-        code: Code,
-        target: Code,
-        name: &Text,
-        short: &Short,
-    ) -> Result<Now, NoMemory>
-        requires { expression_at programs.now code
-            ≡ Assign (NameTarget name.now) (short_expression short.now) }
-        ensures run { IfOk result (λ next. GoesOn programs.now self.old
-            (as_completion (behind (evaluates programs.now code) gives_normal)) self.new next) }
-        ensures live { IfOk result (IsNextLive self.new) }
-        ensures less { IfOk result (IsLess self.old self.new) }
-    {
-        match self.assigned_value(programs, name, target, short)? {
-            Found::Value(_) => Ok(Now::Gives(Given::Normal)),
-            Found::Stopped(cause) => Ok(stopped(cause)),
-        }
-    }
-
-    // An assignment with an operator as a statement.
-    fn enter_operation(
-        &mut self,
-        programs: &[Program],
-        code: Code,
-        operator: Operator,
-        target: Code,
-        right: Code,
-    ) -> Result<Now, NoMemory>
-        requires { expression_at programs.now code
-            ≡ Update operator (target_of (expression_at programs.now target))
-            (expression_at programs.now right) }
-        ensures run { IfOk result (λ next. GoesOn programs.now self.old
-            (as_completion (behind (evaluates programs.now code) gives_normal)) self.new next) }
-        ensures live { IfOk result (IsNextLive self.new) }
-        ensures less { IfOk result (IsLess self.old self.new) }
-    {
-        match short_at(programs, right)? {
-            Some(short) => {
-                let next = self.operation_short(programs, code, operator, target, &short);
-                discard(short);
-                next
-            }
-            None => self.evaluate_then(Work::Statement(StatementWork::Discard), code),
-        }
-    }
-
-    // The same, where the right side is short.
-    fn operation_short(
-        &mut self,
-        programs: &[Program],
-        code: Code,
-        operator: Operator,
-        target: Code,
-        short: &Short,
-    ) -> Result<Now, NoMemory>
-        requires { expression_at programs.now code
-            ≡ Update operator (target_of (expression_at programs.now target))
-            (short_expression short.now) }
-        ensures run { IfOk result (λ next. GoesOn programs.now self.old
-            (as_completion (behind (evaluates programs.now code) gives_normal)) self.new next) }
-        ensures live { IfOk result (IsNextLive self.new) }
-        ensures less { IfOk result (IsLess self.old self.new) }
-    {
-        match name_at(programs, target)? {
-            Some(name) => self.operation_name(programs, code, operator, target, &name, short),
-            None => self.evaluate_then(Work::Statement(StatementWork::Discard), code),
-        }
-    }
-
-    // The same, where the target is a name, too.
-    fn operation_name(
-        &mut self,
-        programs: &[Program],
-        code: Code,
-        operator: Operator,
-        target: Code,
-        name: &Text,
-        short: &Short,
-    ) -> Result<Now, NoMemory>
-        requires { expression_at programs.now code
-            ≡ Update operator (NameTarget name.now) (short_expression short.now) }
-        ensures run { IfOk result (λ next. GoesOn programs.now self.old
-            (as_completion (behind (evaluates programs.now code) gives_normal)) self.new next) }
-        ensures live { IfOk result (IsNextLive self.new) }
-        ensures less { IfOk result (IsLess self.old self.new) }
-    {
-        match self.updated_value(programs, operator, name, target, short)? {
+        match self.plain_value(programs, code, LEVELS)? {
             Found::Value(_) => Ok(Now::Gives(Given::Normal)),
             Found::Stopped(cause) => Ok(stopped(cause)),
         }
@@ -306,26 +117,10 @@ impl Machine {
         ensures live { IfOk result (IsNextLive self.new) }
         ensures less { IfOk result (IsLess self.old self.new) }
     {
-        match short_at(programs, code)? {
-            Some(short) => {
-                let next = self.return_short(programs, &short);
-                discard(short);
-                next
-            }
-            None => self.evaluate_then(Work::Statement(StatementWork::Return), code),
+        if !is_plain(programs, code, LEVELS) {
+            return self.evaluate_then(Work::Statement(StatementWork::Return), code);
         }
-    }
-
-    // The same, where the value is short.
-    fn return_short(&mut self, programs: &[Program], short: &Short) -> Result<Now, NoMemory>
-        ensures run { IfOk result (λ next. (code : Code)
-            → expression_at programs.now code ≡ short_expression short.now
-            → GoesOn programs.now self.old (as_completion (return_row (enters programs.now)
-            (Some (expression_at programs.now code)))) self.new next) }
-        ensures live { IfOk result (IsNextLive self.new) }
-        ensures less { IfOk result (IsLess self.old self.new) }
-    {
-        match self.short_value(programs, short)? {
+        match self.plain_value(programs, code, LEVELS)? {
             Found::Value(found) => Ok(Now::Gives(Given::Returned(found))),
             Found::Stopped(cause) => Ok(stopped(cause)),
         }
@@ -340,28 +135,10 @@ impl Machine {
         ensures live { IfOk result (IsNextLive self.new) }
         ensures less { IfOk result (IsLess self.old self.new) }
     {
-        match short_at(programs, test)? {
-            Some(short) => {
-                let next = self.if_short(programs, &short, body);
-                discard(short);
-                next
-            }
-            None => self.evaluate_then(Work::Statement(StatementWork::If(body)), test),
+        if !is_plain(programs, test, LEVELS) {
+            return self.evaluate_then(Work::Statement(StatementWork::If(body)), test);
         }
-    }
-
-    // The same, where the test is short.
-    fn if_short(&mut self, programs: &[Program], short: &Short, body: Code) -> Result<Now, NoMemory>
-        ensures run { IfOk result (λ next. (code : Code)
-            → expression_at programs.now code ≡ short_expression short.now
-            → GoesOn programs.now self.old
-            (as_completion (behind (evaluates programs.now code) (λ value.
-            if truth_of value then executes programs.now body else gives Normal)))
-            self.new next) }
-        ensures live { IfOk result (IsNextLive self.new) }
-        ensures less { IfOk result (IsLess self.old self.new) }
-    {
-        match self.short_value(programs, short)? {
+        match self.plain_value(programs, test, LEVELS)? {
             Found::Value(given) => Ok(chosen(&given, body, None)),
             Found::Stopped(cause) => Ok(stopped(cause)),
         }
@@ -382,36 +159,10 @@ impl Machine {
         ensures live { IfOk result (IsNextLive self.new) }
         ensures less { IfOk result (IsLess self.old self.new) }
     {
-        match short_at(programs, test)? {
-            Some(short) => {
-                let next = self.choose_short(programs, &short, body, other);
-                discard(short);
-                next
-            }
-            None => {
-                self.evaluate_then(Work::Statement(StatementWork::IfElse(body, other)), test)
-            }
+        if !is_plain(programs, test, LEVELS) {
+            return self.evaluate_then(Work::Statement(StatementWork::IfElse(body, other)), test);
         }
-    }
-
-    // The same, where the test is short.
-    fn choose_short(
-        &mut self,
-        programs: &[Program],
-        short: &Short,
-        body: Code,
-        other: Code,
-    ) -> Result<Now, NoMemory>
-        ensures run { IfOk result (λ next. (code : Code)
-            → expression_at programs.now code ≡ short_expression short.now
-            → GoesOn programs.now self.old
-            (as_completion (behind (evaluates programs.now code) (λ value.
-            if truth_of value then executes programs.now body
-            else executes programs.now other))) self.new next) }
-        ensures live { IfOk result (IsNextLive self.new) }
-        ensures less { IfOk result (IsLess self.old self.new) }
-    {
-        match self.short_value(programs, short)? {
+        match self.plain_value(programs, test, LEVELS)? {
             Found::Value(given) => Ok(chosen(&given, body, Some(other))),
             Found::Stopped(cause) => Ok(stopped(cause)),
         }
@@ -607,7 +358,7 @@ impl Machine {
         }
     }
 
-    // A turn: the test, where there is one, or else the body. The value of a short test is there at
+    // A turn: the test, where there is one, or else the body. The value of a plain test is there at
     // once.
     fn turn(&mut self, programs: &[Program], given_loop: Loop) -> Result<Now, NoMemory>
         ensures run { IfOk result (λ next. GoesOn programs.now self.old
@@ -636,33 +387,10 @@ impl Machine {
         ensures live { IfOk result (IsNextLive self.new) }
         ensures less { IfOk result (IsLess self.old self.new) }
     {
-        match short_at(programs, test)? {
-            Some(short) => {
-                let next = self.test_short(programs, &short, given_loop);
-                discard(short);
-                next
-            }
-            None => self.evaluate_then(Work::Statement(StatementWork::Test(given_loop)), test),
+        if !is_plain(programs, test, LEVELS) {
+            return self.evaluate_then(Work::Statement(StatementWork::Test(given_loop)), test);
         }
-    }
-
-    // The same, where the test is short.
-    fn test_short(
-        &mut self,
-        programs: &[Program],
-        short: &Short,
-        given_loop: Loop,
-    ) -> Result<Now, NoMemory>
-        ensures run { IfOk result (λ next. (code : Code)
-            → expression_at programs.now code ≡ short_expression short.now
-            → GoesOn programs.now self.old
-            (as_completion (behind (evaluates programs.now code) (λ value.
-            if truth_of value then loop_body programs.now given_loop else gives Normal)))
-            self.new next) }
-        ensures live { IfOk result (IsNextLive self.new) }
-        ensures less { IfOk result (IsLess self.old self.new) }
-    {
-        match self.short_value(programs, short)? {
+        match self.plain_value(programs, test, LEVELS)? {
             Found::Value(given) => self.tested(given_loop, &given),
             Found::Stopped(cause) => Ok(stopped(cause)),
         }
@@ -724,34 +452,10 @@ impl Machine {
         ensures live { IfOk result (IsNextLive self.new) }
         ensures less { IfOk result (IsLess self.old self.new) }
     {
-        match short_at(programs, update)? {
-            Some(short) => {
-                let next = self.update_short(programs, &short, given_loop);
-                discard(short);
-                next
-            }
-            None => {
-                self.evaluate_then(Work::Statement(StatementWork::NextTurn(given_loop)), update)
-            }
+        if !is_plain(programs, update, LEVELS) {
+            return self.evaluate_then(Work::Statement(StatementWork::NextTurn(given_loop)), update);
         }
-    }
-
-    // The same, where it is short.
-    fn update_short(
-        &mut self,
-        programs: &[Program],
-        short: &Short,
-        given_loop: Loop,
-    ) -> Result<Now, NoMemory>
-        ensures run { IfOk result (λ next. (code : Code)
-            → expression_at programs.now code ≡ short_expression short.now
-            → GoesOn programs.now self.old
-            (as_completion (behind (evaluates programs.now code)
-            (λ value. turns programs.now (loop_task programs.now given_loop)))) self.new next) }
-        ensures live { IfOk result (IsNextLive self.new) }
-        ensures less { IfOk result (IsLess self.old self.new) }
-    {
-        match self.short_value(programs, short)? {
+        match self.plain_value(programs, update, LEVELS)? {
             Found::Value(_) => self.turn(programs, given_loop),
             Found::Stopped(cause) => Ok(stopped(cause)),
         }

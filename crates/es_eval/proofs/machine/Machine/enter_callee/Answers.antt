@@ -41,9 +41,9 @@ returns-clause-run c =
     let programs = c.args.programs.now in
     let functions = declared_by programs in
     let arguments = parts_from programs c.args.call 1 in
-    IfOk-weaker c.evaluate_then.result _ _
+    IfOk-weaker c.enter_other_callee.result _ _
     (λ next run. subst (λ (action : Action Value). GoesOn programs c.args.self.now
-    (as_value action) c.evaluate_then.new.self next)
+    (as_value action) c.enter_other_callee.new.self next)
     (sym (other-row
     (λ e. call_row functions (called functions) (enters programs) e arguments)
     (λ e. behind (enters programs e) (λ callee. behind (values (enters programs) arguments)
@@ -52,4 +52,4 @@ returns-clause-run c =
     c.in_ok-base.ensures
     (callee-other programs c.args.callee c.in_ok-base.field-0 functions (called functions)
     (enters programs) arguments c.in_default.not-Index c.in_default.not-Member)))
-    (run programs)) c.evaluate_then.ensures.run
+    run) c.enter_other_callee.ensures.run

@@ -1,7 +1,7 @@
 use Rattle.std.proofs.lemmas.Result.{IfOk-weaker}
 use Rattle.es_eval.specs.Members.Place.{NamePlace}
 use Rattle.es_eval.specs.devices.Works.{steps_from}
-use Rattle.es_eval.proofs.LeafLemmas.{name-finds, no-name-finds}
+use Rattle.es_eval.proofs.PlainLemmas.{name-finds, no-name-finds}
 use Rattle.es_eval.proofs.machine.Machine.step_name.Goals as goal
 
 pub returns-in-Some-clause-finds : goal.returns-in-Some-clause-finds

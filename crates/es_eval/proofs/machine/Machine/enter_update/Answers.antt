@@ -1,9 +1,0 @@
-use Rattle.std.proofs.lemmas.Result.{IfOk-weaker}
-use Rattle.es_eval.proofs.LeafLemmas.{is-short}
-use Rattle.es_eval.proofs.machine.Machine.enter_update.Goals as goal
-
-pub returns-in-Some-clause-run : goal.returns-in-Some-clause-run
-returns-in-Some-clause-run c =
-    IfOk-weaker c.update_short-next.result _ _
-    (λ next run. run c.args.update (is-short c.args.programs.now c.args.update
-    c.in_ok-short.field-0 c.in-Some.short c.in_ok-short.ensures c.in-Some.is)) c.update_short-next.ensures.run
