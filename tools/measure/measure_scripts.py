@@ -142,6 +142,9 @@ WORST = [
     ("2^19 blanks as a number", "var t = '  '; for (var i = 0; i < 18; i++) t += t; while (true) +t;"),
     ("parseInt of 2^19 zeros", "var t = '00'; for (var i = 0; i < 18; i++) t += t; while (true) parseInt(t);"),
     ("2^19 codes as a name", "var t = 'ab'; for (var i = 0; i < 18; i++) t += t; var o = new Object(); while (true) o[t];"),
+    ("the same of a property that is there", "var t = 'ab'; for (var i = 0; i < 18; i++) t += t; var o = new Object(); o[t] = 1; while (true) o[t];"),
+    ("white of mixed kinds as a number", "var t = ' \\t '; for (var i = 0; i < 17; i++) t += t; while (true) +t;"),
+    ("sort, 3,000 times one text of 2^18", "var t = 'ab'; for (var i = 0; i < 17; i++) t += t; var a = new Array(); for (i = 0; i < 3000; i++) a[i] = t; while (true) a.sort();"),
 ]
 
 
