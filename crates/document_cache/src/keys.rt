@@ -37,14 +37,15 @@ impl Eq for CacheKey {
 impl Hash for CacheKey {
     ghost use Rattle.std.specs.Prelude.{◌++◌};
     ghost use Rattle.std.specs.Hash as fed;
+    ghost use Rattle.bml_bytes.specs.devices.Hashes.{text_hash};
     ghost use Rattle.document_cache.specs.devices.KeyLaws.{is_same_key-true};
     ghost use Rattle.std.proofs.Common.{ap};
 
     ghost hash_input = { λ key. fed.u64 key.own ++ fed.u8 key.path.component
-        ++ fed.u16 key.path.module ++ fed.slice fed.u16 key.path.name };
+        ++ fed.u16 key.path.module ++ fed.u64 (text_hash key.path.name) };
 
     ghost respects_eq = { λ key other same. ap (λ k. fed.u64 k.own ++ fed.u8 k.path.component
-        ++ fed.u16 k.path.module ++ fed.slice fed.u16 k.path.name)
+        ++ fed.u16 k.path.module ++ fed.u64 (text_hash k.path.name))
         (is_same_key-true key other same) };
 
     fn hash<H: Hasher>(&self, state: &mut H) {
