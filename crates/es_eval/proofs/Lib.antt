@@ -10,8 +10,11 @@ pub mod FurtherLemmas
 pub mod UnboundedLemmas
 pub mod MachineLemmas
 pub mod ArmLemmas
-pub mod PlainLemmas
-pub mod EnterLemmas
+pub mod FoundLemmas
+pub mod HeldLemmas
+pub mod ReachLemmas
+pub mod SettleLemmas
+pub mod RanLemmas
 pub mod GivenLemmas
 pub mod ShapeRows
 pub mod TargetLemmas
@@ -20,9 +23,12 @@ pub mod BuiltLemmas
 pub mod SlotLemmas
 pub mod TurnLemmas
 pub mod StatementArms
+pub mod TurnedLemmas
 pub mod DeclaringLemmas
 pub mod EndLemmas
 pub mod HandLemmas
 pub mod HostLemmas
 pub mod ScriptLemmas
 pub mod CallArms
+pub mod ApplyLemmas
+pub mod AppliedLemmas

@@ -1,21 +1,17 @@
 -- How the arms of statements make the runs of their rows.
-use Rattle.std.proofs.Common.{◌≡◌, ◌∙◌, ◌+◌, ◌<◌, ◌≤◌, ℕ, Bool, true, false, List, [], ◌∷◌, length, drop, get_or, ap, sym, subst, refl}
-use Rattle.std.specs.Prelude.{Option, Some, None, if◌then◌else◌}
-use Rattle.std.specs.Option.{option_map}
+use Rattle.std.proofs.Common.{◌≡◌, ◌∙◌, ◌+◌, ◌<◌, ◌≤◌, ℕ, true, false, List, [], ◌∷◌, length, drop, get_or, ap, sym, subst, refl}
+use Rattle.std.specs.Prelude.{Option, Some, None}
 use Rattle.std.proofs.Math.Path.{fun_ext}
 use Rattle.es_expressions.specs.Trees.Trees.{NoTrees, OneMore}
 use Rattle.es_reader.specs.Programs.{ToldProgram}
 use Rattle.es_values.specs.declared.values.Value.{Value}
 use Rattle.es_values.specs.declared.values.Value.TheVariants.{Object}
 use Rattle.es_values.specs.Heaps.{has_property, object_at}
-use Rattle.es_values.specs.Values.{truth_of}
 use Rattle.es_shapes.specs.declared.codes.Code.{Code}
 use Rattle.es_shapes.specs.declared.codes.Listing.{Listing}
 use Rattle.es_eval.specs.declared.outcomes.Outcome.TheVariants.{Stopped}
 use Rattle.es_eval.specs.declared.outcomes.StopCause.TheVariants.{Budget}
 use Rattle.es_shapes.specs.declared.shapes.DeclaratorShape.{DeclaratorShape}
-use Rattle.es_shapes.specs.declared.shapes.FirstShape.TheVariants as head
-use Rattle.es_shapes.specs.declared.shapes.StatementShape.{StatementShape}
 use Rattle.es_shapes.specs.declared.shapes.VisitorShape.{VisitorShape}
 use Rattle.es_shapes.specs.declared.shapes.VisitorShape.TheVariants as seen
 use Rattle.es_eval.specs.declared.works.Given.{Given}
@@ -26,24 +22,21 @@ use Rattle.es_eval.specs.declared.works.Now.TheVariants as now
 use Rattle.es_eval.specs.declared.works.StatementWork.TheVariants as statement
 use Rattle.es_eval.specs.declared.works.Use.TheVariants.{Visit as VisitUse}
 use Rattle.es_eval.specs.declared.works.Visit.{Visit as Visiting}
-use Rattle.es_eval.specs.declared.works.Work.TheVariants.{Statement as StatementItem}
 use Rattle.es_eval.specs.Actions.{Action, Next, and_then, behind, step}
 use Rattle.es_shapes.specs.devices.Parts.{declarator_at, expression_at, listed, statement_at, statements_from, tree_of, trees_from}
 use Rattle.es_shapes.specs.Codes.{declared_by}
 use Rattle.es_eval.specs.devices.Machines.{CarriesOn, GoesOn, MachineState, Stays, names_in, rest, run_from, world_of}
-use Rattle.es_eval.specs.Rows.{Completion, Evaluation, behind_body, declarator_row, declarators, entered_place, statement_row, statements, turn_body, turn_row, update_row, visit_all, visited_place, where_normal}
+use Rattle.es_eval.specs.Rows.{Completion, Evaluation, behind_body, declarator_row, declarators, entered_place, statements, visit_all, visited_place, where_normal}
 use Rattle.es_eval.specs.Rows.Completion.{Normal, Broke, Continued, Returned}
-use Rattle.es_eval.specs.Rows.Task.{Do, Visit as VisitTurn}
+use Rattle.es_eval.specs.Rows.Task.{Visit as VisitTurn}
 use Rattle.es_eval.specs.Members.{Place}
 use Rattle.es_eval.specs.Members.Place.{NamePlace}
-use Rattle.es_shapes.specs.devices.Shapes.{declared, first_shaped, stated, visitor_shaped}
+use Rattle.es_shapes.specs.devices.Shapes.{declared, visitor_shaped}
 use Rattle.es_shapes.specs.Sources.{declarators_of, statements_of, target_of}
-use Rattle.es_shapes.specs.Syntax.{Declarator, Expression, Statement}
+use Rattle.es_shapes.specs.Syntax.{Declarator}
 use Rattle.es_eval.specs.Unbounded.{done}
-use Rattle.es_eval.specs.devices.Works.{as_completion, completed, declares, does, enters, evaluates, executes, loop_again, loop_body, loop_task, runs, starts_loop, statement_work_row, turns, use_row, visit_task}
+use Rattle.es_eval.specs.devices.Works.{as_completion, completed, declares, enters, executes, loop_again, loop_body, loop_task, runs, statement_work_row, turns, use_row, visit_task}
 use Rattle.es_eval.specs.Worlds.{World}
-use Rattle.es_eval.proofs.ArmLemmas.{Steps, put-run, stepped-run, unstepped-run}
-use Rattle.es_eval.proofs.UnboundedLemmas.{done-row}
 use Rattle.es_eval.proofs.TurnLemmas.{drop-at, drop-end, visit-skips, visit-turn, visited-none}
 
 -- ---- statements in a row
@@ -82,53 +75,6 @@ behind_all programs listing place w next is =
 
 -- ---- turns
 
-pub test-turn : (programs : List ToldProgram) (loop : Loop) (test : Code) (w : World)
-    (next : Next Given) → loop.test ≡ Some test
-    → evaluates programs test w
-    (λ value after. statement_work_row programs (statement.Test loop) (given.Value value) after next)
-    ≡ as_completion (turns programs (loop_task programs loop)) w next
-test-turn programs loop test w next is =
-    by loop.test is
-    ∙ sym (done-row (declared_by programs) (loop_task programs loop) w (λ completion after. next (completed completion) after))
-  where
-    update : Option Expression
-    update = option_map (expression_at programs) loop.update
-
-    body : Statement
-    body = statement_at programs loop.body
-
-    by : (given_test : Option Code) → given_test ≡ Some test
-        → evaluates programs test w (λ value after. as_completion
-        (if truth_of value then turn_body (enters programs) (runs programs) (turns programs)
-        (option_map (expression_at programs) given_test) update body else (λ w next. next Normal w)) after next)
-        ≡ turn_row (enters programs) (runs programs) (turns programs)
-        (option_map (expression_at programs) given_test) update body w
-        (λ completion after. next (completed completion) after)
-    by given_test is = rw is refl
-
-pub body-turn : (programs : List ToldProgram) (loop : Loop) (w : World) (next : Next Given)
-    → loop.test ≡ None
-    → as_completion (loop_body programs loop) w next
-    ≡ as_completion (turns programs (loop_task programs loop)) w next
-body-turn programs loop w next is =
-    by loop.test is
-    ∙ sym (done-row (declared_by programs) (loop_task programs loop) w (λ completion after. next (completed completion) after))
-  where
-    update : Option Expression
-    update = option_map (expression_at programs) loop.update
-
-    body : Statement
-    body = statement_at programs loop.body
-
-    by : (given_test : Option Code) → given_test ≡ None
-        → turn_body (enters programs) (runs programs) (turns programs)
-        (option_map (expression_at programs) given_test) update body w
-        (λ completion after. next (completed completion) after)
-        ≡ turn_row (enters programs) (runs programs) (turns programs)
-        (option_map (expression_at programs) given_test) update body w
-        (λ completion after. next (completed completion) after)
-    by given_test is = rw is refl
-
 pub behind_turn : (programs : List ToldProgram) (loop : Loop) (w : World) (next : Next Given)
     → executes programs loop.body w (λ completion after. statement_work_row programs
     (statement.Body loop) (completed completion) after next)
@@ -144,39 +90,6 @@ behind_turn programs loop w next =
     by Broke after = refl
     by Continued after = refl
     by (Returned value) after = refl
-
-pub update-again : (programs : List ToldProgram) (loop : Loop) (update : Code) (w : World)
-    (next : Next Given) → loop.update ≡ Some update
-    → evaluates programs update w (λ value after. statement_work_row programs
-    (statement.NextTurn loop) (given.Value value) after next)
-    ≡ as_completion (loop_again programs loop) w next
-update-again programs loop update w next is =
-    by loop.update is
-  where
-    again : Action Completion
-    again = turns programs (loop_task programs loop)
-
-    by : (given_update : Option Code) → given_update ≡ Some update
-        → evaluates programs update w (λ value after. as_completion again after next)
-        ≡ update_row (enters programs) (option_map (expression_at programs) given_update) w
-        (λ completion after. again after (λ completion after. next (completed completion) after))
-    by given_update is = rw is refl
-
-pub turn-again : (programs : List ToldProgram) (loop : Loop) (w : World) (next : Next Given)
-    → loop.update ≡ None
-    → as_completion (turns programs (loop_task programs loop)) w next
-    ≡ as_completion (loop_again programs loop) w next
-turn-again programs loop w next is =
-    by loop.update is
-  where
-    again : Action Completion
-    again = turns programs (loop_task programs loop)
-
-    by : (given_update : Option Code) → given_update ≡ None
-        → as_completion again w next
-        ≡ update_row (enters programs) (option_map (expression_at programs) given_update) w
-        (λ completion after. again after (λ completion after. next (completed completion) after))
-    by given_update is = rw is refl
 
 -- ---- declarators
 
@@ -224,83 +137,6 @@ one-declared programs code declared_code place shape w next is what =
     ap (λ trees. declarators (enters programs) (declarators_of trees) w next) is
     ∙ ap (λ named. and_then (declarator_row (enters programs) named)
     (declares programs code (place + 1)) w next) what
-
-pub declared-without : (programs : List ToldProgram) (code declared_code : Code) (place : ℕ)
-    (shape : DeclaratorShape) (w : World) (next : Next Completion)
-    → trees_from programs code place
-    ≡ OneMore (tree_of programs declared_code) (trees_from programs code (place + 1))
-    → declarator_at programs declared_code ≡ declared programs shape → shape.value ≡ None
-    → declares programs code place w next ≡ declares programs code (place + 1) w next
-unfolding declared
-declared-without programs code declared_code place shape w next is what none =
-    one-declared programs code declared_code place shape w next is what
-    ∙ by shape.value none
-  where
-    by : (value : Option Code) → value ≡ None
-        → and_then (declarator_row (enters programs) (declared programs (record shape { value = value })))
-        (declares programs code (place + 1)) w next
-        ≡ declares programs code (place + 1) w next
-    by value none = rw none refl
-
-pub declared-with : (programs : List ToldProgram) (code declared_code : Code) (place : ℕ)
-    (shape : DeclaratorShape) (value : Code) (w : World) (next : Next Given)
-    → trees_from programs code place
-    ≡ OneMore (tree_of programs declared_code) (trees_from programs code (place + 1))
-    → declarator_at programs declared_code ≡ declared programs shape → shape.value ≡ Some value
-    → evaluates programs value w (λ value after. statement_work_row programs
-    (statement.Declared shape.name code (place + 1)) (given.Value value) after next)
-    ≡ as_completion (declares programs code place) w next
-unfolding declared
-declared-with programs code declared_code place shape value w next is what some =
-    by shape.value some
-    ∙ sym (one-declared programs code declared_code place shape w
-    (λ completion after. next (completed completion) after) is what)
-  where
-    by : (given_value : Option Code) → given_value ≡ Some value
-        → evaluates programs value w (λ value after. statement_work_row programs
-        (statement.Declared shape.name code (place + 1)) (given.Value value) after next)
-        ≡ and_then
-        (declarator_row (enters programs) (declared programs (record shape { value = given_value })))
-        (declares programs code (place + 1)) w
-        (λ completion after. next (completed completion) after)
-    by given_value some = rw some refl
-
-pub declare-on : (programs : List ToldProgram) (m old new : MachineState)
-    (code declared_code : Code) (place first : ℕ) (shape : DeclaratorShape) (value : Code)
-    (next : Now) → m ≡ old
-    → ((w : World) (next : Next Completion) → declares programs code place w next
-    ≡ declares programs code first w next)
-    → trees_from programs code place
-    ≡ OneMore (tree_of programs declared_code) (trees_from programs code (place + 1))
-    → declarator_at programs declared_code ≡ declared programs shape → shape.value ≡ Some value
-    → run_from programs new next
-    ≡ evaluates programs value (world_of programs m) (λ value after. does programs
-    (StatementItem (statement.Declared shape.name code (place + 1))) (given.Value value) after
-    (rest programs m.frames))
-    → GoesOn programs old (as_completion (declares programs code first)) new next
-declare-on programs m old new code declared_code place first shape value next same begun is what some on =
-    subst (λ (o : MachineState). GoesOn programs o (as_completion (declares programs code first))
-    new next) same
-    (on
-    ∙ declared-with programs code declared_code place shape value (world_of programs m)
-    (rest programs m.frames) is what some
-    ∙ begun (world_of programs m)
-    (λ completion after. rest programs m.frames (completed completion) after))
-
-pub declare-end : (programs : List ToldProgram) (m old : MachineState) (code : Code)
-    (place first : ℕ) → m ≡ old
-    → ((w : World) (next : Next Completion) → declares programs code place w next
-    ≡ declares programs code first w next)
-    → trees_from programs code place ≡ NoTrees
-    → GoesOn programs old (as_completion (declares programs code first)) m
-    (now.Gives given.Normal)
-declare-end programs m old code place first same begun none =
-    let onward : Next Completion =
-    λ completion after. rest programs m.frames (completed completion) after in
-    subst (λ (o : MachineState). GoesOn programs o (as_completion (declares programs code first)) m
-    (now.Gives given.Normal)) same
-    (sym (nothing-declared programs code place (world_of programs m) onward none)
-    ∙ begun (world_of programs m) onward)
 
 -- ---- names that are visited
 
@@ -427,54 +263,4 @@ none-visited programs old new visitor body value object found next is carries no
 
 -- ---- the head of a `for`
 
-pub var-turns : (programs : List ToldProgram) (old mid put new : MachineState) (code : Code)
-    (loop : Loop) (taken : Bool) (next : Now) → Steps old taken mid → taken ≡ true
-    → Stays old mid
-    → ((told : List ToldProgram) → rest told put.frames
-    ≡ (λ handed w. does told (StatementItem (statement.NextTurn loop)) handed w
-    (rest told mid.frames)))
-    → ((told : List ToldProgram) → world_of told put ≡ world_of told mid)
-    → GoesOn programs put (as_completion (declares programs code 0)) new next
-    → GoesOn programs old (as_completion (starts_loop programs (head.FirstVar code) loop)) new next
-unfolding first_shaped
-var-turns programs old mid put new code loop taken next steps some stays rests same on =
-    stepped-run programs old mid new taken (as_completion (and_then (declares programs code 0)
-    (turns programs (loop_task programs loop)))) next steps some stays
-    (put-run programs mid put new (StatementItem (statement.NextTurn loop))
-    (as_completion (declares programs code 0)) next rests same on
-    ∙ declared-turns programs code loop (world_of programs mid) (rest programs mid.frames))
-
-pub var-stopped : (programs : List ToldProgram) (old new : MachineState) (code : Code)
-    (loop : Loop) (taken : Bool) (next : Now) → Steps old taken new → taken ≡ false
-    → next ≡ now.Over (Stopped Budget)
-    → GoesOn programs old (as_completion (starts_loop programs (head.FirstVar code) loop)) new next
-unfolding first_shaped
-var-stopped programs old new code loop taken next steps none over =
-    unstepped-run programs old new taken (as_completion (and_then (declares programs code 0)
-    (turns programs (loop_task programs loop)))) next steps none over
-
 -- ---- statements
-
-pub statement-on : (programs : List ToldProgram) (old mid new : MachineState) (code : Code)
-    (shape : StatementShape) (taken : Bool) (next : Now) → Steps old taken mid → taken ≡ true
-    → Stays old mid → statement_at programs code ≡ stated programs code shape
-    → GoesOn programs mid (as_completion (statement_row (enters programs) (runs programs)
-    (turns programs) (stated programs code shape))) new next
-    → GoesOn programs old (as_completion (runs programs (statement_at programs code))) new next
-statement-on programs old mid new code shape taken next steps some stays is on =
-    stepped-run programs old mid new taken
-    (as_completion (done (declared_by programs) (Do (statement_at programs code)))) next steps some
-    stays
-    (on ∙ ap (λ (s : Statement). as_completion (statement_row (enters programs) (runs programs)
-    (turns programs) s) (world_of programs mid) (rest programs mid.frames)) (sym is)
-    ∙ sym (done-row (declared_by programs) (Do (statement_at programs code)) (world_of programs mid)
-    (λ completion after. rest programs mid.frames (completed completion) after)))
-
-pub statement-stopped : (programs : List ToldProgram) (old new : MachineState) (code : Code)
-    (taken : Bool) (next : Now) → Steps old taken new → taken ≡ false
-    → next ≡ now.Over (Stopped Budget)
-    → GoesOn programs old (as_completion (runs programs (statement_at programs code))) new next
-statement-stopped programs old new code taken next steps none over =
-    unstepped-run programs old new taken
-    (as_completion (done (declared_by programs) (Do (statement_at programs code)))) next steps none
-    over

@@ -6,4 +6,5 @@ pub mod Declaring
 pub mod Works
 pub mod Machines
 pub mod Leading
-pub mod Plains
+pub mod Finding
+pub mod Held

@@ -10,27 +10,26 @@ ghost use Rattle.es_values.specs.Heaps.{IsLive};
 ghost use Rattle.es_eval.specs.declared.works.Work.TheVariants.{Call as CallItem};
 ghost use Rattle.es_eval.specs.declared.works.CallWork.TheVariants.{Argument, IndexKey, MemberBase};
 ghost use Rattle.es_shapes.specs.Syntax.{Function};
-ghost use Rattle.es_eval.specs.Actions.{Next, by_row};
-ghost use Rattle.es_eval.specs.Worlds.Run.{Over};
-ghost use Rattle.es_eval.specs.declared.outcomes.Outcome.TheVariants.{Stopped};
-ghost use Rattle.es_values.specs.declared.values.Value.{Value as AnyValue};
+ghost use Rattle.es_eval.specs.Actions.{by_row};
 ghost use Rattle.es_eval.specs.Calls.{call_member as spec_call_member, call_number as spec_call_number, call_value as spec_call_value, construct as spec_construct, enter as spec_enter, inside, outside, new_value as spec_new_value};
 ghost use Rattle.es_shapes.specs.devices.Parts.{declared_at, function_trees, tree_of};
 ghost use Rattle.es_shapes.specs.Codes.{declared_by};
-ghost use Rattle.es_eval.specs.devices.Machines.{AreLive, GoesOn, IsLess, IsNextLive, IsWorkLive, MachineState, Stays, built_run, burden, run_from, value_rest, values_of_built, values_of_callee, values_of_next, weight, weight_of_next, world_of};
+ghost use Rattle.es_eval.specs.devices.Machines.{AreLive, GoesOn, IsLess, IsNextLive, IsWorkLive, MachineState, built_run, burden, run_from, value_rest, values_of_built, values_of_callee, values_of_next, weight, weight_of_next, world_of};
 ghost use Rattle.es_eval.specs.Unbounded.{called};
 ghost use Rattle.es_eval.specs.devices.Works.{as_value, call_work_row, calls_callee, calls_with};
 
+use crate::applications::Gathered;
+use crate::held::Held;
 use crate::machine::Machine;
 use crate::members::has_no_members;
 use crate::nexts::{stopped, value};
 use crate::outcomes::StopCause;
-use crate::plains::{Found, LEVELS};
+use crate::values::LEVELS;
 use crate::works::{CallWork, Callee, Now, OpenCall, StatementWork, Work, discard};
 use bml_bytes::{NoMemory, Text};
 use es_builtins::Built;
 use es_reader::Program;
-use es_shapes::{Code, Declared, Listing, Programs, declaration, is_plain, listed_statement, part};
+use es_shapes::{Code, Declared, Listing, Programs, declaration, listed_statement};
 use es_values::{HostRef, Value};
 
 impl Machine {
@@ -158,7 +157,7 @@ impl Machine {
         )
     }
 
-    // The arguments that follow, and then the call. What is plain of them is there at once.
+    // The arguments that follow, and then the call.
     fn go_on(&mut self, programs: &mut Programs<'_>, opened: OpenCall) -> Result<Now, NoMemory>
         requires callee { AreLive self.old.heap (values_of_callee opened.callee) }
         requires given { AreLive self.old.heap opened.given.items }
@@ -170,47 +169,22 @@ impl Machine {
         ensures programs { programs.new ≡ programs.old }
     {
         let mut opened = opened;
-        let found = match self.plain_arguments(programs.list(), &mut opened) {
-            Ok(found) => found,
-            Err(NoMemory) => {
-                discard(opened);
-                return Err(NoMemory);
-            }
-        };
-        match found {
-            None => self.evaluate_or_call(programs, opened),
-            Some(cause) => {
+        let mut held = Held::new(self.heap.allocator());
+        match self.gather(programs.list(), &mut opened, LEVELS, &mut held)? {
+            Gathered::All => self.call_callee(programs, opened.callee, opened.given),
+            Gathered::Stopped(cause) => {
                 discard(opened);
                 Ok(stopped(cause))
             }
+            Gathered::Waits => {
+                held.hold(Work::Call(CallWork::Argument(opened)))?;
+                self.put_held(held)
+            }
         }
-    }
-
-    // The next argument is evaluated, or the call is made.
-    fn evaluate_or_call(
-        &mut self,
-        programs: &mut Programs<'_>,
-        opened: OpenCall,
-    ) -> Result<Now, NoMemory>
-        requires callee { AreLive self.old.heap (values_of_callee opened.callee) }
-        requires given { AreLive self.old.heap opened.given.items }
-        ensures run { IfOk result (λ next. GoesOn programs.old self.old
-            (as_value (calls_with programs.old opened.callee opened.given.items opened.call
-            opened.next)) self.new next) }
-        ensures live { IfOk result (IsNextLive self.new) }
-        ensures less { IfOk result (IsLess self.old self.new) }
-        ensures programs { programs.new ≡ programs.old }
-    {
-        if let Some(argument) = part(programs.list(), opened.call, opened.next) {
-            let mut opened = opened;
-            opened.next += 1;
-            return self.evaluate_then(Work::Call(CallWork::Argument(opened)), argument);
-        }
-        self.call_callee(programs, opened.callee, opened.given)
     }
 
     // The call is made, with all its arguments.
-    fn call_callee(
+    pub fn call_callee(
         &mut self,
         programs: &mut Programs<'_>,
         callee: Callee,
@@ -229,37 +203,6 @@ impl Machine {
             Callee::Constructor(function) => self.construct_value(programs, &function, given),
             Callee::Member(base, key) => self.call_member(programs, base, key, given),
         }
-    }
-
-    // The arguments that follow as far as they are plain: their values are there at once.
-    fn plain_arguments(
-        &mut self,
-        programs: &[Program],
-        opened: &mut OpenCall,
-    ) -> Result<Option<StopCause>, NoMemory>
-        requires given { AreLive self.old.heap opened.old.given.items }
-        ensures callee { opened.new.callee ≡ opened.old.callee }
-        ensures call { opened.new.call ≡ opened.old.call }
-        ensures arguments { IfOk result (λ found. (next : Next AnyValue)
-            → calls_with programs.now opened.old.callee opened.old.given.items opened.old.call
-            opened.old.next (world_of programs.now self.old) next
-            ≡ option_map_or (λ cause. Over (Stopped cause) (world_of programs.now self.new))
-            found (calls_with programs.now opened.new.callee opened.new.given.items opened.new.call
-            opened.new.next (world_of programs.now self.new) next)) }
-        ensures live { IfOk result (λ _. AreLive self.new.heap opened.new.given.items) }
-        ensures stays { Stays self.old self.new }
-    {
-        'arguments: while let Some(argument) = part(programs, opened.call, opened.next) {
-            if !is_plain(programs, argument, LEVELS) {
-                return Ok(None);
-            }
-            match self.plain_value(programs, argument, LEVELS)? {
-                Found::Value(value) => opened.given.push(value)?,
-                Found::Stopped(cause) => return Ok(Some(cause)),
-            }
-            opened.next += 1;
-        }
-        Ok(None)
     }
 
     // Calls a value that is no member.

@@ -136,6 +136,7 @@ impl Machine {
             Now::Reads(base, name) => self.read_host(host, base, name),
             Now::Writes(base, name, written) => self.write_host(host, base, name, written),
             Now::Calls(base, name, args) => self.ask_host(host, base, name, args),
+            Now::Applies(callee, args) => self.call_callee(programs, callee, args),
         }
     }
 

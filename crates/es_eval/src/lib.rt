@@ -19,21 +19,28 @@
 //! (`specs/devices/Machines.antt`), and each arm says of which row its run is.
 #![tactic(auto)]
 
+mod applications;
+mod assignments;
 mod calls;
 mod evaluator;
 mod expressions;
+mod found;
 mod globals;
+mod held;
 mod laws;
+mod loops;
 mod machine;
+mod member_values;
 mod members;
 mod nexts;
 mod open_calls;
 mod operands;
 mod outcomes;
-mod plains;
 mod scripts;
+mod statement_items;
 mod statements;
 mod targets;
+mod values;
 mod works;
 
 pub use crate::globals::Globals;

@@ -247,9 +247,9 @@ impl Machine {
         }
     }
 
-    // The place of the name of a node among the locals of the function that runs, where it is one
-    // of them. A node of that function tells it.
-    fn slot_of(
+    /// The place of the name of a node among the locals of the function that runs, where it is one
+    /// of them. A node of that function tells it.
+    pub fn slot_of(
         &self,
         programs: &[Program],
         code: Code,

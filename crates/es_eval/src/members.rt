@@ -8,93 +8,17 @@ ghost use Rattle.es_eval.specs.Actions.{as_text, behind};
 ghost use Rattle.es_eval.specs.devices.Machines.{GoesOn, IsLess, IsNextLive, IsWorkLive};
 ghost use Rattle.es_eval.specs.Members.{delete_index as spec_delete_index, delete_member as spec_delete_member, read_member as spec_read_member, text_member as spec_text_member};
 ghost use Rattle.es_eval.specs.Rows.{with_members};
-ghost use Rattle.es_eval.specs.devices.Works.{as_value, evaluates, is_without_members, member_row};
+ghost use Rattle.es_eval.specs.devices.Works.{as_value, is_without_members, member_row};
 
 use crate::machine::Machine;
 use crate::nexts::{stopped, value};
 use crate::outcomes::StopCause;
-use crate::plains::{Found, LEVELS};
-use crate::works::{MemberWork, Now, Work, discard};
+use crate::works::{MemberWork, Now, Work};
 use bml_bytes::{NoMemory, Text};
 use es_builtins::function_member;
-use es_reader::Program;
-use es_shapes::{Code, is_plain};
 use es_values::{Num, Value};
 
 impl Machine {
-    /// A member by its name: first its base. The value of a plain one is there at once.
-    pub fn enter_member(
-        &mut self,
-        programs: &[Program],
-        base: Code,
-        name: Text,
-    ) -> Result<Now, NoMemory>
-        ensures run { IfOk result (λ next. GoesOn programs.now self.old
-            (as_value (behind (evaluates programs.now base)
-            (λ base. spec_read_member base name))) self.new next) }
-        ensures live { IfOk result (IsNextLive self.new) }
-        ensures less { IfOk result (IsLess self.old self.new) }
-    {
-        if !is_plain(programs, base, LEVELS) {
-            return self.evaluate_then(Work::Member(MemberWork::MemberBase(name)), base);
-        }
-        match self.plain_value(programs, base, LEVELS)? {
-            Found::Value(base) => self.read_member(base, name),
-            Found::Stopped(cause) => Ok(stopped(cause)),
-        }
-    }
-
-    /// A member by a key: first its base.
-    pub fn enter_index(
-        &mut self,
-        programs: &[Program],
-        base: Code,
-        key: Code,
-    ) -> Result<Now, NoMemory>
-        ensures run { IfOk result (λ next. GoesOn programs.now self.old
-            (as_value (behind (evaluates programs.now base) (λ base. behind
-            (evaluates programs.now key) (λ key. with_members base (behind (as_text key)
-            (λ key. spec_read_member base key)))))) self.new next) }
-        ensures live { IfOk result (IsNextLive self.new) }
-        ensures less { IfOk result (IsLess self.old self.new) }
-    {
-        if !is_plain(programs, base, LEVELS) {
-            return self.evaluate_then(Work::Member(MemberWork::IndexBase(key)), base);
-        }
-        match self.plain_value(programs, base, LEVELS)? {
-            Found::Value(base) => self.enter_key(programs, base, key),
-            Found::Stopped(cause) => Ok(stopped(cause)),
-        }
-    }
-
-    // The key of a member, once its base is there.
-    fn enter_key(&mut self, programs: &[Program], base: Value, key: Code) -> Result<Now, NoMemory>
-        requires { IsLive self.old.heap base }
-        ensures run { IfOk result (λ next. GoesOn programs.now self.old
-            (as_value (behind (evaluates programs.now key) (λ key. with_members base
-            (behind (as_text key) (λ key. spec_read_member base key))))) self.new next) }
-        ensures live { IfOk result (IsNextLive self.new) }
-        ensures less { IfOk result (IsLess self.old self.new) }
-    {
-        if !is_plain(programs, key, LEVELS) {
-            return self.evaluate_then(Work::Member(MemberWork::IndexKey(base)), key);
-        }
-        let found = match self.plain_value(programs, key, LEVELS) {
-            Ok(found) => found,
-            Err(NoMemory) => {
-                discard(base);
-                return Err(NoMemory);
-            }
-        };
-        match found {
-            Found::Value(key) => self.read_index(base, &key),
-            Found::Stopped(cause) => {
-                discard(base);
-                Ok(stopped(cause))
-            }
-        }
-    }
-
     /// What is done with the base or key of a member that is read or deleted.
     pub fn on_member(&mut self, item: MemberWork, given: Value) -> Result<Now, NoMemory>
         requires item { IsWorkLive self.old.heap (MemberItem item) }
@@ -199,7 +123,7 @@ pub fn has_no_members(base: &Value) -> bool
 }
 
 // A member of a text: its length, and Undefined for any other name.
-fn text_member(text: &Text, name: &Text) -> Value
+pub fn text_member(text: &Text, name: &Text) -> Value
     ensures { result ≡ spec_text_member text.now name.now }
 {
     if name.is_word("length") {

@@ -1,27 +1,25 @@
 //! Operators of expressions: what is done with the values of their operands.
 
-ghost use Rattle.std.specs.Prelude.{◌≡◌, List, IfOk, true};
+ghost use Rattle.std.specs.Prelude.{◌≡◌, List, IfOk};
 ghost use Rattle.es_reader.specs.Programs.{ToldProgram};
 ghost use Rattle.es_values.specs.declared.values.Value.TheVariants.{Number};
 ghost use Rattle.es_values.specs.Heaps.{IsLive};
 ghost use Rattle.es_eval.specs.declared.works.Work.TheVariants.{Operand as OperandItem};
 ghost use Rattle.es_eval.specs.devices.Machines.{GoesOn, IsLess, IsNextLive, IsWorkLive};
-ghost use Rattle.es_eval.specs.Actions.{behind, gives};
+ghost use Rattle.es_eval.specs.Actions.{gives};
 ghost use Rattle.es_eval.specs.Operations.{operates, signs};
 ghost use Rattle.es_shapes.specs.Operators.{signed_number, type_text as spec_type_text};
 ghost use Rattle.es_eval.specs.Rows.{last_value};
-ghost use Rattle.es_shapes.specs.devices.Parts.{expression_at, parts_from};
-ghost use Rattle.es_shapes.specs.devices.Plains.{is_plain as spec_is_plain};
-ghost use Rattle.es_eval.specs.devices.Works.{as_value, enters, evaluates, operand_row};
+ghost use Rattle.es_shapes.specs.devices.Parts.{parts_from};
+ghost use Rattle.es_eval.specs.devices.Works.{as_value, enters, operand_row};
 
 use crate::machine::Machine;
 use crate::nexts::{stopped, value};
 use crate::outcomes::StopCause;
-use crate::plains::{Found, LEVELS};
 use crate::works::{Now, OperandWork, Work};
 use bml_bytes::{NoMemory, Text};
 use es_reader::Program;
-use es_shapes::{Code, Operator, Sign, is_plain, part};
+use es_shapes::{Code, Operator, Sign, part};
 use es_values::{Num, Value};
 
 impl Machine {
@@ -41,7 +39,7 @@ impl Machine {
     {
         match item {
             OperandWork::Left(operator, right) => {
-                self.enter_right(programs, operator, given, right)
+                self.evaluate_then(Work::Operand(OperandWork::Right(operator, given)), right)
             }
             OperandWork::Right(operator, left) => self.operates(operator, &left, &given),
             OperandWork::And(right) => Ok(if given.truth() {
@@ -64,73 +62,6 @@ impl Machine {
             OperandWork::Typeof => self.typed(&given),
             OperandWork::Void => Ok(value(Value::Undefined)),
             OperandWork::Instead(other) => Ok(value(other)),
-        }
-    }
-
-    /// The operands of an operator, from the left one on. The value of a plain one is
-    /// there at once.
-    pub fn enter_left(
-        &mut self,
-        programs: &[Program],
-        operator: Operator,
-        left: Code,
-        right: Code,
-    ) -> Result<Now, NoMemory>
-        ensures run { IfOk result (λ next. GoesOn programs.now self.old
-            (as_value (behind (evaluates programs.now left) (λ value. behind
-            (evaluates programs.now right) (operates operator value)))) self.new next) }
-        ensures live { IfOk result (IsNextLive self.new) }
-        ensures less { IfOk result (IsLess self.old self.new) }
-    {
-        if !is_plain(programs, left, LEVELS) {
-            return self.evaluate_then(Work::Operand(OperandWork::Left(operator, right)), left);
-        }
-        match self.plain_value(programs, left, LEVELS)? {
-            Found::Value(given) => self.enter_right(programs, operator, given, right),
-            Found::Stopped(cause) => Ok(stopped(cause)),
-        }
-    }
-
-    // The right operand, once the left one's value is there.
-    fn enter_right(
-        &mut self,
-        programs: &[Program],
-        operator: Operator,
-        left: Value,
-        right: Code,
-    ) -> Result<Now, NoMemory>
-        requires { IsLive self.old.heap left }
-        ensures run { IfOk result (λ next. GoesOn programs.now self.old
-            (as_value (behind (evaluates programs.now right) (operates operator left)))
-            self.new next) }
-        ensures live { IfOk result (IsNextLive self.new) }
-        ensures less { IfOk result (IsLess self.old self.new) }
-    {
-        if !is_plain(programs, right, LEVELS) {
-            return self.evaluate_then(Work::Operand(OperandWork::Right(operator, left)), right);
-        }
-        self.operates_on_plain(programs, operator, &left, right)
-    }
-
-    // What an operator gives of a value and a plain expression.
-    fn operates_on_plain(
-        &mut self,
-        programs: &[Program],
-        operator: Operator,
-        left: &Value,
-        right: Code,
-    ) -> Result<Now, NoMemory>
-        requires left { IsLive self.old.heap left.now }
-        requires right { spec_is_plain 4 (expression_at programs.now right) ≡ true }
-        ensures run { IfOk result (λ next. GoesOn programs.now self.old
-            (as_value (behind (evaluates programs.now right) (operates operator left.now)))
-            self.new next) }
-        ensures live { IfOk result (IsNextLive self.new) }
-        ensures less { IfOk result (IsLess self.old self.new) }
-    {
-        match self.plain_value(programs, right, LEVELS)? {
-            Found::Value(given) => self.operates(operator, left, &given),
-            Found::Stopped(cause) => Ok(stopped(cause)),
         }
     }
 

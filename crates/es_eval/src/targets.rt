@@ -1,15 +1,14 @@
 //! Targets: what is written to.
 
-ghost use Rattle.std.specs.Prelude.{[], ◌≡◌, ◌+◌, ◌<◌, ◌≤◌, List, length, IfOk, true, if◌then◌else◌};
+ghost use Rattle.std.specs.Prelude.{[], ◌≡◌, ◌+◌, ◌<◌, ◌≤◌, List, length, IfOk, if◌then◌else◌};
 ghost use Rattle.es_reader.specs.Programs.{ToldProgram};
 ghost use Rattle.es_values.specs.declared.values.Value.TheVariants.{Host as OfHost, Number, Object as AnObject};
 ghost use Rattle.es_values.specs.Heaps.{IsLive};
-ghost use Rattle.es_eval.specs.declared.works.TargetWork.TheVariants.{IndexBase, IndexKey, MemberBase, UpdateRead, UpdateRight};
-ghost use Rattle.es_eval.specs.declared.works.Use.TheVariants.{Assign as AssignUse, Step as StepUse, Update as UpdateUse, Visit as VisitUse};
+ghost use Rattle.es_eval.specs.declared.works.TargetWork.TheVariants.{IndexKey, UpdateRight};
+ghost use Rattle.es_eval.specs.declared.works.Use.TheVariants.{Step as StepUse, Update as UpdateUse, Visit as VisitUse};
 ghost use Rattle.es_eval.specs.declared.works.Work.TheVariants.{Target as TargetItem};
 ghost use Rattle.es_eval.specs.Actions.{and_then, behind, gives};
 ghost use Rattle.es_shapes.specs.devices.Parts.{expression_at};
-ghost use Rattle.es_shapes.specs.devices.Plains.{is_plain};
 ghost use Rattle.es_eval.specs.devices.Machines.{AreLive, GoesOn, IsLess, IsLessAfter, IsLittle, IsNextLive, IsWorkLive, burden, values_of_place, values_of_use, weight};
 ghost use Rattle.es_eval.specs.Members.{read_name as spec_read_name, read_place as spec_read_place, write_member as spec_write_member, write_place as spec_write_place};
 ghost use Rattle.es_shapes.specs.Operators.{stepped as spec_stepped};
@@ -17,16 +16,15 @@ ghost use Rattle.es_eval.specs.Members.Place.{NamePlace};
 ghost use Rattle.es_eval.specs.Rows.{entered_place, place_row};
 ghost use Rattle.es_shapes.specs.devices.Shapes.{shaped};
 ghost use Rattle.es_shapes.specs.Sources.{target_of};
-ghost use Rattle.es_eval.specs.devices.Works.{as_value, enters, evaluates, place_of, steps_from, target_row, use_row};
+ghost use Rattle.es_eval.specs.devices.Works.{as_value, enters, place_of, steps_from, target_row, use_row};
 
 use crate::machine::Machine;
 use crate::nexts::{stopped, value};
 use crate::outcomes::StopCause;
-use crate::plains::{Found, LEVELS};
 use crate::works::{Now, OperandWork, Place, StatementWork, TargetWork, Use, Visit, Work, discard};
 use bml_bytes::{NoMemory, Text};
 use es_reader::Program;
-use es_shapes::{Code, Operator, Shape, expression, is_plain};
+use es_shapes::{Code, Operator, Shape, expression};
 use es_values::{HostRef, Num, Value};
 
 impl Machine {
@@ -76,115 +74,15 @@ impl Machine {
     {
         match shape {
             Shape::Name(name) => self.on_place(programs, purpose, Place::Name(name, code)),
-            Shape::Index(base, key) => { self.index_target(programs, base, key, purpose) }
-            Shape::Member(base, name) => { self.member_target(programs, base, name, purpose) }
+            Shape::Index(base, key) => {
+                self.evaluate_then(Work::Target(TargetWork::IndexBase(key, purpose)), base)
+            }
+            Shape::Member(base, name) => {
+                self.evaluate_then(Work::Target(TargetWork::MemberBase(name, purpose)), base)
+            }
             other => {
                 discard(other);
                 self.on_no_target(programs, code, purpose)
-            }
-        }
-    }
-
-    // A member as a target: first its base. The value of a plain one is there at once.
-    fn member_target(
-        &mut self,
-        programs: &[Program],
-        base: Code,
-        name: Text,
-        purpose: Use,
-    ) -> Result<Now, NoMemory>
-        requires { AreLive self.old.heap (values_of_use purpose) }
-        ensures run { IfOk result (λ next. GoesOn programs.now self.old
-            (behind (evaluates programs.now base)
-            (target_row programs.now (MemberBase name purpose))) self.new next) }
-        ensures live { IfOk result (IsNextLive self.new) }
-        ensures less { IfOk result (IsLittle self.old self.new) }
-    {
-        if !is_plain(programs, base, LEVELS) {
-            return self.evaluate_then(Work::Target(TargetWork::MemberBase(name, purpose)), base);
-        }
-        let found = match self.plain_value(programs, base, LEVELS) {
-            Ok(found) => found,
-            Err(NoMemory) => {
-                discard(purpose);
-                return Err(NoMemory);
-            }
-        };
-        match found {
-            Found::Value(given) => self.on_place(programs, purpose, Place::Member(given, name)),
-            Found::Stopped(cause) => {
-                discard(purpose);
-                Ok(stopped(cause))
-            }
-        }
-    }
-
-    // A member by a key as a target: first its base.
-    fn index_target(
-        &mut self,
-        programs: &[Program],
-        base: Code,
-        key: Code,
-        purpose: Use,
-    ) -> Result<Now, NoMemory>
-        requires { AreLive self.old.heap (values_of_use purpose) }
-        ensures run { IfOk result (λ next. GoesOn programs.now self.old
-            (behind (evaluates programs.now base)
-            (target_row programs.now (IndexBase key purpose))) self.new next) }
-        ensures live { IfOk result (IsNextLive self.new) }
-        ensures less { IfOk result (IsLittle self.old self.new) }
-    {
-        if !is_plain(programs, base, LEVELS) {
-            return self.evaluate_then(Work::Target(TargetWork::IndexBase(key, purpose)), base);
-        }
-        let found = match self.plain_value(programs, base, LEVELS) {
-            Ok(found) => found,
-            Err(NoMemory) => {
-                discard(purpose);
-                return Err(NoMemory);
-            }
-        };
-        match found {
-            Found::Value(given) => self.key_target(programs, given, key, purpose),
-            Found::Stopped(cause) => {
-                discard(purpose);
-                Ok(stopped(cause))
-            }
-        }
-    }
-
-    // The key of a target, once its base is there.
-    fn key_target(
-        &mut self,
-        programs: &[Program],
-        base: Value,
-        key: Code,
-        purpose: Use,
-    ) -> Result<Now, NoMemory>
-        requires base { IsLive self.old.heap base }
-        requires purpose { AreLive self.old.heap (values_of_use purpose) }
-        ensures run { IfOk result (λ next. GoesOn programs.now self.old
-            (target_row programs.now (IndexBase key purpose) base) self.new next) }
-        ensures live { IfOk result (IsNextLive self.new) }
-        ensures less { IfOk result (IsLittle self.old self.new) }
-    {
-        if !is_plain(programs, key, LEVELS) {
-            return self.evaluate_then(Work::Target(TargetWork::IndexKey(base, purpose)), key);
-        }
-        let found = match self.plain_value(programs, key, LEVELS) {
-            Ok(found) => found,
-            Err(NoMemory) => {
-                discard(base);
-                discard(purpose);
-                return Err(NoMemory);
-            }
-        };
-        match found {
-            Found::Value(given) => self.on_key(programs, base, purpose, &given),
-            Found::Stopped(cause) => {
-                discard(base);
-                discard(purpose);
-                Ok(stopped(cause))
             }
         }
     }
@@ -226,42 +124,10 @@ impl Machine {
         ensures less { IfOk result (IsLittle self.old self.new) }
     {
         match purpose {
-            Use::Assign(right) => { self.assign_place(programs, place, right) }
+            Use::Assign(right) => self.evaluate_then(Work::Target(TargetWork::Write(place)), right),
             Use::Update(operator, right) => self.update_place(programs, operator, right, place),
             Use::Step(in_front, down) => self.read_to_step(programs, in_front, down, place),
             Use::Visit(name, visit) => self.visit_place(programs, name, visit, place),
-        }
-    }
-
-    // What is assigned to a place. The value of a plain right side is there at once.
-    fn assign_place(
-        &mut self,
-        programs: &[Program],
-        place: Place,
-        right: Code,
-    ) -> Result<Now, NoMemory>
-        requires { AreLive self.old.heap (values_of_place place) }
-        ensures run { IfOk result (λ next. GoesOn programs.now self.old
-            (use_row programs.now (AssignUse right) (place_of place)) self.new next) }
-        ensures live { IfOk result (IsNextLive self.new) }
-        ensures less { IfOk result (IsLittle self.old self.new) }
-    {
-        if !is_plain(programs, right, LEVELS) {
-            return self.evaluate_then(Work::Target(TargetWork::Write(place)), right);
-        }
-        let found = match self.plain_value(programs, right, LEVELS) {
-            Ok(found) => found,
-            Err(NoMemory) => {
-                discard(place);
-                return Err(NoMemory);
-            }
-        };
-        match found {
-            Found::Value(given) => self.write_place(programs, place, given),
-            Found::Stopped(cause) => {
-                discard(place);
-                Ok(stopped(cause))
-            }
         }
     }
 
@@ -376,7 +242,10 @@ impl Machine {
             }
             TargetWork::Write(place) => self.write_place(programs, place, given),
             TargetWork::UpdateRead(operator, place, right) => {
-                self.update_right(programs, operator, place, given, right)
+                self.evaluate_then(
+                    Work::Target(TargetWork::UpdateRight(operator, place, given)),
+                    right,
+                )
             }
             TargetWork::UpdateRight(operator, place, before) => {
                 self.write_updated(programs, operator, place, &before, &given)
@@ -387,66 +256,6 @@ impl Machine {
             TargetWork::Visited(visit) => {
                 let body = visit.body;
                 self.execute_then(Work::Statement(StatementWork::Visiting(visit)), body)
-            }
-        }
-    }
-
-    // The right side of an assignment with an operator, once the value before is there.
-    fn update_right(
-        &mut self,
-        programs: &[Program],
-        operator: Operator,
-        place: Place,
-        before: Value,
-        right: Code,
-    ) -> Result<Now, NoMemory>
-        requires place { AreLive self.old.heap (values_of_place place) }
-        requires before { IsLive self.old.heap before }
-        ensures run { IfOk result (λ next. GoesOn programs.now self.old
-            (target_row programs.now (UpdateRead operator place right) before) self.new next) }
-        ensures live { IfOk result (IsNextLive self.new) }
-        ensures less { IfOk result (IsLess self.old self.new) }
-    {
-        if is_plain(programs, right, LEVELS) {
-            return self.update_by_plain(programs, operator, place, before, right);
-        }
-        self.evaluate_then(
-            Work::Target(TargetWork::UpdateRight(operator, place, before)),
-            right,
-        )
-    }
-
-    // The same where the right side is plain, so that its value is there at once.
-    fn update_by_plain(
-        &mut self,
-        programs: &[Program],
-        operator: Operator,
-        place: Place,
-        before: Value,
-        right: Code,
-    ) -> Result<Now, NoMemory>
-        requires place { AreLive self.old.heap (values_of_place place) }
-        requires before { IsLive self.old.heap before }
-        requires right { is_plain LEVELS (expression_at programs.now right) ≡ true }
-        ensures run { IfOk result (λ next. GoesOn programs.now self.old
-            (target_row programs.now (UpdateRead operator place right) before) self.new next) }
-        ensures live { IfOk result (IsNextLive self.new) }
-        ensures less { IfOk result (IsLess self.old self.new) }
-    {
-        let found = match self.plain_value(programs, right, LEVELS) {
-            Ok(found) => found,
-            Err(NoMemory) => {
-                discard(place);
-                discard(before);
-                return Err(NoMemory);
-            }
-        };
-        match found {
-            Found::Value(given) => self.write_updated(programs, operator, place, &before, &given),
-            Found::Stopped(cause) => {
-                discard(place);
-                discard(before);
-                Ok(stopped(cause))
             }
         }
     }

@@ -16,7 +16,8 @@ pub enum Given {
 }
 
 /// What comes next: a node is entered, with its step; something is given to the item that was put
-/// last; the host is asked for a member, to write one or to call one; or the script is over.
+/// last; the host is asked for a member, to write one or to call one; a call is made, with all its
+/// arguments; or the script is over.
 #[derive(Drop)]
 pub enum Now {
     Evaluate(Code),
@@ -25,6 +26,7 @@ pub enum Now {
     Reads(HostRef, Text),
     Writes(HostRef, Text, Value),
     Calls(HostRef, Text, Vec<Value>),
+    Applies(Callee, Vec<Value>),
     Over(Outcome),
 }
 

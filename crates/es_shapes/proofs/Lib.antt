@@ -6,4 +6,4 @@ pub mod BridgeLemmas
 pub mod FunctionLemmas
 pub mod MeaningLemmas
 pub mod PlaceLemmas
-pub mod PlainLemmas
+pub mod LeafLemmas

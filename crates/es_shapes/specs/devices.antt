@@ -5,4 +5,4 @@ pub mod Places
 pub mod Decoding
 pub mod Shapes
 pub mod Calculations
-pub mod Plains
+pub mod Leaves

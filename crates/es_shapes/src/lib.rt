@@ -14,10 +14,10 @@
 mod codes;
 mod expression_shapes;
 mod functions;
+mod leaves;
 mod operations;
 mod operators;
 mod places;
-mod plains;
 mod shapes;
 mod statement_shapes;
 mod told_laws;
@@ -26,10 +26,10 @@ pub use crate::codes::{Code, Listing, listed_statement, part, part_count};
 pub use crate::functions::{
     Declared, FIRST_FUNCTION, Programs, are_few_functions, declaration, function_count,
 };
-pub use crate::operations::{charge_all, charge_operation, operated};
+pub use crate::leaves::{Leaf, leaf_at, name_at};
+pub use crate::operations::{charge_all, charge_operation, operated, operated_wholes};
 pub use crate::operators::{Operator, Sign};
 pub use crate::places::known_place;
-pub use crate::plains::{is_plain, name_at};
 pub use crate::shapes::{
     DeclaratorShape, FirstShape, Shape, StatementShape, VisitorShape, declarator, expression,
     statement,

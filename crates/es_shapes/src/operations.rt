@@ -1,11 +1,13 @@
 //! Operators of two values, with their charges.
 
-ghost use Rattle.std.specs.Prelude.{◌≡◌, All, IfOk, Option};
+ghost use Rattle.std.specs.Prelude.{◌≡◌, All, IfOk, List, Option};
 ghost use Rattle.std.specs.List.{sum_by};
 ghost use Rattle.es_values.specs.Charges.{Charges, conversion_charge};
 ghost use Rattle.es_values.specs.Heaps.{IsLive};
+ghost use Rattle.es_values.specs.Objects.{ObjectState};
 ghost use Rattle.es_values.specs.Operators.{is_equal, order_of};
-ghost use Rattle.es_values.specs.declared.values.Value.TheVariants.{Bool as Boolean};
+ghost use Rattle.es_values.specs.declared.numbers.Num.TheVariants.{Whole};
+ghost use Rattle.es_values.specs.declared.values.Value.TheVariants.{Bool as Boolean, Number};
 ghost use Rattle.es_shapes.specs.devices.Calculations.{calculated as spec_calculated, compared as spec_compared, ordered as spec_ordered};
 ghost use Rattle.es_shapes.specs.Operators.{is_greater as spec_is_greater, is_less as spec_is_less, numbers_charge, operated as spec_operated, operation_charge, or_same};
 
@@ -88,6 +90,26 @@ pub fn operated(
             let right = heap.to_number(right)?;
             Ok(Value::Number(calculated(operator, left, right)))
         }
+    }
+}
+
+/// What an operator gives of two whole numbers, which is charged nothing.
+pub fn operated_wholes(operator: Operator, left: i32, right: i32) -> Value
+    ensures value { (heap : List ObjectState)
+        → spec_operated heap operator (Number (Whole left)) (Number (Whole right)) ≡ result }
+    ensures free { (heap : List ObjectState)
+        → operation_charge heap operator (Number (Whole left)) (Number (Whole right)) ≡ 0 }
+    ensures live { (heap : List ObjectState) → IsLive heap result }
+{
+    match operator {
+        Operator::Plus => Value::Number(Num::Whole(left).add(Num::Whole(right))),
+        Operator::Equal => Value::Bool(left == right),
+        Operator::NotEqual => Value::Bool(left != right),
+        Operator::Less => Value::Bool(left < right),
+        Operator::Greater => Value::Bool(left > right),
+        Operator::LessOrEqual => Value::Bool(left <= right),
+        Operator::GreaterOrEqual => Value::Bool(left >= right),
+        _ => Value::Number(calculated(operator, Num::Whole(left), Num::Whole(right))),
     }
 }
 

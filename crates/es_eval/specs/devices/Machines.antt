@@ -47,7 +47,7 @@ use Rattle.es_eval.specs.Rows.{statements}
 use Rattle.es_shapes.specs.Syntax.{Function}
 use Rattle.es_eval.specs.Unbounded.{called}
 use Rattle.es_eval.specs.devices.OpenCalls.{Call, locals_of}
-use Rattle.es_eval.specs.devices.Works.{completed, does, evaluates, executes, runs}
+use Rattle.es_eval.specs.devices.Works.{calls_callee, completed, does, evaluates, executes, runs}
 use Rattle.es_eval.specs.Worlds.{IsNamedLive, World, Run, global}
 use Rattle.es_eval.specs.Worlds.Run.{Over, Reads, Writes, Calls}
 
@@ -127,6 +127,9 @@ next_run programs (now.Writes base name value) w next =
 next_run programs (now.Calls base name arguments) w next =
     Calls base name arguments.items w.heap
     (answered w (λ value after. next (given.Value value) after))
+next_run programs (now.Applies callee arguments) w next =
+    calls_callee programs callee arguments.items w
+    (λ value after. next (given.Value value) after)
 next_run programs (now.Over outcome) w next = Over outcome w
 
 -- the run that is left where this comes next
@@ -195,6 +198,7 @@ abbrev pub values_of_next : Now → List Value
 values_of_next (now.Gives handed) = values_of_given handed
 values_of_next (now.Writes base name value) = value ∷ []
 values_of_next (now.Calls base name arguments) = arguments.items
+values_of_next (now.Applies callee arguments) = values_of_callee callee ++ arguments.items
 values_of_next _ = []
 
 -- each of these values is live
@@ -238,6 +242,7 @@ weight_of_next (now.Evaluate code) = 1
 weight_of_next (now.Execute code) = 1
 weight_of_next (now.Gives handed) = 11
 weight_of_next (now.Over outcome) = 0
+weight_of_next (now.Applies callee arguments) = 13
 weight_of_next _ = 12
 
 abbrev pub weight : MachineState → Now → ℕ

@@ -1,10 +1,18 @@
 use Rattle.std.proofs.Common.{subst, sym}
 use Rattle.std.specs.Result.{IfOk}
 use Rattle.std.proofs.lemmas.Result.{IfOk-weaker}
+use Rattle.es_values.specs.Heaps.{IsLive}
 use Rattle.es_eval.specs.declared.works.Now.{Now}
-use Rattle.es_eval.specs.devices.Machines.{run_from}
+use Rattle.es_eval.specs.devices.Machines.{IsNextLive, run_from, values_of_callee}
 use Rattle.es_eval.specs.devices.Leading.{LeadsTo}
+use Rattle.es_eval.proofs.CallArms.{all_behind}
 use Rattle.es_eval.proofs.machine.Machine.advance.Goals as goal
+
+pub call_callee-requires-clause-given : goal.call_callee-requires-clause-given
+call_callee-requires-clause-given g c =
+    all_behind (IsLive c.args.self.now.heap) (values_of_callee c.in-Applies.callee)
+    c.in-Applies.args.items (subst (λ (next : Now). IsNextLive c.args.self.now next)
+    c.in-Applies.is c.requires.live)
 
 pub returns-in-Reads-clause-leads : goal.returns-in-Reads-clause-leads
 returns-in-Reads-clause-leads g c =

@@ -1,19 +1,20 @@
-use Rattle.std.proofs.Common.{◌∙◌}
 use Rattle.std.proofs.lemmas.Result.{IfOk-weaker}
-use Rattle.es_eval.specs.devices.Machines.{rest, world_of}
-use Rattle.es_eval.proofs.StatementArms.{turn-again, update-again}
+use Rattle.es_eval.specs.devices.Works.{loop_again}
+use Rattle.es_eval.proofs.SettleLemmas.{settled, settled_less}
 use Rattle.es_eval.proofs.machine.Machine.go_on_in.Goals as goal
 
-pub returns-in-Some-clause-run : goal.returns-in-Some-clause-run
-returns-in-Some-clause-run c =
-    IfOk-weaker c.enter_update.result _ _ (λ next on. on
-    ∙ update-again c.args.programs.now c.args.given_loop c.in-Some.update
-    (world_of c.args.programs.now c.args.self.now)
-    (rest c.args.programs.now c.args.self.now.frames) c.in-Some.is) c.enter_update.ensures.run
+pub returns-clause-run : goal.returns-clause-run
+returns-clause-run c =
+    let programs = c.args.programs.now in
+    IfOk-weaker c.settle_run.result _ _ (λ next settles.
+    settled programs 12 (loop_again programs c.args.given_loop)
+    c.args.self.now c.again_on.new.self c.settle_run.new.self c.in_ok-ran.ran c.again_on.new.held next
+    c.in_ok-ran.ensures (settles programs)) c.settle_run.ensures.run
 
-pub returns-in-None-clause-run : goal.returns-in-None-clause-run
-returns-in-None-clause-run c =
-    IfOk-weaker c.turn.result _ _ (λ next on. on
-    ∙ turn-again c.args.programs.now c.args.given_loop
-    (world_of c.args.programs.now c.args.self.now)
-    (rest c.args.programs.now c.args.self.now.frames) c.in-None.is) c.turn.ensures.run
+pub returns-clause-less : goal.returns-clause-less
+returns-clause-less c =
+    let programs = c.args.programs.now in
+    IfOk-weaker c.settle_run.result _ _ (λ next weighs.
+    settled_less programs 12 (loop_again programs c.args.given_loop)
+    c.args.self.now c.again_on.new.self c.settle_run.new.self c.in_ok-ran.ran c.again_on.new.held next
+    c.in_ok-ran.ensures weighs) c.settle_run.ensures.less

@@ -11,10 +11,3 @@ returns-in-Comma-clause-run c =
     GoesOn c.args.programs.now c.args.self.now
     (as_value (operand_row c.args.programs.now item c.args.given)) c.evaluate_parts.new.self next))
     (sym c.in-Comma.is) c.evaluate_parts.ensures.run
-
-pub returns-in-Left-clause-run : goal.returns-in-Left-clause-run
-returns-in-Left-clause-run c =
-    subst (λ (item : OperandWork). IfOk c.enter_right.result (λ next.
-    GoesOn c.args.programs.now c.args.self.now
-    (as_value (operand_row c.args.programs.now item c.args.given)) c.enter_right.new.self next))
-    (sym c.in-Left.is) c.enter_right.ensures.run

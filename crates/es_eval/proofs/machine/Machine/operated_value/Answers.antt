@@ -1,5 +1,5 @@
 use Rattle.es_eval.specs.Operations.{operates}
-use Rattle.es_eval.proofs.PlainLemmas.{carried-value, uncarried-value}
+use Rattle.es_eval.proofs.FoundLemmas.{carried-value, uncarried-value}
 use Rattle.es_eval.proofs.machine.Machine.operated_value.Goals as goal
 
 pub returns-in-Some-clause-finds : goal.returns-in-Some-clause-finds

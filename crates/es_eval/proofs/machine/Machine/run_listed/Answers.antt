@@ -1,17 +1,22 @@
-use Rattle.std.proofs.Common.{◌∙◌}
 use Rattle.std.proofs.lemmas.Result.{IfOk-weaker}
-use Rattle.es_eval.specs.devices.Machines.{rest, world_of}
-use Rattle.es_eval.proofs.StatementArms.{behind_all, behind_statement}
+use Rattle.es_shapes.specs.devices.Parts.{statements_from}
+use Rattle.es_eval.specs.Rows.{statements}
+use Rattle.es_eval.specs.devices.Works.{runs}
+use Rattle.es_eval.proofs.SettleLemmas.{settled, settled_less}
 use Rattle.es_eval.proofs.machine.Machine.run_listed.Goals as goal
 
-pub returns-in-Some-clause-run : goal.returns-in-Some-clause-run
-returns-in-Some-clause-run c =
-    IfOk-weaker c.execute_then.result _ _ (λ next on. on c.args.programs.now
-    ∙ behind_statement c.args.programs.now c.args.listing c.args.place c.in-Some.code
-    (world_of c.args.programs.now c.args.self.now) (rest c.args.programs.now c.args.self.now.frames)
-    c.in-Some.ensures.statement) c.execute_then.ensures.run
+pub returns-clause-run : goal.returns-clause-run
+returns-clause-run c =
+    let programs = c.args.programs.now in
+    IfOk-weaker c.settle_run.result _ _ (λ next settles.
+    settled programs 12 (statements (runs programs) (statements_from programs c.args.listing c.args.place))
+    c.args.self.now c.run_row.new.self c.settle_run.new.self c.in_ok-ran.ran c.run_row.new.held next
+    c.in_ok-ran.ensures (settles programs)) c.settle_run.ensures.run
 
-pub returns-in-None-clause-run : goal.returns-in-None-clause-run
-returns-in-None-clause-run c =
-    behind_all c.args.programs.now c.args.listing c.args.place (world_of c.args.programs.now c.args.self.now)
-    (rest c.args.programs.now c.args.self.now.frames) c.in-None.ensures.statement
+pub returns-clause-less : goal.returns-clause-less
+returns-clause-less c =
+    let programs = c.args.programs.now in
+    IfOk-weaker c.settle_run.result _ _ (λ next weighs.
+    settled_less programs 12 (statements (runs programs) (statements_from programs c.args.listing c.args.place))
+    c.args.self.now c.run_row.new.self c.settle_run.new.self c.in_ok-ran.ran c.run_row.new.held next
+    c.in_ok-ran.ensures weighs) c.settle_run.ensures.less

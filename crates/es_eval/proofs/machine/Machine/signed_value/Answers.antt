@@ -3,12 +3,12 @@ use Rattle.es_values.specs.declared.values.Value.{Value}
 use Rattle.es_values.specs.declared.values.Value.TheVariants.{Number}
 use Rattle.es_shapes.specs.Operators.{signed_number}
 use Rattle.es_eval.specs.declared.outcomes.StopCause.TheVariants.{Budget}
-use Rattle.es_eval.specs.declared.plains.Found.TheVariants as found_of
+use Rattle.es_eval.specs.declared.found.Found.TheVariants as found_of
 use Rattle.es_eval.specs.Actions.{Action, as_number, gives}
 use Rattle.es_eval.specs.devices.Machines.{world_of}
-use Rattle.es_eval.specs.devices.Plains.{Finds}
+use Rattle.es_eval.specs.devices.Finding.{Finds}
 use Rattle.es_eval.proofs.ArmLemmas.{signs-number}
-use Rattle.es_eval.proofs.PlainLemmas.{carried-finds, uncarried-finds}
+use Rattle.es_eval.proofs.FoundLemmas.{carried-finds, uncarried-finds}
 use Rattle.es_eval.proofs.machine.Machine.signed_value.Goals as goal
 
 pub returns-in-Some-clause-finds : goal.returns-in-Some-clause-finds

@@ -1,4 +1,4 @@
-use Rattle.es_eval.proofs.PlainLemmas.{stepped-finds}
+use Rattle.es_eval.proofs.FoundLemmas.{stepped-finds}
 use Rattle.es_eval.proofs.machine.Machine.step_number.Goals as goal
 
 pub returns-clause-finds : goal.returns-clause-finds

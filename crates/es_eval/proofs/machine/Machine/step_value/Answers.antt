@@ -4,7 +4,7 @@ use Rattle.es_values.specs.declared.values.Value.TheVariants.{Number}
 use Rattle.es_shapes.specs.Operators.{stepped}
 use Rattle.es_eval.specs.Actions.{and_then, as_number, gives}
 use Rattle.es_eval.specs.Members.{write_name}
-use Rattle.es_eval.proofs.PlainLemmas.{carried-finds, stays-on, uncarried-finds}
+use Rattle.es_eval.proofs.FoundLemmas.{carried-finds, stays-on, uncarried-finds}
 use Rattle.es_eval.proofs.machine.Machine.step_value.Goals as goal
 
 pub returns-in-Some-clause-finds : goal.returns-in-Some-clause-finds

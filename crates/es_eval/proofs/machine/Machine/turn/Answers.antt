@@ -1,19 +1,20 @@
-use Rattle.std.proofs.Common.{◌∙◌}
 use Rattle.std.proofs.lemmas.Result.{IfOk-weaker}
-use Rattle.es_eval.specs.devices.Machines.{rest, world_of}
-use Rattle.es_eval.proofs.StatementArms.{body-turn, test-turn}
+use Rattle.es_eval.specs.devices.Works.{loop_task, turns}
+use Rattle.es_eval.proofs.SettleLemmas.{settled, settled_less}
 use Rattle.es_eval.proofs.machine.Machine.turn.Goals as goal
 
-pub returns-in-Some-clause-run : goal.returns-in-Some-clause-run
-returns-in-Some-clause-run c =
-    IfOk-weaker c.enter_test.result _ _ (λ next on. on
-    ∙ test-turn c.args.programs.now c.args.given_loop c.in-Some.test
-    (world_of c.args.programs.now c.args.self.now)
-    (rest c.args.programs.now c.args.self.now.frames) c.in-Some.is) c.enter_test.ensures.run
+pub returns-clause-run : goal.returns-clause-run
+returns-clause-run c =
+    let programs = c.args.programs.now in
+    IfOk-weaker c.settle_run.result _ _ (λ next settles.
+    settled programs 12 (turns programs (loop_task programs c.args.given_loop))
+    c.args.self.now c.run_loop.new.self c.settle_run.new.self c.in_ok-ran.ran c.run_loop.new.held next
+    c.in_ok-ran.ensures (settles programs)) c.settle_run.ensures.run
 
-pub returns-in-None-clause-run : goal.returns-in-None-clause-run
-returns-in-None-clause-run c =
-    IfOk-weaker c.run_body.result _ _ (λ next on. on c.args.programs.now
-    ∙ body-turn c.args.programs.now c.args.given_loop
-    (world_of c.args.programs.now c.args.self.now)
-    (rest c.args.programs.now c.args.self.now.frames) c.in-None.is) c.run_body.ensures.run
+pub returns-clause-less : goal.returns-clause-less
+returns-clause-less c =
+    let programs = c.args.programs.now in
+    IfOk-weaker c.settle_run.result _ _ (λ next weighs.
+    settled_less programs 12 (turns programs (loop_task programs c.args.given_loop))
+    c.args.self.now c.run_loop.new.self c.settle_run.new.self c.in_ok-ran.ran c.run_loop.new.held next
+    c.in_ok-ran.ensures weighs) c.settle_run.ensures.less

@@ -1,7 +1,7 @@
 use Rattle.std.proofs.lemmas.Result.{IfOk-weaker}
 use Rattle.es_eval.specs.Members.{write_name}
 use Rattle.es_eval.specs.Operations.{operates}
-use Rattle.es_eval.proofs.PlainLemmas.{carried-finds, stays-on, uncarried-finds}
+use Rattle.es_eval.proofs.FoundLemmas.{carried-finds, stays-on, uncarried-finds}
 use Rattle.es_eval.proofs.machine.Machine.update_with.Goals as goal
 
 pub returns-in-Some-clause-finds : goal.returns-in-Some-clause-finds

@@ -2,7 +2,7 @@ use Rattle.std.proofs.Common.{◌∙◌, ap}
 use Rattle.es_values.specs.declared.values.Value.{Value}
 use Rattle.es_eval.specs.Worlds.{with_name}
 use Rattle.es_eval.specs.devices.Machines.{world_of}
-use Rattle.es_eval.proofs.PlainLemmas.{write-finds}
+use Rattle.es_eval.proofs.FoundLemmas.{write-finds}
 use Rattle.es_eval.proofs.machine.Machine.written_value.Goals as goal
 
 pub returns-clause-finds : goal.returns-clause-finds
