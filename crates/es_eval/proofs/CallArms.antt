@@ -33,23 +33,20 @@ use Rattle.es_eval.specs.declared.works.Given.TheVariants as given
 use Rattle.es_eval.specs.declared.works.Now.{Now}
 use Rattle.es_eval.specs.declared.works.Now.TheVariants as now
 use Rattle.es_eval.specs.declared.works.OpenCall.{OpenCall}
-use Rattle.es_eval.specs.declared.works.StatementWork.TheVariants.{Statements as StatementsItem}
-use Rattle.es_eval.specs.declared.works.Work.{Work}
-use Rattle.es_eval.specs.declared.works.Work.TheVariants.{Call as CallItem, Statement as StatementItem}
-use Rattle.es_eval.specs.Actions.{Action, Next, answered, behind, by_row, charged, gives}
+use Rattle.es_eval.specs.declared.works.Work.TheVariants.{Call as CallItem}
+use Rattle.es_eval.specs.Actions.{Action, Next, answered, behind, by_row, charged}
 use Rattle.es_eval.specs.Calls.{Body, bound, call_member, call_number, call_property, construct, enter, inside, most_calls, new_value, object_or, outside, with_new_object}
 use Rattle.es_shapes.specs.Functions.{declared_function}
-use Rattle.es_shapes.specs.devices.Parts.{declared_at, function_trees, listed, parts_from, tree_of, trees_from}
+use Rattle.es_shapes.specs.devices.Parts.{declared_at, function_trees, listed, parts_from, statements_from, tree_of, trees_from}
 use Rattle.es_shapes.specs.Codes.{declared_by, function_at, trees_at}
 use Rattle.es_eval.specs.Evaluation.{returned}
 use Rattle.es_eval.specs.devices.Machines.{built_run, value_rest, GoesOn, MachineState, Stays, behind_frame, outside_of, rest, run_from, value_of_call, world_of}
-use Rattle.es_eval.specs.Rows.{Completion, statements, values, where_normal}
+use Rattle.es_eval.specs.Rows.{Completion, statements, values}
 use Rattle.es_eval.specs.Rows.Completion.{Normal, Broke, Continued, Returned}
 use Rattle.es_shapes.specs.Sources.{expressions_of, statements_of}
 use Rattle.es_shapes.specs.Syntax.{Function, Statements}
-use Rattle.es_shapes.specs.Syntax.Statements.{NoStatements}
-use Rattle.es_eval.specs.Unbounded.{called, run_statement}
-use Rattle.es_eval.specs.devices.Works.{as_value, calls_callee, calls_with, completed, does, enters, evaluates, executes}
+use Rattle.es_eval.specs.Unbounded.{called}
+use Rattle.es_eval.specs.devices.Works.{as_completion, as_value, calls_callee, calls_with, completed, does, enters, evaluates, runs}
 use Rattle.es_eval.specs.Worlds.{Run, World}
 use Rattle.es_eval.specs.Worlds.Run.{Calls, Over}
 use Rattle.es_eval.proofs.UnboundedLemmas.{called-row}
@@ -147,33 +144,6 @@ not_declared programs declared function none at =
         in_program None none at = absurd (cc)
         in_program (Some told) none at = absurd (cc)
 
-pub no_statements : (programs : List ToldProgram) (declared : Declared) (function : Function)
-    → declared_at programs declared ≡ Some function
-    → function_trees programs declared.program declared.function 0 ≡ NoTrees
-    → function.body ≡ NoStatements
-unfolding declared_at function_at statements_of
-no_statements programs declared function at none =
-    by (slice_get programs declared.program) at none
-  where
-    in_program : (found : ToldProgram) (there : Option ToldFunction)
-        → option_map (function_at found.rows) there ≡ Some function
-        → option_map_or (λ told. trees_at found.rows (drop 0 told.body)) there NoTrees ≡ NoTrees
-        → function.body ≡ NoStatements
-    in_program found None at none = absurd (cc)
-    in_program found (Some told) at none =
-        ap (λ f. f.body) (sym (same_Some (function_at found.rows told) function at))
-        ∙ ap statements_of none
-
-    by : (found : Option ToldProgram)
-        → option_and_then (λ found. option_map (function_at found.rows)
-        (slice_get found.functions declared.function)) found ≡ Some function
-        → option_map_or (λ found. option_map_or (λ told. trees_at found.rows (drop 0 told.body))
-        (slice_get found.functions declared.function) NoTrees) found NoTrees ≡ NoTrees
-        → function.body ≡ NoStatements
-    by None at none = absurd (cc)
-    by (Some found) at none =
-        in_program found (slice_get found.functions declared.function) at none
-
 -- ---- what is entered
 
 pub behind_call : (programs : List ToldProgram) (frames : List Call) → 1 ≤ length frames
@@ -190,48 +160,22 @@ returned-given Broke = refl
 returned-given Continued = refl
 returned-given (Returned value) = refl
 
--- the statements of a body, where the first one is entered
-pub body-run : (programs : List ToldProgram) (program function : ℕ) (first : Code)
-    (body : Statements) (w : World) (next : Next Given) (more : Next Value)
-    → function_trees programs program function 0
-    ≡ OneMore (tree_of programs first) (function_trees programs program function 1)
+-- the statements of a body
+pub body-run : (programs : List ToldProgram) (program function : ℕ) (body : Statements) (w : World)
+    (next : Next Given) (more : Next Value)
     → statements_of (function_trees programs program function 0) ≡ body
     → ((completion : Completion) (after : World)
     → next (completed completion) after ≡ more (returned completion) after)
-    → executes programs first w (λ completion after.
-    does programs (StatementItem (StatementsItem (BodyListing program function) 1)) (completed completion)
-    after next)
+    → as_completion (statements (runs programs)
+    (statements_from programs (BodyListing program function) 0)) w next
     ≡ called (declared_by programs) body w more
-unfolding statements_of listed
-body-run programs program function first body w next more trees whole same =
-    ap (executes programs first w) (fun_ext (λ completion. fun_ext (λ after. by completion after)))
-    ∙ ap (λ inner. statements (run_statement (declared_by programs)) inner w
-    (λ completion after. more (returned completion) after))
-    (sym (ap statements_of trees) ∙ whole)
+unfolding listed
+body-run programs program function body w next more whole same =
+    ap (statements (runs programs) (statements_from programs (BodyListing program function) 0) w)
+    (fun_ext (λ completion. fun_ext (λ after. same completion after)))
+    ∙ ap (λ inner. statements (runs programs) inner w
+    (λ completion after. more (returned completion) after)) whole
     ∙ sym (called-row (declared_by programs) body w more)
-  where
-    others : Statements
-    others = statements_of (function_trees programs program function 1)
-
-    by : (completion : Completion) (after : World)
-        → does programs (StatementItem (StatementsItem (BodyListing program function) 1))
-        (completed completion) after next
-        ≡ where_normal (statements (run_statement (declared_by programs)) others) completion after
-        (λ completion after. more (returned completion) after)
-    by Normal after =
-        ap (statements (run_statement (declared_by programs)) others after)
-        (fun_ext (λ completion. fun_ext (λ after. same completion after)))
-    by Broke after = same Broke after
-    by Continued after = same Continued after
-    by (Returned value) after = same (Returned value) after
-
--- a body without statements
-pub no_body-run : (programs : List ToldProgram) (body : Statements) (w : World)
-    (more : Next Value) → body ≡ NoStatements
-    → called (declared_by programs) body w more ≡ more Undefined w
-no_body-run programs body w more none =
-    ap (λ inner. called (declared_by programs) inner w more) none
-    ∙ called-row (declared_by programs) NoStatements w more
 
 -- a body, without what a call does where too many are open
 abbrev pub enters_body : List ToldProgram → Function → Value → List Value → Action Value
@@ -258,39 +202,34 @@ told-inside told function this arguments w locals parameters =
     by locals = record w { locals = locals; this = this; depth = w.depth + 1 }
 
 pub entered-run : (programs : List ToldProgram) (old mid new : MachineState) (declared : Declared)
-    (told : ToldFunction) (first : Code) (function : Function) (this : Value)
-    (arguments : List Value) (next : Now) → IsDeclared programs declared told function
-    → 1 ≤ length old.frames
-    → function_trees programs declared.program declared.function 0
-    ≡ OneMore (tree_of programs first)
-    (function_trees programs declared.program declared.function 1)
+    (told : ToldFunction) (function : Function) (this : Value) (arguments : List Value)
+    (next : Now) → IsDeclared programs declared told function → 1 ≤ length old.frames
     → world_of programs mid ≡ inside_told told this arguments (world_of programs old)
     → rest programs mid.frames ≡ behind_frame programs old.frames
-    → run_from programs new next ≡ executes programs first (world_of programs mid) (λ completion w.
-    does programs (StatementItem (StatementsItem (BodyListing declared.program declared.function) 1))
-    (completed completion) w (rest programs mid.frames))
+    → GoesOn programs mid (as_completion (statements (runs programs)
+    (statements_from programs (BodyListing declared.program declared.function) 0))) new next
     → GoesOn programs old (as_value (enters_body programs function this arguments)) new next
-entered-run programs old mid new declared told first function this arguments next is some trees at behind on =
-    let back : rest programs mid.frames
-    ≡ (λ handed w. rest programs old.frames (value_of_call handed) (outside_of programs old.frames w)) =
-    behind ∙ behind_call programs old.frames some in
+entered-run programs old mid new declared told function this arguments next is some at behind on =
+    let back : rest programs mid.frames ≡ returns = behind ∙ behind_call programs old.frames some in
     on
-    ∙ ap (λ w. executes programs first w (λ completion w. does programs item (completed completion) w
-    (rest programs mid.frames)))
+    ∙ ap (λ w. body w (rest programs mid.frames))
     (at ∙ told-inside told function this arguments (world_of programs old) is.locals is.parameters)
-    ∙ ap (λ go. executes programs first inner (λ completion w. does programs item (completed completion)
-    w go)) back
-    ∙ body-run programs declared.program declared.function first function.body inner
-    (λ handed w. rest programs old.frames (value_of_call handed) (outside_of programs old.frames w))
-    (λ value w. rest programs old.frames (given.Value value) (outside (world_of programs old) w)) trees is.body
+    ∙ ap (body inner) back
+    ∙ body-run programs declared.program declared.function function.body inner returns
+    (λ value w. rest programs old.frames (given.Value value) (outside (world_of programs old) w)) is.body
     (λ completion after. ap (λ handed. rest programs old.frames handed (outside_of programs old.frames after))
     (returned-given completion))
   where
-    item : Work
-    item = StatementItem (StatementsItem (BodyListing declared.program declared.function) 1)
+    body : Action Given
+    body = as_completion (statements (runs programs)
+        (statements_from programs (BodyListing declared.program declared.function) 0))
 
     inner : World
     inner = inside function this arguments (world_of programs old)
+
+    returns : Next Given
+    returns handed w =
+        rest programs old.frames (value_of_call handed) (outside_of programs old.frames w)
 
 -- ---- how deep calls are
 
@@ -317,21 +256,6 @@ pub deep-run : (programs : List ToldProgram) (old : MachineState) (body : Body) 
     → GoesOn programs old (as_value (enter body function this arguments)) old next
 deep-run programs old body function this arguments next deep over =
     ap (run_from programs old) over ∙ rw (too_deep (length old.frames) deep) refl
-
-pub no_statements-run : (programs : List ToldProgram) (old : MachineState) (declared : Declared)
-    (function : Function) (this : Value) (arguments : List Value) (next : Now)
-    → declared_at programs declared ≡ Some function
-    → function_trees programs declared.program declared.function 0 ≡ NoTrees
-    → length old.frames ≤ 64 → 1 ≤ length old.frames
-    → next ≡ now.Gives (given.Value Undefined)
-    → GoesOn programs old
-    (as_value (enter (called (declared_by programs)) function this arguments)) old next
-no_statements-run programs old declared function this arguments next at none shallow some is =
-    shallow-run programs old old function this arguments next shallow some
-    (ap (run_from programs old) is
-    ∙ sym (no_body-run programs function.body (inside function this arguments (world_of programs old))
-    (λ value w. rest programs old.frames (given.Value value) (outside (world_of programs old) w))
-    (no_statements programs declared function at none)))
 
 -- programs by another name
 pub on_named : (programs now : List ToldProgram) (old new : MachineState) (declared : Declared)
@@ -444,28 +368,6 @@ module _ (programs : List ToldProgram) (old : MachineState) (function : Function
         (with_new_object (world_of programs old))) (λ value after. go (given.Value value)
         (outside (with_new_object (world_of programs old)) after))) back
         ∙ ap (λ number. constructs number (with_new_object (world_of programs old)) (rest programs old.frames)) at)
-
-    pub empty-construct : (mid : MachineState) (object : ℕ) (declared : Declared) (next : Now)
-        → object ≡ length old.heap → world_of programs mid ≡ with_new_object (world_of programs old)
-        → Stays old mid → declared_at programs declared ≡ Some function
-        → function_trees programs declared.program declared.function 0 ≡ NoTrees
-        → next ≡ now.Gives (given.Value (Object object))
-        → GoesOn programs old (as_value (construct (called (declared_by programs)) function arguments))
-        mid next
-    unfolding constructs fs
-    empty-construct mid object declared next at world stays is none gives =
-        shallow-construct mid next
-        (ap (run_from programs mid) gives
-        ∙ ap (λ go. go (given.Value (Object object)) (world_of programs mid)) (stays.rest programs)
-        ∙ ap (rest programs old.frames (given.Value (Object object))) world
-        ∙ ap (λ number. rest programs old.frames (given.Value (Object number))
-        (with_new_object (world_of programs old))) at
-        ∙ sym (no_body-run programs function.body
-        (inside function (Object (length old.heap)) arguments (with_new_object (world_of programs old)))
-        (λ value after. rest programs old.frames
-        (given.Value (object_or (Object (length old.heap)) value))
-        (outside (with_new_object (world_of programs old)) after))
-        (no_statements programs declared function is none)))
 
 -- ---- what is built in
 

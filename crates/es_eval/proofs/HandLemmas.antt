@@ -2,6 +2,7 @@
 use Rattle.std.proofs.Common.{◌≡◌, ◌∙◌, ◌≤◌, List, ap, refl, sym, arith}
 use Rattle.es_reader.specs.Programs.{ToldProgram}
 use Rattle.es_values.specs.declared.values.Value.{Value}
+use Rattle.es_eval.specs.declared.works.CallWork.TheVariants as call
 use Rattle.es_eval.specs.declared.works.Given.{Given}
 use Rattle.es_eval.specs.declared.works.Given.TheVariants as given
 use Rattle.es_eval.specs.declared.works.Now.TheVariants.{Gives}
@@ -53,7 +54,13 @@ handed-run programs old mid item handed expression none taken same =
 pub some-turn : (item : Work) → 1 ≤ turns_of item
 some-turn (work.Operand item) = omega arith
 some-turn (work.Member item) = omega arith
-some-turn (work.Call item) = omega arith
+some-turn (work.Call (call.IndexBase key code)) = omega arith
+some-turn (work.Call (call.IndexKey base code)) = omega arith
+some-turn (work.Call (call.MemberBase name code)) = omega arith
+some-turn (work.Call (call.Callee code)) = omega arith
+some-turn (work.Call (call.Constructor code)) = omega arith
+some-turn (work.Call (call.Argument opened)) = omega arith
+some-turn (work.Call (call.Constructed new)) = omega arith
 some-turn (work.Statement item) = omega arith
 some-turn (work.Target item) = by item
   where

@@ -72,10 +72,6 @@ runs_more programs few many action old new ran held allowed runs = record {
 
 -- ---- what is chosen
 
-pub choice_false : {A : Type 0} {b : Bool} (first second : A) → b ≡ false
-    → (if b then first else second) ≡ second
-choice_false first second is = rw is refl
-
 -- a statement runs that a value chooses
 pub runs_chosen : (programs : List ToldProgram) (value : Value) (first second : Action Completion)
     (old new : MachineState) (ran : Ran) (held : Held) → truth_of value ≡ true

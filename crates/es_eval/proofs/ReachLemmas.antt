@@ -44,6 +44,7 @@ use Rattle.es_eval.specs.Unbounded.{called, entered, valued}
 use Rattle.es_eval.specs.declared.works.OperandWork.TheVariants as operand
 use Rattle.es_eval.specs.declared.works.TargetWork.TheVariants as target_of
 use Rattle.es_eval.specs.declared.works.Work.{Work}
+use Rattle.es_eval.specs.declared.works.CallWork.TheVariants as call_of
 use Rattle.es_eval.specs.declared.works.Work.TheVariants as work
 use Rattle.es_eval.specs.Actions.{Action, Next, behind, charged, gives, step}
 use Rattle.es_eval.specs.Worlds.{Run, World}
@@ -62,7 +63,7 @@ with more (given.Value v) w next = as_value (more v) w next
 with more other w next = next other w
 
 -- how many items may follow an item is little
-pub few_turns : (item : Work) → turns_of item ≤ 3
+pub few_turns : (item : Work) → turns_of item ≤ 8
 few_turns (work.Target (target_of.IndexKey base purpose)) = omega arith
 few_turns (work.Target (target_of.MemberBase name purpose)) = omega arith
 few_turns (work.Target (target_of.StepRead in_front down place)) = omega arith
@@ -73,7 +74,13 @@ few_turns (work.Target (target_of.UpdateRight operator place before)) = omega ar
 few_turns (work.Target (target_of.Visited visit)) = omega arith
 few_turns (work.Operand item) = omega arith
 few_turns (work.Member item) = omega arith
-few_turns (work.Call item) = omega arith
+few_turns (work.Call (call_of.IndexBase key call)) = omega arith
+few_turns (work.Call (call_of.IndexKey base call)) = omega arith
+few_turns (work.Call (call_of.MemberBase name call)) = omega arith
+few_turns (work.Call (call_of.Callee call)) = omega arith
+few_turns (work.Call (call_of.Constructor call)) = omega arith
+few_turns (work.Call (call_of.Argument opened)) = omega arith
+few_turns (work.Call (call_of.Constructed new)) = omega arith
 few_turns (work.Statement item) = omega arith
 
 -- ---- behind a part

@@ -1,6 +1,6 @@
 -- How one part of a statement goes on as the next: declarators, and the turns of a loop.
-use Rattle.std.proofs.Common.{◌≡◌, ◌∙◌, ◌+◌, ◌≤◌, ◌++◌, ◌∷◌, [], ℕ, List, Bool, true, false, Err, Ok, Result, ap, sym, refl, subst, arith}
-use Rattle.std.specs.Prelude.{IfOk, OnOk, Option, Some, None, if◌then◌else◌}
+use Rattle.std.proofs.Common.{◌≡◌, ◌∙◌, ◌+◌, ◌≤◌, ◌++◌, ◌∷◌, [], ℕ, List, Bool, true, false, ap, sym, refl, subst, arith}
+use Rattle.std.specs.Prelude.{Option, Some, None, if◌then◌else◌}
 use Rattle.std.specs.Option.{option_map}
 use Rattle.std.proofs.Math.Path.{fun_ext}
 use Rattle.std.proofs.lemmas.List.Elements.{All-nil}
@@ -46,14 +46,6 @@ use Rattle.es_eval.proofs.RanLemmas.{goes_then_runs, runs_more}
 use Rattle.es_eval.proofs.HeldLemmas.{becomes_behind, held_more}
 use Rattle.es_eval.proofs.StatementArms.{behind_turn}
 use Rattle.es_eval.proofs.UnboundedLemmas.{done-row}
-
--- ---- results
-
--- what holds of a result by a fact more
-pub IfOk-with : {A E : Type 0} (result : Result A E) (P Q : A → Type 0) (More : Type 0)
-    → ((x : A) → P x → More → Q x) → IfOk result P → OnOk result More → IfOk result Q
-IfOk-with (Ok x) P Q More f holds more = f x holds more
-IfOk-with (Err e) P Q More f holds more = tt
 
 -- ---- one part, and then another
 

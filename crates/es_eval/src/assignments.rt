@@ -56,7 +56,8 @@ impl Machine {
         }
     }
 
-    // The same where the target is no name, behind its step. What is no target is a name without codes.
+    // The same where the target is no name, behind its step. What is no target is a name without
+    // codes.
     #[cycle(value)]
     fn assign_part(
         &mut self,

@@ -14,7 +14,7 @@ ghost use Rattle.es_eval.specs.Actions.{by_row};
 ghost use Rattle.es_eval.specs.Calls.{call_member as spec_call_member, call_number as spec_call_number, call_value as spec_call_value, construct as spec_construct, enter as spec_enter, inside, outside, new_value as spec_new_value};
 ghost use Rattle.es_shapes.specs.devices.Parts.{declared_at, function_trees, tree_of};
 ghost use Rattle.es_shapes.specs.Codes.{declared_by};
-ghost use Rattle.es_eval.specs.devices.Machines.{AreLive, GoesOn, IsLess, IsNextLive, IsWorkLive, MachineState, built_run, burden, run_from, value_rest, values_of_built, values_of_callee, values_of_next, weight, weight_of_next, world_of};
+ghost use Rattle.es_eval.specs.devices.Machines.{AreLive, GoesOn, IsLessAfter, IsLessOfCall, IsNextLive, IsWorkLive, MachineState, built_run, burden, run_from, value_rest, values_of_built, values_of_callee, values_of_next, weight, weight_of_next, world_of};
 ghost use Rattle.es_eval.specs.Unbounded.{called};
 ghost use Rattle.es_eval.specs.devices.Works.{as_value, call_work_row, calls_callee, calls_with};
 
@@ -25,11 +25,11 @@ use crate::members::has_no_members;
 use crate::nexts::{stopped, value};
 use crate::outcomes::StopCause;
 use crate::values::LEVELS;
-use crate::works::{CallWork, Callee, Now, OpenCall, StatementWork, Work, discard};
+use crate::works::{CallWork, Callee, Now, OpenCall, Work, discard};
 use bml_bytes::{NoMemory, Text};
 use es_builtins::Built;
 use es_reader::Program;
-use es_shapes::{Code, Declared, Listing, Programs, declaration, listed_statement};
+use es_shapes::{Code, Declared, Listing, Programs, declaration};
 use es_values::{HostRef, Value};
 
 impl Machine {
@@ -45,7 +45,7 @@ impl Machine {
         ensures run { IfOk result (λ next. GoesOn programs.old self.old
             (as_value (call_work_row programs.old item given)) self.new next) }
         ensures live { IfOk result (IsNextLive self.new) }
-        ensures less { IfOk result (IsLess self.old self.new) }
+        ensures less { IfOk result (IsLessAfter (CallItem item) self.old self.new) }
         ensures programs { programs.new ≡ programs.old }
     {
         match item {
@@ -78,7 +78,7 @@ impl Machine {
         ensures run { IfOk result (λ next. GoesOn programs.old self.old
             (as_value (call_work_row programs.old (Argument opened) given)) self.new next) }
         ensures live { IfOk result (IsNextLive self.new) }
-        ensures less { IfOk result (IsLess self.old self.new) }
+        ensures less { IfOk result (IsLessOfCall self.old self.new) }
         ensures programs { programs.new ≡ programs.old }
     {
         opened.given.push(given)?;
@@ -97,7 +97,7 @@ impl Machine {
         ensures run { IfOk result (λ next. GoesOn programs.old self.old
             (as_value (call_work_row programs.old (MemberBase name call) given)) self.new next) }
         ensures live { IfOk result (IsNextLive self.new) }
-        ensures less { IfOk result (IsLess self.old self.new) }
+        ensures less { IfOk result (IsLessOfCall self.old self.new) }
         ensures programs { programs.new ≡ programs.old }
     {
         if has_no_members(&given) {
@@ -119,7 +119,7 @@ impl Machine {
         ensures run { IfOk result (λ next. GoesOn programs.old self.old
             (as_value (call_work_row programs.old (IndexKey base call) key.now)) self.new next) }
         ensures live { IfOk result (IsNextLive self.new) }
-        ensures less { IfOk result (IsLess self.old self.new) }
+        ensures less { IfOk result (IsLessOfCall self.old self.new) }
         ensures programs { programs.new ≡ programs.old }
     {
         if has_no_members(&base) {
@@ -142,7 +142,7 @@ impl Machine {
         ensures run { IfOk result (λ next. GoesOn programs.old self.old
             (as_value (calls_with programs.old callee [] call 1)) self.new next) }
         ensures live { IfOk result (IsNextLive self.new) }
-        ensures less { IfOk result (IsLess self.old self.new) }
+        ensures less { IfOk result (IsLessOfCall self.old self.new) }
         ensures programs { programs.new ≡ programs.old }
     {
         let given = Vec::new(self.heap.allocator());
@@ -165,14 +165,18 @@ impl Machine {
             (as_value (calls_with programs.old opened.callee opened.given.items opened.call
             opened.next)) self.new next) }
         ensures live { IfOk result (IsNextLive self.new) }
-        ensures less { IfOk result (IsLess self.old self.new) }
+        ensures less { IfOk result (IsLessOfCall self.old self.new) }
         ensures programs { programs.new ≡ programs.old }
     {
         let mut opened = opened;
         let mut held = Held::new(self.heap.allocator());
         match self.gather(programs.list(), &mut opened, LEVELS, &mut held)? {
-            Gathered::All => self.call_callee(programs, opened.callee, opened.given),
+            Gathered::All => {
+                discard(held);
+                self.call_callee(programs, opened.callee, opened.given)
+            }
             Gathered::Stopped(cause) => {
+                discard(held);
                 discard(opened);
                 Ok(stopped(cause))
             }
@@ -195,7 +199,7 @@ impl Machine {
         ensures run { IfOk result (λ next. GoesOn programs.old self.old
             (as_value (calls_callee programs.old callee given.items)) self.new next) }
         ensures live { IfOk result (IsNextLive self.new) }
-        ensures less { IfOk result (IsLess self.old self.new) }
+        ensures less { IfOk result (IsLessOfCall self.old self.new) }
         ensures programs { programs.new ≡ programs.old }
     {
         match callee {
@@ -217,7 +221,7 @@ impl Machine {
             (as_value (spec_call_value (declared_by programs.old)
             (called (declared_by programs.old)) function.now args.items)) self.new next) }
         ensures live { IfOk result (IsNextLive self.new) }
-        ensures less { IfOk result (IsLess self.old self.new) }
+        ensures less { IfOk result (IsLessOfCall self.old self.new) }
         ensures programs { programs.new ≡ programs.old }
     {
         match function {
@@ -240,7 +244,7 @@ impl Machine {
             (as_value (spec_call_number (declared_by programs.old)
             (called (declared_by programs.old)) number this args.items)) self.new next) }
         ensures live { IfOk result (IsNextLive self.new) }
-        ensures less { IfOk result (IsLess self.old self.new) }
+        ensures less { IfOk result (IsLessOfCall self.old self.new) }
         ensures programs { programs.new ≡ programs.old }
     {
         match programs.function(number)? {
@@ -252,7 +256,7 @@ impl Machine {
         }
     }
 
-    // Enters a function, where a call more may be open. One without statements gives Undefined.
+    // Enters a function, where a call more may be open.
     fn enter(
         &mut self,
         programs: &mut Programs<'_>,
@@ -268,33 +272,26 @@ impl Machine {
             (as_value (spec_enter (called (declared_by programs.old)) function this args.items))
             self.new next) }
         ensures live { IfOk result (IsNextLive self.new) }
-        ensures less { IfOk result (IsLess self.old self.new) }
+        ensures less { IfOk result (IsLessOfCall self.old self.new) }
         ensures programs { programs.new ≡ programs.old }
     {
         if self.frames.depth() > MOST_CALLS {
             return Ok(stopped(StopCause::Depth));
         }
-        match first_statement(programs.list(), declared) {
-            Some(first) => self.enter_at(programs.list(), declared, first, this, args),
-            None => Ok(value(Value::Undefined)),
-        }
+        self.enter_at(programs.list(), declared, this, args)
     }
 
-    // Enters a function at its first statement.
+    // Opens the call of a function and runs its statements.
     fn enter_at(
         &mut self,
         programs: &[Program],
         declared: Declared,
-        first: Code,
         this: Value,
         args: Vec<Value>,
     ) -> Result<Now, NoMemory>
         requires this { IsLive self.old.heap this }
         requires args { AreLive self.old.heap args.items }
         requires depth { length self.old.frames ≤ 64 }
-        requires first { function_trees programs.now declared.program declared.function 0
-            ≡ OneMore (tree_of programs.now first)
-            (function_trees programs.now declared.program declared.function 1) }
         ensures run { IfOk result (λ next. (function : Function)
             → declared_at programs.now declared ≡ Some function
             → GoesOn programs.now self.old (as_value (λ caller after.
@@ -302,7 +299,7 @@ impl Machine {
             (inside function this args.items caller)
             (λ value w. after value (outside caller w)))) self.new next) }
         ensures live { IfOk result (IsNextLive self.new) }
-        ensures less { IfOk result (λ next. weight self.new next ≤ burden self.old + 8) }
+        ensures less { IfOk result (λ next. weight self.new next ≤ burden self.old + 13) }
     {
         // A machine always has a frame.
         let _ = &self.frames;
@@ -311,10 +308,7 @@ impl Machine {
         };
         self.open_function(declared, function, this, args)?;
         let listing = Listing::Body(declared.program, declared.function);
-        self.execute_then(
-            Work::Statement(StatementWork::Statements(listing, 1)),
-            first,
-        )
+        self.run_listed(programs, listing, 0)
     }
 
     // What `new` makes of a value.
@@ -329,7 +323,7 @@ impl Machine {
             (as_value (spec_new_value (declared_by programs.old)
             (called (declared_by programs.old)) function.now args.items)) self.new next) }
         ensures live { IfOk result (IsNextLive self.new) }
-        ensures less { IfOk result (IsLess self.old self.new) }
+        ensures less { IfOk result (IsLessOfCall self.old self.new) }
         ensures programs { programs.new ≡ programs.old }
     {
         let Value::Function(number) = function else {
@@ -345,7 +339,6 @@ impl Machine {
     }
 
     // Enters a function with a new object as its `this`, which is given where it returns no object.
-    // A function without statements gives it at once.
     fn construct_declared(
         &mut self,
         programs: &mut Programs<'_>,
@@ -359,24 +352,15 @@ impl Machine {
             (as_value (spec_construct (called (declared_by programs.old)) function args.items))
             self.new next) }
         ensures live { IfOk result (IsNextLive self.new) }
-        ensures less { IfOk result (IsLess self.old self.new) }
+        ensures less { IfOk result (IsLessOfCall self.old self.new) }
         ensures programs { programs.new ≡ programs.old }
     {
         if self.frames.depth() > MOST_CALLS {
             return Ok(stopped(StopCause::Depth));
         }
         let object = self.add_object()?;
-        let Some(first) = first_statement(programs.list(), declared) else {
-            return Ok(value(Value::Object(object)));
-        };
         self.put(Work::Call(CallWork::Constructed(Value::Object(object))))?;
-        self.enter_at(
-            programs.list(),
-            declared,
-            first,
-            Value::Object(object),
-            args,
-        )
+        self.enter_at(programs.list(), declared, Value::Object(object), args)
     }
 
     // Calls a member: an own property that is a function, a built-in method, or the host's.
@@ -393,7 +377,7 @@ impl Machine {
             (as_value (spec_call_member (declared_by programs.old)
             (called (declared_by programs.old)) base key args.items)) self.new next) }
         ensures live { IfOk result (IsNextLive self.new) }
-        ensures less { IfOk result (IsLess self.old self.new) }
+        ensures less { IfOk result (IsLessOfCall self.old self.new) }
         ensures programs { programs.new ≡ programs.old }
     {
         match base {
@@ -419,7 +403,7 @@ impl Machine {
             (called (declared_by programs.old)) (AnObject object) key.now args.items)) self.new
             next) }
         ensures live { IfOk result (IsNextLive self.new) }
-        ensures less { IfOk result (IsLess self.old self.new) }
+        ensures less { IfOk result (IsLessOfCall self.old self.new) }
         ensures programs { programs.new ≡ programs.old }
     {
         match self.property(object, key)? {
@@ -438,7 +422,7 @@ impl Machine {
             → GoesOn programs self.old (as_value (by_row (λ heap.
             method_row heap base.now key.now args.now))) self.new next) }
         ensures live { IfOk result (IsNextLive self.new) }
-        ensures less { IfOk result (IsLess self.old self.new) }
+        ensures less { IfOk result (IsLessOfCall self.old self.new) }
     {
         let built = self.call_built_in_method(base, key, args)?;
         Ok(answered(built))
@@ -451,7 +435,7 @@ impl Machine {
             (as_value (spec_call_member (declared_by programs) (called (declared_by programs))
             (HostValue base) key args.items)) self.new result }
         ensures live { IsNextLive self.new result }
-        ensures less { IsLess self.old self.new result }
+        ensures less { IsLessOfCall self.old self.new result }
     {
         if self.charge_conversions(&args) {
             Now::Calls(base, key, args)
@@ -463,16 +447,6 @@ impl Machine {
 
 // How many calls may be open at once.
 const MOST_CALLS: u32 = 64;
-
-// The first statement of a function, where it has one.
-fn first_statement(programs: &[Program], declared: Declared) -> Option<Code>
-    ensures { function_trees programs.now declared.program declared.function 0 ≡ option_map_or
-        (λ code. OneMore (tree_of programs.now code)
-        (function_trees programs.now declared.program declared.function 1)) result NoTrees }
-{
-    let listing = Listing::Body(declared.program, declared.function);
-    listed_statement(programs, listing, 0)
-}
 
 // What a built-in answered.
 fn answered(built: Built) -> Now

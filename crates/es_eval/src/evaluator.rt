@@ -1,15 +1,14 @@
 //! The evaluator's loop: what is next is done until the script is over.
 
-ghost use Rattle.std.specs.Prelude.{◌≡◌, ◌<◌, ◌+◌, List, None, IfOk};
+ghost use Rattle.std.specs.Prelude.{◌≡◌, ◌<◌, ◌+◌, List, IfOk};
 ghost use Rattle.es_reader.specs.Programs.{ToldProgram};
 ghost use Rattle.es_values.specs.Heaps.{IsLive, IsSound};
 ghost use Rattle.es_eval.specs.declared.works.Given.TheVariants.{Value as GivenValue};
 ghost use Rattle.es_eval.specs.declared.outcomes.Outcome.{Outcome as OutcomeOf};
 ghost use Rattle.es_eval.specs.declared.works.Now.TheVariants.{Calls, Gives, Over as IsOver, Reads, Writes};
 ghost use Rattle.es_eval.specs.Endings.{MayEnd};
-ghost use Rattle.es_eval.specs.devices.Machines.{AreLive, GoesOn, IsLessAfter, IsNextLive, IsWorkLive, burden, next_behind as spec_next_behind, run_from, value_of_call as spec_value_of_call, values_of_given, weight, world_of};
+ghost use Rattle.es_eval.specs.devices.Machines.{AreLive, GoesOn, GoesPast, IsLessAfter, IsNextLive, IsWorkLive, burden, next_behind as spec_next_behind, run_from, value_of_call as spec_value_of_call, values_of_given, weight, world_of};
 ghost use Rattle.es_eval.specs.devices.Leading.{LeadsTo};
-ghost use Rattle.es_eval.specs.devices.OpenCalls.{next_item};
 ghost use Rattle.es_eval.specs.devices.Works.{does};
 
 use crate::globals::Globals;
@@ -23,8 +22,9 @@ use es_shapes::Programs;
 use es_values::{Heap, Host, HostAnswer, HostRef, Value};
 
 impl Machine {
-    // Gives something to the item that was put last; where the call that runs has none, its value
-    // goes to the call below, and behind the lowest the script is at its end.
+    // Gives something to the item that was put last. What is returned goes past them all. Where the
+    // call that runs has none, its value goes to the call below, and behind the lowest the script is
+    // at its end.
     fn hand(&mut self, programs: &mut Programs<'_>, given: Given) -> Result<Now, NoMemory>
         requires { AreLive self.old.heap (values_of_given given) }
         ensures run { IfOk result (λ next. run_from programs.old self.new next
@@ -33,6 +33,10 @@ impl Machine {
         ensures less { IfOk result (λ next. weight self.new next < burden self.old + 11) }
         ensures programs { programs.new ≡ programs.old }
     {
+        let given = match given {
+            Given::Returned(value) => return Ok(self.leave(Given::Returned(value))),
+            other => other,
+        };
         let Some(item) = self.take() else {
             return Ok(self.leave(given));
         };
@@ -75,10 +79,10 @@ impl Machine {
         }
     }
 
-    // The call that runs has nothing left to do.
-    fn leave(&mut self, given: Given) -> Now
+    /// The call that runs is left, with what goes past its items.
+    pub fn leave(&mut self, given: Given) -> Now
         requires live { AreLive self.old.heap (values_of_given given) }
-        requires items { next_item self.old.frames ≡ None }
+        requires past { (programs : List ToldProgram) → GoesPast programs self.old.frames given }
         ensures run { (programs : List ToldProgram) → run_from programs self.new result
             ≡ run_from programs self.old (Gives given) }
         ensures live { IsNextLive self.new result }

@@ -91,7 +91,8 @@ impl Machine {
         }
     }
 
-    // The whole number that a leaf gives behind its step, however many steps are left, if it gives one.
+    // The whole number that a leaf gives behind its step, if it gives one, however many steps are
+    // left.
     fn whole_at(&self, programs: &[Program], code: Code) -> Option<i32>
         ensures { IfSome result (λ number. (left : ℕ) (next : Next AnyValue)
             → evaluates programs.now code

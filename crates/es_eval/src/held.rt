@@ -16,7 +16,7 @@ use crate::machine::Machine;
 use crate::nexts::{stopped, value};
 use crate::outcomes::StopCause;
 use crate::values::LEVELS;
-use crate::works::{Given, Now, StatementWork, Work};
+use crate::works::{Given, Now, StatementWork, Work, discard};
 use bml_bytes::NoMemory;
 use es_reader::Program;
 use es_shapes::Code;
@@ -118,8 +118,14 @@ impl Machine {
             + weight_of_ran ran held) }
     {
         match ran {
-            Ran::Given(given) => Ok(Now::Gives(given)),
-            Ran::Stopped(cause) => Ok(stopped(cause)),
+            Ran::Given(given) => {
+                discard(held);
+                Ok(Now::Gives(given))
+            }
+            Ran::Stopped(cause) => {
+                discard(held);
+                Ok(stopped(cause))
+            }
             Ran::Waits => self.put_held(held),
         }
     }
@@ -138,8 +144,14 @@ impl Machine {
             + weight_of_next (next_of_reached reached held))) }
     {
         match reached {
-            Reached::Value(given) => Ok(value(given)),
-            Reached::Stopped(cause) => Ok(stopped(cause)),
+            Reached::Value(given) => {
+                discard(held);
+                Ok(value(given))
+            }
+            Reached::Stopped(cause) => {
+                discard(held);
+                Ok(stopped(cause))
+            }
             Reached::Waits => self.put_held(held),
         }
     }

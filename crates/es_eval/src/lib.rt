@@ -17,6 +17,11 @@
 //! items (`specs/devices/Works.antt` says what each does) beside the globals, the objects and the
 //! steps that are left. What comes next and the items that wait are the rest of a run
 //! (`specs/devices/Machines.antt`), and each arm says of which row its run is.
+//!
+//! Statements and expressions are brought to their end at once by recursion, down to eight levels of
+//! each. A call of a program's function, the host, what stands deeper, and some rarer forms can't be:
+//! they wait. Then what comes next is told, and the parts around it hold items, the innermost first
+//! (`specs/devices/Held.antt`), which are put on the control stack at the end.
 #![tactic(auto)]
 
 mod applications;

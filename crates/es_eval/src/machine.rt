@@ -19,7 +19,7 @@ ghost use Rattle.es_eval.specs.declared.works.Now.TheVariants.{Gives};
 ghost use Rattle.es_eval.specs.Actions.{Action, Next, as_number, as_text, by_row, charged, step};
 ghost use Rattle.es_eval.specs.Calls.{bound, with_new_object};
 ghost use Rattle.es_eval.specs.devices.OpenCalls.{below_last, function_of, names_at, names_in as local_names, next_item, with_item, without_item};
-ghost use Rattle.es_eval.specs.devices.Machines.{AreLive, CarriesOn, IsWorkLive, Stays, behind_frame, built_run, burden, names_in, rest, run_from, this_in, turns_of, value_of_call, values_of_built, values_of_next, weight, world_of};
+ghost use Rattle.es_eval.specs.devices.Machines.{AreLive, CarriesOn, GoesPast, IsWorkLive, Stays, behind_frame, built_run, burden, names_in, rest, run_from, this_in, turns_of, value_of_call, values_of_built, values_of_next, weight, world_of};
 ghost use Rattle.es_eval.specs.Members.{delete_in, named, put_member};
 ghost use Rattle.es_eval.specs.Operations.{operates};
 ghost use Rattle.es_eval.specs.devices.Slots.{IsSlotOf, with_values};
@@ -112,7 +112,8 @@ impl Machine {
             → run_from programs self.new next ≡ evaluates programs code (world_of programs self.old)
             (λ value w. does programs item (GivenValue value) w (rest programs self.old.frames))) }
         ensures live { IfOk result (λ next. values_of_next next ≡ []) }
-        ensures less { IfOk result (λ next. weight self.new next ≤ burden self.old + 7) }
+        ensures less { IfOk result (λ next. weight self.new next
+            ≡ burden self.old + (2 * turns_of item + 1)) }
     {
         self.put(item)?;
         Ok(Now::Evaluate(code))
@@ -126,7 +127,8 @@ impl Machine {
             (λ completion w. does programs item (completed completion) w
             (rest programs self.old.frames))) }
         ensures live { IfOk result (λ next. values_of_next next ≡ []) }
-        ensures less { IfOk result (λ next. weight self.new next ≤ burden self.old + 7) }
+        ensures less { IfOk result (λ next. weight self.new next
+            ≡ burden self.old + (2 * turns_of item + 1)) }
     {
         self.put(item)?;
         Ok(Now::Execute(code))
@@ -437,10 +439,11 @@ impl Machine {
         Ok(())
     }
 
-    /// Closes the frame of the call that runs, where it isn't the lowest, and answers whether it did.
+    /// Closes the frame of the call that runs, with its items, where it isn't the lowest, and answers
+    /// whether it did.
     pub fn close_function(&mut self) -> bool
         ensures run { (programs : List ToldProgram) (handed : Given)
-            → next_item self.old.frames ≡ None → run_from programs self.old (Gives handed)
+            → GoesPast programs self.old.frames handed → run_from programs self.old (Gives handed)
             ≡ (if result then run_from programs self.new (Gives (value_of_call handed))
             else Over AtEnd (world_of programs self.new)) }
         ensures less { result ≡ true → burden self.new + 1 ≤ burden self.old }

@@ -6,17 +6,18 @@ ghost use Rattle.es_values.specs.declared.values.Value.TheVariants.{Number};
 ghost use Rattle.es_values.specs.Heaps.{IsLive};
 ghost use Rattle.es_eval.specs.declared.works.Work.TheVariants.{Operand as OperandItem};
 ghost use Rattle.es_eval.specs.devices.Machines.{GoesOn, IsLess, IsNextLive, IsWorkLive};
-ghost use Rattle.es_eval.specs.Actions.{gives};
+ghost use Rattle.es_eval.specs.Actions.{behind, gives};
 ghost use Rattle.es_eval.specs.Operations.{operates, signs};
 ghost use Rattle.es_shapes.specs.Operators.{signed_number, type_text as spec_type_text};
 ghost use Rattle.es_eval.specs.Rows.{last_value};
 ghost use Rattle.es_shapes.specs.devices.Parts.{parts_from};
-ghost use Rattle.es_eval.specs.devices.Works.{as_value, enters, operand_row};
+ghost use Rattle.es_eval.specs.devices.Works.{as_value, enters, evaluates, operand_row};
 
+use crate::held::{Held, Reached};
 use crate::machine::Machine;
 use crate::nexts::{stopped, value};
 use crate::outcomes::StopCause;
-use crate::works::{Now, OperandWork, Work};
+use crate::works::{Now, OperandWork, Work, discard};
 use bml_bytes::{NoMemory, Text};
 use es_reader::Program;
 use es_shapes::{Code, Operator, Sign, part};
@@ -39,29 +40,64 @@ impl Machine {
     {
         match item {
             OperandWork::Left(operator, right) => {
-                self.evaluate_then(Work::Operand(OperandWork::Right(operator, given)), right)
+                self.operate_right(programs, operator, given, right)
             }
             OperandWork::Right(operator, left) => self.operates(operator, &left, &given),
-            OperandWork::And(right) => Ok(if given.truth() {
-                Now::Evaluate(right)
-            } else {
-                value(given)
-            }),
-            OperandWork::Or(right) => Ok(if given.truth() {
-                value(given)
-            } else {
-                Now::Evaluate(right)
-            }),
-            OperandWork::Choice(first, second) => Ok(Now::Evaluate(if given.truth() {
-                first
-            } else {
-                second
-            })),
+            OperandWork::And(right) => {
+                if given.truth() {
+                    self.evaluate(programs, right)
+                } else {
+                    Ok(value(given))
+                }
+            }
+            OperandWork::Or(right) => {
+                if given.truth() {
+                    Ok(value(given))
+                } else {
+                    self.evaluate(programs, right)
+                }
+            }
+            OperandWork::Choice(first, second) => {
+                let chosen = if given.truth() { first } else { second };
+                self.evaluate(programs, chosen)
+            }
             OperandWork::Comma(code, next) => self.evaluate_parts(programs, code, next, given),
             OperandWork::Sign(sign) => self.sign(sign, &given),
             OperandWork::Typeof => self.typed(&given),
             OperandWork::Void => Ok(value(Value::Undefined)),
             OperandWork::Instead(other) => Ok(value(other)),
+        }
+    }
+
+    // The right operand, behind the left one's value, and then what the operator gives.
+    fn operate_right(
+        &mut self,
+        programs: &[Program],
+        operator: Operator,
+        left: Value,
+        right: Code,
+    ) -> Result<Now, NoMemory>
+        requires { IsLive self.old.heap left }
+        ensures run { IfOk result (λ next. GoesOn programs.now self.old
+            (as_value (behind (evaluates programs.now right) (operates operator left))) self.new
+            next) }
+        ensures live { IfOk result (IsNextLive self.new) }
+        ensures less { IfOk result (IsLess self.old self.new) }
+    {
+        let mut held = Held::new(self.heap.allocator());
+        match self.reach(programs, right, &mut held)? {
+            Reached::Value(given) => {
+                discard(held);
+                self.operates(operator, &left, &given)
+            }
+            Reached::Stopped(cause) => {
+                discard(held);
+                Ok(stopped(cause))
+            }
+            Reached::Waits => {
+                held.hold(Work::Operand(OperandWork::Right(operator, left)))?;
+                self.put_held(held)
+            }
         }
     }
 

@@ -71,20 +71,21 @@ impl Machine {
             StatementWork::Declared(name, code, next) => {
                 self.declare_value(programs, &name, given, code, next)
             }
-            StatementWork::If(body) => Ok(if given.truth() {
-                Now::Execute(body)
-            } else {
-                Now::Gives(Given::Normal)
-            }),
-            StatementWork::IfElse(body, other) => Ok(Now::Execute(if given.truth() {
-                body
-            } else {
-                other
-            })),
+            StatementWork::If(body) => {
+                if given.truth() {
+                    self.execute(programs, body)
+                } else {
+                    Ok(Now::Gives(Given::Normal))
+                }
+            }
+            StatementWork::IfElse(body, other) => {
+                let chosen = if given.truth() { body } else { other };
+                self.execute(programs, chosen)
+            }
             StatementWork::Test(given_loop) => self.tested(programs, given_loop, &given),
             StatementWork::NextTurn(given_loop) => self.turn(programs, given_loop),
             StatementWork::Object(visitor, body) => self.visit_all(programs, visitor, body, &given),
-            StatementWork::Return => Ok(Now::Gives(Given::Returned(given))),
+            StatementWork::Return => Ok(self.leave(Given::Returned(given))),
             StatementWork::Statements(_, _) | StatementWork::Body(_) | StatementWork::Visiting(_) =>
                 Ok(Now::Gives(Given::Value(given))),
         }

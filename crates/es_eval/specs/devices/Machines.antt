@@ -46,7 +46,7 @@ use Rattle.es_eval.specs.Evaluation.{ends_normally, with_functions, with_variabl
 use Rattle.es_eval.specs.Rows.{statements}
 use Rattle.es_shapes.specs.Syntax.{Function}
 use Rattle.es_eval.specs.Unbounded.{called}
-use Rattle.es_eval.specs.devices.OpenCalls.{Call, locals_of}
+use Rattle.es_eval.specs.devices.OpenCalls.{Call, below_last, locals_of}
 use Rattle.es_eval.specs.devices.Works.{calls_callee, completed, does, evaluates, executes, runs}
 use Rattle.es_eval.specs.Worlds.{IsNamedLive, World, Run, global}
 use Rattle.es_eval.specs.Worlds.Run.{Over, Reads, Writes, Calls}
@@ -109,6 +109,12 @@ unfoldable mutual
   behind_frame programs (caller ∷ below) = λ handed w.
       items_rest programs caller.items (behind_frame programs below) (value_of_call handed)
       (outside_of programs (caller ∷ below) w)
+
+-- what is given goes past the items of the last frame
+abbrev pub GoesPast : List ToldProgram → List Call → Given → Type 0
+GoesPast programs frames handed =
+    (w : World)
+    → rest programs frames handed w ≡ behind_frame programs (below_last frames) handed w
 
 abbrev pub value_rest : List ToldProgram → List Call → Next Value
 value_rest programs frames = λ value w. rest programs frames (given.Value value) w
@@ -223,8 +229,11 @@ pub record IsMachine (m : MachineState) : Type 0 where
 
 -- ---- how much is left to be done
 
--- how many items may follow one another, from this one on, with no step between them
+-- How many items may follow one another, from this one on, with no step between them. Behind a part of a
+-- call its function is entered.
 abbrev pub turns_of : Work → ℕ
+turns_of (work.Call (call.Constructed new)) = 1
+turns_of (work.Call item) = 8
 turns_of (work.Target (target.IndexKey base purpose)) = 3
 turns_of (work.Target (target.MemberBase name purpose)) = 3
 turns_of (work.Target (target.StepRead in_front down place)) = 2
@@ -242,7 +251,7 @@ weight_of_next (now.Evaluate code) = 1
 weight_of_next (now.Execute code) = 1
 weight_of_next (now.Gives handed) = 11
 weight_of_next (now.Over outcome) = 0
-weight_of_next (now.Applies callee arguments) = 13
+weight_of_next (now.Applies callee arguments) = 25
 weight_of_next _ = 12
 
 abbrev pub weight : MachineState → Now → ℕ
@@ -288,6 +297,10 @@ IsNextLive m next = AreLive m.heap (values_of_next next)
 -- an arm puts less on the stack than a step pays for
 abbrev pub IsLess : MachineState → MachineState → Now → Type 0
 IsLess old new next = weight new next ≤ burden old + 12
+
+-- a call, which has its node's step too
+abbrev pub IsLessOfCall : MachineState → MachineState → Now → Type 0
+IsLessOfCall old new next = weight new next ≤ burden old + 24
 
 -- the same of a target's item, and of what is done with a place
 abbrev pub IsLessAfter : Work → MachineState → MachineState → Now → Type 0

@@ -16,7 +16,8 @@ use Rattle.es_eval.specs.Rows.Completion.{Normal}
 use Rattle.es_eval.specs.devices.Held.{Runs}
 use Rattle.es_eval.specs.devices.Works.{evaluates, executes, declares, loop_task, starts_loop, turns}
 use Rattle.es_eval.proofs.HeldLemmas.{reached_given, reached_run, reached_stop, reached_wait}
-use Rattle.es_eval.proofs.RanLemmas.{both_ok, choice_false, goes_then_goes, goes_then_runs, ran_stepped, ran_unstepped, row_clear, row_end, row_ended, row_from, row_on, row_stopped, row_waits, runs_chosen, runs_other}
+use Rattle.es_eval.proofs.RanLemmas.{both_ok, goes_then_goes, goes_then_runs, ran_stepped, ran_unstepped, row_clear, row_end, row_ended, row_from, row_on, row_stopped, row_waits, runs_chosen, runs_other}
+use Rattle.es_eval.proofs.ReachLemmas.{when_false}
 use Rattle.es_eval.proofs.machine.Machine.+statement.Goals.{run_if_else-else-truth, run_if_else-then-truth}
 use Rattle.es_eval.proofs.machine.Machine.+statement.Goals as goal
 use Rattle.es_values.specs.declared.values.Value.{Value}
@@ -25,7 +26,7 @@ use Rattle.es_eval.specs.Rows.{Completion}
 use Rattle.es_eval.specs.declared.outcomes.StopCause.TheVariants.{Budget}
 use Rattle.es_eval.specs.devices.Machines.{world_of}
 use Rattle.es_eval.proofs.StatementArms.{declared-turns}
-use Rattle.es_eval.proofs.TurnedLemmas.{IfOk-with, body_ends, body_goes, body_stops, body_waits, first_expression, first_goes, first_stops, first_var, goes_same, reached_goes, same_runs, step_goes, step_runs, step_stops, waits_behind}
+use Rattle.es_eval.proofs.TurnedLemmas.{body_ends, body_goes, body_stops, body_waits, first_expression, first_goes, first_stops, first_var, goes_same, reached_goes, same_runs, step_goes, step_runs, step_stops, waits_behind}
 
 -- ---- run_statement
 
@@ -53,7 +54,8 @@ run_if-returns-then-not-truth t c =
     (λ value. if truth_of value then executes programs c.args.body else gives Normal)
     c.args.self.now c.reach.new.self c.in_ok-given.field-0 c.reach.new.held c.in-Value.given Normal
     c.in_ok-given.ensures c.in-Value.is
-    (choice_false (executes programs c.args.body) (gives Normal) (sym c.if-not-truth.ensures))
+    (sym (when_false (truth_of c.in-Value.given) (executes programs c.args.body) (gives Normal)
+    (sym c.if-not-truth.ensures)))
     (All-nil (IsLive c.reach.new.self.heap))
 
 pub run_if-returns-else-not-truth : goal.run_if-returns-else-not-truth
@@ -242,7 +244,7 @@ run_first-returns-in-Waits t c =
     let old = c.args.self.now in
     let first = evaluates programs c.in-FirstExpression.expression in
     let more : Value → Action Completion = λ value. turns programs (loop_task programs given_loop) in
-    IfOk-with c.holds.result _ _ _
+    both_ok c.holds.result _ _ _
     (λ ran waits items. same_runs programs 12 (starts_loop programs c.args.first given_loop)
     (behind first more) old c.reach.new.self ran c.holds.new.self
     (λ next. first_expression programs c.args.first given_loop c.in-FirstExpression.expression
@@ -320,7 +322,7 @@ run_first_var-returns-in-Waits t c =
     let old = c.args.self.now in
     let first = declares programs code 0 in
     let turned = and_then first (turns programs (loop_task programs given_loop)) in
-    IfOk-with c.holds.result _ _ _
+    both_ok c.holds.result _ _ _
     (λ ran waits items. same_runs programs 12 (starts_loop programs (FirstVar code) given_loop)
     (step turned) old c.run_var.new.self ran c.holds.new.self
     (λ next. first_var programs code given_loop (world_of programs old) next)

@@ -1,9 +1,7 @@
 use Rattle.std.proofs.Common.{◌≡◌, ◌+◌, ◌≤◌, length, subst, sym, arith}
-use Rattle.std.specs.Prelude.{None}
-use Rattle.es_eval.specs.devices.OpenCalls.{next_item}
 use Rattle.es_eval.specs.declared.outcomes.Outcome.TheVariants.{Normal as AtEnd}
 use Rattle.es_eval.specs.declared.works.Now.TheVariants.{Gives}
-use Rattle.es_eval.specs.devices.Machines.{MachineState, burden, run_from, value_of_call, world_of}
+use Rattle.es_eval.specs.devices.Machines.{GoesPast, MachineState, burden, run_from, value_of_call, world_of}
 use Rattle.es_eval.specs.Worlds.Run.{Over}
 use Rattle.es_eval.proofs.EndLemmas.{closed-less, closed-machine, closed-run, ends}
 use Rattle.es_eval.proofs.machine.Machine.close_function.Goals as goal
@@ -14,7 +12,7 @@ invariant_of-self c =
     closed-machine _ c.pop.new.self c.pop.ensures more c.self.invariant
 
 pub returns-then-depth-gt1-clause-run : goal.returns-then-depth-gt1-clause-run
-returns-then-depth-gt1-clause-run c programs handed none =
+returns-then-depth-gt1-clause-run c programs handed past =
     let more : 2 ≤ length c.self.inside.frames = grind arith in
     let closed : MachineState = record {
       globals = c.self.inside.globals;
@@ -26,7 +24,7 @@ returns-then-depth-gt1-clause-run c programs handed none =
     (λ m. run_from programs m (Gives handed) ≡ run_from programs closed (Gives (value_of_call handed)))
     c.self.view_is
     (closed-run _ c.pop.new.self c.pop.ensures more programs handed
-    (subst (λ m. next_item m.frames ≡ None) (sym c.self.view_is) none))
+    (subst (λ m. GoesPast programs m.frames handed) (sym c.self.view_is) past))
 
 pub returns-then-depth-gt1-clause-less : goal.returns-then-depth-gt1-clause-less
 returns-then-depth-gt1-clause-less c is =
@@ -41,7 +39,7 @@ returns-then-depth-gt1-clause-less c is =
     (closed-less _ c.pop.new.self c.pop.ensures more)
 
 pub returns-else-depth-gt1-clause-run : goal.returns-else-depth-gt1-clause-run
-returns-else-depth-gt1-clause-run c programs handed none =
+returns-else-depth-gt1-clause-run c programs handed past =
     let one : length c.self.inside.frames ≡ 1 = grind arith in
     subst (λ m. run_from programs m (Gives handed) ≡ Over AtEnd (world_of programs m)) c.self.view_is
-    (ends programs _ handed (subst (λ m. next_item m.frames ≡ None) (sym c.self.view_is) none) one)
+    (ends programs _ handed (subst (λ m. GoesPast programs m.frames handed) (sym c.self.view_is) past) one)

@@ -3,7 +3,7 @@ use Rattle.std.proofs.lemmas.Result.{IfOk-weaker}
 use Rattle.es_shapes.specs.Codes.{declared_by}
 use Rattle.es_eval.specs.Unbounded.{called}
 use Rattle.es_eval.specs.Worlds.{World}
-use Rattle.es_eval.proofs.CallArms.{construct-run, deep-construct, empty-construct, on_named}
+use Rattle.es_eval.proofs.CallArms.{construct-run, deep-construct, on_named}
 use Rattle.es_eval.proofs.machine.Machine.construct_declared.Goals as goal
 
 pub returns-then-depth-gt-MOST_CALLS-clause-run : goal.returns-then-depth-gt-MOST_CALLS-clause-run
@@ -11,15 +11,6 @@ returns-then-depth-gt-MOST_CALLS-clause-run c function at =
     let deep : 64 < length c.args.self.now.frames = rw (← c.self.view_is) (omega arith) in
     deep-construct c.args.programs.now c.args.self.now (called (declared_by c.args.programs.now))
     function c.args.args.items c.stopped.result deep c.stopped.ensures
-
-pub returns-in_default-clause-run : goal.returns-in_default-clause-run
-returns-in_default-clause-run c function at =
-    let shallow : length c.args.self.now.frames ≤ 64 = rw (← c.self.view_is) (omega arith) in
-    let some : 1 ≤ length c.args.self.now.frames = rw (← c.self.view_is) c.self.invariant.some in
-    empty-construct c.args.programs.now c.args.self.now function c.args.args.items shallow some
-    c.add_object.new.self c.in_ok-object.object c.args.declared c.value.result
-    c.in_ok-object.ensures.world.0 (c.in_ok-object.ensures.world.1 c.args.programs.now) c.add_object.ensures.stays at
-    (rw c.list.ensures at c.in_default.ensures) c.value.ensures
 
 pub enter_at-requires-clause-depth : goal.enter_at-requires-clause-depth
 enter_at-requires-clause-depth c =
@@ -39,5 +30,5 @@ returns-clause-run c =
     c.add_object.new.self c.put.new.self c.enter_at.new.self c.in_ok-object.object next
     c.in_ok-object.ensures.world.0 (c.in_ok-object.ensures.world.1 c.args.programs.now) c.add_object.ensures.stays
     (c.in_ok-put.ensures.world c.args.programs.now) (c.in_ok-put.ensures.rest c.args.programs.now)
-    (on_named c.args.programs.now c.list-2.result.now c.put.new.self c.enter_at.new.self
-    c.args.declared _ c.args.args.items next c.list-2.ensures on function at)) c.enter_at.ensures.run
+    (on_named c.args.programs.now c.list.result.now c.put.new.self c.enter_at.new.self
+    c.args.declared _ c.args.args.items next c.list.ensures on function at)) c.enter_at.ensures.run

@@ -2,7 +2,7 @@ use Rattle.std.proofs.Common.{◌≤◌, ◌<◌, length, arith}
 use Rattle.std.proofs.lemmas.Result.{IfOk-weaker}
 use Rattle.es_shapes.specs.Codes.{declared_by}
 use Rattle.es_eval.specs.Unbounded.{called}
-use Rattle.es_eval.proofs.CallArms.{deep-run, enter-run, no_statements-run}
+use Rattle.es_eval.proofs.CallArms.{deep-run, enter-run}
 use Rattle.es_eval.proofs.machine.Machine.enter.Goals as goal
 
 pub returns-then-depth-gt-MOST_CALLS-clause-run : goal.returns-then-depth-gt-MOST_CALLS-clause-run
@@ -11,19 +11,11 @@ returns-then-depth-gt-MOST_CALLS-clause-run c function at =
     deep-run c.args.programs.now c.args.self.now (called (declared_by c.args.programs.now)) function
     c.args.this c.args.args.items c.stopped.result deep c.stopped.ensures
 
-pub returns-in-None-clause-run : goal.returns-in-None-clause-run
-returns-in-None-clause-run c function at =
-    let shallow : length c.args.self.now.frames ≤ 64 = rw (← c.self.view_is) (omega arith) in
-    let some : 1 ≤ length c.args.self.now.frames = rw (← c.self.view_is) c.self.invariant.some in
-    no_statements-run c.args.programs.now c.args.self.now c.args.declared function c.args.this
-    c.args.args.items c.value.result at (rw c.list.ensures at c.in-None.ensures) shallow some
-    c.value.ensures
-
-pub returns-in-Some-clause-run : goal.returns-in-Some-clause-run
-returns-in-Some-clause-run c =
+pub returns-clause-run : goal.returns-clause-run
+returns-clause-run c =
     let shallow : length c.args.self.now.frames ≤ 64 = rw (← c.self.view_is) (omega arith) in
     let some : 1 ≤ length c.args.self.now.frames = rw (← c.self.view_is) c.self.invariant.some in
     IfOk-weaker c.enter_at.result _ _ (λ next on.
-    enter-run c.args.programs.now c.list-in-Some.result.now c.args.self.now c.enter_at.new.self
-    c.args.declared c.args.this c.args.args.items next c.list-in-Some.ensures shallow some on)
+    enter-run c.args.programs.now c.list.result.now c.args.self.now c.enter_at.new.self
+    c.args.declared c.args.this c.args.args.items next c.list.ensures shallow some on)
     c.enter_at.ensures.run

@@ -13,11 +13,10 @@ returns-clause-run c =
     let programs = c.args.programs.now in
     let told = told_function c.in-Some.function.now in
     let some : 1 ≤ length c.args.self.now.frames = rw (← c.self.view_is) c.self.invariant.some in
-    IfOk-weaker c.execute_then.result _ _ (λ next on function at.
-    entered-run programs c.args.self.now c.open_function.new.self c.execute_then.new.self
-    c.args.declared told c.args.first function c.args.this c.args.args.items next
-    (is_declared programs c.args.declared told function c.in-Some.ensures at)
-    some c.requires.first
+    IfOk-weaker c.run_listed.result _ _ (λ next on function at.
+    entered-run programs c.args.self.now c.open_function.new.self c.run_listed.new.self
+    c.args.declared told function c.args.this c.args.args.items next
+    (is_declared programs c.args.declared told function c.in-Some.ensures at) some
     (c.in_ok-open_function.ensures.world programs
     (is_declared programs c.args.declared told function c.in-Some.ensures at).names)
-    (c.in_ok-open_function.ensures.rest programs) (on programs)) c.execute_then.ensures.run
+    (c.in_ok-open_function.ensures.rest programs) on) c.run_listed.ensures.run

@@ -1,6 +1,7 @@
 use Rattle.std.proofs.Common.{List, ap, refl, subst, sym, arith}
 use Rattle.es_values.specs.Objects.{ObjectState}
 use Rattle.es_eval.specs.devices.Machines.{AreLive, values_of_given}
+use Rattle.es_eval.proofs.EndLemmas.{returned_past}
 use Rattle.es_eval.proofs.HandLemmas.{handed-run, some-turn}
 use Rattle.es_eval.proofs.machine.Machine.hand.Goals as goal
 
@@ -16,3 +17,7 @@ returns-in_default-given c =
       less = omega (arith, c.in-Some.ensures.less);
       programs = refl;
     }
+
+pub leave-requires-clause-past : goal.leave-requires-clause-past
+leave-requires-clause-past c programs w =
+    returned_past programs c.args.self.now.frames c.in-Returned.value w
