@@ -31,10 +31,10 @@ fn structures(rt: HostRuntime) {
 
 #[test]
 fn names(rt: HostRuntime) {
-    let name = Text::of_bytes(rt.alloc(), b"nvram://~/15").expect(&rt, "memory");
-    assert!(rt; slot_of(&name) == Some(15));
+    let name = Text::of_bytes(rt.alloc(), b"nvram://~/47").expect(&rt, "memory");
+    assert!(rt; slot_of(&name) == Some(47));
     for other in [
-        b"nvram://~/16".as_slice(),
+        b"nvram://~/48".as_slice(),
         b"nvram://~/05",
         b"nvram://~/",
         b"nvram:///0",

@@ -18,7 +18,7 @@ mod sequence;
 mod texts;
 mod words;
 
-pub use crate::area::AreaBytes;
+pub use crate::area::{AREA_LENGTH, AreaBytes};
 pub use crate::cursors::Cursor;
 pub use crate::laws::{
     law_of_big_numbers, law_of_codes, law_of_decimals, law_of_digits, law_of_fields, law_of_fronts,

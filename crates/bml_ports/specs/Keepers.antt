@@ -1,6 +1,7 @@
 -- What a keeper tells, of this project's own.
 use Rattle.std.specs.Prelude.{◌≡◌, ℕ, ◌-◌, List, ◌++◌, length, take, replicate, Option, None, Some, IfSome, Result, MatchResult, ⊤, ◌⊎◌}
 use Rattle.std.specs.Io.KnownBytes.{Keeps}
+use Rattle.bml_bytes.specs.Areas.{area_length}
 use Rattle.bml_ports.specs.Counters.{Counter}
 
 -- the faults of loads and stores, the number of calls so far, and the bytes that are kept where the keeper tells them
@@ -13,9 +14,9 @@ pub record KeeperState : Type 0 where
 abbrev pub filled : ℕ → List ℕ → List ℕ
 filled size bytes = take size bytes ++ replicate (size - length bytes) 0
 
--- a load that gave this size and these 1,024 bytes of an area told what is kept
+-- a load that gave this size and these bytes of an area told what is kept
 abbrev pub Loads : Option (List ℕ) → ℕ → List ℕ → Type 0
-Loads kept size area = IfSome kept (λ bytes. (size ≡ length bytes) × (area ≡ filled 1024 bytes))
+Loads kept size area = IfSome kept (λ bytes. (size ≡ length bytes) × (area ≡ filled area_length bytes))
 
 -- where bytes were told to be kept, these are kept now
 abbrev pub Replaces : Option (List ℕ) → Option (List ℕ) → List ℕ → Type 0

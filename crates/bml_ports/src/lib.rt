@@ -1,7 +1,7 @@
 //! The outside of a replay: what is read, written and kept.
 //!
-//! A `World` opens and reads files, a `Sink` takes what is written, and a `Keeper` keeps an area of 1,024
-//! bytes. Each tells, for contracts alone, its counts of faults and whether the last call failed, what was
+//! A `World` opens and reads files, a `Sink` takes what is written, and a `Keeper` keeps a persistent
+//! area. Each tells, for contracts alone, its counts of faults and whether the last call failed, what was
 //! asked for, and maybe its content. So a caller can prove what was read and written, however the calls
 //! were cut, and that a fault which it reports was one. The ports in memory tell all of their content, and
 //! fail exactly where they are told to, where a file is missing or was opened before, and where no room

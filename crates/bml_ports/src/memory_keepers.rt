@@ -9,14 +9,14 @@ ghost use Rattle.bml_ports.specs.MemoryKeepers.{MemoryKeeperState, told_by_keepe
 
 use crate::memory_calls::{Calls, is_listed};
 use crate::outside::{Failed, Keeper};
-use bml_bytes::AreaBytes;
+use bml_bytes::{AREA_LENGTH, AreaBytes};
 use std::marker::Model;
 
 /// A keeper that keeps some bytes, and an area of its own from the first store on, and fails at given calls.
 #[derive(Debug, Drop)]
 pub struct MemoryKeeper {
     first: Vec<u8>,
-    area: [u8; 1024],
+    area: [u8; AREA_LENGTH],
     has_stored: bool,
     failing: Vec<u64>,
     calls: Calls,
@@ -44,7 +44,7 @@ impl MemoryKeeper {
     {
         MemoryKeeper {
             first: kept,
-            area: [0; 1024],
+            area: [0; AREA_LENGTH],
             has_stored: false,
             failing,
             calls: Calls::none(),

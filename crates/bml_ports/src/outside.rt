@@ -37,7 +37,7 @@ pub trait Sink {
         ensures counted { Counts (told self.old).writes (told self.new).writes result };
 }
 
-/// What keeps an area of 1,024 bytes while a receiver is switched off.
+/// What keeps a persistent area while a receiver is switched off.
 pub trait Keeper {
     ghost told: { Self → KeeperState };
 

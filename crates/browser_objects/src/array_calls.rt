@@ -3,7 +3,7 @@
 ghost use Rattle.std.specs.Prelude.{◌≡◌, ◌<◌, ℕ, List, All, IfOk, IfSome, OnErr, OnOk};
 ghost use Rattle.std.specs.Option.{option_map_or};
 ghost use Rattle.es_values.specs.Heaps.{IsLive};
-ghost use Rattle.persistent_arrays.specs.Arrays.{array_in};
+ghost use Rattle.persistent_arrays.specs.Arrays.{array_count, array_in};
 ghost use Rattle.persistent_arrays.specs.Names.{array_named};
 ghost use Rattle.persistent_arrays.specs.Packing.{packed_in_array};
 ghost use Rattle.persistent_arrays.specs.Reading.{unpacked};
@@ -53,7 +53,7 @@ fn read_fields(
     slot: u8,
     heap: &mut Heap,
 ) -> Result<(Value, Effect), NoMemory>
-    requires { slot < 16 }
+    requires { slot < array_count }
     ensures answers { (s : BrowserParts) → IfOk result (λ answer. Answers (give_array
         (unpacked structure.now (array_in area.now slot)) heap.old s).called answer s) }
     ensures objects { (s : BrowserParts) → OnOk result (heap.new ≡ (give_array
@@ -100,7 +100,7 @@ fn write_argument(
     heap: &Heap,
 ) -> Result<(Value, Effect), NoMemory>
     requires args { All (IsLive heap.now) args.now }
-    requires slot { slot < 16 }
+    requires slot { slot < array_count }
     ensures answers { IfOk result (λ answer. Answers (write_bytes slot (packed_values heap.now
         structure.now (values_of_array heap.now (argument args.now 2))) state.old)
         answer state.new) }
@@ -119,7 +119,7 @@ fn write_fields(
     structure: &Structure,
     fields: &[Field],
 ) -> (Value, Effect)
-    requires { slot < 16 }
+    requires { slot < array_count }
     ensures { Answers (write_bytes slot (packed_in_array structure.now fields.now) state.old)
         result state.new }
 {
@@ -135,7 +135,7 @@ fn named(alloc: Global, args: &[Value], heap: &Heap) -> Result<Option<(u8, Struc
     ensures names { IfOk result (λ found. (call : ℕ → List Kind → CallOutcome) (s : BrowserParts)
         → with_names call args.now heap.now s
         ≡ option_map_or (λ names. call names.0 names.1) found (over heap.now (gives_nan s))) }
-    ensures bound { IfOk result (λ found. IfSome found (λ names. names.0 < 16)) }
+    ensures bound { IfOk result (λ found. IfSome found (λ names. names.0 < array_count)) }
 {
     let Some(slot) = slot_argument(args, heap)? else {
         return Ok(None);
@@ -150,7 +150,7 @@ fn slot_argument(args: &[Value], heap: &Heap) -> Result<Option<u8>, NoMemory>
     requires { All (IsLive heap.now) args.now }
     ensures slot { IfOk result
         (λ slot. slot ≡ array_named (spec_text_argument heap.now args.now 0)) }
-    ensures bound { IfOk result (λ slot. IfSome slot (λ number. number < 16)) }
+    ensures bound { IfOk result (λ slot. IfSome slot (λ number. number < array_count)) }
 {
     let name = text_argument(heap, args, 0)?;
     Ok(slot_of(&name))

@@ -504,7 +504,7 @@ fn placeholder(alloc: Global) -> BrowserState {
     BrowserState {
         ureg: Vec::new(alloc),
         greg: Vec::new(alloc),
-        area: AreaBytes { bytes: [0; 1024] },
+        area: AreaBytes::zeros(),
         timers: Timers::new(),
         random: VecDeque::new(alloc),
     }

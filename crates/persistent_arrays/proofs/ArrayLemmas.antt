@@ -3,16 +3,17 @@ use Rattle.std.proofs.Common.{◌≡◌, ℕ, ◌+◌, ◌-◌, ◌*◌, ◌<◌
 use Rattle.std.proofs.Math.Seq.{take-append-add, drop-append-add}
 use Rattle.std.proofs.lemmas.Bool.{cases_lt}
 use Rattle.std.proofs.lemmas.List.{length-take-le, take-append-le, drop-append-le, take-take, drop-drop, drop-take, drop_at}
-use Rattle.persistent_arrays.specs.Arrays.{array_in, with_array}
+use Rattle.bml_bytes.specs.Areas.{area_length}
+use Rattle.persistent_arrays.specs.Arrays.{array_count, array_in, array_size, with_array}
 
-module _ (area bytes : List ℕ) (slot : ℕ) (long : length area ≡ 1024) (h : slot < 16) (fits : length bytes ≤ 64) where
+module _ (area bytes : List ℕ) (slot : ℕ) (long : length area ≡ area_length) (h : slot < array_count) (fits : length bytes ≤ array_size) where
   front : length (take (64 * slot) area) ≡ 64 * slot
   front = length-take-le (64 * slot) area (omega arith)
 
   abbrev behind : List ℕ
   behind = drop (64 * slot + length bytes) area
 
-  pub written-size : length (with_array area slot bytes) ≡ 1024
+  pub written-size : length (with_array area slot bytes) ≡ area_length
   written-size =
       let a = length-append (take (64 * slot) area) (bytes ++ behind) in
       let b = length-append bytes behind in

@@ -8,6 +8,7 @@ use Rattle.std.proofs.lemmas.List.{append-nil, drop_at, take-append-drop, nil_fr
 use Rattle.std.proofs.lemmas.Option.{cond_some, none-some, some_pair_parts}
 use Rattle.bml_bytes.specs.Numerals.{decimal_digits}
 use Rattle.bml_bytes.specs.Words.{is_same}
+use Rattle.persistent_arrays.specs.Arrays.{array_count}
 use Rattle.persistent_arrays.specs.Names.{Names, array_name, array_named}
 use Rattle.persistent_arrays.specs.devices.Spelling.{number_of_array, numeral_at}
 use Rattle.persistent_arrays.proofs.FindingLemmas.{IsAmong, found-written, same_codes, written-found}
@@ -30,7 +31,7 @@ digits-of name slot h =
     let few : slot < 100 = (let s = h.is_array in omega arith) in
     ap numeral_at (digits ∙ sym (append-nil (decimal_digits slot))) ∙ numeral-again slot [] few refl
 
-read-named : (name : List ℕ) (found : ℕ) → is_same (take 10 name) (ascii "nvram://~/") ≡ true → numeral_at (drop 10 name) ≡ Some (found, []) → found < 16 → Names name found
+read-named : (name : List ℕ) (found : ℕ) → is_same (take 10 name) (ascii "nvram://~/") ≡ true → numeral_at (drop 10 name) ≡ Some (found, []) → found < array_count → Names name found
 unfolding front
 read-named name found same read small =
     let digits = (numeral-parts (drop 10 name) (found, []) read).written in
@@ -42,8 +43,8 @@ read-named name found same read small =
 
 array-again : (name : List ℕ) (slot : ℕ) → Names name slot → number_of_array (drop 10 name) ≡ Some slot
 array-again name slot h =
-    ap (λ (read : Option (ℕ × List ℕ)). read >>= λ found. cond (nat_eq (length found.1) 0 && nat_lt found.0 16) (Some found.0) None) (digits-of name slot h)
-    ∙ ap (λ (test : Bool). cond test (Some slot) None) (lt-ltb slot 16 h.is_array)
+    ap (λ (read : Option (ℕ × List ℕ)). read >>= λ found. cond (nat_eq (length found.1) 0 && nat_lt found.0 array_count) (Some found.0) None) (digits-of name slot h)
+    ∙ ap (λ (test : Bool). cond test (Some slot) None) (lt-ltb slot array_count h.is_array)
 
 bind_some : {A B : Type 0} (read : Option A) (go : A → Option B) (b : B) → (read >>= go) ≡ Some b → (a : A) × (read ≡ Some a) × (go a ≡ Some b)
 bind_some None go b e = absurd cc
@@ -52,10 +53,10 @@ bind_some (Some a) go b e = (a, refl, e)
 found-named : (name : List ℕ) (slot : ℕ) → is_same (take 10 name) (ascii "nvram://~/") ≡ true → number_of_array (drop 10 name) ≡ Some slot → Names name slot
 found-named name slot same e =
     let read = bind_some (numeral_at (drop 10 name)) _ slot e in
-    let test = cond_some (nat_eq (length read.0.1) 0 && nat_lt read.0.0 16) read.0.0 slot read.2 in
-    let parts = and_parts (nat_eq (length read.0.1) 0) (nat_lt read.0.0 16) test.0 in
+    let test = cond_some (nat_eq (length read.0.1) 0 && nat_lt read.0.0 array_count) read.0.0 slot read.2 in
+    let parts = and_parts (nat_eq (length read.0.1) 0) (nat_lt read.0.0 array_count) test.0 in
     let nothing : read.0.1 ≡ [] = nil_from_length read.0.1 (eqb-true (length read.0.1) 0 parts.0) in
-    let small : slot < 16 = subst (λ (n : ℕ). n < 16) test.1 (ltb-true read.0.0 16 parts.1) in
+    let small : slot < array_count = subst (λ (n : ℕ). n < array_count) test.1 (ltb-true read.0.0 array_count parts.1) in
     read-named name slot same (read.1 ∙ ap (λ (n : ℕ). Some (n, read.0.1)) test.1 ∙ ap (λ (b : List ℕ). Some (slot, b)) nothing) small
 
 pub slot-read : (name codes begun digits : List ℕ) (found : Option ℕ) → codes ≡ name → begun ≡ take 10 codes → digits ≡ drop 10 codes → is_same begun (ascii "nvram://~/") ≡ true → found ≡ number_of_array digits → MatchOption found ((slot : ℕ) → ¬ Names name slot) (λ slot. Names name slot)
@@ -84,16 +85,16 @@ range-bounds from (suc count) number (inr later) = let below = range-bounds (fro
 
 names-array : (name : List ℕ) (slot : ℕ) → array_named name ≡ Some slot → Names name slot
 names-array name slot e =
-    let found = found-written array_name name (range_with_len 0 16) slot e in
-    record { is_array = range-bounds 0 16 slot found.0; written = found.1 }
+    let found = found-written array_name name (range_with_len 0 array_count) slot e in
+    record { is_array = range-bounds 0 array_count slot found.0; written = found.1 }
 
 array-found : (name : List ℕ) (slot : ℕ) → Names name slot → array_named name ≡ Some slot
 array-found name slot h =
-    ap array_named h.written ∙ written-found array_name (range_with_len 0 16) slot one (among-range 0 16 slot (omega arith) h.is_array)
+    ap array_named h.written ∙ written-found array_name (range_with_len 0 array_count) slot one (among-range 0 array_count slot (omega arith) h.is_array)
   where
-    one : (other : ℕ) → IsAmong other (range_with_len 0 16) → array_name slot ≡ array_name other → other ≡ slot
+    one : (other : ℕ) → IsAmong other (range_with_len 0 array_count) → array_name slot ≡ array_name other → other ≡ slot
     one other among e =
-        named-once name other slot (record { is_array = range-bounds 0 16 other among; written = h.written ∙ e }) h
+        named-once name other slot (record { is_array = range-bounds 0 array_count other among; written = h.written ∙ e }) h
 
 pub named-worked_out : (name : List ℕ) (slot : ℕ) → (array_named name ≡ Some slot) ↔ Names name slot
 named-worked_out name slot = (names-array name slot, array-found name slot)
@@ -106,6 +107,6 @@ read-array_named name None none = by (array_named name) refl
     by None e = refl
     by (Some slot) e = absurd (none slot (names-array name slot e))
 
-pub few-arrays : (name : List ℕ) (found : Option ℕ) → MatchOption found ((slot : ℕ) → ¬ Names name slot) (λ slot. Names name slot) → IfSome found (λ slot. slot < 16)
+pub few-arrays : (name : List ℕ) (found : Option ℕ) → MatchOption found ((slot : ℕ) → ¬ Names name slot) (λ slot. Names name slot) → IfSome found (λ slot. slot < array_count)
 few-arrays name None none = tt
 few-arrays name (Some slot) names = names.is_array

@@ -1,10 +1,18 @@
--- Where the arrays lie in the area that a receiver keeps (this project's own): sixteen arrays of 64 bytes, one after
--- another from the area's first byte on.
+-- Where the arrays lie in the area that a receiver keeps (this project's own): one after another from the area's first
+-- byte on, to its end.
 use Rattle.std.specs.Prelude.{◌+◌, ◌*◌, ℕ, List, ◌++◌, length, take, drop, Option, Some, None}
 
--- the place of an array's first byte in the area; each array has 64 bytes
+-- how many bytes an array has
+abbrev pub array_size : ℕ
+array_size = 64
+
+-- how many arrays there are
+abbrev pub array_count : ℕ
+array_count = 48
+
+-- the place of an array's first byte in the area
 abbrev pub first_byte : ℕ → ℕ
-first_byte slot = 64 * slot
+first_byte slot = array_size * slot
 
 -- the area with these bytes at the front of an array, and all others as they were
 abbrev pub with_array : List ℕ → ℕ → List ℕ → List ℕ
@@ -16,6 +24,6 @@ abbrev pub area_after : List ℕ → ℕ → Option (List ℕ) → List ℕ
 area_after area slot None = area
 area_after area slot (Some bytes) = with_array area slot bytes
 
--- the 64 bytes of an array
+-- the bytes of an array
 abbrev pub array_in : List ℕ → ℕ → List ℕ
-array_in area slot = take 64 (drop (first_byte slot) area)
+array_in area slot = take array_size (drop (first_byte slot) area)

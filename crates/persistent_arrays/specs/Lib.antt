@@ -1,6 +1,6 @@
+pub mod Arrays
 pub mod Structures
 pub mod Names
-pub mod Arrays
 pub mod Fields
 pub mod Packing
 pub mod Reading

@@ -52,7 +52,7 @@ packed kinds values = option_map (flat_map piece_bytes) (pieces kinds values)
 
 -- what is packed, where an array has room for it
 abbrev pub within_array : Option (List ℕ) → Option (List ℕ)
-within_array found = found >>= λ bytes. if nat_le (length bytes) 64 then Some bytes else None
+within_array found = found >>= λ bytes. if nat_le (length bytes) array_size then Some bytes else None
 
 -- the bytes of fields with these values, where an array has room for them
 abbrev pub packed_in_array : List FieldKind → List Field → Option (List ℕ)

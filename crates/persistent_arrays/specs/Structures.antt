@@ -6,15 +6,17 @@ use Rattle.std.specs.Str.{byte}
 use Rattle.bml_bytes.specs.Fields.{◌>>=◌}
 use Rattle.bml_bytes.specs.Numerals.{decimal_digits}
 use Rattle.bml_bytes.specs.Words.{is_same}
+use Rattle.persistent_arrays.specs.Arrays.{array_size}
 use Rattle.persistent_arrays.specs.declared.kinds.FieldKind.{FieldKind}
 use Rattle.persistent_arrays.specs.declared.kinds.FieldKind.TheVariants.{Bit, Unsigned, Signed, Fixed, Varying}
 
--- the sizes that a field may have: whole numbers have one, two or four bytes, texts of a fixed size 1 to 64
+-- the sizes that a field may have: whole numbers have one, two or four bytes, texts of a fixed size at most those of an
+-- array
 abbrev pub IsKind : FieldKind → Type 0
 IsKind Bit = Unit {0}
 IsKind (Unsigned size) = (size ≡ 1) ⊎ ((size ≡ 2) ⊎ (size ≡ 4))
 IsKind (Signed size) = (size ≡ 1) ⊎ ((size ≡ 2) ⊎ (size ≡ 4))
-IsKind (Fixed size) = (1 ≤ size) × (size ≤ 64)
+IsKind (Fixed size) = (1 ≤ size) × (size ≤ array_size)
 IsKind Varying = Unit {0}
 
 -- how a field is spelled: `B:1b`, `U:nB`, `I:nB`, `S:nB` with its size in decimal digits, `S:1V`
@@ -48,7 +50,7 @@ pub record Spells (text : List ℕ) (kinds : List FieldKind) : Type 0 where
 abbrev pub all_kinds : List FieldKind
 all_kinds =
     Bit ∷ Unsigned 1 ∷ Unsigned 2 ∷ Unsigned 4 ∷ Signed 1 ∷ Signed 2 ∷ Signed 4 ∷ Varying
-    ∷ map Fixed (range_with_len 1 64)
+    ∷ map Fixed (range_with_len 1 array_size)
 
 abbrev pub kind_spelled : List ℕ → Option FieldKind
 kind_spelled text = find (λ kind. is_same text (spelling kind)) all_kinds

@@ -1,7 +1,7 @@
 //! Where the arrays lie in the area.
 
 ghost use Rattle.std.specs.Prelude.{◌≡◌, ◌<◌, ◌≤◌, ◌+◌, ◌++◌, length, take, drop};
-ghost use Rattle.persistent_arrays.specs.Arrays.{array_in, with_array};
+ghost use Rattle.persistent_arrays.specs.Arrays.{array_count, array_in, array_size, with_array};
 
 use bml_bytes::AreaBytes;
 
@@ -10,7 +10,7 @@ pub(crate) const ARRAY_SIZE: usize = 64;
 
 // The bytes of an array.
 pub(crate) fn array_of(area: &AreaBytes, slot: u8) -> &[u8]
-    requires { slot < 16 }
+    requires { slot < array_count }
     ensures { result.now ≡ array_in area.now slot }
 {
     let first = ARRAY_SIZE * usize::from(slot);
@@ -19,8 +19,8 @@ pub(crate) fn array_of(area: &AreaBytes, slot: u8) -> &[u8]
 
 // Writes bytes into an array, from its first byte on.
 pub(crate) fn write_array(area: &mut AreaBytes, slot: u8, bytes: &[u8])
-    requires slot { slot < 16 }
-    requires room { length bytes.now ≤ 64 }
+    requires slot { slot < array_count }
+    requires room { length bytes.now ≤ array_size }
     ensures { area.new ≡ with_array area.old slot bytes.now }
 {
     put(&mut area.bytes, ARRAY_SIZE * usize::from(slot), bytes);

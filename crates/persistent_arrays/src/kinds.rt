@@ -1,8 +1,10 @@
 //! The kinds of fields, and how each is spelled.
 
 ghost use Rattle.std.specs.Prelude.{◌≡◌, ◌≤◌, ◌&&◌, ◌==◌, nat_le, option_map};
+ghost use Rattle.persistent_arrays.specs.Arrays.{array_size};
 ghost use Rattle.persistent_arrays.specs.devices.Spelling.{has_letters as letters_are, is_number_size as is_size_of_number, kind_at, kind_with as kind_of, size_at as size_in};
 
+use crate::arrays::ARRAY_SIZE;
 use crate::spelling::{next_code, numeral_at};
 
 /// The kind of a field, after ARIB STD-B24, volume 2.
@@ -14,7 +16,7 @@ pub enum FieldKind {
     Unsigned(u8),
     /// A number with a sign in 1, 2 or 4 bytes, `I:nB`.
     Signed(u8),
-    /// A text that is filled up to 1 to 64 bytes, `S:nB`.
+    /// A text that is filled up to a size of 1 to 64 bytes, those of an array, `S:nB`.
     Fixed(u8),
     /// A text of at most 255 bytes behind its length, `S:1V`.
     Varying,
@@ -75,7 +77,7 @@ fn is_number_size(size: u8) -> bool
 }
 
 fn is_text_size(size: u8) -> bool
-    ensures { result ≡ (nat_le 1 size && nat_le size 64) }
+    ensures { result ≡ (nat_le 1 size && nat_le size array_size) }
 {
-    1 <= size && size <= 64
+    1 <= size && usize::from(size) <= ARRAY_SIZE
 }

@@ -3,12 +3,13 @@
 
 ghost use Rattle.std.specs.Prelude.{◌≡◌, ◌≢◌, ◌↔◌, ◌<◌, ◌≤◌, ◌-◌, ◌*◌, ◌^◌, ◌++◌, ◌-ℤ◌, ℕ, ℤ, pos};
 ghost use Rattle.std.specs.Prelude.{Bool, false, List, Some, length, replicate};
+ghost use Rattle.bml_bytes.specs.Areas.{area_length};
 ghost use Rattle.bml_bytes.specs.Codes.{bytes_of, codes};
 ghost use Rattle.persistent_arrays.specs.declared.fields.Field.{Field};
 ghost use Rattle.persistent_arrays.specs.declared.fields.Field.TheVariants.{Whole, Words};
 ghost use Rattle.persistent_arrays.specs.declared.kinds.FieldKind.{FieldKind};
 ghost use Rattle.persistent_arrays.specs.declared.kinds.FieldKind.TheVariants.{Unsigned, Signed, Varying};
-ghost use Rattle.persistent_arrays.specs.Arrays.{array_in, with_array};
+ghost use Rattle.persistent_arrays.specs.Arrays.{array_count, array_in, array_size, with_array};
 ghost use Rattle.persistent_arrays.specs.Kept.{kept_value, kept_values};
 ghost use Rattle.persistent_arrays.specs.Names.{Names, array_named};
 ghost use Rattle.persistent_arrays.specs.Packing.{packed, packed_in_array, weighed};
@@ -39,7 +40,8 @@ pub fn law_of_kept_fields()
         packed kinds values ≡ Some bytes →
         unpacked kinds (bytes ++ behind) ≡ Some (kept_values kinds values) }
     ensures array { (kinds : List FieldKind) (values : List Field) (bytes area : List ℕ) (slot : ℕ)
-        → length area ≡ 1024 → slot < 16 → packed_in_array kinds values ≡ Some bytes
+        → length area ≡ area_length → slot < array_count
+        → packed_in_array kinds values ≡ Some bytes
         → unpacked kinds (array_in (with_array area slot bytes) slot)
         ≡ Some (kept_values kinds values) }
 {
@@ -61,12 +63,14 @@ pub fn law_of_kept_values()
         kept_value Varying (Words text) ≡ Words text }
 {}
 
-/// What is written to an array leaves the area's size and each other array as they were.
+/// The arrays fill the area. What is written to an array leaves the area's size and each other array as they were.
 pub fn law_of_arrays()
-    ensures size { (area bytes : List ℕ) (slot : ℕ) → length area ≡ 1024 → slot < 16 →
-        length bytes ≤ 64 → length (with_array area slot bytes) ≡ 1024 }
-    ensures others { (area bytes : List ℕ) (slot other : ℕ) → length area ≡ 1024 → slot < 16 →
-        other < 16 → length bytes ≤ 64 → slot ≢ other →
+    ensures whole { array_size * array_count ≡ area_length }
+    ensures size { (area bytes : List ℕ) (slot : ℕ) → length area ≡ area_length
+        → slot < array_count → length bytes ≤ array_size
+        → length (with_array area slot bytes) ≡ area_length }
+    ensures others { (area bytes : List ℕ) (slot other : ℕ) → length area ≡ area_length →
+        slot < array_count → other < array_count → length bytes ≤ array_size → slot ≢ other →
         array_in (with_array area slot bytes) other ≡ array_in area other }
 {}
 

@@ -1,6 +1,7 @@
 //! The names of persistent arrays.
 
 ghost use Rattle.std.specs.Prelude.{◌≡◌, ◌<◌, ◌==◌, ◌&&◌, ℕ, nat_lt, length, IfSome, MatchOption};
+ghost use Rattle.persistent_arrays.specs.Arrays.{array_count};
 ghost use Rattle.persistent_arrays.specs.Names.{Names, array_named};
 ghost use Rattle.persistent_arrays.specs.devices.Spelling.{number_of_array};
 
@@ -11,14 +12,14 @@ use bml_bytes::{Text, is_word};
 const FRONT: &str = "nvram://~/";
 
 /// How many arrays there are.
-const ARRAY_COUNT: u8 = 16;
+const ARRAY_COUNT: u8 = 48;
 
 /// The number of the array that a text names, and None exactly where it names none. This takes no memory.
 pub fn slot_of(name: &Text) -> Option<u8>
     ensures names { MatchOption result ((slot : ℕ) → ¬ Names name.now slot)
         (λ slot. Names name.now slot) }
     ensures named { result ≡ array_named name.now }
-    ensures bound { IfSome result (λ slot. slot < 16) }
+    ensures bound { IfSome result (λ slot. slot < array_count) }
 {
     let codes = name.codes();
     if codes.len() < FRONT.len() {
@@ -41,7 +42,7 @@ fn array_number(digits: &[u16]) -> Option<u8>
 
 // Whether there is such an array, and nothing stands behind its number.
 fn is_array(slot: u8, behind: &[u16]) -> bool
-    ensures { result ≡ ((length behind.now == 0) && nat_lt slot 16) }
+    ensures { result ≡ ((length behind.now == 0) && nat_lt slot array_count) }
 {
     behind.is_empty() && slot < ARRAY_COUNT
 }

@@ -2,7 +2,7 @@
 
 ghost use Rattle.std.specs.Prelude.{◌≡◌, ◌↔◌, ◌<◌, ◌≤◌, ◌+◌, ◌++◌, [], ℕ, All, Option, length, option_map, IsSome, MatchOption, OnSome, None, Some};
 ghost use Rattle.bml_bytes.specs.Codes.{bytes_of, code_bytes};
-ghost use Rattle.persistent_arrays.specs.Arrays.{area_after};
+ghost use Rattle.persistent_arrays.specs.Arrays.{area_after, array_count, array_size};
 ghost use Rattle.persistent_arrays.specs.Fields.{field_bytes as bytes_of_field, filled};
 ghost use Rattle.persistent_arrays.specs.Packing.{packed, packed_in_array, weighed, within_array};
 ghost use Rattle.persistent_arrays.specs.Structures.{IsKind};
@@ -20,7 +20,7 @@ use bml_bytes::AreaBytes;
 /// Writes values into an array of the area, from its first byte on, and gives the number of the bytes that were
 /// written. None comes exactly where the values don't fit the structure or their bytes the array. This takes no memory.
 pub fn pack(structure: &Structure, fields: &[Field], area: &mut AreaBytes, slot: u8) -> Option<u8>
-    requires { slot < 16 }
+    requires { slot < array_count }
     ensures size { result ≡ option_map length (packed_in_array structure.now fields.now) }
     ensures area { area.new ≡ area_after area.old slot (packed_in_array structure.now fields.now) }
 {
@@ -87,7 +87,7 @@ impl Packer {
     // Ends the byte that bits share.
     fn close(&mut self) -> Option<()>
         ensures bytes { MatchOption result
-            (64 < length (self.old.bytes.items ++ byte_shared self.old.bits.items))
+            (array_size < length (self.old.bytes.items ++ byte_shared self.old.bits.items))
             (λ _. self.new.bytes.items ≡ self.old.bytes.items ++ byte_shared self.old.bits.items) }
         ensures bits { OnSome result (self.new.bits.items ≡ []) }
     {
@@ -173,7 +173,7 @@ fn fixed_bytes(size: u8, text: &[u16]) -> Option<ArrayVec<u8, ARRAY_SIZE>>
 
 // Fills bytes up to a size, where they don't pass it.
 fn fill(size: usize, bytes: &mut ArrayVec<u8, ARRAY_SIZE>) -> Option<()>
-    requires { size ≤ 64 }
+    requires { size ≤ array_size }
     ensures fits { IsSome result ↔ (length bytes.old.items ≤ size) }
     ensures bytes { OnSome result (bytes.new.items ≡ filled size bytes.old.items) }
 {
@@ -207,9 +207,9 @@ fn text_bytes(text: &[u16]) -> Option<ArrayVec<u8, ARRAY_SIZE>>
 }
 
 fn push_code(code: u16, bytes: &mut ArrayVec<u8, ARRAY_SIZE>) -> Option<()>
-    ensures bytes { MatchOption result (64 < length (bytes.old.items ++ code_bytes code))
+    ensures bytes { MatchOption result (array_size < length (bytes.old.items ++ code_bytes code))
         (λ _. bytes.new.items ≡ bytes.old.items ++ code_bytes code) }
-    ensures room { OnSome result (length bytes.new.items ≤ 64) }
+    ensures room { OnSome result (length bytes.new.items ≤ array_size) }
 {
     match u8::try_from(code) {
         Ok(byte) => bytes.try_push(byte).ok(),

@@ -3,7 +3,7 @@
 ghost use Rattle.std.specs.Prelude.{◌≡◌, ◌↔◌, ◌<◌, ◌≤◌, ◌^◌, All, IsTrue, length, option_map, IfOk};
 ghost use Rattle.bml_bytes.specs.Fields.{with_left};
 ghost use Rattle.bml_bytes.specs.Numbers.{big_number};
-ghost use Rattle.persistent_arrays.specs.Arrays.{array_in};
+ghost use Rattle.persistent_arrays.specs.Arrays.{array_count, array_in};
 ghost use Rattle.persistent_arrays.specs.Fields.{field_value as value_of_field, signed_number as number_with_sign, without_last_zeros as without_zeros};
 ghost use Rattle.persistent_arrays.specs.Reading.{bits_of as bits_of_byte, field_at as field_in, unpacked};
 ghost use Rattle.persistent_arrays.specs.Structures.{IsKind};
@@ -27,7 +27,7 @@ pub fn unpack(
     area: &AreaBytes,
     slot: u8,
 ) -> Result<Option<Vec<Field>>, NoMemory>
-    requires { slot < 16 }
+    requires { slot < array_count }
     ensures { IfOk result (λ found. option_map (λ fields. fields.items) found
         ≡ unpacked structure.now (array_in area.now slot)) }
 {

@@ -4,11 +4,12 @@ use Rattle.std.proofs.Common.{◌++◌, All, length, replicate, refl, sym, ap, a
 use Rattle.std.proofs.Common.{◌⊎◌, inl, inr, arith, append_assoc, append-nil, take_all}
 use Rattle.std.proofs.lemmas.List.Elements.{All-head, All-tail}
 use Rattle.std.specs.Cmp.Lexicographic.{bytes_decides}
+use Rattle.bml_bytes.specs.Areas.{area_length}
 use Rattle.bml_bytes.specs.Words.{is_same}
 use Rattle.bml_ports.specs.Counters.{counted}
 use Rattle.bml_ports.specs.Keepers.{KeeperState, filled}
 use Rattle.receiver_core.specs.Outputs.{Piece}
-use Rattle.replay_run.specs.Kept.{CallsFor, HasKept, Keeps, area_after, area_length, area_of_kept}
+use Rattle.replay_run.specs.Kept.{CallsFor, HasKept, Keeps, area_after, area_of_kept}
 use Rattle.replay_run.specs.Kept.{calls_after, kept_behind, stores}
 use Rattle.replay_run.specs.Putting.{FailsToKeep, KeepsOn, change}
 

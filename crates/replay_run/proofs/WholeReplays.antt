@@ -3,6 +3,7 @@ use Rattle.std.proofs.Common.{◌≡◌, ℕ, ◌+◌, List, [], ◌∷◌, ◌+
 use Rattle.std.proofs.Common.{subst, append_assoc, append-nil, arith, cond, one-add}
 use Rattle.std.specs.Prelude.{Err, Ok, OnOk, Result}
 use Rattle.std.proofs.lemmas.List.Sums.{sum_by-append, sum_by-cons}
+use Rattle.bml_bytes.specs.Areas.{area_length}
 use Rattle.es_reader.specs.Readers.{Reader}
 use Rattle.psi_tables.specs.declared.services.Selection.{Selection}
 use Rattle.receiver_core.specs.Outputs.{Input, Piece, outputs}
@@ -88,7 +89,7 @@ replayed read selection area stream start text end first last packets all stood 
 
 -- a receiver with an area of zeros has that of a run for which nothing is kept
 pub opened_without : (read : Reader) (selection : Selection) (area : List ℕ) (state : ReceiverState)
-    → area ≡ replicate 1024 0 → StandsFor read selection area state [] []
+    → area ≡ replicate area_length 0 → StandsFor read selection area state [] []
     → StandsFor read selection (area_of_kept []) state [] []
 opened_without read selection area state zeros stood =
     subst (λ a. StandsFor read selection a state [] []) zeros stood

@@ -2,20 +2,21 @@
 -- project's own.
 use Rattle.std.specs.Prelude.{◌≡◌, ◌==◌, ◌||◌, ℕ, Bool, if◌then◌else◌, List, [], ◌∷◌}
 use Rattle.std.specs.Prelude.{◌++◌, Some}
+use Rattle.bml_bytes.specs.Areas.{area_length}
 use Rattle.bml_bytes.specs.Words.{is_same}
 use Rattle.bml_ports.specs.Counters.{counted}
 use Rattle.bml_ports.specs.Keepers.{KeeperState, filled}
 use Rattle.receiver_core.specs.Outputs.{Piece}
 
--- how many bytes a persistent area has
-abbrev pub area_length : ℕ
-area_length = 1024
+-- how many bytes an area of earlier versions has, which is the front of an area
+abbrev pub earlier_area_length : ℕ
+earlier_area_length = 1024
 
--- kept bytes are as many as an area has, or there are none
+-- kept bytes are as many as an area has, today or in earlier versions, or there are none
 abbrev pub is_area_length : ℕ → Bool
-is_area_length size = (size == 0) || (size == area_length)
+is_area_length size = (size == 0) || ((size == earlier_area_length) || (size == area_length))
 
--- the area that kept bytes are; where there are none, all of its bytes are 0
+-- the area that kept bytes are: behind them, all of its bytes are 0
 abbrev pub area_of_kept : List ℕ → List ℕ
 area_of_kept kept = filled area_length kept
 

@@ -3,7 +3,8 @@
 
 ghost use Rattle.std.specs.Prelude.{◌≡◌, ℕ, List, [], All, length};
 ghost use Rattle.receiver_core.specs.Outputs.{Piece};
-ghost use Rattle.replay_run.specs.Kept.{area_after, area_length, area_of_kept, kept_behind, stores};
+ghost use Rattle.bml_bytes.specs.Areas.{area_length};
+ghost use Rattle.replay_run.specs.Kept.{area_after, area_of_kept, kept_behind, stores};
 
 /// Behind pieces whose areas are as long as an area is, what is kept is the area behind the last of
 /// them. Where no piece changes the area, nothing is stored.

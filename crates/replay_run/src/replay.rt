@@ -31,15 +31,15 @@ use crate::player::Player;
 use crate::record_items::RecordItems;
 use crate::status::Status;
 use crate::words::Replay;
-use bml_bytes::AreaBytes;
+use bml_bytes::{AREA_LENGTH, AreaBytes};
 use bml_ports::{Keeper, Port, Sink, Text, World};
 use psi_tables::Selection;
 use receiver_core::{law_of_outputs, law_of_receivers, law_of_ticks};
 use std::alloc::Global;
 use ts_packets::{packets_are_computed, packets_are_unique};
 
-// The bytes of an area.
-const AREA_LENGTH: u64 = 1024;
+// How many bytes an area of earlier versions has.
+const EARLIER_AREA_LENGTH: u64 = 1024;
 
 /// Opens a file at a port.
 pub fn open<W: World>(world: &mut W, port: Port, name: &Text) -> Result<(), Status>
@@ -93,7 +93,7 @@ pub fn play_record<W: World, K: Keeper, S: Sink>(
     play_from(alloc, selection, area, world, keeper, out)
 }
 
-// The area that is kept; where nothing is kept, all of its bytes are 0.
+// The area that is kept; behind what is kept, all of its bytes are 0.
 fn load_area<K: Keeper>(keeper: &mut K) -> Result<AreaBytes, Status>
     ensures loaded { IfOk result (λ area. (kept : List ℕ) → (K.told keeper.old).kept ≡ Some kept
         → area ≡ area_of_kept kept) }
@@ -117,7 +117,7 @@ fn load_area<K: Keeper>(keeper: &mut K) -> Result<AreaBytes, Status>
 fn is_area_length(length: u64) -> bool
     ensures { result ≡ is_area_length_of length }
 {
-    length == 0 || length == AREA_LENGTH
+    length == 0 || length == EARLIER_AREA_LENGTH || length == AREA_LENGTH as u64
 }
 
 // Replays the record over the stream with an area that was loaded, and writes the last line.

@@ -3,6 +3,7 @@ use Rattle.std.specs.Prelude.{◌+◌, ◌-◌, ◌*◌, ◌==◌, ℕ, nat_le, 
 use Rattle.std.specs.Str.{byte}
 use Rattle.bml_bytes.specs.Fields.{◌>>=◌, byte_at}
 use Rattle.bml_bytes.specs.Numerals.{is_decimal_digit}
+use Rattle.persistent_arrays.specs.Arrays.{array_count, array_size}
 use Rattle.persistent_arrays.specs.declared.kinds.FieldKind.{FieldKind}
 use Rattle.persistent_arrays.specs.declared.kinds.FieldKind.TheVariants.{Bit, Unsigned, Signed, Fixed, Varying}
 
@@ -31,7 +32,7 @@ kind_with letter size unit =
     if has_letters letter unit (byte "B") (byte "b") then (if size == 1 then Some Bit else None)
     else (if has_letters letter unit (byte "U") (byte "B") then (if is_number_size size then Some (Unsigned size) else None)
     else (if has_letters letter unit (byte "I") (byte "B") then (if is_number_size size then Some (Signed size) else None)
-    else (if has_letters letter unit (byte "S") (byte "B") then (if nat_le 1 size && nat_le size 64 then Some (Fixed size) else None)
+    else (if has_letters letter unit (byte "S") (byte "B") then (if nat_le 1 size && nat_le size array_size then Some (Fixed size) else None)
     else (if has_letters letter unit (byte "S") (byte "V") then (if size == 1 then Some Varying else None) else None))))
 
 -- a colon and a number of one or two digits, and what stands behind them
@@ -52,4 +53,4 @@ kind_at codes = do
 
 -- the number of an array that some digits are
 abbrev pub number_of_array : List ℕ → Option ℕ
-number_of_array digits = numeral_at digits >>= λ found. if (length found.1 == 0) && nat_lt found.0 16 then Some found.0 else None
+number_of_array digits = numeral_at digits >>= λ found. if (length found.1 == 0) && nat_lt found.0 array_count then Some found.0 else None
