@@ -32,7 +32,9 @@ impl AreaBytes {
     pub fn zeros() -> AreaBytes
         ensures { result ≡ replicate area_length 0 }
     {
-        AreaBytes { bytes: [0; AREA_LENGTH] }
+        AreaBytes {
+            bytes: [0; AREA_LENGTH],
+        }
     }
 
     /// All of the bytes.
