@@ -11,7 +11,9 @@ from mutations import Language, mutated
 import tables
 
 AREA_SIZE = tables.AREA_SIZE
-LENGTHS = [0, 0, 1, 2, 1000, 1023, 1025, 2048, 1 << 20]
+EARLIER_AREA_SIZE = tables.EARLIER_AREA_SIZE
+ARRAY_COUNT = AREA_SIZE // 64
+LENGTHS = [0, 0, 1, 2, 1000, 1023, EARLIER_AREA_SIZE, EARLIER_AREA_SIZE, 1025, 2048, 3071, 3073, 1 << 20]
 FIELDS = ["B:1b", "U:1B", "U:2B", "U:4B", "I:1B", "I:2B", "I:4B", "S:1B", "S:5B", "S:63B", "S:64B", "S:1V", "S:1V"]
 WRONG = ["", "B:2b", "U:3B", "S:0B", "S:65B", "s:1V", "U:1B ", "S:1V,,S:1V"]
 READ = """
@@ -42,7 +44,7 @@ def structure(dice):
 
 
 def area_case(dice):
-    calls = "".join(f'each("{structure(dice)}", {dice.randrange(17)}, {dice.randrange(16)});\n' for _ in range(dice.choice((1, 4, 20))))
+    calls = "".join(f'each("{structure(dice)}", {dice.randrange(ARRAY_COUNT + 1)}, {dice.randrange(ARRAY_COUNT)});\n' for _ in range(dice.choice((1, 4, 20))))
     document = f'<bml><head><script><![CDATA[{READ % calls}]]></script></head><body><p id="t">-</p></body></bml>'
     options, stream, record, *_ = case_of([(BML, document.encode("ascii"))], record_of(dice))
     way = dice.random()

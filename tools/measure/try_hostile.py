@@ -37,7 +37,7 @@ from pathlib import Path
 from typing import NamedTuple
 
 from bounded_runs import BoundedRuns
-from hostile_areas import AREA_SIZE, area_case
+from hostile_areas import AREA_SIZE, EARLIER_AREA_SIZE, area_case
 from hostile_streams import stream_case
 from hostile_texts import document_case, entity_case, record_case, script_case, style_case
 
@@ -88,7 +88,7 @@ FORMS = {
     b"lost": rb"(?:load|unload|focus|blur|click|keydown|keyup|default|timer|%b)" % ITEM_EVENTS,
     b"launch": PATH,
     b"sound": PLUS,
-    b"kept": rb"nvram://~/(?:[0-9]|1[0-5]) (?:[1-9]|[1-5][0-9]|6[0-4])",
+    b"kept": rb"nvram://~/(?:[0-9]|[1-3][0-9]|4[0-7]) (?:[1-9]|[1-5][0-9]|6[0-4])",
     b"show": PLUS,
     b"box": rb"%b %b %b %b" % (PLACE, PLUS, PLUS, PLUS),
     b"text": rb"%b %b %b %b" % (PLACE, PLUS, PLUS, BYTES),
@@ -176,7 +176,7 @@ def faults_of_lines(lines):
 def faults_of(case, status, stdout, stderr, kept):
     """Yields what is wrong with a run, which left this kept."""
     taken, bad_line = read_record(case.record, len(cut(case.stream, PACKET_SIZE, True)[0]))
-    is_no_area = case.kept is not None and len(case.kept) not in (0, AREA_SIZE)
+    is_no_area = case.kept is not None and len(case.kept) not in (0, EARLIER_AREA_SIZE, AREA_SIZE)
     told = {0: b"", 2: b"bad record line %d\n" % (bad_line or 0), NO_AREA: b"bad area length %d\n" % len(case.kept or b""), NO_MEMORY: b"no memory\n"}
     if kept != case.kept and (is_no_area or kept is None or len(kept) != AREA_SIZE):
         yield f"{len(kept or b'')} bytes are kept"

@@ -19,7 +19,8 @@ PIECE = re.compile(r"\$\{([^{}]*)\}|\\(x[0-9A-Fa-f]{2}|.?)|((?:[^\\$]|\$(?!\{))+
 ESCAPES = {"n": b"\n", "r": b"\r", "t": b"\t", "\\": b"\\"}
 # The fields that a row may do without.
 OPTIONAL = {"stderr": [], "status": ["0"], "kept": [], "kept-after": ["${kept}"], "folder": []}
-AREA_SIZE = 1024  # bytes of the area that a run keeps
+AREA_SIZE = 3072  # bytes of the area that a run keeps
+EARLIER_AREA_SIZE = 1024  # those of earlier versions, which a run takes over
 
 
 class Run(NamedTuple):
