@@ -24,5 +24,5 @@ pub use crate::laws::{
 };
 pub use crate::names::slot_of;
 pub use crate::packing::pack;
-pub use crate::reading::{bit_at, unpack, value_at};
+pub use crate::reading::unpack;
 pub use crate::structures::Structure;

@@ -2,7 +2,7 @@
 
 ghost use Rattle.std.specs.Prelude.{◌≡◌, List, All, slice_get, IfOk, MatchOption};
 ghost use Rattle.persistent_arrays.specs.declared.kinds.FieldKind.{FieldKind};
-ghost use Rattle.persistent_arrays.specs.Structures.{IsKind, IsStructure, Spells, structure_spelled};
+ghost use Rattle.persistent_arrays.specs.Structures.{IsKind, Spells, structure_spelled};
 
 use crate::kinds::{FieldKind, read_kind};
 use crate::spelling::next_code;
@@ -62,7 +62,6 @@ impl Structure {
     pub fn kinds(&self) -> &[FieldKind]
         ensures kinds { result.now ≡ self.now }
         ensures sizes { All IsKind result.now }
-        ensures structure { IsStructure result.now }
     {
         self.kinds.as_slice()
     }
