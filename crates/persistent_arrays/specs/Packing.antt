@@ -4,6 +4,7 @@ use Rattle.std.specs.Prelude.{◌+◌, ◌/◌, ℕ, zero, suc, nat_le, Bool, if
 use Rattle.std.specs.List.{flat_map}
 use Rattle.std.specs.Int.{div_ceil}
 use Rattle.bml_bytes.specs.Fields.{◌>>=◌}
+use Rattle.persistent_arrays.specs.Arrays.{array_size}
 use Rattle.persistent_arrays.specs.declared.fields.Field.{Field}
 use Rattle.persistent_arrays.specs.declared.fields.Field.TheVariants as fields
 use Rattle.persistent_arrays.specs.declared.kinds.FieldKind.{FieldKind}
