@@ -84,11 +84,13 @@ range-bounds from (suc count) number (inl here) = omega arith
 range-bounds from (suc count) number (inr later) = let below = range-bounds (from + 1) count number later in omega arith
 
 names-array : (name : List ℕ) (slot : ℕ) → array_named name ≡ Some slot → Names name slot
+unfolding array_named
 names-array name slot e =
     let found = found-written array_name name (range_with_len 0 array_count) slot e in
     record { is_array = range-bounds 0 array_count slot found.0; written = found.1 }
 
 array-found : (name : List ℕ) (slot : ℕ) → Names name slot → array_named name ≡ Some slot
+unfolding array_named
 array-found name slot h =
     ap array_named h.written ∙ written-found array_name (range_with_len 0 array_count) slot one (among-range 0 array_count slot (omega arith) h.is_array)
   where

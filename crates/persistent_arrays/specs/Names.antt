@@ -16,5 +16,5 @@ pub record Names (text : List ℕ) (slot : ℕ) : Type 0 where
   pub written : text ≡ array_name slot
 
 -- the array that a text names, worked out; `law_of_array_names` says that this is the same
-abbrev pub array_named : List ℕ → Option ℕ
+unfoldable pub array_named : List ℕ → Option ℕ
 array_named text = find (λ slot. is_same text (array_name slot)) (range_with_len 0 array_count)

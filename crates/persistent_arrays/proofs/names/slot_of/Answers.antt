@@ -14,3 +14,8 @@ pub returns-then-not-is_word-clause-named : goal.returns-then-not-is_word-clause
 returns-then-not-is_word-clause-named c =
     let none : (slot : ℕ) → ¬ Names c.args.name.now slot = search rules in
     read-array_named c.args.name.now None none
+
+pub returns-then-codes-clause-named : goal.returns-then-codes-clause-named
+returns-then-codes-clause-named c =
+    let none : (slot : ℕ) → ¬ Names c.args.name.now slot = search rules in
+    read-array_named c.args.name.now None none
