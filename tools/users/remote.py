@@ -30,8 +30,9 @@ from http.server import BaseHTTPRequestHandler, ThreadingHTTPServer
 from pathlib import Path
 from typing import NamedTuple
 
-from draw_display import BadOutput, display_lists, drawing, shapes_of
+from drawings import BadOutput, display_lists, drawing, shapes_of
 from report import KEYS, items_of, kind_of, plain_text
+from shown_pages import Follower, Recording, add_service, number
 
 TOOLS = Path(__file__).resolve().parent
 PAGE = (TOOLS / "remote.html").read_text(encoding="utf-8")
@@ -80,6 +81,7 @@ class Shown(NamedTuple):
     lines: list[bytes]
     clock: int
     drawing: str
+    fault: str  # what is wrong with its look
 
 
 def digest_of(lines):
@@ -124,8 +126,8 @@ def replayed(command, record):
 class Session:
     """A record that grows by presses, and what the program printed for it."""
 
-    def __init__(self, command, record):
-        self.command = command
+    def __init__(self, command, record, recording=None):
+        self.command, self.recording = command, recording
         self.record = record if record.endswith(b"\n") or not record else record + b"\n"
         items = items_of(self.record)
         if items[-1] or len(items) == 1:
@@ -147,8 +149,10 @@ class Session:
         try:
             lines = replayed(self.command, self.text())
             new = lines[before.count :]
-            shown = display_lists(new)[-1]
-            self.shown = Shown(new, shown.clock, drawing(shown.clock, shapes_of(shown.lines)))
+            shown = [it for it in display_lists(lines) if it.place >= before.count][-1]
+            follower = Follower(lines, self.recording)
+            look = follower.look_at(shown.place)
+            self.shown = Shown(new, shown.clock, drawing(shown.clock, shapes_of(shown.lines, look), look), follower.fault or look.fault)
             self.printed.append(Printed(len(lines), digest_of(lines)))
             if digest_of(lines[: before.count]) != before.digest:
                 self.fault = "The lines of the presses before aren't what they were: has the stream or the program changed?"
@@ -184,7 +188,7 @@ class Session:
             return {
                 "drawing": shown.drawing if shown else "",
                 "lines": lines,
-                "fault": self.fault,
+                "fault": self.fault or (shown.fault if shown else ""),
                 "told": told + (f". Clock: {shown.clock} ms" if shown else ""),
                 "record": self.text().decode("ascii", errors="backslashreplace"),
             }
@@ -296,20 +300,12 @@ class Server(ThreadingHTTPServer):
         return f"http://127.0.0.1:{self.server_address[1]}/{self.word}/"
 
 
-def number(text):
-    if not (text.isascii() and text.isdigit()):
-        raise ValueError
-    return int(text)
-
-
 def main(words):
     parser = argparse.ArgumentParser(
         usage="remote.py STREAM [--service N | --data-pid N] [--record RECORD] [--program PROGRAM] [--port N]"
     )
     parser.add_argument("stream")
-    which = parser.add_mutually_exclusive_group()
-    which.add_argument("--service", type=number)
-    which.add_argument("--data-pid", type=number)
+    add_service(parser)
     parser.add_argument("--record")
     parser.add_argument("--program", default=str(PROGRAM))
     parser.add_argument("--port", type=number, default=0)
@@ -323,7 +319,8 @@ def main(words):
     try:
         with open(asked.stream, "rb"):
             record = Path(asked.record).read_bytes() if asked.record else FIRST_RECORD
-        server = Server(Session([*command, os.path.abspath(asked.stream)], record), asked.port)
+        recording = Recording(asked.stream, asked.service, asked.data_pid).read()
+        server = Server(Session([*command, os.path.abspath(asked.stream)], record, recording), asked.port)
     except (OSError, OverflowError) as fault:
         print(f"remote.py: {fault}", file=sys.stderr)
         return 1

@@ -1,14 +1,15 @@
 #!/usr/bin/env python3
 """Writes a report of what a run printed, to be looked at in a browser: one HTML file that needs nothing else.
 
-    tools/users/report.py OUTPUT FOLDER [--stream STREAM] [--record RECORD]
+    tools/users/report.py OUTPUT FOLDER [--stream STREAM [--service N | --data-pid N]] [--record RECORD]
 
 reads the lines of OUTPUT and writes FOLDER/report.html. It has the warnings (scripts that were stopped, events that were lost, documents
 refused, modules skipped), the modules with their sizes and when they came, and then the run in parts, each up to a display list: its lines,
 its drawing (tools/users/draw_display.py), and what differs from the display list before. A filter shows the lines of one kind, or with a text.
 The lines don't tell when something happened but by their order and the clock of each display list. With the record of
 the run each part also names the items that it comes from, and the packets that they took: a record that takes them in portions,
-`packets 1000` and `show`, tells in which of these a module came. With the stream its size is told.
+`packets 1000` and `show`, tells in which of these a module came. With the stream its size is told, and drawings have the page's own colours and
+pictures; a service or PID that the run was given is given here too.
 
 Everything in OUTPUT may come from a broadcast, and is escaped. The script of the report is the same in all of them, and its policy
 (Content-Security-Policy) lets a browser run that script alone. What is drawn stops at 10 MB, and tables at 1,000 rows.
@@ -27,10 +28,13 @@ from html import escape
 from pathlib import Path
 from typing import NamedTuple
 
-from draw_display import BadOutput, DisplayList, display_lists, drawing, numbers, rectangle, shapes_of
+from drawings import BadOutput, DisplayList, data_address, display_lists, drawing, numbers, rectangle, shapes_of
+from pictures import BadPicture
+from shown_pages import Follower, Recording, add_service
 
 MOST_ROWS = 1000  # of a table
 MOST_DRAWN = 10_000_000  # characters of all drawings together
+MOST_PICTURES = 50_000_000  # bytes of all pictures together
 WARNINGS = {
     b"stop": "a script was stopped",
     b"lost": "an event was lost",
@@ -53,7 +57,7 @@ table{border-collapse:collapse}td,th{text-align:left;padding:.1em .8em;border-bo
 section{content-visibility:auto;contain-intrinsic-size:auto 400px;border-top:1px solid #d8dce0}
 section svg{width:100%;max-width:640px;height:auto;display:block;margin:.5em 0}
 nav{position:sticky;top:0;background:#fff;padding:.6em 0;border-bottom:2px solid #202428;z-index:1}
-input,select{font:inherit}#part{width:5em}section{scroll-margin-top:4em}p[id]{scroll-margin-top:5em}small{color:#586068}[hidden]{display:none!important}
+#pictures{position:absolute;width:0;height:0}input,select{font:inherit}#part{width:5em}section{scroll-margin-top:4em}p[id]{scroll-margin-top:5em}small{color:#586068}[hidden]{display:none!important}
 """
 SCRIPT = """
 const lines = [...document.querySelectorAll("section p[id]")];
@@ -103,8 +107,8 @@ class Acquired(NamedTuple):
 
 
 class Report(NamedTuple):
-    """What a report tells: the lines of the run, its parts, the items of the record for each of them, the packets that these take, and
-    sentences about the run. Without a record there are neither items nor packets."""
+    """What a report tells: the lines of the run, its parts, the items of the record for each of them, the packets that these take,
+    sentences about the run, and the stream where it is known. Without a record there are neither items nor packets."""
 
     name: str
     lines: list[bytes]
@@ -112,6 +116,32 @@ class Report(NamedTuple):
     items: list[list[str]]
     packets: list[str]
     notes: list[str]
+    recording: Recording | None
+
+
+class Sprites:
+    """The pictures of a report: each of them stands in it once, and drawings name it."""
+
+    def __init__(self):
+        self.found, self.size = {}, 0
+
+    def image(self, found, place):
+        """Returns the shape of a picture at its place."""
+        name = "p" + hashlib.sha256(found.data).hexdigest()[:16]
+        if name not in self.found:
+            if self.size + len(found.data) > MOST_PICTURES:
+                raise BadPicture("not shown here, since this report is large")
+            self.found[name] = found
+            self.size += len(found.data)
+        return f'<use {place} href="#{name}"/>'
+
+    def html(self):
+        symbols = [
+            f'<symbol id="{name}" viewBox="0 0 {it.width} {it.height}" preserveAspectRatio="none">'
+            f'<image width="{it.width}" height="{it.height}" href="{data_address(it)}"/></symbol>'
+            for name, it in self.found.items()
+        ]
+        return ['<svg id="pictures">', *symbols, "</svg>"] if symbols else []
 
 
 def plain_text(line):
@@ -257,7 +287,7 @@ def outlines(lines, colour):
     return [rectangle(x - 4, y - 4, width + 8, height + 8, words) for x, y, width, height in places]
 
 
-def display_html(shown, before, room):
+def display_html(shown, before, room, look):
     """Returns a display list with its drawing, where there is room for it, and what differs from the one before."""
     new = list((Counter(shown.lines) - Counter(before)).elements())
     was = list((Counter(before) - Counter(shown.lines)).elements())
@@ -266,7 +296,7 @@ def display_html(shown, before, room):
         told = f"new lines: {len(new):,} (dashed in magenta), lines gone: {len(was):,} (dashed in grey)"
         told = told if new or was else "the same lines as before in another order"
         marks = outlines(was, "#a0a0a0") + outlines(new, "#ff40ff")
-    picture = drawing(shown.clock, shapes_of(shown.lines) + marks) if shown.lines != before else ""
+    picture = drawing(shown.clock, shapes_of(shown.lines, look) + marks, look) if shown.lines != before else ""
     if shown.lines == before:
         told = "the same as the one before" if before else "nothing is shown"
     if len(picture) > room:
@@ -276,11 +306,12 @@ def display_html(shown, before, room):
         listed.append(line_html(at, line, "new" if left[line] else ""))
         left[line] -= 1 if left[line] else 0
     listed += [f'<p class="was">{shown_text(line)}</p>' for line in was]
+    told += f"; {escape(look.fault)}" if look.fault else ""
     head = f"<summary>The display list: {len(shown.lines):,} lines; {told}</summary>"
     return [picture, "<details>", head, '<div class="lines">', *listed, "</div></details>"], len(picture)
 
 
-def part_html(report, number, before, room):
+def part_html(report, number, before, room, look):
     """Returns a part with its lines and its display list, and how much its drawing has."""
     part = report.parts[number - 1]
     shown = "behind the last display list" if number > 1 else "without a display list"
@@ -294,7 +325,7 @@ def part_html(report, number, before, room):
     drawn = 0
     if part.shown:
         written.append(line_html(part.shown.place, report.lines[part.shown.place]) + "</div>")
-        listed, drawn = display_html(part.shown, before, room)
+        listed, drawn = display_html(part.shown, before, room, look)
         written += listed
     else:
         written.append("</div>")
@@ -304,25 +335,29 @@ def part_html(report, number, before, room):
 def page(report):
     """Returns the report as HTML."""
     places, written, drawn, before = part_places(report.parts, len(report.lines)), [], 0, []
+    follower, sprites = Follower(report.lines, report.recording), Sprites()
     for number, part in enumerate(report.parts, 1):
-        html, more = part_html(report, number, before, MOST_DRAWN - drawn)
+        look = follower.look_at(part.shown.place if part.shown else len(report.lines))
+        look.image = sprites.image
+        html, more = part_html(report, number, before, MOST_DRAWN - drawn, look)
         written += html
         drawn += more
         before = part.shown.lines if part.shown else before
     digest = base64.b64encode(hashlib.sha256(SCRIPT.encode()).digest()).decode()
-    policy = f"default-src 'none'; style-src 'unsafe-inline'; script-src 'sha256-{digest}'"
+    policy = f"default-src 'none'; style-src 'unsafe-inline'; img-src data:; script-src 'sha256-{digest}'"
     kinds = "".join(f"<option>{kind}</option>" for kind in [*KINDS, "other"])
-    name = escape(report.name)
+    name, notes = escape(report.name), [*report.notes, follower.fault]
     return "\n".join([
         f'<!DOCTYPE html><html lang="en"><head><meta charset="utf-8"><meta http-equiv="Content-Security-Policy" content="{policy}">',
         f'<meta name="viewport" content="width=device-width"><title>{name}</title><style>{STYLE}</style></head><body>',
-        f"<h1>{name}</h1><p>{len(report.lines):,} lines. {' '.join(map(escape, report.notes))}</p>",
+        f"<h1>{name}</h1><p>{len(report.lines):,} lines. {' '.join(map(escape, filter(None, notes)))}</p>",
         *warning_table(report, places),
         *module_table(report, places),
         "<h2>The run, part by part</h2>",
         '<nav><label>Lines with <input id="text" type="search"></label>',
         f'<label>of the kind <select id="kind"><option value="">any</option>{kinds}</select></label> <span id="found"></span>',
         f'<label>part <input id="part" type="number" min="1" max="{len(report.parts)}"> of {len(report.parts):,}</label></nav>',
+        *sprites.html(),
         *written,
         f"<script>{SCRIPT}</script></body></html>\n",
     ])
@@ -341,7 +376,7 @@ def notes_of(count, parts, items, stream):
     return notes
 
 
-def report_of(output, stream=None, record=None):
+def report_of(output, stream=None, record=None, service=None, data_pid=None):
     """Returns the report of a file of lines."""
     lines = Path(output).read_bytes().split(b"\n")
     if lines[-1] == b"":
@@ -351,18 +386,20 @@ def report_of(output, stream=None, record=None):
     ended = re.fullmatch(rb"end ([0-9]{1,20})", lines[-1]) if lines else None
     count = int(ended[1]) if ended else None
     notes = notes_of(count, parts, items, stream)
-    return Report(f"Report of {os.path.basename(output)}", lines, parts, items, packets_of(items, count), notes)
+    recording = Recording(stream, service, data_pid).read() if stream else None
+    return Report(f"Report of {os.path.basename(output)}", lines, parts, items, packets_of(items, count), notes, recording)
 
 
 def main(words):
-    parser = argparse.ArgumentParser(usage="report.py OUTPUT FOLDER [--stream STREAM] [--record RECORD]")
+    parser = argparse.ArgumentParser(usage="report.py OUTPUT FOLDER [--stream STREAM [--service N | --data-pid N]] [--record RECORD]")
     parser.add_argument("output")
     parser.add_argument("folder")
     parser.add_argument("--stream")
+    add_service(parser)
     parser.add_argument("--record")
     asked = parser.parse_args(words)
     try:
-        report = report_of(asked.output, asked.stream, asked.record)
+        report = report_of(asked.output, asked.stream, asked.record, asked.service, asked.data_pid)
         made = Path(asked.folder) / "report.html"
         text = page(report)
         made.parent.mkdir(parents=True, exist_ok=True)

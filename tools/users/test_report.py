@@ -20,13 +20,14 @@ from xml.etree import ElementTree
 
 import browser
 import draw_display
+import drawings
 import report
 
 PROGRAM = None  # whose lines are reported
 EXAMPLES = Path(__file__).resolve().parents[2] / "examples"
 HOSTILE = ["</script><img src=x onerror=document.title=1>", "\"'><svg onload=document.title=1>", "</svg></text>]]><!--", "&lt;b>", "--></style><b>"]
 MARKS = {*"html head meta title style body h1 h2 h3 p a nav label input select option span section div small code".split()}
-MARKS |= {*"table tr th td details summary script svg rect text".split()}
+MARKS |= {*"table tr th td details summary script svg rect path text".split()}
 
 
 class Marks(HTMLParser):
@@ -95,14 +96,14 @@ class Drawing(InFolder):
         self.assertEqual(self.run_tool(draw_display, output, self.folder), (0, ""))
         root = ElementTree.parse(f"{self.folder}/show-1.svg").getroot()
         found = {it.tag.split("}")[1] for it in root.iter()}
-        self.assertEqual(found, {"svg", "title", "rect", "text"})
+        self.assertEqual(found, {"svg", "title", "rect", "path", "text"})
         texts = [it.text for it in root.iter("{http://www.w3.org/2000/svg}text")]
         self.assertEqual(texts[: len(HOSTILE)], HOSTILE)
         self.assertIn("\u2400\u241b\u2421%", texts)
 
     def test_a_list_ends_with_the_first_line_that_is_none_of_it(self):
         lines = [b"box 0 0 1 1 1 1 1", b"show 5", b"box 0 0 1 1 1 1 1", b"", b"text 0 0 1 1 1 1 late", b"show 6", b"focus 1 2 3 4", b"show 7"]
-        found = draw_display.display_lists(lines)
+        found = drawings.display_lists(lines)
         self.assertEqual([(it.clock, it.lines, it.place) for it in found], [(5, [lines[2]], 1), (6, [lines[6]], 5), (7, [], 7)])
 
     def test_what_is_no_output_of_a_run_is_told(self):
@@ -230,7 +231,7 @@ class InBrowser(InFolder):
             lines = ran.stdout.splitlines()
         self.report(lines, "--record", str(example / "record.txt"), "--stream", str(example / "stream.ts"))
         page = started.open(f"file://{self.folder}/made/report.html")
-        found = draw_display.display_lists(lines)
+        found = drawings.display_lists(lines)
         drawn = [it for at, it in enumerate(found) if it.lines != (found[at - 1].lines if at else [])]
         self.assertEqual(page.value("document.querySelectorAll('section').length"), len(report.parts_of(lines)))
         self.assertEqual(page.value("document.querySelectorAll('section > svg').length"), len(drawn))
