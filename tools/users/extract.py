@@ -28,7 +28,7 @@ from pathlib import Path
 from typing import NamedTuple
 
 from entities import BadEntity, Part, resources_of
-from recordings import found_layout, packets_of, pid_of
+from recordings import Recording
 from service_modules import ServiceModules
 from transport import compression_of
 
@@ -275,16 +275,12 @@ def page_parts(folder, source, told):
 
 def read_modules(file, modules):
     """Hands the packets of a file to what follows a service, and returns their size and number."""
-    layout, data = found_layout(file)
-    if layout is None:
+    recording = Recording(file)
+    if recording.size is None:
         raise Fault("there are no packets in it: a transport stream has 0x47 every 188, 192 or 204 bytes")
-    number = 0
-    for packets in packets_of(file, layout, data, lambda read: None):
-        for number, packet in enumerate(packets, number + 1):
-            pid = pid_of(packet)
-            if pid in modules.wanted:
-                modules.take(pid, packet, number)
-    return layout.size, number
+    for number, pid, packet in recording.packets_on(lambda: modules.wanted):
+        modules.take(pid, packet, number)
+    return recording.size, recording.count
 
 
 def extract(source, place, service=None, data_pid=None):
