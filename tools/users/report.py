@@ -343,12 +343,10 @@ def page(report):
         written += html
         drawn += more
         before = part.shown.lines if part.shown else before
-    digest = base64.b64encode(hashlib.sha256(SCRIPT.encode()).digest()).decode()
-    policy = f"default-src 'none'; style-src 'unsafe-inline'; img-src data:; script-src 'sha256-{digest}'"
     kinds = "".join(f"<option>{kind}</option>" for kind in [*KINDS, "other"])
     name, notes = escape(report.name), [*report.notes, follower.fault]
     return "\n".join([
-        f'<!DOCTYPE html><html lang="en"><head><meta charset="utf-8"><meta http-equiv="Content-Security-Policy" content="{policy}">',
+        f'<!DOCTYPE html><html lang="en"><head><meta charset="utf-8"><meta http-equiv="Content-Security-Policy" content="{policy()}">',
         f'<meta name="viewport" content="width=device-width"><title>{name}</title><style>{STYLE}</style></head><body>',
         f"<h1>{name}</h1><p>{len(report.lines):,} lines. {' '.join(map(escape, filter(None, notes)))}</p>",
         *warning_table(report, places),
@@ -361,6 +359,12 @@ def page(report):
         *written,
         f"<script>{SCRIPT}</script></body></html>\n",
     ])
+
+
+def policy():
+    """Returns the policy under which a browser runs the script of a report, and nothing else."""
+    digest = base64.b64encode(hashlib.sha256(SCRIPT.encode()).digest()).decode()
+    return f"default-src 'none'; style-src 'unsafe-inline'; img-src data:; script-src 'sha256-{digest}'"
 
 
 def notes_of(count, parts, items, stream):
@@ -381,13 +385,18 @@ def report_of(output, stream=None, record=None, service=None, data_pid=None):
     lines = Path(output).read_bytes().split(b"\n")
     if lines[-1] == b"":
         lines.pop()
-    parts = parts_of(lines)
     items = items_of(Path(record).read_bytes()) if record else []
+    recording = Recording(stream, service, data_pid).read() if stream else None
+    return report_of_lines(f"Report of {os.path.basename(output)}", lines, items, stream, recording)
+
+
+def report_of_lines(name, lines, items, stream, recording):
+    """Returns the report of lines, of the items of their record and of their stream, as far as these are known."""
+    parts = parts_of(lines)
     ended = re.fullmatch(rb"end ([0-9]{1,20})", lines[-1]) if lines else None
     count = int(ended[1]) if ended else None
     notes = notes_of(count, parts, items, stream)
-    recording = Recording(stream, service, data_pid).read() if stream else None
-    return Report(f"Report of {os.path.basename(output)}", lines, parts, items, packets_of(items, count), notes, recording)
+    return Report(name, lines, parts, items, packets_of(items, count), notes, recording)
 
 
 def main(words):

@@ -20,64 +20,11 @@ import page_styles
 import pictures
 from colours import BadColours
 from drawings import Look, display_lists, drawing, shapes_of
+from generated_pages import PID, chunk, clut_of, entity_of, jpeg_of, mng_of, png_of, stream_of
 from pictures import BadPicture
 from shown_pages import Clock, Follower, Path as Place, Recording, resolved
-from transport import TYPE_DESCRIPTOR, ElementaryStream, Module, ddb_section, descriptor, dii_section, packets_of_sections, pat_section, pmt_section
 
 SVG = "{http://www.w3.org/2000/svg}"
-PID = 256
-
-
-def chunk(name, body):
-    return struct.pack(">I", len(body)) + name + body + struct.pack(">I", zlib.crc32(name + body))
-
-
-def png_of(rows, depth=8, kind=3, more=b"", interlace=0, mark=b"\x89PNG\r\n\x1a\n"):
-    """Returns a PNG whose rows are bytes, with chunks in front of its data."""
-    head = struct.pack(">IIBBBBB", len(rows[0]) * 8 // depth // {3: 1, 0: 1, 2: 3}[kind], len(rows), depth, kind, 0, 0, interlace)
-    data = zlib.compress(b"".join(b"\0" + row for row in rows))
-    return mark + chunk(b"IHDR", head) + more + chunk(b"IDAT", data) + chunk(b"IEND", b"")
-
-
-def jpeg_of(width, height):
-    """Returns a grey JPEG: each of its blocks is a code of one bit for no difference, and another one for its end."""
-    blocks = -(-width // 8) * -(-height // 8)
-    bits = "0" * (2 * blocks) + "1" * (-2 * blocks % 8)
-    data = int(bits, 2).to_bytes(len(bits) // 8, "big")
-    table = bytes([1] + [0] * 15 + [0])
-    parts = [(0xDB, b"\0" + b"\x01" * 64), (0xC0, struct.pack(">BHHB", 8, height, width, 1) + b"\x01\x11\0")]
-    parts += [(0xC4, b"\x00" + table), (0xC4, b"\x10" + table), (0xDA, b"\x01\x01\0\0\x3f\0")]
-    return b"\xff\xd8" + b"".join(struct.pack(">BBH", 0xFF, mark, 2 + len(body)) + body for mark, body in parts) + data + b"\xff\xd9"
-
-
-def mng_of(png, more=b""):
-    """Returns an MNG of a picture, with chunks in front of it."""
-    return pictures.MNG + chunk(b"MHDR", bytes(28)) + more + png[8:] + chunk(b"MEND", b"")
-
-
-def clut_of(first, entries, is_rgb=True):
-    """Returns a colour table with 8 bits to an index."""
-    head = (0x80 if is_rgb else 0) | 0x20 | 0x08
-    return bytes([head, first, first + len(entries) - 1]) + b"".join(map(bytes, entries))
-
-
-def entity_of(parts):
-    lines = [b'Content-Type: multipart/mixed; boundary="b1"', b""]
-    for name, data in parts.items():
-        lines += [b"--b1", b"Content-Type: application/octet-stream", b"Content-Location: " + name.encode(), b"", data]
-    return b"\r\n".join([*lines, b"--b1--", b""])
-
-
-def stream_of(versions, with_tables=False):
-    """Returns a stream of versions of module 0000 of component 40, one behind the other: each has a Type or, with None, is an entity."""
-    sections = []
-    if with_tables:
-        sections += [(0, pat_section([(101, 0x1F0)])), (0x1F0, pmt_section(101, [ElementaryStream(0x0D, PID, 0x40)]))]
-    for version, (media, data) in enumerate(versions, 1):
-        info = b"" if media is None else descriptor(TYPE_DESCRIPTOR, media)
-        sections.append((PID, dii_section(version, 1, 4000, [Module(0, version, len(data), info)])))
-        sections += [(PID, ddb_section(1, 0, version, at // 4000, data[at : at + 4000])) for at in range(0, len(data), 4000)]
-    return packets_of_sections(sections)[0]
 
 
 class Colours(unittest.TestCase):
