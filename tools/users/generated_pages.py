@@ -5,7 +5,8 @@ import zlib
 
 from transport import TYPE_DESCRIPTOR, ElementaryStream, Module, ddb_section, descriptor, dii_section, packets_of_sections, pat_section, pmt_section
 
-PID, PMT_PID, SERVICE = 256, 0x1F0, 101
+PID, PMT_PID, CLOCK_PID, SERVICE = 256, 0x1F0, 257, 101
+CLOCK_END = (1 << 33) * 300
 SAMPLES = {0: 1, 2: 3, 3: 1}  # of a pixel, by the kind of a PNG's colours
 
 
@@ -59,3 +60,16 @@ def stream_of(versions, with_tables=False):
         sections.append((PID, dii_section(version, 1, 4000, [Module(0, version, len(data), info)])))
         sections += [(PID, ddb_section(1, 0, version, at // 4000, data[at : at + 4000])) for at in range(0, len(data), 4000)]
     return packets_of_sections(sections)[0]
+
+
+def clock_packet(ticks, pid=CLOCK_PID):
+    """Returns a packet with a clock reference, in steps of a clock of 27 MHz, and without payload."""
+    base, extension = divmod(ticks % CLOCK_END, 300)
+    field = (base << 15 | 0x3F << 9 | extension).to_bytes(6, "big")
+    return struct.pack(">BHBBB", 0x47, pid, 0x20, 183, 0x10) + field + b"\xff" * 176
+
+
+def timed(stream, milliseconds):
+    """Returns a stream with a clock reference before each packet, so many milliseconds one from the other."""
+    packets = [stream[at : at + 188] for at in range(0, len(stream), 188)]
+    return b"".join(clock_packet(number * milliseconds * 27_000) + packet for number, packet in enumerate(packets))

@@ -20,7 +20,7 @@ import page_styles
 import pictures
 from colours import BadColours
 from drawings import Look, display_lists, drawing, shapes_of
-from generated_pages import PID, chunk, clut_of, entity_of, jpeg_of, mng_of, png_of, stream_of
+from generated_pages import CLOCK_END, PID, chunk, clock_packet, clut_of, entity_of, jpeg_of, mng_of, png_of, stream_of
 from pictures import BadPicture
 from shown_pages import Clock, Follower, Path as Place, Recording, resolved
 
@@ -264,18 +264,17 @@ class Following(InFolder):
 
 
 class Clocks(unittest.TestCase):
-    def packet(self, ticks):
-        base, extension = divmod(ticks % ((1 << 33) * 300), 300)
-        return bytes([0x47, 1, 0, 0x20, 183, 0x10]) + (base << 15 | 0x3F << 9 | extension).to_bytes(6, "big") + bytes(176)
-
     def test_times_go_on_past_the_end_of_the_clock_and_jumps(self):
-        clock, start = Clock(), (1 << 33) * 300 - 27_000_000
+        clock, start = Clock(), CLOCK_END - 27_000_000
         self.assertEqual(clock.at(5), None)
         for number, ticks in ((3, start), (5, start + 13_500_000), (9, start + 54_000_000), (10, 5), (12, 27_000_005)):
-            self.assertTrue(clock.take(self.packet(ticks), number))
+            self.assertTrue(clock.take(clock_packet(ticks), number))
         self.assertFalse(clock.take(bytes([0x47, 1, 0, 0x10]) + bytes(184), 13))
         self.assertFalse(clock.take(bytes([0x47, 1, 0, 0x30, 183, 0]) + bytes(182), 13))
         self.assertEqual([clock.at(it) for it in (1, 3, 4, 5, 8, 9, 10, 11, 12, 99)], [0, 0, 0, 0.5, 0.5, 2, 2, 2, 3, 3])
+        self.assertEqual([clock.told(it) for it in (5, 12)], ["0:00:00.500", "0:00:03.000"])
+        clock.times[-1] = 7384 * 27_000_000
+        self.assertEqual((clock.told(12), Clock().told(1)), ("2:03:04.000", ""))
 
 
 @unittest.skipUnless(browser.program(), "there is no Chromium")
