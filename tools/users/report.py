@@ -48,6 +48,7 @@ KINDS = ["module", "gone", "skip", "load", "refuse", "badscript", "stop", "lost"
 KEYS = {1: "up", 2: "down", 3: "left", 4: "right", 18: "enter", 19: "back", 20: "data", 21: "blue", 22: "red", 23: "green", 24: "yellow"}
 KEYS |= {5 + digit: str(digit) for digit in range(10)}
 
+NO_FONT = "This system has no Japanese font, so that texts can't be read here. On Debian the package fonts-noto-cjk has one."
 STYLE = """
 body{font:15px/1.5 sans-serif;margin:0 auto;padding:0 1em 4em;max-width:1080px;color:#202428;background:#fff}
 h1{font-size:1.5em}h2{font-size:1.2em;margin:2em 0 .5em}h3{font-size:1em;margin:1.5em 0 .3em}
@@ -78,6 +79,14 @@ function filter() {
   }
   found.textContent = all ? "" : count + " of " + lines.length + " lines";
 }
+function inked(letter) {
+  const canvas = document.createElement("canvas"), pen = canvas.getContext("2d");
+  pen.font = "24px monospace";
+  pen.fillText(letter, 0, 24);
+  return canvas.toDataURL();
+}
+// (a font without Japanese has one sign for all that it lacks)
+document.querySelector("#fonts").hidden = inked("\u6674") !== inked("\u8a9e");
 let waiting = 0;
 text.addEventListener("input", () => { clearTimeout(waiting); waiting = setTimeout(filter, 200); });
 kind.addEventListener("change", filter);
@@ -390,6 +399,7 @@ def page(report):
         f'<!DOCTYPE html><html lang="en"><head><meta charset="utf-8"><meta http-equiv="Content-Security-Policy" content="{policy()}">',
         f'<meta name="viewport" content="width=device-width"><title>{name}</title><style>{STYLE}</style></head><body>',
         f"<h1>{name}</h1><p>{len(report.lines):,} lines. {' '.join(map(escape, filter(None, notes)))}</p>",
+        f'<p id="fonts" hidden>{NO_FONT}</p>',
         *warning_table(report, places),
         *module_table(report, places, moments),
         "<h2>The run, part by part</h2>",

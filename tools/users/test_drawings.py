@@ -9,11 +9,13 @@ import itertools
 import os
 import struct
 import tempfile
+import unicodedata
 import unittest
 import zlib
 from pathlib import Path
 from xml.etree import ElementTree
 
+import arib_text
 import browser
 import colours
 import page_styles
@@ -168,6 +170,36 @@ class Paths(unittest.TestCase):
         for text, wanted in rows:
             self.assertEqual(resolved(text, base), wanted, text)
         self.assertEqual([resolved(it, None) for it in (b"c", b"../0003/b", b"/40/0001")], [None, None, Place(0x40, 1)])
+
+
+class Texts(unittest.TestCase):
+    def test_additional_characters_have_their_unicode_forms(self):
+        names = {(93, 17): "TORTOISE SHELL BRACKETED CJK UNIFIED IDEOGRAPH-672C", (93, 27): "SQUARED CJK UNIFIED IDEOGRAPH-6295", (93, 64): "BLACK SUN WITH RAYS"}
+        names |= {(93, 66): "UMBRELLA", (90, 48): "SQUARED HV", (91, 8): "POSTAL MARK", (94, 1): "ROMAN NUMERAL ONE", (94, 93): "CIRCLED NUMBER THIRTY ONE"}
+        names |= {(85, 1): "CJK UNIFIED IDEOGRAPH-3402", (86, 43): "CJK UNIFIED IDEOGRAPH-9EB5", (92, 86): "CIRCLED ITALIC LATIN CAPITAL LETTER R"}
+        self.assertEqual({place: unicodedata.name(arib_text.ADDITIONAL[place]) for place in names}, names)
+        self.assertEqual(len(arib_text.ADDITIONAL), 94 + 43 + 84 - 11 + 49 + 91 - 30 + 91 - 3 + 93)
+        for place, text in arib_text.ADDITIONAL.items():
+            self.assertTrue(unicodedata.name(text), place)
+
+    def test_texts_stand_in_cells(self):
+        rows = [(b"A \x8e\xb1\xa4\xa2", "A \uff71\u3042", "---#"), (b"\xfd\xe0\xff\x80\xa4", "\u2600\ufffd\ufffd\ufffd", "#---"), (b"\0\x1f\x7f", "\u2400\u241f\u2421", "---")]
+        for data, text, widths in [*rows, (b"\xfa\xd1\xa9\xa1\x8e\xfe", "\U0001f14c\u3013\ufffd", "##-"), (b"", "", "")]:
+            cells = arib_text.cells_of(data)
+            self.assertEqual(("".join(it.text for it in cells), "".join("-#"[it.is_wide] for it in cells)), (text, widths))
+
+    def test_each_character_has_its_place(self):
+        data = b"ab\xa4\xa2\xa4\xa4\xfa\xd0c"
+        lines = [b"text 5 6 400 90 7 24 " + data, b"text 5 6 400 90 2 20 \xa4\xa6%0Ad"]
+        root = ElementTree.fromstring(drawing(0, shapes_of(lines, Look()), Look()))
+        found = [[it.get("x"), it.get("y"), it.get("textLength"), it.text] for it in root.iter(f"{SVG}text")]
+        wide = [["24 48", "20", None, "\u3042\u3044"], ["72", "20", None, "\U0001f14a"]]
+        self.assertEqual(found, [["0", "20", "24", "ab"], *wide, ["96", "20", "12", "c"], ["108", "16", None, "\u3046"], ["0", "36", "10", "d"]])
+
+    def test_long_texts_and_sizes_of_nothing(self):
+        lines = [b"text 0 0 9 9 7 24 " + b"\xa4\xa2a" * 10_000, b"text 0 0 9 9 7 0 x", b"text 0 0 9 9 7 32767 x"]
+        shapes = shapes_of(lines, Look())
+        self.assertLess(sum(map(len, shapes)), 4_000_000)
 
 
 class InFolder(unittest.TestCase):

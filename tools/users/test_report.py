@@ -10,6 +10,7 @@ import contextlib
 import io
 import os
 import re
+import shutil
 import subprocess
 import sys
 import tempfile
@@ -269,8 +270,10 @@ class InBrowser(InFolder):
         drawn = [it for at, it in enumerate(found) if it.lines != (found[at - 1].lines if at else [])]
         self.assertEqual(page.value("document.querySelectorAll('section').length"), len(report.parts_of(lines)))
         self.assertEqual(page.value("document.querySelectorAll('section > svg').length"), len(drawn))
+        has_font = bool(subprocess.run(["fc-list", ":lang=ja"], capture_output=True, check=False).stdout) if shutil.which("fc-list") else None
+        self.assertIn(page.value("document.querySelector('#fonts').hidden"), [True, False] if has_font is None else [has_font])
         self.assertEqual(page.value("[...document.querySelectorAll('section > svg')].every(it => it.getBoundingClientRect().height > 300)"), True)
-        texts = page.value("[...document.querySelectorAll('section > svg text')].map(it => it.textContent).join()")
+        texts = page.value("[...document.querySelectorAll('section > svg text')].map(it => it.textContent).join('')")
         for text in {"menu-keys": ["Weather", "picked 1"], "styles": ["gale", "storm"], "document": ["Osaka: 晴れ, 21%"]}[example.name]:
             self.assertIn(text, texts)
         self.filters(page, len(lines))
@@ -283,7 +286,7 @@ class InBrowser(InFolder):
         self.assertEqual({it.split(" ")[0] for it in shown}, {"text"})
         self.assertEqual(page.value("found.textContent"), f"{len(shown)} of {count} lines")
         page.value("kind.value = ''; kind.dispatchEvent(new Event('change'))")
-        self.assertEqual(page.value("document.querySelectorAll('p[hidden], section[hidden], details[open]').length"), 0)
+        self.assertEqual(page.value("document.querySelectorAll('section p[hidden], section[hidden], details[open]').length"), 0)
         page.value("part.value = part.max; part.dispatchEvent(new Event('change'))")
         self.assertEqual(page.value("document.querySelector(location.hash) === [...document.querySelectorAll('section')].at(-1)"), True)
 
