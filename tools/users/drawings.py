@@ -9,11 +9,14 @@ import re
 from typing import NamedTuple
 from xml.sax.saxutils import escape
 
+from arib_text import cells_of, readable
 from colours import FIXED
 from pictures import BadPicture
 
 OTHER = (128, 128, 128, 255)
 MOST_NAME = 100  # characters of a name that are shown
+# A rounded gothic with half widths, as receivers have; then what other systems have, and whatever this one has.
+FONTS = "'Rounded M+ 1m for ARIB','Rounded Mgen+ 1m','Kosugi Maru',MotoyaLMaru,HGMaruGothicMPRO,'Hiragino Maru Gothic ProN','Noto Sans Mono CJK JP','MS Gothic',monospace"
 CHECK = 20  # the side of a square of the ground
 
 
@@ -71,12 +74,6 @@ def unescaped(field):
     return re.sub(rb"%([0-9A-F]{2})", lambda it: bytes([int(it[1], 16)]), field)
 
 
-def readable(raw):
-    """Bytes in EUC-JP as a text, in which control characters are pictures of them."""
-    text = raw.decode("euc_jp", errors="replace")
-    return re.sub("[\x00-\x1f\x7f]", lambda it: chr(0x2400 + ord(it[0])) if it[0] < " " else "\u2421", text)
-
-
 def numbers(fields, count):
     """The numbers in the first fields of a line."""
     if len(fields) < count or not all(re.fullmatch(rb"-?[0-9]{1,20}", it) for it in fields[:count]):
@@ -104,10 +101,31 @@ def box(fields, look):
     return drawn
 
 
-def advance(raw, size):
-    """How far a row of bytes goes: a character of two bytes is as wide as its size, every other half as wide."""
-    wide = len(re.findall(rb"[\x8e\xa1-\xfe][\xa1-\xfe]", raw))
-    return wide * size + (len(raw) - 2 * wide) * (size // 2)
+def runs_of(cells):
+    """Yields the cells of a row in runs of one width, each with how many half widths are before it. One whose code has more than 16 bits is a run of its
+    own, since a place may count for half of it."""
+    begin, run = 0, []
+    for cell in cells:
+        if run and (run[-1].is_wide != cell.is_wide or max(run[-1].text, cell.text) > "\uffff"):
+            yield begin, run
+            begin, run = begin + len(run) * (1 + run[0].is_wide), []
+        run.append(cell)
+    if run:
+        yield begin, run
+
+
+def row_shapes(cells, right, down, size, paint):
+    """Returns the shapes of a row: each wide character at its own place, and those of half the width in as much as they have together."""
+    shapes = []
+    for begin, run in runs_of(cells):
+        left, text = right + begin * size / 2, "".join(cell.text for cell in run)
+        if run[0].is_wide:
+            places = " ".join(f"{left + place * size:g}" for place in range(len(run)))
+            shapes.append(label(places, down, size, paint, text))
+        else:
+            fitted = f'textLength="{len(run) * size / 2:g}" lengthAdjust="spacingAndGlyphs" {paint}'
+            shapes.append(label(f"{left:g}", down, size, fitted, text))
+    return shapes
 
 
 class Pen:
@@ -125,10 +143,10 @@ class Pen:
         for place, row in enumerate(unescaped(b" ".join(fields[6:])).split(b"\n")):
             if place > 0:
                 self.right, self.down = 0, self.down + size
-            written = readable(row)
-            if written and paint:
-                drawn.append(label(self.right, self.down + size - size // 5, size, paint, written))
-            self.right += advance(row, size)
+            cells = cells_of(row)
+            if paint and size:
+                drawn += row_shapes(cells, self.right, self.down + size - size // 5, size, paint)
+            self.right += sum(1 + cell.is_wide for cell in cells) * size / 2
         if not drawn:
             return []
         # a box without a size cuts nothing: its text is still to be seen
@@ -199,5 +217,5 @@ def drawing(clock, shapes, look):
     # (the plane may have other proportions than the screen: then its pixels aren't square)
     height = round(look.width / look.ratio)
     head = f'<svg xmlns="http://www.w3.org/2000/svg" width="{look.width}" height="{height}" viewBox="0 0 {look.width} {look.height}"'
-    head += ' preserveAspectRatio="none" font-family="monospace" xml:space="preserve">'
+    head += f' preserveAspectRatio="none" font-family="{FONTS}" style="font-variant-emoji:text" xml:space="preserve">'
     return "\n".join([head, f"<title>show {clock}</title>", *ground(look.width, look.height), *shapes, "</svg>"]) + "\n"

@@ -25,7 +25,7 @@ from transport import compression_of, is_intact, read_pmt
 MOST_KEPT = 1 << 28  # bytes of modules of a stream
 MOST_PICTURES = 100  # that are remembered
 MOST_NAME = 64  # characters
-NO_PID = 0x1FFF
+FIRST_PID, NO_PID = 0x10, 0x1FFF  # a PCR_PID of a service that has clock references is in between
 SECOND = 27_000_000  # steps of the clock
 CLOCK_END = (1 << 33) * 300
 MOST_STEP = 10 * SECOND
@@ -80,6 +80,14 @@ class Clock:
         self.last = now
         return True
 
+    def told(self, number):
+        """Returns the time at a packet as a text, which is empty where there are no clock references."""
+        seconds = self.at(number)
+        if seconds is None:
+            return ""
+        minutes, seconds = divmod(seconds, 60)
+        return f"{int(minutes) // 60}:{int(minutes) % 60:02}:{seconds:06.3f}"
+
     def at(self, number):
         """Returns the seconds at the last clock reference up to a packet, or None where there are no clock references."""
         place = bisect_right(self.packets, number)
@@ -96,7 +104,7 @@ class TimedModules(ServiceModules):
         found = read_pmt(section) if is_intact(section) else None
         if found is not None and found[0] == self.service[0]:
             pid = int.from_bytes(section[8:10], "big") & 0x1FFF
-            self.clock_pid = None if pid == NO_PID else pid
+            self.clock_pid = pid if FIRST_PID <= pid < NO_PID else self.clock_pid
 
 
 class Recording:

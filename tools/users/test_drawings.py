@@ -9,75 +9,24 @@ import itertools
 import os
 import struct
 import tempfile
+import unicodedata
 import unittest
 import zlib
 from pathlib import Path
 from xml.etree import ElementTree
 
+import arib_text
 import browser
 import colours
 import page_styles
 import pictures
 from colours import BadColours
 from drawings import Look, display_lists, drawing, shapes_of
+from generated_pages import CLOCK_END, PID, chunk, clock_packet, clut_of, entity_of, jpeg_of, mng_of, png_of, stream_of
 from pictures import BadPicture
 from shown_pages import Clock, Follower, Path as Place, Recording, resolved
-from transport import TYPE_DESCRIPTOR, ElementaryStream, Module, ddb_section, descriptor, dii_section, packets_of_sections, pat_section, pmt_section
 
 SVG = "{http://www.w3.org/2000/svg}"
-PID = 256
-
-
-def chunk(name, body):
-    return struct.pack(">I", len(body)) + name + body + struct.pack(">I", zlib.crc32(name + body))
-
-
-def png_of(rows, depth=8, kind=3, more=b"", interlace=0, mark=b"\x89PNG\r\n\x1a\n"):
-    """Returns a PNG whose rows are bytes, with chunks in front of its data."""
-    head = struct.pack(">IIBBBBB", len(rows[0]) * 8 // depth // {3: 1, 0: 1, 2: 3}[kind], len(rows), depth, kind, 0, 0, interlace)
-    data = zlib.compress(b"".join(b"\0" + row for row in rows))
-    return mark + chunk(b"IHDR", head) + more + chunk(b"IDAT", data) + chunk(b"IEND", b"")
-
-
-def jpeg_of(width, height):
-    """Returns a grey JPEG: each of its blocks is a code of one bit for no difference, and another one for its end."""
-    blocks = -(-width // 8) * -(-height // 8)
-    bits = "0" * (2 * blocks) + "1" * (-2 * blocks % 8)
-    data = int(bits, 2).to_bytes(len(bits) // 8, "big")
-    table = bytes([1] + [0] * 15 + [0])
-    parts = [(0xDB, b"\0" + b"\x01" * 64), (0xC0, struct.pack(">BHHB", 8, height, width, 1) + b"\x01\x11\0")]
-    parts += [(0xC4, b"\x00" + table), (0xC4, b"\x10" + table), (0xDA, b"\x01\x01\0\0\x3f\0")]
-    return b"\xff\xd8" + b"".join(struct.pack(">BBH", 0xFF, mark, 2 + len(body)) + body for mark, body in parts) + data + b"\xff\xd9"
-
-
-def mng_of(png, more=b""):
-    """Returns an MNG of a picture, with chunks in front of it."""
-    return pictures.MNG + chunk(b"MHDR", bytes(28)) + more + png[8:] + chunk(b"MEND", b"")
-
-
-def clut_of(first, entries, is_rgb=True):
-    """Returns a colour table with 8 bits to an index."""
-    head = (0x80 if is_rgb else 0) | 0x20 | 0x08
-    return bytes([head, first, first + len(entries) - 1]) + b"".join(map(bytes, entries))
-
-
-def entity_of(parts):
-    lines = [b'Content-Type: multipart/mixed; boundary="b1"', b""]
-    for name, data in parts.items():
-        lines += [b"--b1", b"Content-Type: application/octet-stream", b"Content-Location: " + name.encode(), b"", data]
-    return b"\r\n".join([*lines, b"--b1--", b""])
-
-
-def stream_of(versions, with_tables=False):
-    """Returns a stream of versions of module 0000 of component 40, one behind the other: each has a Type or, with None, is an entity."""
-    sections = []
-    if with_tables:
-        sections += [(0, pat_section([(101, 0x1F0)])), (0x1F0, pmt_section(101, [ElementaryStream(0x0D, PID, 0x40)]))]
-    for version, (media, data) in enumerate(versions, 1):
-        info = b"" if media is None else descriptor(TYPE_DESCRIPTOR, media)
-        sections.append((PID, dii_section(version, 1, 4000, [Module(0, version, len(data), info)])))
-        sections += [(PID, ddb_section(1, 0, version, at // 4000, data[at : at + 4000])) for at in range(0, len(data), 4000)]
-    return packets_of_sections(sections)[0]
 
 
 class Colours(unittest.TestCase):
@@ -223,6 +172,36 @@ class Paths(unittest.TestCase):
         self.assertEqual([resolved(it, None) for it in (b"c", b"../0003/b", b"/40/0001")], [None, None, Place(0x40, 1)])
 
 
+class Texts(unittest.TestCase):
+    def test_additional_characters_have_their_unicode_forms(self):
+        names = {(93, 17): "TORTOISE SHELL BRACKETED CJK UNIFIED IDEOGRAPH-672C", (93, 27): "SQUARED CJK UNIFIED IDEOGRAPH-6295", (93, 64): "BLACK SUN WITH RAYS"}
+        names |= {(93, 66): "UMBRELLA", (90, 48): "SQUARED HV", (91, 8): "POSTAL MARK", (94, 1): "ROMAN NUMERAL ONE", (94, 93): "CIRCLED NUMBER THIRTY ONE"}
+        names |= {(85, 1): "CJK UNIFIED IDEOGRAPH-3402", (86, 43): "CJK UNIFIED IDEOGRAPH-9EB5", (92, 86): "CIRCLED ITALIC LATIN CAPITAL LETTER R"}
+        self.assertEqual({place: unicodedata.name(arib_text.ADDITIONAL[place]) for place in names}, names)
+        self.assertEqual(len(arib_text.ADDITIONAL), 94 + 43 + 84 - 11 + 49 + 91 - 30 + 91 - 3 + 93)
+        for place, text in arib_text.ADDITIONAL.items():
+            self.assertTrue(unicodedata.name(text), place)
+
+    def test_texts_stand_in_cells(self):
+        rows = [(b"A \x8e\xb1\xa4\xa2", "A \uff71\u3042", "---#"), (b"\xfd\xe0\xff\x80\xa4", "\u2600\ufffd\ufffd\ufffd", "#---"), (b"\0\x1f\x7f", "\u2400\u241f\u2421", "---")]
+        for data, text, widths in [*rows, (b"\xfa\xd1\xa9\xa1\x8e\xfe", "\U0001f14c\u3013\ufffd", "##-"), (b"", "", "")]:
+            cells = arib_text.cells_of(data)
+            self.assertEqual(("".join(it.text for it in cells), "".join("-#"[it.is_wide] for it in cells)), (text, widths))
+
+    def test_each_character_has_its_place(self):
+        data = b"ab\xa4\xa2\xa4\xa4\xfa\xd0c"
+        lines = [b"text 5 6 400 90 7 24 " + data, b"text 5 6 400 90 2 20 \xa4\xa6%0Ad"]
+        root = ElementTree.fromstring(drawing(0, shapes_of(lines, Look()), Look()))
+        found = [[it.get("x"), it.get("y"), it.get("textLength"), it.text] for it in root.iter(f"{SVG}text")]
+        wide = [["24 48", "20", None, "\u3042\u3044"], ["72", "20", None, "\U0001f14a"]]
+        self.assertEqual(found, [["0", "20", "24", "ab"], *wide, ["96", "20", "12", "c"], ["108", "16", None, "\u3046"], ["0", "36", "10", "d"]])
+
+    def test_long_texts_and_sizes_of_nothing(self):
+        lines = [b"text 0 0 9 9 7 24 " + b"\xa4\xa2a" * 10_000, b"text 0 0 9 9 7 0 x", b"text 0 0 9 9 7 32767 x"]
+        shapes = shapes_of(lines, Look())
+        self.assertLess(sum(map(len, shapes)), 4_000_000)
+
+
 class InFolder(unittest.TestCase):
     def setUp(self):
         folder = tempfile.TemporaryDirectory(prefix="drawings-")
@@ -317,18 +296,17 @@ class Following(InFolder):
 
 
 class Clocks(unittest.TestCase):
-    def packet(self, ticks):
-        base, extension = divmod(ticks % ((1 << 33) * 300), 300)
-        return bytes([0x47, 1, 0, 0x20, 183, 0x10]) + (base << 15 | 0x3F << 9 | extension).to_bytes(6, "big") + bytes(176)
-
     def test_times_go_on_past_the_end_of_the_clock_and_jumps(self):
-        clock, start = Clock(), (1 << 33) * 300 - 27_000_000
+        clock, start = Clock(), CLOCK_END - 27_000_000
         self.assertEqual(clock.at(5), None)
         for number, ticks in ((3, start), (5, start + 13_500_000), (9, start + 54_000_000), (10, 5), (12, 27_000_005)):
-            self.assertTrue(clock.take(self.packet(ticks), number))
+            self.assertTrue(clock.take(clock_packet(ticks), number))
         self.assertFalse(clock.take(bytes([0x47, 1, 0, 0x10]) + bytes(184), 13))
         self.assertFalse(clock.take(bytes([0x47, 1, 0, 0x30, 183, 0]) + bytes(182), 13))
         self.assertEqual([clock.at(it) for it in (1, 3, 4, 5, 8, 9, 10, 11, 12, 99)], [0, 0, 0, 0.5, 0.5, 2, 2, 2, 3, 3])
+        self.assertEqual([clock.told(it) for it in (5, 12)], ["0:00:00.500", "0:00:03.000"])
+        clock.times[-1] = 7384 * 27_000_000
+        self.assertEqual((clock.told(12), Clock().told(1)), ("2:03:04.000", ""))
 
 
 @unittest.skipUnless(browser.program(), "there is no Chromium")
