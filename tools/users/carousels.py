@@ -227,7 +227,42 @@ class Channel:
         return before
 
 
-class CompressedModule(Acquisition):
+class KeptModule(Acquisition):
+    """A module whose bytes are kept as they come."""
+
+    def __init__(self, dii, module):
+        super().__init__(dii, module)
+        self.content = None  # what came of it
+
+    def keep(self, ddb):
+        """Keeps the bytes of a block that was taken."""
+        if self.content is None:
+            self.content = bytearray(self.module.size)
+        at = ddb.number * self.key[1]
+        self.content[at : at + len(ddb.block)] = ddb.block
+
+
+class BadCompression(Exception):
+    """Why a module can't be unpacked."""
+
+
+def unpacked(data, size):
+    """Returns what zlib made smaller, which has that size; raises BadCompression where it hasn't."""
+    unpacker = zlib.decompressobj()
+    try:
+        found = unpacker.decompress(data, size + 1)
+    except zlib.error as fault:
+        raise BadCompression(f"it doesn't unpack: {fault}") from None
+    if len(found) > size:
+        raise BadCompression(f"it unpacks to more than the {size} bytes that are announced")
+    if not unpacker.eof:
+        raise BadCompression("what it unpacks to has no end")
+    if len(found) < size:
+        raise BadCompression(f"it unpacks to {len(found)} bytes, and {size} are announced")
+    return found
+
+
+class CompressedModule(KeptModule):
     """A module that is to be unpacked. It is open until it is unpacked or left as it came."""
 
     def __init__(self, dii, module):
@@ -235,7 +270,6 @@ class CompressedModule(Acquisition):
         self.size = compression_of(module.info).size
         self.header = b""  # of the section that carried its first block
         self.first = None  # the DDB in it, without its bytes
-        self.content = None  # what came of it; its bytes once it is unpacked
         self.is_open = True
         self.is_unpacked = False
 
@@ -245,25 +279,17 @@ class CompressedModule(Acquisition):
             return False
         if self.is_open:
             if self.content is None:
-                self.header, self.first, self.content = header, ddb._replace(block=b""), bytearray(self.module.size)
-            at = ddb.number * self.key[1]
-            self.content[at : at + len(ddb.block)] = ddb.block
+                self.header, self.first = header, ddb._replace(block=b"")
+            self.keep(ddb)
         return self.is_whole()
 
     def unpack(self):
         """Unpacks the module, or else returns why it can't be unpacked."""
-        unpacker = zlib.decompressobj()
         try:
-            data = unpacker.decompress(self.content or b"", self.size + 1)
-        except zlib.error as fault:
-            return f"it doesn't unpack: {fault}"
-        if len(data) > self.size:
-            return f"it unpacks to more than the {self.size} bytes that are announced"
-        if not unpacker.eof:
-            return "what it unpacks to has no end"
-        if len(data) < self.size:
-            return f"it unpacks to {len(data)} bytes, and {self.size} are announced"
-        self.content, self.is_open, self.is_unpacked = data, False, True
+            self.content = unpacked(self.content or b"", self.size)
+        except BadCompression as fault:
+            return str(fault)
+        self.is_open, self.is_unpacked = False, True
         return None
 
     def sections(self):

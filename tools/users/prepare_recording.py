@@ -1,24 +1,30 @@
 #!/usr/bin/env python3
 """Prepares a recording from the air for bml_replay.
 
-usage: prepare_recording.py list IN
-       prepare_recording.py unpack IN OUT
+    tools/users/prepare_recording.py list IN
+    tools/users/prepare_recording.py unpack IN OUT [--data-only [--service N]]
 
 IN is a transport stream in packets of 188 bytes, alone, with 4 bytes in front of each (192, as in .m2ts) or with 16 behind it (204, with
 parity). `list` prints its services, their components of data, and all modules of their carousels. `unpack` writes it in packets of
 188 bytes, in which the modules that zlib compressed are unpacked; all else stays as it came. A module that can't be unpacked stays as it is
 announced, and a line on standard error says why. tools/users/carousels.py says how a carousel is replaced.
 
+With --data-only pictures and sound are left out: what is written are the packets of the PAT, the PMTs and the PIDs of data, of all services or of
+service N, from where a table names them. A replay prints the same lines as over the whole recording, but for the number of packets in `end`, if its
+record takes all packets and it asks for no PID.
+
 The file is read once, from the front. What is kept of it are the carousels. Status: 0 where it was done, 1 where IN has no packets or
 tables, or a file can't be read or written, 2 where the command line is none of the above. This tool is tested, and not proved.
 """
 
+import argparse
 import os
+import re
 import stat
 import sys
 
 from carousels import ListedComponent, Output, UnpackedComponent
-from recordings import Reception, found_layout, packets_of, pid_of
+from recordings import Reception, Recording, pid_of
 from transport import TYPE_DESCRIPTOR, ZLIB, compression_of, descriptors
 
 NAME = "prepare_recording.py"
@@ -51,26 +57,36 @@ class Terminal:
             print(f"\r{read // 1_000_000} of {self.total // 1_000_000} MB", end="", file=sys.stderr, flush=True)
 
 
-def receive(file, reception, pass_on, terminal):
-    """Hands the packets of a file to the reception, and those that it doesn't take to pass_on; returns their size and number."""
-    layout, data = found_layout(file)
-    if layout is None:
-        raise Fault("there are no packets in it: a transport stream has 0x47 every 188, 192 or 204 bytes")
-    count = 0
-    for packets in packets_of(file, layout, data, terminal.progress):
-        count += len(packets)
+def receive_all(recording, reception, pass_on):
+    """Hands the packets of a recording to the reception, and those that it doesn't take to pass_on."""
+    for packets in recording.packets():
         for packet in packets:
             pid = pid_of(packet)
             if pid not in reception.wanted or not reception.take(pid, packet):
                 pass_on(packet)
+
+
+def receive_wanted(recording, reception, pass_on):
+    """Hands the packets that the reception wants to it, and those of them that it doesn't take to pass_on."""
+    for _, pid, packet in recording.packets_on(lambda: reception.wanted):
+        if not reception.take(pid, packet):
+            pass_on(packet)
+
+
+def receive(file, reception, pass_on, terminal, hand_over):
+    """Hands the packets of a file to the reception by one of the two above; returns their size and number."""
+    recording = Recording(file, terminal.progress)
+    if recording.size is None:
+        raise Fault("there are no packets in it: a transport stream has 0x47 every 188, 192 or 204 bytes")
+    hand_over(recording, reception, pass_on)
     terminal.clear()
-    found = f"{count} packets of {layout.size} bytes"
+    found = f"{recording.count} packets of {recording.size} bytes"
     if not reception.programs:
         raise Fault(f"it has {found}, and no table of its services (PAT) came whole")
     if not reception.streams:
         raise Fault(f"it has {found}, and of none of its services the table (PMT) came whole")
     reception.end()
-    return layout.size, count
+    return recording.size, recording.count
 
 
 def printable(data):
@@ -113,12 +129,12 @@ def list_modules(source):
     with open(source, "rb") as file:
         reception = Reception(component_on)
         terminal = Terminal(os.fstat(file.fileno()).st_size)
-        size, count = receive(file, reception, lambda packet: None, terminal)
+        size, count = receive(file, reception, lambda packet: None, terminal, receive_wanted)
     print("\n".join([f"packets of {size} bytes: {count}", *lines_of(reception, components)]))
 
 
-def unpack(source, target):
-    """Writes a recording whose modules are unpacked. It is made beside its place, and put there when it is whole."""
+def unpack(source, target, data_only=False, service=None):
+    """Writes a recording whose modules are unpacked, or its data alone. It is made beside its place, and put there when it is whole."""
     with open(source, "rb") as file:
         if os.path.exists(target) and os.path.samefile(source, target):
             raise Fault("OUT would be written over it: name another file")
@@ -131,8 +147,8 @@ def unpack(source, target):
             try:
                 terminal = Terminal(os.fstat(file.fileno()).st_size)
                 output = Output(made)
-                reception = Reception(lambda pid: UnpackedComponent(pid, output, terminal.say))
-                receive(file, reception, output.write, terminal)
+                reception = Reception(lambda pid: UnpackedComponent(pid, output, terminal.say), service)
+                receive(file, reception, output.write, terminal, receive_wanted if data_only else receive_all)
                 made.flush()
                 os.replace(part, target)
             except BaseException:
@@ -140,17 +156,44 @@ def unpack(source, target):
                 raise
 
 
+def number_between(least, most):
+    """Returns what reads a number of the command line, in decimal digits."""
+
+    def number(text):
+        if not re.fullmatch("[0-9]{1,10}", text) or not least <= int(text) <= most:
+            raise argparse.ArgumentTypeError(f"{text} is no number from {least} to {most}")
+        return int(text)
+
+    return number
+
+
+def asked_of(words):
+    """Returns what a command line asks for; ends the program where it is faulty."""
+    parser = argparse.ArgumentParser(prog=NAME, description="Prepares a recording from the air for bml_replay. Tested, and not proved.")
+    commands = parser.add_subparsers(dest="command", required=True, metavar="list | unpack")
+    lists = commands.add_parser("list", help="prints what is in a recording", description="Prints the services, components and modules of a recording.")
+    lists.add_argument("source", metavar="IN")
+    unpacks = commands.add_parser("unpack", help="writes it for bml_replay", description="Writes a recording in packets of 188 bytes, with its modules unpacked.")
+    unpacks.add_argument("source", metavar="IN")
+    unpacks.add_argument("target", metavar="OUT")
+    unpacks.add_argument("--data-only", action="store_true", help="leaves out pictures and sound")
+    unpacks.add_argument("--service", type=number_between(1, 65_535), metavar="N", help="keeps the data of service N alone")
+    asked = parser.parse_args(words)
+    if asked.command == "unpack" and asked.service is not None and not asked.data_only:
+        unpacks.error("--service goes with --data-only")
+    return asked
+
+
 def main(words):
-    commands = {("list", 2): list_modules, ("unpack", 3): unpack}
-    command = commands.get((words[0] if words else "", len(words)))
-    if command is None:
-        print(f"usage: {NAME} list IN\n       {NAME} unpack IN OUT", file=sys.stderr)
-        return 2
+    asked = asked_of(words)
     try:
-        command(*words[1:])
+        if asked.command == "list":
+            list_modules(asked.source)
+        else:
+            unpack(asked.source, asked.target, asked.data_only, asked.service)
         sys.stdout.flush()
     except Fault as fault:
-        print(f"{NAME}: {words[1]}: {fault}", file=sys.stderr)
+        print(f"{NAME}: {asked.source}: {fault}", file=sys.stderr)
         return 1
     except OSError as fault:
         print(f"{NAME}: {fault}", file=sys.stderr)
