@@ -11,6 +11,7 @@ import contextlib
 import io
 import os
 import random
+import re
 import subprocess
 import sys
 import tempfile
@@ -72,12 +73,12 @@ class InFolder(unittest.TestCase):
             file.write(data)
 
     def unpacked(self, packets, *options):
-        """Unpacks a recording of these packets, and returns the stream and what was told."""
+        """Unpacks a recording of these packets, and returns the stream and what was told of its modules, without the findings of diagnosis.py."""
         self.write(packets if isinstance(packets, bytes) else b"".join(packets))
         status, printed, told = run("unpack", self.source, self.target, *options)
         self.assertEqual((status, printed), (0, ""), told)
         with open(self.target, "rb") as file:
-            return file.read(), told
+            return file.read(), re.sub(r".*\[[\w ]+\]\n", "", told)
 
     def lines(self, stream):
         """Returns what a receiver makes of a stream, and with the program that it prints the same."""
@@ -243,7 +244,7 @@ class Packets(InFolder):
     def test_a_file_without_packets_or_tables_is_told(self):
         packets = packets_of(on(PID, [transport.dii_section(1, 1, 100, [])]))
         pat = packets_of([(0, transport.pat_section([(1, MAP_PID)]))])
-        for data, wanted in [(b"", "no packets"), (b"x" * 5000, "no packets"), (b"G", "no packets"), (b"".join(packets), "(PAT)"), (pat[0], "(PMT)")]:
+        for data, wanted in [(b"", "no bytes"), (b"x" * 5000, "no packets"), (b"G", "no packets"), (b"".join(packets), "(PAT)"), (pat[0], "(PMT, on PID 496)")]:
             self.write(data)
             for words in (["list", self.source], ["unpack", self.source, self.target]):
                 status, printed, told = run(*words)
@@ -567,9 +568,8 @@ class Listing(InFolder):
             "    module 0003 version 01, 101 bytes, not complete, no Type",
             "    module 0004 version 01, 0 bytes, complete, no Type",
             "service 3, PMT on PID 401, which didn't come",
-            "",
         ]
-        self.assertEqual((status, printed.split("\n"), told), (0, wanted, ""))
+        self.assertEqual((status, printed.split("\n")[: len(wanted)], told), (0, wanted, ""))
 
     def test_a_module_is_listed_once(self):
         module = Module(1, 1, 3)
