@@ -13,7 +13,7 @@ EXAMPLES = Path(__file__).resolve().parents[2] / "examples"
 MULTIPLIER, SEED_INCREMENT = 6364136223846793005, 11634580027462260723
 BLOCK_SIZE, ROUNDS = 4000, 2
 DRAWN = descriptor(TYPE_DESCRIPTOR, b"application/octet-stream")
-# The page is that of an example, in an entity of one part.
+# The page is that of an example but for the colour of the focus, in an entity of one part: so it has as many bytes.
 HEADS = (
     b'Content-Type: multipart/mixed; boundary="b1"\r\n\r\n--b1\r\n'
     b'Content-Type: text/X-arib-bml; charset="euc-jp"\r\nContent-Location: startup.bml\r\n\r\n'

@@ -10,7 +10,7 @@ import stat
 from typing import NamedTuple
 
 from carousels import MOST_MODULE_BYTES, ListedComponent
-from recordings import PACKET_SIZE, Assembler, Reception, Recording
+from recordings import PACKET_SIZE, Assembler, PacketReader, Reception
 from service_modules import MOST_COMPONENTS, SINGLE_COMPONENT
 from transport import MESSAGE_DDB, MESSAGE_DII, compression_of, is_intact, payload_of, read_ddb, read_dii
 
@@ -135,7 +135,7 @@ def shown(line):
 def is_stream(path):
     """Whether there are packets at the beginning of a file."""
     with open(path, "rb") as file:
-        return Recording(file).size is not None
+        return PacketReader(file).size is not None
 
 
 def finding_of_kind(data):
@@ -164,7 +164,7 @@ def fault_of_path(path):
 class Survey(NamedTuple):
     """What was found in a recording: its packets, which were read to their end, its tables, the listing of each PID of data, and what is asked for."""
 
-    recording: Recording
+    recording: PacketReader
     reception: Reception
     listings: dict
     service: int | None = None
@@ -173,7 +173,7 @@ class Survey(NamedTuple):
 
 def survey(file, service=None, data_pid=None, progress=lambda read: None):
     """Reads a recording to its end. Where it has no packets there is nothing in it."""
-    recording, components = Recording(file, progress), {}
+    recording, components = PacketReader(file, progress), {}
     reception = Reception(lambda pid: components.setdefault(pid, ListedComponent()))
     asked = ListedComponent()
     for _, pid, packet in recording.packets_on(lambda: reception.wanted if data_pid is None else reception.wanted | {data_pid}):
@@ -190,7 +190,7 @@ def carousel_pids(path):
     """Returns the PIDs at the beginning of a recording on which a DII or a block of a carousel comes, whether a table names them or not."""
     found, assemblers = set(), {}
     with open(path, "rb") as file:
-        recording = Recording(file)
+        recording = PacketReader(file)
         for packets in recording.packets():
             for packet in packets:
                 pid = (packet[1] & 0x1F) << 8 | packet[2]

@@ -29,7 +29,7 @@ from typing import NamedTuple
 
 from diagnosis import diagnose
 from entities import BadEntity, Part, resources_of
-from recordings import Recording
+from recordings import PacketReader
 from service_modules import ServiceModules
 from transport import compression_of
 
@@ -276,7 +276,7 @@ def page_parts(folder, source, told):
 
 def read_modules(file, modules):
     """Hands the packets of a file to what follows a service, and returns their size and number."""
-    recording = Recording(file)
+    recording = PacketReader(file)
     for number, pid, packet in recording.packets_on(lambda: modules.wanted):
         modules.take(pid, packet, number)
     return recording.size, recording.count

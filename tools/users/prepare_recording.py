@@ -26,7 +26,7 @@ import sys
 
 from carousels import Listing, Output, UnpackedComponent
 from diagnosis import TABLE, Survey, findings_of, survey
-from recordings import Reception, Recording, pid_of
+from recordings import PacketReader, Reception, pid_of
 from transport import PACKET_SIZE, TYPE_DESCRIPTOR, ZLIB, compression_of, descriptors
 
 NAME = "prepare_recording.py"
@@ -149,7 +149,7 @@ def unpack(source, target, data_only=False, service=None):
             try:
                 terminal = Terminal(os.fstat(file.fileno()).st_size)
                 output, listings = Output(made), {}
-                recording = Recording(file, terminal.progress)
+                recording = PacketReader(file, terminal.progress)
                 reception = Reception(lambda pid: UnpackedComponent(pid, output, terminal.say, listings.setdefault(pid, Listing())), service)
                 (receive_wanted if data_only else receive_all)(recording, reception, output.write)
                 terminal.clear()

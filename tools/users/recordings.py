@@ -154,7 +154,7 @@ class PacketCounts:
                 counter.update(compress(pids, marks))
 
 
-class Recording:
+class PacketReader:
     """The packets of a file, which is read once from the front: their size, which is None where there are none, and how many were read."""
 
     def __init__(self, file, progress=lambda read: None):

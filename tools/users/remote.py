@@ -6,11 +6,17 @@
 prints the address of the page, which a browser of this machine opens, and serves it until it is interrupted. The session begins
 with RECORD, or else with a record that takes all packets. Each press of a key adds its lines to the record, `key` and `release` and `show`, and each
 step of time a `tick`; then PROGRAM (build/bml_replay) replays STREAM from its start, in an empty folder, so that no replay finds what another one
-kept. So what is shown is what the program printed for that record. The page saves the record, which shows the same tomorrow, and takes the last press back. A replay that fails or takes over ten seconds is
-told there; its press stays in the record until it is taken back.
+kept. So what is shown is what the program printed for that record. The page saves the record, which shows the same tomorrow, takes the last press back, and has the report
+of the session (report.py).
+
+The slider goes to a packet of the recording. Forwards it adds `packets N`. Backwards it takes presses back up to the last one that hadn't taken so many, or, if the
+record took more from its beginning, begins it anew. Beside it stand the stream's time by its clock references, and the clock that the record let pass. How far a replay is shows
+there, and it can be stopped. One that fails, is stopped or takes over ten minutes is told; its press stays in the record until it is taken back.
+
+The stream is also read by this tool, for its colours, pictures and times (shown_pages.py). Until that is done, pictures are frames.
 
 Only the page drives the session. The server listens on the loopback address alone, its address has a word drawn at random, a request with the
-name of another host is refused, and nothing is served but the page (tools/users/remote.html) and its answers. Stream and program are those of the command line.
+name of another host is refused, and nothing is served but the page (tools/users/remote.html), its answers and the report. Stream and program are those of the command line.
 Status: 0 where it was interrupted, 1 where a file can't be used, 2 where the command line is none of the above.
 """
 
@@ -20,25 +26,32 @@ import hashlib
 import hmac
 import json
 import os
+import re
 import secrets
 import signal
 import subprocess
 import sys
 import tempfile
 import threading
+import time
 from http.server import BaseHTTPRequestHandler, ThreadingHTTPServer
 from pathlib import Path
 from typing import NamedTuple
 
-from draw_display import BadOutput, display_lists, drawing, shapes_of
-from report import KEYS, items_of, kind_of, plain_text
+from drawings import BadOutput, DisplayList, Look, display_lists, drawing, shapes_of
+from report import KEYS, items_of, kind_of, page, plain_text, policy, report_of_lines
+from shown_pages import Follower, Recording, add_service, number
 
 TOOLS = Path(__file__).resolve().parent
 PAGE = (TOOLS / "remote.html").read_text(encoding="utf-8")
 PROGRAM = TOOLS.parents[1] / "build" / "bml_replay"
 FIRST_RECORD = b"# begun by tools/users/remote.py\nall\nshow\n"
-LIMIT = 10  # seconds for a replay
+LIMIT = 600  # seconds for a replay
+PATIENCE = 2  # seconds in which a stream is read before its first picture is drawn
 MOST_MILLISECONDS = 3_600_000
+MOST_PACKETS = (1 << 32) - 1
+MARKS = 100  # times along the slider, and
+MOST_ARRIVALS = 300  # modules
 MOST_BODY = 1000  # bytes of a request
 MOST_LINES = 5000  # of those that are shown beside the picture
 
@@ -68,18 +81,28 @@ class Press(NamedTuple):
 
 
 class Printed(NamedTuple):
-    """What a replay printed, without the line `end`: how many lines, and a digest of them."""
+    """What a replay printed, without the line `end`: how many lines, a digest of them, and how many packets it took."""
 
     count: int
     digest: bytes
+    packets: int | None
 
 
 class Shown(NamedTuple):
-    """What the page shows of a replay: the lines that no replay of a shorter record printed, and the display list behind them."""
+    """What the page shows of a replay: all of its lines, where those begin that no replay of a shorter record printed, its display list, and the
+    packets that it took."""
 
     lines: list[bytes]
-    clock: int
+    first: int
+    listed: DisplayList
+    packets: int | None
+
+
+class Drawn(NamedTuple):
+    """The drawing of a display list, and what is wrong with its look."""
+
     drawing: str
+    fault: str
 
 
 def digest_of(lines):
@@ -94,38 +117,108 @@ def time_step(milliseconds):
     return Press(f"{milliseconds} ms", f"# {milliseconds} ms\ntick {milliseconds}\nshow\n".encode())
 
 
-def replayed(command, record):
-    """Returns the lines that the program prints for a record, in a folder where nothing is kept."""
-    with tempfile.TemporaryDirectory(prefix="replay-") as room:
-        Path(room, "record.txt").write_bytes(record)
-        files = {"stdin": subprocess.DEVNULL, "stdout": subprocess.PIPE, "stderr": subprocess.PIPE, "cwd": room}
+def packet_step(packets):
+    return Press(f"{packets} packets", f"# {packets} packets\npackets {packets}\nshow\n".encode())
+
+
+def file_place(process, path):
+    """Returns how far a process has read a file, or None where that isn't known."""
+    try:
+        for entry in Path(f"/proc/{process}/fd").iterdir():
+            if os.path.realpath(entry) == os.path.realpath(path):
+                told = Path(f"/proc/{process}/fdinfo/{entry.name}").read_text(encoding="ascii")
+                return int(re.search("pos:\\s*([0-9]+)", told)[1])
+    except (OSError, TypeError):
+        pass
+    return None
+
+
+def part_of(place, size):
+    """Returns which part of a file was read, or None where that isn't known."""
+    return None if place is None or not size else min(1, place / size)
+
+
+class Replay:
+    """A run of the program over a record, in a folder where nothing is kept."""
+
+    def __init__(self, command):
+        self.command = command
+        self.started, self.is_stopped, self.begun = None, False, time.monotonic()
+
+    def lines(self, record):
+        """Returns the lines that the program prints."""
+        with tempfile.TemporaryDirectory(prefix="replay-") as room:
+            Path(room, "record.txt").write_bytes(record)
+            files = {"stdin": subprocess.DEVNULL, "stdout": subprocess.PIPE, "stderr": subprocess.PIPE, "cwd": room}
+            try:
+                # (a session of its own, so that whatever it starts ends with it)
+                self.started = subprocess.Popen([*self.command, "record.txt"], start_new_session=True, **files)
+            except OSError as fault:
+                raise Failed(f"The program can't be run: {fault}") from fault
+            if self.is_stopped:
+                self.end()
+            try:
+                printed, told = self.started.communicate(timeout=LIMIT)
+            except subprocess.TimeoutExpired as fault:
+                self.end()
+                self.started.communicate()
+                raise Failed(f"The replay took more than {LIMIT} seconds, and was ended.") from fault
+        if self.is_stopped:
+            raise Failed("The replay was stopped.")
+        if self.started.returncode:
+            why = told.decode("utf-8", errors="replace").strip()
+            raise Failed(f"The program ended with status {self.started.returncode}: {why[-500:]}")
+        lines = printed.split(b"\n")
+        return lines[:-1] if lines[-1] == b"" else lines
+
+    def end(self):
+        """Ends the program, where it runs."""
+        if self.started and self.started.poll() is None:
+            os.killpg(self.started.pid, signal.SIGKILL)
+
+    def stop(self):
+        self.is_stopped = True
+        self.end()
+
+    def part(self):
+        """Returns how much of the stream was read, as a part of it, or None where that isn't known."""
         try:
-            # (a session of its own, so that whatever it starts ends with it)
-            started = subprocess.Popen([*command, "record.txt"], start_new_session=True, **files)
-        except OSError as fault:
-            raise Failed(f"The program can't be run: {fault}") from fault
+            return part_of(self.started and file_place(self.started.pid, self.command[-1]), os.path.getsize(self.command[-1]))
+        except OSError:
+            return None
+
+
+class Reading(threading.Thread):
+    """Reads a recording beside all else."""
+
+    def __init__(self, recording):
+        super().__init__(daemon=True)
+        self.recording, self.read, self.fault, self.is_done = recording, 0, "", False
+        self.start()
+
+    def run(self):
         try:
-            printed, told = started.communicate(timeout=LIMIT)
-        except subprocess.TimeoutExpired as fault:
-            os.killpg(started.pid, signal.SIGKILL)
-            started.communicate()
-            raise Failed(f"The replay took more than {LIMIT} seconds, and was ended.") from fault
-    if started.returncode:
-        why = told.decode("utf-8", errors="replace").strip()
-        raise Failed(f"The program ended with status {started.returncode}: {why[-500:]}")
-    lines = printed.split(b"\n")
-    if lines[-1:] == [b""]:
-        lines.pop()
-    if lines and lines[-1].startswith(b"end "):
-        lines.pop()
-    return lines
+            self.recording.read(self.take)
+        except Exception as fault:  # (whatever comes: what is shown then is the lines alone)
+            self.fault = f"The recording can't be read for its pictures: {fault}"
+        self.is_done = True
+
+    def take(self, read):
+        self.read = read
+
+    def part(self):
+        try:
+            return part_of(self.read, os.path.getsize(self.recording.path))
+        except OSError:
+            return None
 
 
 class Session:
     """A record that grows by presses, and what the program printed for it."""
 
-    def __init__(self, command, record):
+    def __init__(self, command, record, recording=None):
         self.command = command
+        self.reading = Reading(recording) if recording else None
         self.record = record if record.endswith(b"\n") or not record else record + b"\n"
         items = items_of(self.record)
         if items[-1] or len(items) == 1:
@@ -133,6 +226,8 @@ class Session:
         self.presses, self.fault = [], ""
         self.printed = []  # for the record before each press that is in it, and for the whole one; None where a replay failed
         self.shown = None  # of the last replay that didn't fail
+        self.drawn, self.drawn_with = None, None
+        self.running = None
         self.lock = threading.Lock()
         self.replay()
 
@@ -140,26 +235,46 @@ class Session:
         """Returns the whole record."""
         return self.record + b"".join(press.lines for press in self.presses)
 
+    def recording(self):
+        """Returns the recording, once it is read."""
+        return self.reading.recording if self.reading and self.reading.is_done and not self.reading.fault else None
+
     def replay(self):
         """Replays the record, and keeps what was printed, or else why nothing was."""
         self.printed, self.fault = self.printed[: len(self.presses)], ""
-        before = next(filter(None, reversed(self.printed)), Printed(0, digest_of([])))
+        before = next(filter(None, reversed(self.printed)), Printed(0, digest_of([]), None))
+        self.running = Replay(self.command)
         try:
-            lines = replayed(self.command, self.text())
-            new = lines[before.count :]
-            shown = display_lists(new)[-1]
-            self.shown = Shown(new, shown.clock, drawing(shown.clock, shapes_of(shown.lines)))
-            self.printed.append(Printed(len(lines), digest_of(lines)))
-            if digest_of(lines[: before.count]) != before.digest:
+            lines = self.running.lines(self.text())
+            ended = re.fullmatch(rb"end ([0-9]{1,20})", lines[-1]) if lines else None
+            packets, body = int(ended[1]) if ended else None, lines[:-1] if ended else lines
+            listed = [it for it in display_lists(body) if it.place >= before.count][-1]
+            shapes_of(listed.lines, Look())
+            self.shown, self.drawn = Shown(lines, before.count, listed, packets), None
+            self.printed.append(Printed(len(body), digest_of(body), packets))
+            if digest_of(body[: before.count]) != before.digest:
                 self.fault = "The lines of the presses before aren't what they were: has the stream or the program changed?"
         except Failed as fault:
             self.fail(str(fault))
         except (BadOutput, IndexError):
             self.fail("The program printed a display list that no run prints, or none.")
+        self.running = None
 
     def fail(self, fault):
         self.fault = fault + ("\nThe picture is that of the record before." if self.shown else "")
         self.printed.append(None)
+
+    def draw(self):
+        """Returns the drawing of what is shown, which is another one once the recording is read."""
+        if self.reading and self.drawn is None:
+            self.reading.join(PATIENCE)
+        recording = self.recording()
+        if self.drawn is None or self.drawn_with is not recording:
+            follower = Follower(self.shown.lines, recording)
+            look = follower.look_at(self.shown.listed.place)
+            drawn = drawing(self.shown.listed.clock, shapes_of(self.shown.listed.lines, look), look)
+            self.drawn, self.drawn_with = Drawn(drawn, follower.fault or look.fault or (self.reading.fault if self.reading else "")), recording
+        return self.drawn
 
     def press(self, press):
         with self.lock:
@@ -172,21 +287,72 @@ class Session:
                 self.presses.pop()
                 self.replay()
 
+    def seek(self, packets):
+        """Goes to a packet of the recording."""
+        with self.lock:
+            places = [place for place, printed in enumerate(self.printed) if printed and printed.packets is not None and printed.packets <= packets]
+            if places:
+                self.presses = self.presses[: places[-1]]
+                taken = self.printed[places[-1]].packets
+            else:
+                self.record, self.presses, self.printed, taken = b"# begun by tools/users/remote.py\n", [], [], 0
+                self.record += f"packets {packets}\nshow\n".encode()
+                taken = packets
+            if packets > taken:
+                self.presses.append(packet_step(packets - taken))
+            self.replay()
+
+    def stop(self):
+        """Stops the replay that runs, where one does."""
+        if running := self.running:
+            running.stop()
+
+    def progress(self):
+        """Returns what is going on, as the page shows it."""
+        if running := self.running:
+            return {"what": "replaying", "part": running.part(), "seconds": round(time.monotonic() - running.begun, 1)}
+        if self.reading and not self.reading.is_done:
+            return {"what": "reading", "part": self.reading.part(), "seconds": 0}
+        return {"what": "", "part": None, "seconds": 0}
+
+    def along(self):
+        """Returns what stands along the slider: how many packets there are, the times at equal steps, and the modules that came."""
+        recording = self.recording()
+        if not recording:
+            return {"packets": self.shown.packets if self.shown else None, "times": [], "arrivals": []}
+        times = [recording.clock.at(recording.packets * step // MARKS) for step in range(MARKS + 1)]
+        names = [[it.packet, f"{it.component:02x} {it.module.number:04x} {it.module.version:02x}"] for it in recording.arrivals[:MOST_ARRIVALS]]
+        return {"packets": recording.packets, "times": times, "arrivals": names}
+
+    def report(self):
+        """Returns the report of what is shown, as HTML."""
+        with self.lock:
+            shown, recording = self.shown, self.recording()
+            return page(report_of_lines("Report of a session", shown.lines if shown else [], items_of(self.text()), self.command[-1] if recording else None, recording))
+
     def state(self):
         """Returns what the page shows."""
         with self.lock:
             shown = self.shown
-            new = shown.lines if self.printed[-1] else []
+            drawn = self.draw() if shown else Drawn("", "")
+            new = shown.lines[shown.first :] if self.printed[-1] else []
             lines = [[kind_of(line), plain_text(line)] for line in new[:MOST_LINES]]
             if len(new) > MOST_LINES:
                 lines.append(["other", f"({len(new) - MOST_LINES} more lines)"])
             told = f"Presses: {len(self.presses)}" + (f", the last one {self.presses[-1].name}" if self.presses else "")
+            recording = self.recording()
+            is_known = recording and shown and shown.packets is not None
             return {
-                "drawing": shown.drawing if shown else "",
+                "drawing": drawn.drawing,
                 "lines": lines,
-                "fault": self.fault,
-                "told": told + (f". Clock: {shown.clock} ms" if shown else ""),
+                "fault": self.fault or drawn.fault,
+                "told": told + (f". Clock: {shown.listed.clock} ms" if shown else ""),
                 "record": self.text().decode("ascii", errors="backslashreplace"),
+                "clock": shown.listed.clock if shown else None,
+                "taken": shown.packets if shown else None,
+                "time": recording.clock.at(shown.packets) if is_known else None,
+                "along": self.along(),
+                "progress": self.progress(),
             }
 
 
@@ -204,6 +370,7 @@ class Handler(BaseHTTPRequestHandler):
         """Keeps quiet about each request."""
 
     def answer(self, status, kind, data, more=()):
+        """Sends an answer with its heads; those of more count before the others."""
         self.send_response(status)
         heads = {"Content-Type": kind, "Content-Length": str(len(data)), "Cache-Control": "no-store", "Referrer-Policy": "no-referrer"}
         heads |= {"X-Content-Type-Options": "nosniff", "Content-Security-Policy": POLICY, **dict(more)}
@@ -255,6 +422,10 @@ class Handler(BaseHTTPRequestHandler):
             self.answer(200, "text/html; charset=utf-8", PAGE.encode())
         elif name == "state":
             self.give_state()
+        elif name == "progress":
+            self.answer(200, "application/json", json.dumps(session.progress()).encode())
+        elif name == "report.html":
+            self.answer(200, "text/html; charset=utf-8", session.report().encode(), {"Content-Security-Policy": policy()})
         elif name == "record.txt":
             more = {"Content-Disposition": 'attachment; filename="record.txt"'}
             self.answer(200, "application/octet-stream", session.text(), more)
@@ -271,10 +442,16 @@ class Handler(BaseHTTPRequestHandler):
             session.press(key_press(words["key"]))
         elif name == "tick" and type(words.get("milliseconds")) is int and 1 <= words["milliseconds"] <= MOST_MILLISECONDS:
             session.press(time_step(words["milliseconds"]))
+        elif name == "seek" and type(words.get("packets")) is int and 1 <= words["packets"] <= MOST_PACKETS:
+            session.seek(words["packets"])
         elif name == "undo":
             session.undo()
+        elif name == "stop":
+            session.stop()
+            self.answer(200, "application/json", b"{}")
+            return
         else:
-            raise Refused(400, "it is no key and no step of 1 to 3,600,000 ms")
+            raise Refused(400, "it is no key, no step of 1 to 3,600,000 ms and no packet")
         self.give_state()
 
 
@@ -296,20 +473,12 @@ class Server(ThreadingHTTPServer):
         return f"http://127.0.0.1:{self.server_address[1]}/{self.word}/"
 
 
-def number(text):
-    if not (text.isascii() and text.isdigit()):
-        raise ValueError
-    return int(text)
-
-
 def main(words):
     parser = argparse.ArgumentParser(
         usage="remote.py STREAM [--service N | --data-pid N] [--record RECORD] [--program PROGRAM] [--port N]"
     )
     parser.add_argument("stream")
-    which = parser.add_mutually_exclusive_group()
-    which.add_argument("--service", type=number)
-    which.add_argument("--data-pid", type=number)
+    add_service(parser)
     parser.add_argument("--record")
     parser.add_argument("--program", default=str(PROGRAM))
     parser.add_argument("--port", type=number, default=0)
@@ -323,7 +492,8 @@ def main(words):
     try:
         with open(asked.stream, "rb"):
             record = Path(asked.record).read_bytes() if asked.record else FIRST_RECORD
-        server = Server(Session([*command, os.path.abspath(asked.stream)], record), asked.port)
+        recording = Recording(os.path.abspath(asked.stream), asked.service, asked.data_pid)
+        server = Server(Session([*command, os.path.abspath(asked.stream)], record, recording), asked.port)
     except (OSError, OverflowError) as fault:
         print(f"remote.py: {fault}", file=sys.stderr)
         return 1

@@ -1,14 +1,16 @@
 #!/usr/bin/env python3
 """Writes a report of what a run printed, to be looked at in a browser: one HTML file that needs nothing else.
 
-    tools/users/report.py OUTPUT FOLDER [--stream STREAM] [--record RECORD]
+    tools/users/report.py OUTPUT FOLDER [--stream STREAM [--service N | --data-pid N]] [--record RECORD]
 
 reads the lines of OUTPUT and writes FOLDER/report.html. It has the warnings (scripts that were stopped, events that were lost, documents
 refused, modules skipped), the modules with their sizes and when they came, and then the run in parts, each up to a display list: its lines,
 its drawing (tools/users/draw_display.py), and what differs from the display list before. A filter shows the lines of one kind, or with a text.
 The lines don't tell when something happened but by their order and the clock of each display list. With the record of
 the run each part also names the items that it comes from, and the packets that they took: a record that takes them in portions,
-`packets 1000` and `show`, tells in which of these a module came. With the stream its size is told.
+`packets 1000` and `show`, tells in which of these a module came. With the stream its size is told, drawings have the page's own colours and
+pictures, and each module has the packet that completed it and the stream's time there, by its clock references; other lines have the packets that they are between. A
+service or PID that the run was given is given here too.
 
 Everything in OUTPUT may come from a broadcast, and is escaped. The script of the report is the same in all of them, and its policy
 (Content-Security-Policy) lets a browser run that script alone. What is drawn stops at 10 MB, and tables at 1,000 rows.
@@ -27,10 +29,13 @@ from html import escape
 from pathlib import Path
 from typing import NamedTuple
 
-from draw_display import BadOutput, DisplayList, display_lists, drawing, numbers, rectangle, shapes_of
+from drawings import BadOutput, DisplayList, data_address, display_lists, drawing, numbers, rectangle, shapes_of
+from pictures import BadPicture
+from shown_pages import Follower, Recording, add_service
 
 MOST_ROWS = 1000  # of a table
 MOST_DRAWN = 10_000_000  # characters of all drawings together
+MOST_PICTURES = 50_000_000  # bytes of all pictures together
 WARNINGS = {
     b"stop": "a script was stopped",
     b"lost": "an event was lost",
@@ -43,17 +48,18 @@ KINDS = ["module", "gone", "skip", "load", "refuse", "badscript", "stop", "lost"
 KEYS = {1: "up", 2: "down", 3: "left", 4: "right", 18: "enter", 19: "back", 20: "data", 21: "blue", 22: "red", 23: "green", 24: "yellow"}
 KEYS |= {5 + digit: str(digit) for digit in range(10)}
 
+NO_FONT = "This system has no Japanese font, so that texts can't be read here. On Debian the package fonts-noto-cjk has one."
 STYLE = """
 body{font:15px/1.5 sans-serif;margin:0 auto;padding:0 1em 4em;max-width:1080px;color:#202428;background:#fff}
 h1{font-size:1.5em}h2{font-size:1.2em;margin:2em 0 .5em}h3{font-size:1em;margin:1.5em 0 .3em}
 table{border-collapse:collapse}td,th{text-align:left;padding:.1em .8em;border-bottom:1px solid #d8dce0}
 .lines{font:13px/1.5 monospace;margin:.3em 0}.lines p{margin:0;white-space:pre-wrap;overflow-wrap:anywhere}
-.lines p[id]::before{content:attr(id);display:inline-block;min-width:5em;color:#687078}
+.lines p[data-at]::after{content:attr(data-at);float:right;color:#687078;margin-left:2em}.lines p[id]::before{content:attr(id);display:inline-block;min-width:5em;color:#687078}
 .stop,.lost,.badscript,.refuse,.skip{background:#fff0d0}.new{background:#f8e0f8}.was{color:#687078;text-decoration:line-through}
 section{content-visibility:auto;contain-intrinsic-size:auto 400px;border-top:1px solid #d8dce0}
 section svg{width:100%;max-width:640px;height:auto;display:block;margin:.5em 0}
 nav{position:sticky;top:0;background:#fff;padding:.6em 0;border-bottom:2px solid #202428;z-index:1}
-input,select{font:inherit}#part{width:5em}section{scroll-margin-top:4em}p[id]{scroll-margin-top:5em}small{color:#586068}[hidden]{display:none!important}
+#pictures{position:absolute;width:0;height:0}input,select{font:inherit}#part{width:5em}section{scroll-margin-top:4em}p[id]{scroll-margin-top:5em}small{color:#586068}[hidden]{display:none!important}
 """
 SCRIPT = """
 const lines = [...document.querySelectorAll("section p[id]")];
@@ -73,6 +79,14 @@ function filter() {
   }
   found.textContent = all ? "" : count + " of " + lines.length + " lines";
 }
+function inked(letter) {
+  const canvas = document.createElement("canvas"), pen = canvas.getContext("2d");
+  pen.font = "24px monospace";
+  pen.fillText(letter, 0, 24);
+  return canvas.toDataURL();
+}
+// (a font without Japanese has one sign for all that it lacks)
+document.querySelector("#fonts").hidden = inked("\u6674") !== inked("\u8a9e");
 let waiting = 0;
 text.addEventListener("input", () => { clearTimeout(waiting); waiting = setTimeout(filter, 200); });
 kind.addEventListener("change", filter);
@@ -103,15 +117,41 @@ class Acquired(NamedTuple):
 
 
 class Report(NamedTuple):
-    """What a report tells: the lines of the run, its parts, the items of the record for each of them, the packets that these take, and
-    sentences about the run. Without a record there are neither items nor packets."""
+    """What a report tells: the lines of the run, its parts, the items of the record for each of them, the packets that were taken before and with these,
+    sentences about the run, and the stream where it is known. Without a record there are neither items nor packets."""
 
     name: str
     lines: list[bytes]
     parts: list[Part]
     items: list[list[str]]
-    packets: list[str]
+    spans: list[tuple[float, float]]
     notes: list[str]
+    recording: Recording | None
+
+
+class Sprites:
+    """The pictures of a report: each of them stands in it once, and drawings name it."""
+
+    def __init__(self):
+        self.found, self.size = {}, 0
+
+    def image(self, found, place):
+        """Returns the shape of a picture at its place."""
+        name = "p" + hashlib.sha256(found.data).hexdigest()[:16]
+        if name not in self.found:
+            if self.size + len(found.data) > MOST_PICTURES:
+                raise BadPicture("not shown here, since this report is large")
+            self.found[name] = found
+            self.size += len(found.data)
+        return f'<use {place} href="#{name}"/>'
+
+    def html(self):
+        symbols = [
+            f'<symbol id="{name}" viewBox="0 0 {it.width} {it.height}" preserveAspectRatio="none">'
+            f'<image width="{it.width}" height="{it.height}" href="{data_address(it)}"/></symbol>'
+            for name, it in self.found.items()
+        ]
+        return ['<svg id="pictures">', *symbols, "</svg>"] if symbols else []
 
 
 def plain_text(line):
@@ -165,23 +205,55 @@ def items_of(record):
     return items
 
 
-def packets_of(items, count):
-    """Returns which packets each list of items takes, counted from 1; the run took so many in all, or it isn't known how many."""
+def taken_by(items, count):
+    """Returns how many packets were taken before each list of items and with it, or infinity where that isn't known; the run took so many in
+    all, or it isn't known how many."""
     most = math.inf if count is None else count
-    told, taken = [], 0
+    spans, taken = [], 0
     for part in items:
         first = taken
         for item in part:
             number = re.fullmatch("packets ([0-9]{1,10})", item)
             if number or item == "all":
                 taken = min(taken + int(number[1]), most) if number else most
-        if first == math.inf:
-            told.append("not known")
-        elif taken == math.inf:
-            told.append(f"from {first + 1:,} on")
-        else:
-            told.append(f"{first + 1:,} to {taken:,}" if taken > first else "none")
-    return told
+        spans.append((first, taken))
+    return spans
+
+
+def packets_told(first, taken):
+    """Returns which packets a list of items takes, counted from 1."""
+    if first == math.inf:
+        return "not known"
+    if taken == math.inf:
+        return f"from {first + 1:,} on"
+    return f"{first + 1:,} to {taken:,}" if taken > first else "none"
+
+
+def moments_of(report):
+    """Returns for each line the first packet and the last one with which it may have come, as far as the stream tells; a module came with the
+    packet that completed it."""
+    follower = Follower(report.lines, report.recording).end()
+    if report.recording is None or follower.fault:
+        return {}
+    places, most = part_places(report.parts, len(report.lines)), report.recording.packets
+    spans = report.spans + [(0, math.inf)] * len(report.parts)
+    moments, low, high = {}, 0, most
+    for place in range(len(report.lines)):
+        arrival = follower.arrived.get(place)
+        low = max(low, arrival.packet if arrival else min(spans[places[place] - 1][0], most))
+        moments[place] = [low, most]
+    for place in reversed(range(len(report.lines))):
+        high = min(high, follower.arrived[place].packet) if place in follower.arrived else min(high, spans[places[place] - 1][1])
+        moments[place][1] = max(high, moments[place][0])
+    return moments
+
+
+def moment_told(report, first, last):
+    """Returns when something happened that came with one of these packets: in which packet, and at which time of the stream."""
+    clock = report.recording.clock
+    times = list(dict.fromkeys(filter(None, (clock.told(first), clock.told(last)))))
+    packets = f"packet {first:,}" if first == last else f"packets {first:,} to {last:,}"
+    return ", ".join([packets, *([" to ".join(times)] if times else [])])
 
 
 def acquisitions(lines, places):
@@ -216,7 +288,7 @@ def between(part):
     return str(part.clock) if part.clock == part.before else f"{part.before} to {part.clock}"
 
 
-def module_table(report, places):
+def module_table(report, places, moments):
     """Returns the table of the modules that came."""
     came, went = acquisitions(report.lines, places)
     last = {(it.component, it.number): it.line for it in came}
@@ -225,12 +297,17 @@ def module_table(report, places):
         name = it.component, it.number
         word, line = went.get(name, ("", 0))
         state = f"another one in line {link(last[name])}" if last[name] > it.line else f"{word} in line {link(line)}" if word else "held"
-        packets = report.packets[it.part - 1] if it.part <= len(report.packets) else "not known"
-        when = [link(it.line), it.part, packets, between(report.parts[it.part - 1])]
+        packets = packets_told(*report.spans[it.part - 1]) if it.part <= len(report.spans) else "not known"
+        times = []
+        if moments:
+            packet, _ = moments[it.line - 1]
+            packets, times = f"{packet:,}", [report.recording.clock.told(packet)]
+        when = [link(it.line), it.part, packets, *times, between(report.parts[it.part - 1])]
         rows.append([order, *(escape(cell) for cell in it[:3]), f"{it.size:,}", *when, state])
     total = sum(it.size for it in came)
     head = [f"<h2>Modules</h2><p>Modules that came: {len(came):,}, with {total:,} bytes together.</p>"]
-    heads = ["", "component", "module", "version", "bytes", "line", "part", "packets", "clock (ms)", "at the end"]
+    times = ["stream time"] if moments else []
+    heads = ["", "component", "module", "version", "bytes", "line", "part", "packets", *times, "clock (ms)", "at the end"]
     return head + (table(heads, rows) if rows else [])
 
 
@@ -244,10 +321,11 @@ def warning_table(report, places):
     return head + (table(["line", "part", "what", "which"], rows) if rows else [])
 
 
-def line_html(place, line, mark=""):
-    """Returns a line with its number; its class is its kind."""
+def line_html(place, line, mark="", moment=""):
+    """Returns a line with its number and, where it is known, when it came; its class is its kind."""
     kinds = " ".join(it for it in (kind_of(line), mark) if it)
-    return f'<p id="L{place + 1}" class="{kinds}">{shown_text(line)}</p>'
+    when = f' data-at="{moment}"' if moment else ""
+    return f'<p id="L{place + 1}" class="{kinds}"{when}>{shown_text(line)}</p>'
 
 
 def outlines(lines, colour):
@@ -257,7 +335,7 @@ def outlines(lines, colour):
     return [rectangle(x - 4, y - 4, width + 8, height + 8, words) for x, y, width, height in places]
 
 
-def display_html(shown, before, room):
+def display_html(shown, before, room, look):
     """Returns a display list with its drawing, where there is room for it, and what differs from the one before."""
     new = list((Counter(shown.lines) - Counter(before)).elements())
     was = list((Counter(before) - Counter(shown.lines)).elements())
@@ -266,7 +344,7 @@ def display_html(shown, before, room):
         told = f"new lines: {len(new):,} (dashed in magenta), lines gone: {len(was):,} (dashed in grey)"
         told = told if new or was else "the same lines as before in another order"
         marks = outlines(was, "#a0a0a0") + outlines(new, "#ff40ff")
-    picture = drawing(shown.clock, shapes_of(shown.lines) + marks) if shown.lines != before else ""
+    picture = drawing(shown.clock, shapes_of(shown.lines, look) + marks, look) if shown.lines != before else ""
     if shown.lines == before:
         told = "the same as the one before" if before else "nothing is shown"
     if len(picture) > room:
@@ -276,11 +354,12 @@ def display_html(shown, before, room):
         listed.append(line_html(at, line, "new" if left[line] else ""))
         left[line] -= 1 if left[line] else 0
     listed += [f'<p class="was">{shown_text(line)}</p>' for line in was]
+    told += f"; {escape(look.fault)}" if look.fault else ""
     head = f"<summary>The display list: {len(shown.lines):,} lines; {told}</summary>"
     return [picture, "<details>", head, '<div class="lines">', *listed, "</div></details>"], len(picture)
 
 
-def part_html(report, number, before, room):
+def part_html(report, number, before, room, look, moments):
     """Returns a part with its lines and its display list, and how much its drawing has."""
     part = report.parts[number - 1]
     shown = "behind the last display list" if number > 1 else "without a display list"
@@ -288,13 +367,15 @@ def part_html(report, number, before, room):
     written = [f'<section id="P{number}"><h3>Part {number}: {shown}</h3>']
     if number <= len(report.items) and report.items[number - 1]:
         items = escape("; ".join(report.items[number - 1]))
-        written.append(f"<p><small>The record: {items}. Packets: {report.packets[number - 1]}.</small></p>")
-    told = [line_html(place, line) for place, line in enumerate(part.lines, part.first)]
+        written.append(f"<p><small>The record: {items}. Packets: {packets_told(*report.spans[number - 1])}.</small></p>")
+    told = []
+    for place, line in enumerate(part.lines, part.first):
+        told.append(line_html(place, line, "", moment_told(report, *moments[place]) if place in moments else ""))
     written += ['<div class="lines">', *told]
     drawn = 0
     if part.shown:
         written.append(line_html(part.shown.place, report.lines[part.shown.place]) + "</div>")
-        listed, drawn = display_html(part.shown, before, room)
+        listed, drawn = display_html(part.shown, before, room, look)
         written += listed
     else:
         written.append("</div>")
@@ -304,28 +385,37 @@ def part_html(report, number, before, room):
 def page(report):
     """Returns the report as HTML."""
     places, written, drawn, before = part_places(report.parts, len(report.lines)), [], 0, []
+    follower, sprites, moments = Follower(report.lines, report.recording), Sprites(), moments_of(report)
     for number, part in enumerate(report.parts, 1):
-        html, more = part_html(report, number, before, MOST_DRAWN - drawn)
+        look = follower.look_at(part.shown.place if part.shown else len(report.lines))
+        look.image = sprites.image
+        html, more = part_html(report, number, before, MOST_DRAWN - drawn, look, moments)
         written += html
         drawn += more
         before = part.shown.lines if part.shown else before
-    digest = base64.b64encode(hashlib.sha256(SCRIPT.encode()).digest()).decode()
-    policy = f"default-src 'none'; style-src 'unsafe-inline'; script-src 'sha256-{digest}'"
     kinds = "".join(f"<option>{kind}</option>" for kind in [*KINDS, "other"])
-    name = escape(report.name)
+    name, notes = escape(report.name), [*report.notes, follower.fault]
     return "\n".join([
-        f'<!DOCTYPE html><html lang="en"><head><meta charset="utf-8"><meta http-equiv="Content-Security-Policy" content="{policy}">',
+        f'<!DOCTYPE html><html lang="en"><head><meta charset="utf-8"><meta http-equiv="Content-Security-Policy" content="{policy()}">',
         f'<meta name="viewport" content="width=device-width"><title>{name}</title><style>{STYLE}</style></head><body>',
-        f"<h1>{name}</h1><p>{len(report.lines):,} lines. {' '.join(map(escape, report.notes))}</p>",
+        f"<h1>{name}</h1><p>{len(report.lines):,} lines. {' '.join(map(escape, filter(None, notes)))}</p>",
+        f'<p id="fonts" hidden>{NO_FONT}</p>',
         *warning_table(report, places),
-        *module_table(report, places),
+        *module_table(report, places, moments),
         "<h2>The run, part by part</h2>",
         '<nav><label>Lines with <input id="text" type="search"></label>',
         f'<label>of the kind <select id="kind"><option value="">any</option>{kinds}</select></label> <span id="found"></span>',
         f'<label>part <input id="part" type="number" min="1" max="{len(report.parts)}"> of {len(report.parts):,}</label></nav>',
+        *sprites.html(),
         *written,
         f"<script>{SCRIPT}</script></body></html>\n",
     ])
+
+
+def policy():
+    """Returns the policy under which a browser runs the script of a report, and nothing else."""
+    digest = base64.b64encode(hashlib.sha256(SCRIPT.encode()).digest()).decode()
+    return f"default-src 'none'; style-src 'unsafe-inline'; img-src data:; script-src 'sha256-{digest}'"
 
 
 def notes_of(count, parts, items, stream):
@@ -341,28 +431,35 @@ def notes_of(count, parts, items, stream):
     return notes
 
 
-def report_of(output, stream=None, record=None):
+def report_of(output, stream=None, record=None, service=None, data_pid=None):
     """Returns the report of a file of lines."""
     lines = Path(output).read_bytes().split(b"\n")
     if lines[-1] == b"":
         lines.pop()
-    parts = parts_of(lines)
     items = items_of(Path(record).read_bytes()) if record else []
+    recording = Recording(stream, service, data_pid).read() if stream else None
+    return report_of_lines(f"Report of {os.path.basename(output)}", lines, items, stream, recording)
+
+
+def report_of_lines(name, lines, items, stream, recording):
+    """Returns the report of lines, of the items of their record and of their stream, as far as these are known."""
+    parts = parts_of(lines)
     ended = re.fullmatch(rb"end ([0-9]{1,20})", lines[-1]) if lines else None
     count = int(ended[1]) if ended else None
     notes = notes_of(count, parts, items, stream)
-    return Report(f"Report of {os.path.basename(output)}", lines, parts, items, packets_of(items, count), notes)
+    return Report(name, lines, parts, items, taken_by(items, count), notes, recording)
 
 
 def main(words):
-    parser = argparse.ArgumentParser(usage="report.py OUTPUT FOLDER [--stream STREAM] [--record RECORD]")
+    parser = argparse.ArgumentParser(usage="report.py OUTPUT FOLDER [--stream STREAM [--service N | --data-pid N]] [--record RECORD]")
     parser.add_argument("output")
     parser.add_argument("folder")
     parser.add_argument("--stream")
+    add_service(parser)
     parser.add_argument("--record")
     asked = parser.parse_args(words)
     try:
-        report = report_of(asked.output, asked.stream, asked.record)
+        report = report_of(asked.output, asked.stream, asked.record, asked.service, asked.data_pid)
         made = Path(asked.folder) / "report.html"
         text = page(report)
         made.parent.mkdir(parents=True, exist_ok=True)

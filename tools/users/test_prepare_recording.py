@@ -185,11 +185,11 @@ class Transport(unittest.TestCase):
 class Packets(InFolder):
     def found(self, data):
         """Returns the size of the packets, and the packets; those of wanted PIDs are the same."""
-        recording = recordings.Recording(io.BytesIO(data))
+        recording = recordings.PacketReader(io.BytesIO(data))
         found = [packet for packets in recording.packets() for packet in packets]
         self.assertEqual(recording.count, len(found))
         wanted = {300, 302}
-        again = recordings.Recording(io.BytesIO(data)).packets_on(lambda: wanted)
+        again = recordings.PacketReader(io.BytesIO(data)).packets_on(lambda: wanted)
         self.assertEqual(list(again), [(at, pid_of(one), one) for at, one in enumerate(found, 1) if pid_of(one) in wanted])
         return recording.size, found
 
@@ -223,7 +223,7 @@ class Packets(InFolder):
         packets = [transport.packet(256 * (at % 3) + at % 2, at % 16, False, bytes(184)) for at in range(4000)]
         for size in (1, 7, 1000):
             wanted, taken = {0}, []
-            for number, pid, packet in recordings.Recording(io.BytesIO(b"".join(packets))).packets_on(lambda: wanted):
+            for number, pid, packet in recordings.PacketReader(io.BytesIO(b"".join(packets))).packets_on(lambda: wanted):
                 taken.append(number - 1)
                 self.assertEqual((pid_of(packet), packet), (pid, packets[number - 1]))
                 wanted = {0, 256 * (number // size % 3) + 1}

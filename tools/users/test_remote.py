@@ -26,6 +26,9 @@ from xml.etree import ElementTree
 
 import browser
 import remote
+import report
+from generated_pages import PID, clut_of, entity_of, png_of, stream_of
+from shown_pages import Recording
 
 PROGRAM = None  # with which recordings are replayed
 TOOL = Path(remote.__file__)
@@ -52,6 +55,17 @@ for line in open(sys.argv[-1]):
         print("show x")
 print("end 5")
 """
+# A program that counts the packets that its record takes.
+COUNTING = f"#!{sys.executable} -S\n" + """
+import sys
+taken = 0
+for line in open(sys.argv[-1]):
+    word, *rest = line.split() or ["#"]
+    taken += int(rest[0]) if word == "packets" else 0
+    if word == "show":
+        print(f"show 0\\nbox 0 0 9 9 1 1 {taken % 9}")
+print(f"end {taken}")
+"""
 # What a program begins with that keeps a file where it runs, and tells how long it is.
 KEEPING = """import sys, time
 with open("nvram.bin", "ab") as kept:
@@ -70,9 +84,9 @@ class Served(unittest.TestCase):
         Path(self.program).write_text(SCRIPT, encoding="utf-8")
         os.chmod(self.program, 0o755)
 
-    def serve(self, record=remote.FIRST_RECORD, command=None):
+    def serve(self, record=remote.FIRST_RECORD, command=None, recording=None):
         """Serves a session, and returns it."""
-        session = remote.Session(command or [self.program, "replay", "stream.ts"], record)
+        session = remote.Session(command or [self.program, "replay", "stream.ts"], record, recording)
         self.server = remote.Server(session)
         thread = threading.Thread(target=self.server.serve_forever, kwargs={"poll_interval": 0.02})
         thread.start()
@@ -161,10 +175,10 @@ class Answers(Served):
     def test_a_press_adds_its_lines_and_shows_what_came(self):
         self.serve()
         first = self.state()
-        self.assertEqual([kind for kind, _ in first["lines"]], ["show", "box", "text"])
+        self.assertEqual([kind for kind, _ in first["lines"]], ["show", "box", "text", "end"])
         self.assertEqual((first["fault"], first["told"]), ("", "Presses: 0. Clock: 0 ms"))
         pressed = self.state("/press", {"key": 18})
-        wanted = ["stop Budget keydown", "show 0", "box 0 0 9 9 1 1 1", "text 0 0 9 9 7 24 </text></script><img src=x onerror=document.title=1>[18]"]
+        wanted = ["stop Budget keydown", "show 0", "box 0 0 9 9 1 1 1", "text 0 0 9 9 7 24 </text></script><img src=x onerror=document.title=1>[18]", "end 5"]
         self.assertEqual(pressed["lines"], [[line.split()[0], line] for line in wanted])
         self.assertEqual(pressed["record"], first["record"] + "# enter\nkey 18\nrelease 18\nshow\n")
         self.assertEqual(pressed["told"], "Presses: 1, the last one enter. Clock: 0 ms")
@@ -182,7 +196,7 @@ class Answers(Served):
     def test_every_key_has_its_code(self):
         self.serve()
         for code in [*range(1, 15), *range(18, 25)]:
-            with mock.patch.object(remote, "replayed", lambda command, record: [b"show 0"]):
+            with mock.patch.object(remote.Replay, "lines", lambda replay, record: [b"show 0"]):
                 record = self.state("/press", {"key": code})["record"]
             self.assertTrue(record.endswith(f"key {code}\nrelease {code}\nshow\n"))
         self.assertEqual({int(code) for code in re.findall('data-key="([0-9]+)"', remote.PAGE)}, {*remote.KEYS})
@@ -217,7 +231,72 @@ class Answers(Served):
         self.assertIn("The replay took more than 0.3 seconds, and was ended.", failed["fault"])
         self.assertEqual(failed["drawing"], first["drawing"])
         self.assertEqual(self.state("/undo", {}), first)
-        self.assertEqual(remote.LIMIT, 10)
+        self.assertEqual(remote.LIMIT, 600)
+
+    def test_a_replay_is_followed_and_stopped(self):
+        Path(self.program).write_text(SCRIPT.replace("time.sleep(60)", "it = open(sys.argv[-2], 'rb', 0); it.read(25); it.seek(25); time.sleep(60)"), encoding="utf-8")
+        stream = f"{self.folder}/stream.ts"
+        Path(stream).write_bytes(bytes(100))
+        self.serve(command=[self.program, "replay", stream])
+        first, answers = self.state(), []
+        self.assertEqual(first["progress"], {"what": "", "part": None, "seconds": 0})
+        pressing = threading.Thread(target=lambda: answers.append(self.state("/press", {"key": 21})))
+        pressing.start()
+        end, told = time.monotonic() + 30, {}
+        while told.get("part") != 0.25 and time.monotonic() < end:
+            told = self.state("/progress")
+        self.assertEqual((told["what"], told["part"]), ("replaying", 0.25))
+        self.assertEqual(self.ask("/stop", {})[2], b"{}")
+        pressing.join(30)
+        self.assertEqual(answers[0]["fault"], "The replay was stopped.\nThe picture is that of the record before.")
+        self.assertEqual(self.state("/undo", {}), first)
+        self.assertEqual(self.ask("/stop", {})[0], 200)
+
+    def test_the_slider_goes_to_a_packet(self):
+        Path(self.program).write_text(COUNTING, encoding="utf-8")
+        self.serve(b"packets 10\nshow\n")
+        first = self.state()
+        self.assertEqual((first["taken"], first["clock"], first["time"], first["along"]["packets"]), (10, 0, None, 10))
+        further = self.state("/seek", {"packets": 25})
+        self.assertEqual((further["taken"], further["record"]), (25, "packets 10\nshow\n# 15 packets\npackets 15\nshow\n"))
+        self.state("/press", {"key": 2})
+        self.state("/seek", {"packets": 40})
+        back = self.state("/seek", {"packets": 30})
+        self.assertEqual(back["record"], further["record"] + "# down\nkey 2\nrelease 2\nshow\n# 5 packets\npackets 5\nshow\n")
+        self.assertEqual(self.state("/seek", {"packets": 25})["record"], further["record"] + "# down\nkey 2\nrelease 2\nshow\n")
+        self.assertEqual(self.state("/seek", {"packets": 11})["record"], "packets 10\nshow\n# 1 packets\npackets 1\nshow\n")
+        anew = self.state("/seek", {"packets": 7})
+        self.assertEqual((anew["taken"], anew["record"], anew["told"]), (7, "# begun by tools/users/remote.py\npackets 7\nshow\n", "Presses: 0. Clock: 0 ms"))
+        for words in ({}, {"packets": 0}, {"packets": 1 << 32}, {"packets": "7"}, {"packets": 7.5}, {"packets": True}):
+            self.assertEqual(self.ask("/seek", words)[0], 400)
+
+    def test_a_recording_gives_colours_pictures_and_times(self):
+        data = entity_of({"startup.bml": b'<bml><body style="clut:url(a.clut)"></body></bml>', "a.clut": clut_of(128, [(1, 2, 3, 255)]), "a.png": png_of([b"\x80"])})
+        stream = f"{self.folder}/stream.ts"
+        Path(stream).write_bytes(stream_of([(None, data)]))
+        lines = [f"module 40 0000 01 {len(data)}", "load /40/0000/startup.bml", "show 0", "box 0 0 9 9 128 0 8", "picture 1 1 4 4 - a.png", "end 3"]
+        Path(self.program).write_text(f"#!{sys.executable} -S\nprint({chr(10).join(lines)!r})", encoding="utf-8")
+        session = self.serve(command=[self.program, "replay", stream], recording=Recording(stream, data_pid=PID))
+        session.reading.join(30)
+        state = self.state()
+        self.assertIn('fill="#010203"', state["drawing"])
+        self.assertIn('<image x="1" y="1" width="4" height="4"', state["drawing"])
+        packets = session.reading.recording.packets
+        self.assertEqual(state["along"], {"packets": packets, "times": [None] * 101, "arrivals": [[packets, "40 0000 01"]]})
+        self.assertEqual((state["fault"], state["progress"]["what"]), ("", ""))
+        self.assertIn('<use x="1" y="1" width="4" height="4" href="#p', self.ask("/report.html")[2].decode())
+        self.serve(recording=Recording(f"{self.folder}/none"))
+        self.assertIn("can't be read for its pictures", self.state()["fault"])
+
+    def test_the_report_of_the_session_is_served(self):
+        self.serve()
+        self.state("/press", {"key": 18})
+        status, heads, data = self.ask("/report.html")
+        self.assertEqual((status, heads["Content-Security-Policy"]), (200, report.policy()))
+        text = data.decode()
+        self.assertIn("The record: key 18 (enter); release 18 (enter); show. Packets: none.", text)
+        self.assertEqual((text.count("<section"), "onerror=document.title=1&gt;" in text), (3, True))
+        self.assertNotIn("<img", text)
 
     def test_a_program_that_cannot_be_run_is_told(self):
         self.serve(command=[f"{self.folder}/none", "replay", "stream.ts"])
@@ -277,7 +356,8 @@ class OverExample(Served):
     def serve_example(self):
         if not PROGRAM:
             self.skipTest("no program is named")
-        return self.serve(command=[PROGRAM, "replay", "--data-pid", "256", str(EXAMPLE / "stream.ts")])
+        stream = str(EXAMPLE / "stream.ts")
+        return self.serve(command=[PROGRAM, "replay", "--data-pid", "256", stream], recording=Recording(stream, data_pid=256))
 
     def replay(self, record):
         """Returns what the program prints for a record."""
@@ -294,7 +374,7 @@ class Replaying(OverExample):
         self.assertEqual([it["fault"] for it in states], ["", "", ""])
         self.assertEqual(["text 100 300 200 40 7 24 picked 1" in [line for _, line in it["lines"]] for it in states], [False, False, True])
         self.assertEqual(len({it["drawing"] for it in states}), 3)
-        shown = [line for state in states for _, line in state["lines"]]
+        shown = [line for state in states for _, line in state["lines"] if line != "end 11"]
         self.assertEqual(self.replay(self.ask("/record.txt")[2]), [*shown, "end 11"])
         self.assertEqual(self.state("/undo", {}), states[1])
         self.assertEqual(len(session.presses), 1)
@@ -340,7 +420,7 @@ class InBrowser(OverExample):
         self.assertIn("text 100 300 200 40 7 24 picked 1", lines)
         saved = page.value("fetch(document.querySelector('a[download]').href).then(it => it.text())")
         self.assertEqual(saved, page.value("record.textContent"))
-        self.assertEqual(self.replay(saved.encode())[-len(lines) - 1 :], [*lines, "end 11"])
+        self.assertEqual(self.replay(saved.encode())[-len(lines) :], lines)
         page.value("document.querySelector('[data-key=\"18\"]').focus()")
         page.key("Enter", 13, "\r")
         page.wait("told.textContent.startsWith('Presses: 3, the last one enter')")
@@ -350,7 +430,25 @@ class InBrowser(OverExample):
             page.key("u", 85, "u")
         page.wait("told.textContent.startsWith('Presses: 1,')")
         self.assertEqual(page.value("document.querySelector('#picture').innerHTML"), second)
+        self.slides(page)
         self.assertEqual(self.started.errors, [])
+
+    def slides(self, page):
+        """Goes to packets by the slider, and opens the report of the session."""
+        self.assertEqual(page.value("document.querySelector('#packet').textContent"), "packet 11 of 11")
+        self.assertEqual(page.value("document.querySelectorAll('#arrivals i').length"), 1)
+        page.value("slider.value = 5; slider.dispatchEvent(new Event('change'))")
+        page.wait("document.querySelector('#packet').textContent === 'packet 5 of 11'")
+        self.assertEqual(page.value("document.querySelectorAll('#picture text').length"), 0)
+        page.value("slider.value = 11; slider.dispatchEvent(new Event('change'))")
+        page.wait("document.querySelector('#picture text') !== null")
+        self.assertTrue(page.value("record.textContent").endswith("packets 5\nshow\n# 6 packets\npackets 6\nshow\n"))
+        shown = page.value("[picture, picture.querySelector('svg')].map(it => it.getBoundingClientRect()).map(it => it.width / it.height)")
+        self.assertTrue(all(abs(it - 16 / 9) < 0.01 for it in shown), shown)
+        opened = self.started.open(page.value("document.querySelector('#report').href"))
+        self.assertEqual(opened.value("document.querySelectorAll('section').length"), 3)
+        opened.value("kind.value = 'text'; kind.dispatchEvent(new Event('change'))")
+        self.assertIn(" of ", opened.value("found.textContent"))
 
 
 if __name__ == "__main__":

@@ -9,6 +9,8 @@ With --program the reports of examples are made from what that program prints. W
 import contextlib
 import io
 import os
+import re
+import shutil
 import subprocess
 import sys
 import tempfile
@@ -20,13 +22,15 @@ from xml.etree import ElementTree
 
 import browser
 import draw_display
+import drawings
 import report
+from generated_pages import entity_of, png_of, stream_of, timed
 
 PROGRAM = None  # whose lines are reported
 EXAMPLES = Path(__file__).resolve().parents[2] / "examples"
 HOSTILE = ["</script><img src=x onerror=document.title=1>", "\"'><svg onload=document.title=1>", "</svg></text>]]><!--", "&lt;b>", "--></style><b>"]
 MARKS = {*"html head meta title style body h1 h2 h3 p a nav label input select option span section div small code".split()}
-MARKS |= {*"table tr th td details summary script svg rect text".split()}
+MARKS |= {*"table tr th td details summary script svg rect path text".split()}
 
 
 class Marks(HTMLParser):
@@ -95,14 +99,14 @@ class Drawing(InFolder):
         self.assertEqual(self.run_tool(draw_display, output, self.folder), (0, ""))
         root = ElementTree.parse(f"{self.folder}/show-1.svg").getroot()
         found = {it.tag.split("}")[1] for it in root.iter()}
-        self.assertEqual(found, {"svg", "title", "rect", "text"})
+        self.assertEqual(found, {"svg", "title", "rect", "path", "text"})
         texts = [it.text for it in root.iter("{http://www.w3.org/2000/svg}text")]
         self.assertEqual(texts[: len(HOSTILE)], HOSTILE)
         self.assertIn("\u2400\u241b\u2421%", texts)
 
     def test_a_list_ends_with_the_first_line_that_is_none_of_it(self):
         lines = [b"box 0 0 1 1 1 1 1", b"show 5", b"box 0 0 1 1 1 1 1", b"", b"text 0 0 1 1 1 1 late", b"show 6", b"focus 1 2 3 4", b"show 7"]
-        found = draw_display.display_lists(lines)
+        found = drawings.display_lists(lines)
         self.assertEqual([(it.clock, it.lines, it.place) for it in found], [(5, [lines[2]], 1), (6, [lines[6]], 5), (7, [], 7)])
 
     def test_what_is_no_output_of_a_run_is_told(self):
@@ -145,7 +149,39 @@ class Reports(InFolder):
             ([["packets 4", "show"], ["packets 3"]], None, ["1 to 4", "5 to 7"]),
         ]
         for items, count, wanted in rows:
-            self.assertEqual(report.packets_of(items, count), wanted)
+            self.assertEqual([report.packets_told(*it) for it in report.taken_by(items, count)], wanted)
+
+    def test_lines_are_told_with_their_packets_and_times(self):
+        page = entity_of({"startup.bml": b"<bml/>", "a.png": png_of([b"\1"])})
+        stream = timed(stream_of([(None, page), (b"x/y", b"z")], with_tables=True), 500)
+        path = self.write("stream.ts", stream)
+        lines = [b"module 40 0000 01 %d" % len(page), b"load /40/0000/startup.bml", b"show 0", b"lost click", b"module 40 0000 02 1", b"show 9", b"end 14"]
+        record = self.write("record.txt", b"packets 10\nshow\nkey 1\nall\nshow\n")
+        html = self.report(lines, "--stream", path, "--record", record, "--service", "101")
+        # (the tables are packets 2 and 4, and the DII, the two packets of the block, the other DII and its block 6, 8, 10, 12 and 14)
+        self.assertEqual(len(stream), 14 * 188)
+        for row in ("<td>10</td><td>0:00:02.000</td>", "<td>14</td><td>0:00:03.000</td>", "<th>stream time</th>"):
+            self.assertIn(row, html)
+        told = re.findall(' data-at="([^"]*)">([a-z]+)', html)
+        wanted = [("packet 10, 0:00:02.000", "module"), ("packet 10, 0:00:02.000", "load"), ("packets 10 to 14, 0:00:02.000 to 0:00:03.000", "lost")]
+        self.assertEqual(told, [*wanted, ("packet 14, 0:00:03.000", "module"), ("packet 14, 0:00:03.000", "end")])
+        html = self.report(lines, "--stream", path, "--service", "101")
+        self.assertIn('data-at="packets 10 to 14, 0:00:02.000 to 0:00:03.000">load', html)
+        html = self.report(lines, "--stream", path, "--data-pid", "300")
+        self.assertNotIn("data-at=", html)
+        self.assertIn("another service or PID was asked for", html)
+
+    def test_pictures_stand_once_in_a_report(self):
+        page = entity_of({"startup.bml": b"<bml/>", "a.png": png_of([b"\1"]), "b.png": png_of([b"\2"])})
+        path = self.write("stream.ts", stream_of([(None, page)]))
+        shown = [b"box 0 0 9 9 8 0 7", b"picture 0 0 9 9 image/png a.png", b"picture 9 0 9 9 image/png /40/0000/a.png"]
+        lines = [b"module 40 0000 01 %d" % len(page), b"load /40/0000/startup.bml", b"show 0", *shown, b"show 1", *shown, b"focus 1 1 1 1"]
+        html = self.report(lines, "--stream", path, "--data-pid", "256")
+        self.assertEqual([html.count(it) for it in ("<symbol", "<image", "<use")], [1, 1, 4])
+        self.assertIn("img-src data:", html)
+        with mock.patch.object(report, "MOST_PICTURES", 10):
+            html = self.report(lines, "--stream", path, "--data-pid", "256")
+        self.assertEqual((html.count("<use"), html.count("(not shown here, since this report is large)</text>")), (0, 4))
 
     def test_lines_that_warn_are_told(self):
         lines = [b"skip 40 0002 large", b"stop Budget keydown", b"lost keydown", b"stop Depth load", b"refuse /40/0000 Malformed", b"badscript /40/0000 2"]
@@ -230,12 +266,14 @@ class InBrowser(InFolder):
             lines = ran.stdout.splitlines()
         self.report(lines, "--record", str(example / "record.txt"), "--stream", str(example / "stream.ts"))
         page = started.open(f"file://{self.folder}/made/report.html")
-        found = draw_display.display_lists(lines)
+        found = drawings.display_lists(lines)
         drawn = [it for at, it in enumerate(found) if it.lines != (found[at - 1].lines if at else [])]
         self.assertEqual(page.value("document.querySelectorAll('section').length"), len(report.parts_of(lines)))
         self.assertEqual(page.value("document.querySelectorAll('section > svg').length"), len(drawn))
+        has_font = bool(subprocess.run(["fc-list", ":lang=ja"], capture_output=True, check=False).stdout) if shutil.which("fc-list") else None
+        self.assertIn(page.value("document.querySelector('#fonts').hidden"), [True, False] if has_font is None else [has_font])
         self.assertEqual(page.value("[...document.querySelectorAll('section > svg')].every(it => it.getBoundingClientRect().height > 300)"), True)
-        texts = page.value("[...document.querySelectorAll('section > svg text')].map(it => it.textContent).join()")
+        texts = page.value("[...document.querySelectorAll('section > svg text')].map(it => it.textContent).join('')")
         for text in {"menu-keys": ["Weather", "picked 1"], "styles": ["gale", "storm"], "document": ["Osaka: 晴れ, 21%"]}[example.name]:
             self.assertIn(text, texts)
         self.filters(page, len(lines))
@@ -248,7 +286,7 @@ class InBrowser(InFolder):
         self.assertEqual({it.split(" ")[0] for it in shown}, {"text"})
         self.assertEqual(page.value("found.textContent"), f"{len(shown)} of {count} lines")
         page.value("kind.value = ''; kind.dispatchEvent(new Event('change'))")
-        self.assertEqual(page.value("document.querySelectorAll('p[hidden], section[hidden], details[open]').length"), 0)
+        self.assertEqual(page.value("document.querySelectorAll('section p[hidden], section[hidden], details[open]').length"), 0)
         page.value("part.value = part.max; part.dispatchEvent(new Event('change'))")
         self.assertEqual(page.value("document.querySelector(location.hash) === [...document.querySelectorAll('section')].at(-1)"), True)
 
