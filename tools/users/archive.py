@@ -10,7 +10,7 @@ takes all files below FOLDER that end in .ts, .m2ts, .mts, .m2t, .trp or .tp. Of
     service-101/modules/          the modules of each service with data (extract.py)
     service-101/report.html       the report of a replay of data.ts, whose record takes all packets and shows the page: record.txt, lines.txt, display.svg
 
-Where no table leads to a carousel there is pid-N in place of services. OUT/index.html lists all recordings with their pictures, and the failed ones
+Where no table leads to a carousel there is pid-N in place of services, with data.ts in it. OUT/index.html lists all recordings with their pictures, and the failed ones
 with their reasons. N recordings are worked on at once, one for each processor if N isn't named; a line is printed for each that is done.
 
 A run that was broken off begins again where it was: a recording whose folder is there, and whose size and time are as they were, isn't done again.
@@ -41,12 +41,11 @@ from typing import NamedTuple
 import archive_page
 import extract
 import prepare_recording
-from diagnosis import carousel_pids, explained, findings_of, survey
+from diagnosis import explained, findings_of, survey, targets_of
 from draw_display import drawings
 from drawings import BadOutput
 from report import items_of, page, report_of_lines
 from shown_pages import Recording
-from transport import PACKET_SIZE
 
 NAME = "archive.py"
 PROGRAM = Path(__file__).resolve().parents[2] / "build" / "bml_replay"
@@ -54,7 +53,6 @@ ENDINGS = (".ts", ".m2ts", ".mts", ".m2t", ".trp", ".tp")
 RECORD = b"all\nshow\n"
 LIMIT = 600  # seconds for a replay
 MOST_PRINTED = 200_000_000  # bytes of a replay
-MOST_TARGETS = 32  # services or PIDs of a recording
 DONE, FAILED = "done.json", "failed.json"
 
 
@@ -75,33 +73,7 @@ class Source(NamedTuple):
         return f"{extract.safe_name(archive_page.printable(self.path), '')}-{digest}"
 
 
-class Target(NamedTuple):
-    """What is replayed of a recording: a service, or a PID of data."""
-
-    service: int | None = None
-    data_pid: int | None = None
-
-    def name(self):
-        return f"service {self.service}" if self.service else f"PID {self.data_pid}"
-
-    def folder(self):
-        return f"service-{self.service}" if self.service else f"pid-{self.data_pid}"
-
-    def options(self):
-        return ["--service", str(self.service)] if self.service else ["--data-pid", str(self.data_pid)]
-
-
 # ---- one recording
-
-
-def targets_of(found, source):
-    """Returns what is to be replayed of a recording: its services with data, or where there are none its PIDs with carousels."""
-    named = found.reception.named
-    services = [number for number in found.reception.programs if any(it.component is not None for it in named.get(number, []))]
-    if services:
-        return [Target(service=number) for number in services][:MOST_TARGETS]
-    is_read = found.recording.size is not None
-    return [Target(data_pid=pid) for pid in (carousel_pids(source) if is_read else []) if 16 <= pid <= 8190][:MOST_TARGETS]
 
 
 def work(source, room, program):
@@ -115,17 +87,16 @@ def work(source, room, program):
     told, size = [it.text() for it in findings], found.recording.size
     lines = [f"packets of {size} bytes: {found.recording.count}", *prepare_recording.lines_of(found), *told]
     (room / "list.txt").write_text("\n".join(lines) + "\n", encoding="utf-8")
-    stream, has_services = source, any(it.service for it in targets)
-    if has_services:
-        stream = str(room / "data.ts")
-        with open(room / "told.txt", "w", encoding="utf-8") as log, contextlib.redirect_stderr(log):
-            prepare_recording.unpack(source, stream, data_only=True)
-    made = [made_target(it, source, stream, room, program, told, size) for it in targets]
+    has_services = any(it.service for it in targets)
+    with open(room / "told.txt", "w", encoding="utf-8") as log, contextlib.redirect_stderr(log):
+        if has_services:
+            prepare_recording.unpack(source, str(room / "data.ts"), data_only=True)
+        made = [made_target(it, source, room, program, told) for it in targets]
     return {"packets": found.recording.count, "packet_size": size, "findings": told, "has_data": has_services, "targets": made}
 
 
-def made_target(target, source, stream, room, program, findings, size):
-    """Makes all of a service, and returns what the page tells of it."""
+def made_target(target, source, room, program, findings):
+    """Makes all of a service or of a PID, and returns what the page tells of it."""
     folder, made = room / target.folder(), {"name": target.name(), "folder": target.folder(), "modules": 0, "bytes": 0, "faults": []}
     folder.mkdir()
     try:
@@ -134,10 +105,11 @@ def made_target(target, source, stream, room, program, findings, size):
         made |= {"modules": len(modules.rows), "bytes": sum(row.size for row in modules.rows)}
     except extract.Fault as fault:
         made["faults"].append(str(fault))
-    if target.data_pid and size != PACKET_SIZE:
-        made["faults"].append(f"It isn't replayed: its packets have {size} bytes, and no table leads to its data.")
-        return made
+    stream = str(room / "data.ts")
     try:
+        if target.data_pid:
+            stream = str(folder / "data.ts")
+            prepare_recording.unpack(source, stream, data_only=True, data_pid=target.data_pid)
         replay(target, stream, folder, program)
         made |= reported(target, source, stream, folder, findings)
     except (Failed, BadOutput) as fault:
