@@ -141,8 +141,9 @@ def check_target(source, target):
     return part
 
 
-def unpack(source, target, data_only=False, service=None, data_pid=None):
-    """Writes a recording whose modules are unpacked, or its data alone. It is made beside its place, and put there when it is whole."""
+def unpack(source, target, data_only=False, service=None, data_pid=None, tells=True):
+    """Writes a recording whose modules are unpacked, or its data alone; tells also what is to be known of it, where it is to. It is made beside its
+    place, and put there when it is whole."""
     with open(source, "rb") as file:
         part = check_target(source, target)
         with open(part, "xb+") as made:
@@ -160,7 +161,7 @@ def unpack(source, target, data_only=False, service=None, data_pid=None):
             except BaseException:
                 os.remove(part)
                 raise
-    for finding in findings:
+    for finding in findings if tells else []:
         if finding.row not in MENDED:
             terminal.say(finding.text())
     tell_growth(terminal, recording, output)
