@@ -13,13 +13,12 @@ import re
 from bisect import bisect_right
 from typing import NamedTuple
 
-import recordings
 from colours import FIXED, BadColours, read_colours, with_colours
 from drawings import Look, unescaped
 from entities import BadEntity, resources_of
 from page_styles import address_of, styles_of
 from pictures import BadPicture, picture_of
-from recordings import pid_of
+from recordings import PacketReader, pid_of
 from service_modules import ServiceModules
 from transport import compression_of, is_intact, read_pmt
 
@@ -112,7 +111,7 @@ class Recording:
     """What came in a stream for one service: its modules in their order, with their bytes, its packets and its times."""
 
     def __init__(self, path, service=None, data_pid=None):
-        self.path = path
+        self.path, self.service, self.data_pid = path, service, data_pid
         self.arrivals, self.kept = [], 0
         self.packets = 0
         self.clock = Clock()
@@ -128,7 +127,7 @@ class Recording:
     def read(self, progress=lambda read: None):
         """Reads the stream, and tells after each piece how many bytes were read."""
         with open(self.path, "rb") as file:
-            for packets in recordings.Recording(file, progress).packets():
+            for packets in PacketReader(file, progress).packets():
                 self.take(packets)
         return self
 
