@@ -124,7 +124,9 @@ def row_shapes(cells, right, down, size, paint):
             shapes.append(label(places, down, size, paint, text))
         else:
             fitted = f'textLength="{len(run) * size / 2:g}" lengthAdjust="spacingAndGlyphs" {paint}'
-            shapes.append(label(f"{left:g}", down, size, fitted, text))
+            # (spaces at its ends stay)
+            kept = ' xml:space="preserve"' if " " in (text[0], text[-1]) or "  " in text else ""
+            shapes.append(label(f"{left:g}", down, size, fitted + kept, text))
     return shapes
 
 
@@ -145,7 +147,7 @@ class Pen:
                 self.right, self.down = 0, self.down + size
             cells = cells_of(row)
             if paint and size:
-                drawn += row_shapes(cells, self.right, self.down + size - size // 5, size, paint)
+                drawn += row_shapes(cells, self.right, self.down + size - size // 8, size, paint)
             self.right += sum(1 + cell.is_wide for cell in cells) * size / 2
         if not drawn:
             return []
@@ -217,5 +219,5 @@ def drawing(clock, shapes, look):
     # (the plane may have other proportions than the screen: then its pixels aren't square)
     height = round(look.width / look.ratio)
     head = f'<svg xmlns="http://www.w3.org/2000/svg" width="{look.width}" height="{height}" viewBox="0 0 {look.width} {look.height}"'
-    head += f' preserveAspectRatio="none" font-family="{FONTS}" style="font-variant-emoji:text" xml:space="preserve">'
+    head += f' preserveAspectRatio="none" font-family="{FONTS}" style="font-variant-emoji:text">'
     return "\n".join([head, f"<title>show {clock}</title>", *ground(look.width, look.height), *shapes, "</svg>"]) + "\n"

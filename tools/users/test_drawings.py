@@ -8,6 +8,8 @@ import base64
 import itertools
 import os
 import struct
+import subprocess
+import sys
 import tempfile
 import unicodedata
 import unittest
@@ -18,6 +20,7 @@ from xml.etree import ElementTree
 import arib_text
 import browser
 import colours
+import draw_display
 import page_styles
 import pictures
 from colours import BadColours
@@ -26,6 +29,7 @@ from generated_pages import CLOCK_END, PID, chunk, clock_packet, clut_of, entity
 from pictures import BadPicture
 from shown_pages import Clock, Follower, Path as Place, Recording, resolved
 
+EXAMPLE = Path(__file__).resolve().parents[2] / "examples" / "weather"
 SVG = "{http://www.w3.org/2000/svg}"
 
 
@@ -189,12 +193,12 @@ class Texts(unittest.TestCase):
             self.assertEqual(("".join(it.text for it in cells), "".join("-#"[it.is_wide] for it in cells)), (text, widths))
 
     def test_each_character_has_its_place(self):
-        data = b"ab\xa4\xa2\xa4\xa4\xfa\xd0c"
+        data = b"a \xa4\xa2\xa4\xa4\xfa\xd0c"
         lines = [b"text 5 6 400 90 7 24 " + data, b"text 5 6 400 90 2 20 \xa4\xa6%0Ad"]
         root = ElementTree.fromstring(drawing(0, shapes_of(lines, Look()), Look()))
         found = [[it.get("x"), it.get("y"), it.get("textLength"), it.text] for it in root.iter(f"{SVG}text")]
-        wide = [["24 48", "20", None, "\u3042\u3044"], ["72", "20", None, "\U0001f14a"]]
-        self.assertEqual(found, [["0", "20", "24", "ab"], *wide, ["96", "20", "12", "c"], ["108", "16", None, "\u3046"], ["0", "36", "10", "d"]])
+        wide = [["24 48", "21", None, "\u3042\u3044"], ["72", "21", None, "\U0001f14a"]]
+        self.assertEqual(found, [["0", "21", "24", "a "], *wide, ["96", "21", "12", "c"], ["108", "18", None, "\u3046"], ["0", "38", "10", "d"]])
 
     def test_long_texts_and_sizes_of_nothing(self):
         lines = [b"text 0 0 9 9 7 24 " + b"\xa4\xa2a" * 10_000, b"text 0 0 9 9 7 0 x", b"text 0 0 9 9 7 32767 x"]
@@ -293,6 +297,42 @@ class Following(InFolder):
             self.assertIn("the colour table /40/0000 can't be read", follower.look_at(2).fault)
         self.assertIn("another service", Follower(lines, self.recording(data, service=102)).end().fault)
         self.assertEqual(self.recording(b"").packets, 0)
+
+
+class Example(InFolder):
+    """Tests over the example weather: its own files, and the lines that it wants."""
+
+    def test_its_pictures_are_those_that_its_script_draws(self):
+        subprocess.run([sys.executable, "-B", EXAMPLE / "draw_pictures.py", self.folder], check=True, timeout=120)
+        made = sorted(os.listdir(self.folder))
+        self.assertEqual(made, sorted(it.name for it in EXAMPLE.iterdir() if it.suffix in (".png", ".clut")))
+        for name in made:
+            one, other = (Path(folder, name).read_bytes() for folder in (self.folder, EXAMPLE))
+            if name.endswith(".png"):
+                # (how zlib looks for repeats changes with its version)
+                one, other = ([zlib.decompress(body) if kind == b"IDAT" else body for kind, body in itertools.islice(pictures.chunks_of(it), 3)] for it in (one, other))
+            self.assertEqual(one, other, name)
+
+    def test_it_is_drawn_in_its_colours_with_its_pictures(self):
+        output = (EXAMPLE / "stdout").read_bytes().split(b"\n")
+        drawn, faults = draw_display.drawings(output, Recording(EXAMPLE / "stream.ts").read())
+        self.assertEqual((len(drawn), faults), (2, []))
+        shown = [ElementTree.fromstring(it) for it in drawn]
+        self.assertEqual([len(list(it.iter(f"{SVG}image"))) for it in shown], [4, 4])
+        self.assertEqual(len({image.get("href") for it in shown for image in it.iter(f"{SVG}image")}), 5)
+        fills = {it.get("fill"): it.get("fill-opacity") for it in shown[0].iter(f"{SVG}rect")}
+        self.assertEqual([fills.get(it, "none") for it in ("#0c1430", "#ec7a22", "#14245c", "#808080")], ["0.69", None, None, "none"])
+        texts = ["".join(it.text for it in root.iter(f"{SVG}text")) for root in shown]
+        for wanted in ("\u304a\u5929\u6c17\u2600", "12\u67081\u65e5\u322b", "\u82b1\u7c89\uff76\uff8c\uff9d"):
+            self.assertIn(wanted, texts[0])
+        self.assertIn("\u5927\u962a \u96e8 \u964d\u6c34\u78ba\u7387 80% \u6700\u9ad8 9\u2103", texts[1])
+
+    def test_the_tool_writes_its_drawings(self):
+        words = [sys.executable, "-B", draw_display.__file__, EXAMPLE / "stdout", f"{self.folder}/made", "--stream", EXAMPLE / "stream.ts"]
+        ran = subprocess.run(words, capture_output=True, check=True, timeout=120)
+        self.assertEqual((ran.stdout, ran.stderr, sorted(os.listdir(f"{self.folder}/made"))), (b"2 display lists drawn\n", b"", ["show-1.svg", "show-2.svg"]))
+        ran = subprocess.run([*words, "--service", "7"], capture_output=True, check=True, timeout=120)
+        self.assertIn("another service or PID was asked for", ran.stderr.decode())
 
 
 class Clocks(unittest.TestCase):
