@@ -13,6 +13,7 @@ import re
 from bisect import bisect_right
 from typing import NamedTuple
 
+from arib_text import readable
 from colours import FIXED, BadColours, read_colours, with_colours
 from drawings import Look, unescaped
 from entities import BadEntity, resources_of
@@ -241,7 +242,8 @@ class Follower:
             try:
                 colours = with_colours(read_colours(table or b""))
             except BadColours as bad:
-                fault = f"the colour table isn't held: {address[:80]}" if table is None else f"the colour table {address[:80]} can't be read: {bad}"
+                name = readable(address.encode("latin-1", errors="replace"))[:MOST_NAME]
+                fault = f"the colour table isn't held: {name}" if table is None else f"the colour table {name} can't be read: {bad}"
         return PageLook(self.values, colours, self.picture, fault)
 
 

@@ -5,8 +5,11 @@ Where there is a Chromium, the pictures are opened in it too.
 """
 
 import base64
+import contextlib
+import io
 import itertools
 import os
+import random
 import struct
 import subprocess
 import sys
@@ -23,6 +26,7 @@ import colours
 import draw_display
 import page_styles
 import pictures
+import report
 from colours import BadColours
 from drawings import Look, display_lists, drawing, shapes_of
 from generated_pages import CLOCK_END, PID, chunk, clock_packet, clut_of, entity_of, jpeg_of, mng_of, png_of, stream_of
@@ -31,6 +35,21 @@ from shown_pages import Clock, Follower, Path as Place, Recording, resolved
 
 EXAMPLE = Path(__file__).resolve().parents[2] / "examples" / "weather"
 SVG = "{http://www.w3.org/2000/svg}"
+
+
+def mutated(chance, data):
+    """Returns bytes of which some are others, or left out, or doubled."""
+    data = bytearray(data)
+    for _ in range(chance.choice([1, 3, 20])):
+        at, other = chance.randrange(len(data)), chance.randrange(len(data))
+        kind = chance.randrange(4)
+        if kind == 0:
+            data[at] = chance.randrange(256)
+        elif kind == 1:
+            del data[at : at + chance.randrange(1, 60)]
+        else:
+            data[at : at + (8 if kind == 2 else 0)] = data[other : other + 8]
+    return bytes(data)
 
 
 class Colours(unittest.TestCase):
@@ -288,6 +307,10 @@ class Following(InFolder):
         self.assertLess(max(map(len, texts)), 250)
         self.assertEqual(os.listdir(self.folder), ["stream.ts"])
 
+    def test_a_name_is_no_command_to_a_terminal(self):
+        look = self.look({"startup.bml": b'<bml><body style="clut:url(\x1b[31m&amp;\x9b)"></body></bml>'})
+        self.assertEqual(look.fault, "the colour table isn't held: \u241b[31m&\ufffd")
+
     def test_resources_of_their_own_and_tables_are_followed(self):
         page = b'<bml><body style="clut:url(/40/0000)"></body></bml>'
         data = stream_of([(b"text/X-arib-bml", page)], with_tables=True)
@@ -333,6 +356,26 @@ class Example(InFolder):
         self.assertEqual((ran.stdout, ran.stderr, sorted(os.listdir(f"{self.folder}/made"))), (b"2 display lists drawn\n", b"", ["show-1.svg", "show-2.svg"]))
         ran = subprocess.run([*words, "--service", "7"], capture_output=True, check=True, timeout=120)
         self.assertIn("another service or PID was asked for", ran.stderr.decode())
+
+
+class Mutations(InFolder):
+    def test_no_input_ends_a_tool_with_a_trace_or_writes_elsewhere(self):
+        chance = random.Random(58)
+        lines, stream = (EXAMPLE / "stdout").read_bytes(), (EXAMPLE / "stream.ts").read_bytes()
+        rows = [(mutated(chance, lines), stream) for _ in range(15)] + [(lines, mutated(chance, stream)) for _ in range(15)]
+        statuses = set()
+        for output, data in rows:
+            Path(f"{self.folder}/output").write_bytes(output)
+            Path(f"{self.folder}/stream.ts").write_bytes(data)
+            for tool in (draw_display, report):
+                with contextlib.redirect_stdout(io.StringIO()), contextlib.redirect_stderr(io.StringIO()):
+                    statuses.add(tool.main([f"{self.folder}/output", f"{self.folder}/made", "--stream", f"{self.folder}/stream.ts"]))
+            for name in os.listdir(f"{self.folder}/made") if os.path.exists(f"{self.folder}/made") else []:
+                if name.endswith(".svg"):
+                    ElementTree.parse(f"{self.folder}/made/{name}")
+                self.assertRegex(name, r"\A(show-[0-9]+\.svg|report\.html)\Z")
+            self.assertLessEqual({*os.listdir(self.folder)}, {"output", "stream.ts", "made"})
+        self.assertEqual(statuses, {0, 1})
 
 
 class Clocks(unittest.TestCase):
