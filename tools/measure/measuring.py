@@ -13,6 +13,23 @@ from pathlib import Path
 USERS = Path(__file__).resolve().parents[1] / "users"
 sys.path.append(str(USERS))
 
+from transport import TYPE_DESCRIPTOR, Module, ddb_section, descriptor, dii_section
+
+DATA_PID = 256
+OPTIONS = ["--data-pid", str(DATA_PID)]
+BLOCK_SIZE = 4000
+
+
+def carousel_sections(modules):
+    """Returns the sections, each with its PID, that send modules once: each module is its number, its media type, or b"" where none is
+    said, and its bytes. The DII has them by their numbers, and the blocks come as the modules are listed."""
+    announced = [Module(number, 1, len(data), descriptor(TYPE_DESCRIPTOR, kind) if kind else b"") for number, kind, data in sorted(modules)]
+    sections = [dii_section(1, 1, BLOCK_SIZE, announced)]
+    for number, _, data in modules:
+        blocks = range(0, max(len(data), 1), BLOCK_SIZE)
+        sections += [ddb_section(1, number, 1, at // BLOCK_SIZE, data[at : at + BLOCK_SIZE]) for at in blocks]
+    return [(DATA_PID, section) for section in sections]
+
 
 def words(name):
     """Returns the program and the number of rounds that the command line asks for."""

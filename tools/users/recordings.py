@@ -6,6 +6,9 @@ have 4 bytes in front of them or 16 behind them, and all services are followed a
 """
 
 import re
+import sys
+from collections import Counter
+from itertools import compress
 from typing import NamedTuple
 
 from transport import DATA_STREAM, PACKET_SIZE, is_intact, payload_of, read_pat, read_pmt
@@ -67,39 +70,133 @@ def is_packet(data, at, size, is_all):
     return len(data) - at in (PACKET_SIZE, size) if is_all else None
 
 
-def cut(data, size, is_all):
-    """Returns the packets of bytes, each 188 bytes, and the bytes that are left for the next call."""
-    packets, at = [], 0
+def packet_rows(data, size, is_all):
+    """Returns the packets of bytes in rows, each with the place of its first one and their number, and the bytes that are left for the next call."""
+    found, at = [], 0
     while 0 <= at < len(data):
         stands = is_packet(data, at, size, is_all)
         if stands is None:
-            return packets, data[at:]
+            return found, data[at:]
         if not stands:
             at = data.find(SYNC, at + 1)
             continue
         marks = data[at::size]
         row = max(1, len(marks) - len(marks.lstrip(SYNC)) - 1)
-        packets += [data[place : place + PACKET_SIZE] for place in range(at, at + row * size, size)]
+        found.append((at, row))
         at += row * size
-    return packets, b""
+    return found, b""
 
 
-def packets_of(file, layout, data, progress):
-    """Yields the packets of a file in lists, and tells after each how many bytes were read."""
-    data, size, read = data[layout.start :], layout.size, len(data)
-    while True:
-        piece = file.read(PIECE)
-        packets, data = cut(data + piece, size, not piece)
-        yield packets
-        read += len(piece)
-        progress(read)
-        if not piece:
-            return
+def packets_in(data, size, found):
+    """Returns the packets of rows, each 188 bytes."""
+    return [data[place : place + PACKET_SIZE] for at, count in found for place in range(at, at + count * size, size)]
+
+
+def cut(data, size, is_all):
+    """Returns the packets of bytes, each 188 bytes, and the bytes that are left for the next call."""
+    found, left = packet_rows(data, size, is_all)
+    return packets_in(data, size, found), left
 
 
 def pid_of(packet):
     """Returns the PID of a packet."""
     return (packet[1] & 0x1F) << 8 | packet[2]
+
+
+def marks_of(bits, values):
+    """Returns a table that makes 1 of a byte whose bits are one of the values, and 0 of each other."""
+    return bytes(byte & bits in values for byte in range(256))
+
+
+def wanted_places(data, size, row, wanted):
+    """Yields the places of a row's packets on PIDs that are wanted: wanted() gives these, and may give others after each place. The packets in
+    between aren't looked at one by one."""
+    at, count = row
+    end, number = at + count * size, 0
+    upper, lower = data[at + 1 : end : size], data[at + 2 : end : size]
+    while number < count:
+        pids = wanted()
+        masks = upper.translate(marks_of(0x1F, {pid >> 8 for pid in pids})), lower.translate(marks_of(0xFF, {pid & 0xFF for pid in pids}))
+        marks = (int.from_bytes(masks[0], "little") & int.from_bytes(masks[1], "little")).to_bytes(count, "little")
+        number = marks.find(1, number)
+        while number >= 0:
+            if (upper[number] & 0x1F) << 8 | lower[number] in pids:
+                yield at + number * size
+                if wanted() != pids:
+                    break
+            number = marks.find(1, number + 1)
+        if number < 0:
+            return
+        number += 1
+
+
+class PacketCounts:
+    """How many packets of each PID came, how many of these are scrambled, and how many are marked as damaged."""
+
+    SCRAMBLED = bytes(byte & 0xC0 != 0 for byte in range(256))
+    DAMAGED = bytes(byte & 0x80 != 0 for byte in range(256))
+    OF_A_PID = bytes(byte & 0x1F for byte in range(256))
+
+    def __init__(self):
+        self.all, self.scrambled, self.damaged = Counter(), Counter(), Counter()
+
+    def add(self, data, size, row):
+        """Counts the packets of a row."""
+        at, count = row
+        end = at + count * size
+        upper, lower = data[at + 1 : end : size], data[at + 2 : end : size]
+        words = bytearray(2 * count)
+        words[sys.byteorder == "big" :: 2], words[sys.byteorder == "little" :: 2] = lower, upper.translate(self.OF_A_PID)
+        pids = memoryview(words).cast("H")
+        self.all.update(pids)
+        for counter, marks in ((self.scrambled, data[at + 3 : end : size].translate(self.SCRAMBLED)), (self.damaged, upper.translate(self.DAMAGED))):
+            if 1 in marks:
+                counter.update(compress(pids, marks))
+
+
+class PacketReader:
+    """The packets of a file, which is read once from the front: their size, which is None where there are none, and how many were read."""
+
+    def __init__(self, file, progress=lambda read: None):
+        self.file = file
+        self.progress = progress  # takes how many bytes were read
+        layout, data = found_layout(file)
+        self.size = layout.size if layout else None
+        self.read = len(data)
+        self.data = data[layout.start :] if layout else b""
+        self.count = 0
+        self.counts = PacketCounts()
+
+    def pieces(self):
+        """Yields the file in pieces, each with its rows of packets."""
+        while self.size:
+            piece = self.file.read(PIECE)
+            data = self.data + piece
+            found, self.data = packet_rows(data, self.size, not piece)
+            yield data, found
+            for row in found:
+                self.counts.add(data, self.size, row)
+            self.count += sum(row for _, row in found)
+            self.read += len(piece)
+            self.progress(self.read)
+            if not piece:
+                return
+
+    def packets(self):
+        """Yields the packets in lists."""
+        for data, found in self.pieces():
+            yield packets_in(data, self.size, found)
+
+    def packets_on(self, wanted):
+        """Yields the packets on PIDs that are wanted, each with its number, counted from 1, and its PID: wanted() gives these PIDs, and may
+        give others after each packet."""
+        for data, found in self.pieces():
+            before = self.count
+            for row in found:
+                for place in wanted_places(data, self.size, row, wanted):
+                    packet = data[place : place + PACKET_SIZE]
+                    yield before + (place - row[0]) // self.size + 1, pid_of(packet), packet
+                before += row[1]
 
 
 class Assembler:
@@ -143,13 +240,15 @@ class Assembler:
 
 
 class Reception:
-    """Follows the tables of all services, and hands the packets of data to what takes them.
+    """Follows the tables of all services, or of the one that is asked for, and hands the packets of data to what takes them.
 
     A component begins anew where none of the services has its PID under the tag under which one had it before.
     """
 
-    def __init__(self, component_on):
+    def __init__(self, component_on, service=None):
         self.component_on = component_on  # makes what takes the packets of a PID of data
+        self.asked = service
+        self.first = None  # the first service of the last PAT that has one
         self.tables = {PAT_PID: Assembler()}  # by PID
         self.read = {}  # the section of each table that was read last
         self.programs = {}  # the PID of each service's PMT
@@ -189,8 +288,9 @@ class Reception:
         first = {}
         for number, pid in programs:
             first.setdefault(number, pid)
+        self.first = next((number for number in first if number), self.first)
         self.programs.update({number: pid for number, pid in first.items() if number != 0})
-        pids = {PAT_PID, *self.programs.values()}
+        pids = {PAT_PID, *(pid for number, pid in self.programs.items() if self.asked in (None, number))}
         self.tables = {pid: self.tables.get(pid) or Assembler() for pid in pids}
         self.wanted = {*self.tables, *self.components}
         return True
@@ -198,7 +298,7 @@ class Reception:
     def take_streams(self, pid, section):
         """Takes a PMT, and says whether it counts: it does on the PID of its service."""
         found = read_pmt(section)
-        if found is None or self.programs.get(found[0]) != pid:
+        if found is None or self.programs.get(found[0]) != pid or self.asked not in (None, found[0]):
             return False
         self.streams[found[0]] = [stream for stream in found[1] if stream.kind == DATA_STREAM]
         self.named.setdefault(found[0], {}).update(dict.fromkeys(self.streams[found[0]]))

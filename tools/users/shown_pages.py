@@ -19,7 +19,7 @@ from drawings import Look, unescaped
 from entities import BadEntity, resources_of
 from page_styles import address_of, styles_of
 from pictures import BadPicture, picture_of
-from recordings import found_layout, packets_of, pid_of
+from recordings import PacketReader, pid_of
 from service_modules import ServiceModules
 from transport import compression_of, is_intact, read_pmt
 
@@ -128,8 +128,7 @@ class Recording:
     def read(self, progress=lambda read: None):
         """Reads the stream, and tells after each piece how many bytes were read."""
         with open(self.path, "rb") as file:
-            layout, data = found_layout(file)
-            for packets in packets_of(file, layout, data, progress) if layout else []:
+            for packets in PacketReader(file, progress).packets():
                 self.take(packets)
         return self
 

@@ -30,7 +30,7 @@ sys.path.append(str(Path(__file__).resolve().parents[1] / "rows"))
 import cases
 
 PROGRAM = None  # whose lines are compared
-PLANS = 100
+PLANS = 80
 BML = b"text/X-arib-bml"
 JPEG = b"\xff\xd8\xff\xe0\x00\x10JFIF\x00 and more"
 
@@ -149,7 +149,7 @@ class Lines(InFolder):
                 found = [it for it in arrivals(source.read_bytes())[0] if it.fault is None]
                 self.assertTrue([("module", it.component, it.module.number, it.module.version, it.data) for it in found] == wanted, "the modules differ")
                 unpacked += sum(it.is_unpacked() for it in found)
-                if PROGRAM:
+                if PROGRAM and number % 4 == 0:
                     lines = [line for line in self.replayed(stream) if line.startswith("module ")]
                     self.assertEqual([line_of(it) for it in found], lines)
                     again = [line_of(it) for it in arrivals(stream)[0] if it.fault is None]
@@ -254,7 +254,7 @@ class Files(InFolder):
             self.assertEqual([" ".join(line[1:5]) for line in self.extracted(stream, *options)], [wanted])
         status, printed, told = run(self.source, self.folder / "none", "--service", 5)
         self.assertEqual((status, printed, (self.folder / "none").exists()), (1, "", False))
-        self.assertIn("no module that came whole", told)
+        self.assertIn("no module came whole. Service 5 isn't in it", told)
 
     def test_names_stay_in_their_folder(self):
         names = [b"..", b".", b"", b"../../x", b"/etc/passwd", b"a\\b", b"a\x00b\x1b", b"CON", b"com1.txt", b"A.txt", b"a.txt", b"a.txt", b".hidden", b"x."]
