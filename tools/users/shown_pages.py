@@ -11,6 +11,7 @@ module as it was, and what is drawn is what came. Tested, and not proved.
 
 import re
 from bisect import bisect_right
+from itertools import islice
 from typing import NamedTuple
 
 from arib_text import readable
@@ -23,6 +24,7 @@ from recordings import PacketReader, pid_of
 from service_modules import ServiceModules
 from transport import compression_of, is_intact, read_pmt
 
+SEARCHED_PIECES = 8  # of a stream, for its first clock reference
 MOST_KEPT = 1 << 28  # bytes of modules of a stream
 MOST_PICTURES = 100  # that are remembered
 MOST_NAME = 64  # characters
@@ -67,19 +69,25 @@ class Clock:
     """Times in a stream, by its clock references (ISO/IEC 13818-1, 2.4.3.5), which are counted from the first of them."""
 
     def __init__(self):
-        self.packets, self.times, self.last = [], [], None
+        self.packets, self.times, self.last, self.pid = [], [], 0, None
 
-    def take(self, packet, number):
-        """Takes the clock reference of a packet, where it has one, and says whether it has; a jump counts as no time."""
+    @staticmethod
+    def field_of(packet):
+        """Returns the clock reference of a packet in steps of the clock, or None where it has none."""
         if not (packet[3] & 0x20 and packet[4] >= 7 and packet[5] & 0x10):
-            return False
+            return None
         field = int.from_bytes(packet[6:12], "big")
-        now = (field >> 15) * 300 + (field & 0x1FF)
-        step = 0 if self.last is None else (now - self.last) % CLOCK_END
+        return (field >> 15) * 300 + (field & 0x1FF)
+
+    def take(self, pid, packet, number):
+        """Takes the clock reference of a packet, where it has one; a jump, and a change to another PID, counts as no time."""
+        now = self.field_of(packet)
+        if now is None:
+            return
+        step = (now - self.last) % CLOCK_END if pid == self.pid else 0
         self.times.append((self.times[-1] if self.times else 0) + (step if step <= MOST_STEP else 0))
         self.packets.append(number)
-        self.last = now
-        return True
+        self.last, self.pid = now, pid
 
     def told(self, number):
         """Returns the time at a packet as a text, which is empty where there are no clock references."""
@@ -98,7 +106,13 @@ class Clock:
 class TimedModules(ServiceModules):
     """The modules of a service, with the PID of its clock references."""
 
-    clock_pid = None
+    clock_pid, asked_for = None, (None, None, set())
+
+    def all_wanted(self):
+        """Returns the PIDs of tables, data and clock references."""
+        if self.asked_for[:2] != (self.wanted, self.clock_pid):
+            self.asked_for = self.wanted, self.clock_pid, self.wanted | {self.clock_pid} - {None}
+        return self.asked_for[2]
 
     def take_streams(self, section):
         super().take_streams(section)
@@ -127,22 +141,27 @@ class Recording:
 
     def read(self, progress=lambda read: None):
         """Reads the stream, and tells after each piece how many bytes were read."""
+        modules, clock = self.modules, self.clock
+        modules.clock_pid = first_clock(self.path)
         with open(self.path, "rb") as file:
-            for packets in PacketReader(file, progress).packets():
-                self.take(packets)
+            reader = PacketReader(file, progress)
+            for number, pid, packet in reader.packets_on(modules.all_wanted):
+                if pid in modules.wanted:
+                    modules.take(pid, packet, number)
+                if pid == modules.clock_pid:
+                    clock.take(pid, packet, number)
+        self.packets = reader.count
         return self
 
-    def take(self, packets):
-        modules, clock = self.modules, self.clock
-        for number, packet in enumerate(packets, self.packets + 1):
-            pid = pid_of(packet)
-            if pid in modules.wanted:
-                modules.take(pid, packet, number)
-            if pid == modules.clock_pid:
-                clock.take(packet, number)
-            elif modules.clock_pid is None and clock.take(packet, number):
-                modules.clock_pid = pid
-        self.packets += len(packets)
+
+def first_clock(path):
+    """Returns the PID of the first clock reference near the stream's beginning, or None: that of a service whose tables name none."""
+    with open(path, "rb") as file:
+        for packets in islice(PacketReader(file).packets(), SEARCHED_PIECES):
+            for packet in packets:
+                if Clock.field_of(packet) is not None:
+                    return pid_of(packet)
+    return None
 
 
 class PageLook(Look):

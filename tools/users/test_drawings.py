@@ -29,7 +29,7 @@ import pictures
 import report
 from colours import BadColours
 from drawings import Look, display_lists, drawing, shapes_of
-from generated_pages import CLOCK_END, PID, chunk, clock_packet, clut_of, entity_of, jpeg_of, mng_of, png_of, stream_of
+from generated_pages import CLOCK_END, CLOCK_PID, PID, chunk, clock_packet, clut_of, entity_of, jpeg_of, mng_of, png_of, stream_of
 from pictures import BadPicture
 from shown_pages import Clock, Follower, Path as Place, Recording, resolved
 
@@ -383,13 +383,14 @@ class Clocks(unittest.TestCase):
         clock, start = Clock(), CLOCK_END - 27_000_000
         self.assertEqual(clock.at(5), None)
         for number, ticks in ((3, start), (5, start + 13_500_000), (9, start + 54_000_000), (10, 5), (12, 27_000_005)):
-            self.assertTrue(clock.take(clock_packet(ticks), number))
-        self.assertFalse(clock.take(bytes([0x47, 1, 0, 0x10]) + bytes(184), 13))
-        self.assertFalse(clock.take(bytes([0x47, 1, 0, 0x30, 183, 0]) + bytes(182), 13))
+            clock.take(CLOCK_PID, clock_packet(ticks), number)
+        for packet in (bytes([0x47, 1, 0, 0x10]) + bytes(184), bytes([0x47, 1, 0, 0x30, 183, 0]) + bytes(182)):
+            clock.take(CLOCK_PID, packet, 13)
+        clock.take(7, clock_packet(27_000_005 + 999), 20)
         self.assertEqual([clock.at(it) for it in (1, 3, 4, 5, 8, 9, 10, 11, 12, 99)], [0, 0, 0, 0.5, 0.5, 2, 2, 2, 3, 3])
         self.assertEqual([clock.told(it) for it in (5, 12)], ["0:00:00.500", "0:00:03.000"])
         clock.times[-1] = 7384 * 27_000_000
-        self.assertEqual((clock.told(12), Clock().told(1)), ("2:03:04.000", ""))
+        self.assertEqual((clock.told(20), Clock().told(1)), ("2:03:04.000", ""))
 
 
 @unittest.skipUnless(browser.program(), "there is no Chromium")
