@@ -119,7 +119,7 @@ def fault_of_output(path):
     data = beginning(path)
     if is_output(data):
         return None
-    kind = "a transport stream" if is_stream(path) else kind_of(data)
+    kind = kind_of(data) if refusal_of_stream(path) else "a transport stream"
     order = {"a transport stream": ": name the lines first, and the stream by --stream", "a record of bml_replay": ": name the lines first, and the record by --record"}
     at, line = next((at, line) for at, line in enumerate(whole_lines(data), 1) if not OUTPUT_LINE.fullmatch(line))
     where = f", whose line {at} is {shown(line)}" if kind == "a text" else ""
@@ -130,12 +130,6 @@ def shown(line):
     """Returns the beginning of a line as it is told."""
     text = line[:60].decode("ascii", errors="backslashreplace")
     return '"' + re.sub("[\x00-\x1f\x7f]", lambda it: f"\\x{ord(it[0]):02x}", text) + ('" ..' if len(line) > 60 else '"')
-
-
-def is_stream(path):
-    """Whether there are packets at the beginning of a file."""
-    with open(path, "rb") as file:
-        return PacketReader(file).size is not None
 
 
 def finding_of_kind(data):
@@ -156,6 +150,27 @@ def fault_of_path(path):
     """Returns why a path names no file that can be read once from the front, or None where it does."""
     mode = os.stat(path).st_mode
     return "it is a folder" if stat.S_ISDIR(mode) else None
+
+
+def refusal_of_stream(path):
+    """Returns why a file is no transport stream, or None where packets are at its beginning."""
+    with open(path, "rb") as file:
+        return finding_of_kind(beginning(path)).text() if PacketReader(file).size is None else None
+
+
+def explained(told, stream, record):
+    """Returns what the program says of its end, with what it says it of: the line of the record, or the file."""
+    bad = re.search("bad record line ([0-9]{1,10})", told)
+    if bad:
+        lines = record.split(b"\n")
+        line = lines[int(bad[1]) - 1] if int(bad[1]) <= len(lines) else b""
+        return f"{told}, which is {shown(line)}"
+    if "open fault" in told or "read fault" in told:
+        try:
+            beginning(stream)
+        except OSError as fault:
+            return f"{told}: {stream}: {fault.strerror}"
+    return told
 
 
 # ---- what is in a recording

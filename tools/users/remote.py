@@ -38,6 +38,7 @@ from http.server import BaseHTTPRequestHandler, ThreadingHTTPServer
 from pathlib import Path
 from typing import NamedTuple
 
+from diagnosis import diagnose, explained, refusal_of_stream
 from drawings import BadOutput, DisplayList, Look, display_lists, drawing, shapes_of
 from report import KEYS, items_of, kind_of, page, plain_text, policy, report_of_lines
 from shown_pages import Follower, Recording, add_service, number
@@ -167,7 +168,7 @@ class Replay:
             raise Failed("The replay was stopped.")
         if self.started.returncode:
             why = told.decode("utf-8", errors="replace").strip()
-            raise Failed(f"The program ended with status {self.started.returncode}: {why[-500:]}")
+            raise Failed(f"The program ended with status {self.started.returncode}: {explained(why[-500:], self.command[-1], record)}")
         lines = printed.split(b"\n")
         return lines[:-1] if lines[-1] == b"" else lines
 
@@ -194,11 +195,14 @@ class Reading(threading.Thread):
     def __init__(self, recording):
         super().__init__(daemon=True)
         self.recording, self.read, self.fault, self.is_done = recording, 0, "", False
+        self.findings = []  # what is to be known of it
         self.start()
 
     def run(self):
+        recording = self.recording
         try:
-            self.recording.read(self.take)
+            recording.read(self.take)
+            self.findings = [it.text() for it in diagnose(recording.path, recording.service, recording.data_pid)]
         except Exception as fault:  # (whatever comes: what is shown then is the lines alone)
             self.fault = f"The recording can't be read for its pictures: {fault}"
         self.is_done = True
@@ -330,6 +334,11 @@ class Session:
             shown, recording = self.shown, self.recording()
             return page(report_of_lines("Report of a session", shown.lines if shown else [], items_of(self.text()), self.command[-1] if recording else None, recording))
 
+    def why_empty(self):
+        """Returns what is to be known of the recording, where nothing is shown."""
+        findings = self.reading.findings if self.reading and self.shown and not self.shown.listed.lines else []
+        return "\n".join(["Nothing is displayed.", *findings]) if findings else ""
+
     def state(self):
         """Returns what the page shows."""
         with self.lock:
@@ -345,7 +354,7 @@ class Session:
             return {
                 "drawing": drawn.drawing,
                 "lines": lines,
-                "fault": self.fault or drawn.fault,
+                "fault": self.fault or drawn.fault or self.why_empty(),
                 "told": told + (f". Clock: {shown.listed.clock} ms" if shown else ""),
                 "record": self.text().decode("ascii", errors="backslashreplace"),
                 "clock": shown.listed.clock if shown else None,
@@ -490,8 +499,11 @@ def main(words):
     options = [("--service", asked.service), ("--data-pid", asked.data_pid)]
     command = [program, "replay", *(word for name, value in options if value is not None for word in (name, str(value)))]
     try:
-        with open(asked.stream, "rb"):
-            record = Path(asked.record).read_bytes() if asked.record else FIRST_RECORD
+        refusal = refusal_of_stream(asked.stream)
+        if refusal:
+            print(f"remote.py: {asked.stream}: {refusal}", file=sys.stderr)
+            return 1
+        record = Path(asked.record).read_bytes() if asked.record else FIRST_RECORD
         recording = Recording(os.path.abspath(asked.stream), asked.service, asked.data_pid)
         server = Server(Session([*command, os.path.abspath(asked.stream)], record, recording), asked.port)
     except (OSError, OverflowError) as fault:

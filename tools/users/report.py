@@ -29,6 +29,7 @@ from html import escape
 from pathlib import Path
 from typing import NamedTuple
 
+from diagnosis import diagnose, fault_of_output
 from drawings import BadOutput, DisplayList, data_address, display_lists, drawing, numbers, rectangle, shapes_of
 from pictures import BadPicture
 from shown_pages import Follower, Recording, add_service
@@ -118,7 +119,7 @@ class Acquired(NamedTuple):
 
 class Report(NamedTuple):
     """What a report tells: the lines of the run, its parts, the items of the record for each of them, the packets that were taken before and with these,
-    sentences about the run, and the stream where it is known. Without a record there are neither items nor packets."""
+    sentences about the run, the stream where it is known, and what is to be known of it. Without a record there are neither items nor packets."""
 
     name: str
     lines: list[bytes]
@@ -127,6 +128,7 @@ class Report(NamedTuple):
     spans: list[tuple[float, float]]
     notes: list[str]
     recording: Recording | None
+    findings: list[str]
 
 
 class Sprites:
@@ -317,7 +319,8 @@ def warning_table(report, places):
     counts = Counter(line.split(b" ")[0] for _, line in found)
     sums = [f"{WARNINGS[word]}: {counts[word]:,}" for word in WARNINGS if counts[word]]
     rows = [[link(place + 1), places[place], WARNINGS[line.split(b" ")[0]], f"<code>{shown_text(line)}</code>"] for place, line in found]
-    head = ["<h2>Warnings</h2>", f"<p>{'; '.join(sums) or 'None of the lines warns'}.</p>"]
+    told = [f'<p class="refuse">{escape(finding)}</p>' for finding in report.findings]
+    head = ["<h2>Warnings</h2>", *told, f"<p>{'; '.join(sums) or 'None of the lines warns'}.</p>"]
     return head + (table(["line", "part", "what", "which"], rows) if rows else [])
 
 
@@ -438,16 +441,18 @@ def report_of(output, stream=None, record=None, service=None, data_pid=None):
         lines.pop()
     items = items_of(Path(record).read_bytes()) if record else []
     recording = Recording(stream, service, data_pid).read() if stream else None
-    return report_of_lines(f"Report of {os.path.basename(output)}", lines, items, stream, recording)
+    findings = [it.text() for it in diagnose(stream, service, data_pid)] if stream else []
+    return report_of_lines(f"Report of {os.path.basename(output)}", lines, items, stream, recording, findings)
 
 
-def report_of_lines(name, lines, items, stream, recording):
-    """Returns the report of lines, of the items of their record and of their stream, as far as these are known."""
+def report_of_lines(name, lines, items, stream, recording, findings=()):
+    """Returns the report of lines, of the items of their record and of their stream, as far as these are known, and with what is to be known of the
+    stream."""
     parts = parts_of(lines)
     ended = re.fullmatch(rb"end ([0-9]{1,20})", lines[-1]) if lines else None
     count = int(ended[1]) if ended else None
     notes = notes_of(count, parts, items, stream)
-    return Report(name, lines, parts, items, taken_by(items, count), notes, recording)
+    return Report(name, lines, parts, items, taken_by(items, count), notes, recording, findings)
 
 
 def main(words):
@@ -459,6 +464,9 @@ def main(words):
     parser.add_argument("--record")
     asked = parser.parse_args(words)
     try:
+        if fault := fault_of_output(asked.output):
+            print(f"report.py: {asked.output}: {fault}", file=sys.stderr)
+            return 1
         report = report_of(asked.output, asked.stream, asked.record, asked.service, asked.data_pid)
         made = Path(asked.folder) / "report.html"
         text = page(report)

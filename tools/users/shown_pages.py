@@ -126,7 +126,7 @@ class Recording:
     """What came in a stream for one service: its modules in their order, with their bytes, its packets and its times."""
 
     def __init__(self, path, service=None, data_pid=None):
-        self.path = path
+        self.path, self.service, self.data_pid = path, service, data_pid
         self.arrivals, self.kept = [], 0
         self.packets = 0
         self.clock = Clock()

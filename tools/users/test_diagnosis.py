@@ -7,6 +7,7 @@ Each recording here has one thing that is to be known of it. With --program it i
 """
 
 import contextlib
+import html
 import io
 import os
 import random
@@ -18,8 +19,12 @@ import unittest
 from pathlib import Path
 
 import diagnosis
+import draw_display
 import extract
 import prepare_recording
+import remote
+import report
+import shown_pages
 import transport
 from generated_recordings import MAP_PID, PID, blocks, compressed, on, packets_of, tables
 from test_extract import BML, JPEG, carousel, entity, part
@@ -212,6 +217,64 @@ class Outputs(InFolder):
             if path.parent.name != "faulty-record":
                 self.assertTrue(diagnosis.is_record(path.read_bytes()), path)
         self.assertGreater(count, 20)
+
+
+class Tools(InFolder):
+    """That the report and the remote control tell what is found."""
+
+    def test_a_report_refuses_what_no_run_printed(self):
+        for data, wanted in ((JPEG, "no output of a run, but a JPEG picture"), (b"".join(GOOD), "but a transport stream: name the lines first")):
+            self.write(data)
+            for tool in (report, draw_display):
+                status, printed, told = run(tool, self.source, self.folder / "made")
+                self.assertEqual((status, printed, (self.folder / "made").exists()), (1, "", False))
+                self.assertIn(wanted, told)
+
+    def test_a_report_has_the_findings_of_its_stream(self):
+        (self.folder / "lines.txt").write_bytes(b"show 0\nend 1\n")
+        for row, data, words, wanted in FOUND:
+            self.write(data)
+            status, _, told = run(report, self.folder / "lines.txt", self.folder / "made", "--stream", self.source, *words)
+            self.assertEqual((status, told), (0, ""), row)
+            text = html.unescape((self.folder / "made" / "report.html").read_text(encoding="utf-8"))
+            self.assertIn(wanted, text.split("<h2>Warnings</h2>")[1].split("<h2>Modules</h2>")[0])
+
+    def session(self, lines, record=b"all\nshow\n"):
+        """Returns the state of a session over what is written, with a program that prints these lines, once the recording was read."""
+        program = self.folder / "program"
+        program.write_text(f"#!{sys.executable}\nprint({lines!r})\n", encoding="utf-8")
+        program.chmod(0o755)
+        session = remote.Session([str(program), "replay", str(self.source)], record, shown_pages.Recording(str(self.source)))
+        session.reading.join(60)
+        return session.state()
+
+    def test_the_remote_tells_why_nothing_is_displayed(self):
+        for row, data, words, wanted in FOUND:
+            if words or data == b"":
+                continue
+            self.write(data)
+            state = self.session("show 0\nend 1")
+            self.assertIn(wanted, state["fault"], row)
+            self.assertTrue(state["fault"].startswith("Nothing is displayed."))
+            self.assertIn(["end", "end 1"], state["lines"])
+            self.assertEqual(self.session("show 0\nbox 0 0 9 9 1 1 1\nend 1")["fault"], "")
+        self.write(GOOD)
+        self.assertEqual(self.session("show 0\nend 1")["fault"], "")
+
+    def test_the_remote_refuses_what_is_no_stream(self):
+        for data, wanted in ((b"", "It has no bytes"), (JPEG, "it is a JPEG picture"), (b"all\nshow\n", "It is a record of bml_replay")):
+            self.write(data)
+            status, printed, told = run(remote, self.source, "--program", sys.executable)
+            self.assertEqual((status, printed), (1, ""))
+            self.assertIn(wanted, told)
+
+    def test_what_the_program_says_is_explained(self):
+        record = b"all\nkei 5\nshow"
+        self.assertEqual(diagnosis.explained("bad record line 2", str(self.source), record), 'bad record line 2, which is "kei 5"')
+        self.assertEqual(diagnosis.explained("bad record line 9", str(self.source), record), 'bad record line 9, which is ""')
+        self.assertEqual(diagnosis.explained("open fault", str(self.source), record), f"open fault: {self.source}: No such file or directory")
+        self.assertEqual(diagnosis.explained("read fault", str(self.folder), record), f"read fault: {self.folder}: Is a directory")
+        self.assertEqual(diagnosis.explained("keep fault", str(self.source), record), "keep fault")
 
 
 class Extraction(InFolder):
