@@ -94,8 +94,8 @@ class Clock:
         seconds = self.at(number)
         if seconds is None:
             return ""
-        minutes, seconds = divmod(seconds, 60)
-        return f"{int(minutes) // 60}:{int(minutes) % 60:02}:{seconds:06.3f}"
+        minutes, milliseconds = divmod(round(1000 * seconds), 60_000)
+        return f"{minutes // 60}:{minutes % 60:02}:{milliseconds // 1000:02}.{milliseconds % 1000:03}"
 
     def at(self, number):
         """Returns the seconds at the last clock reference up to a packet, or None where there are no clock references."""

@@ -220,9 +220,10 @@ class Texts(unittest.TestCase):
         self.assertEqual(found, [["0", "21", "24", "a "], *wide, ["96", "21", "12", "c"], ["108", "18", None, "\u3046"], ["0", "38", "10", "d"]])
 
     def test_long_texts_and_sizes_of_nothing(self):
-        lines = [b"text 0 0 9 9 7 24 " + b"\xa4\xa2a" * 10_000, b"text 0 0 9 9 7 0 x", b"text 0 0 9 9 7 32767 x"]
+        lines = [b"text 0 0 9 9 7 24 " + b"\xa4\xa2a" * 10_000, b"text 0 0 9 9 7 0 x", b"text 0 0 9 9 7 -5 x", b"text 0 0 -9 -9 7 32767 x"]
         shapes = shapes_of(lines, Look())
         self.assertLess(sum(map(len, shapes)), 4_000_000)
+        self.assertNotIn('="-', "".join(shapes))
 
 
 class InFolder(unittest.TestCase):

@@ -447,7 +447,11 @@ class InBrowser(OverExample):
         self.assertTrue(page.value("record.textContent").endswith("packets 5\nshow\n# 6 packets\npackets 6\nshow\n"))
         shown = page.value("[picture, picture.querySelector('svg')].map(it => it.getBoundingClientRect()).map(it => it.width / it.height)")
         self.assertTrue(all(abs(it - 16 / 9) < 0.01 for it in shown), shown)
+        # (a text's box cuts it at its own edges)
+        cut = "getComputedStyle(document.querySelector('%s svg svg')).width"
+        self.assertIn(page.value(cut % "#picture"), ("auto", "200px"))
         opened = self.started.open(page.value("document.querySelector('#report').href"))
+        self.assertIn(opened.value(cut % "section"), ("auto", "200px"))
         self.assertEqual(opened.value("document.querySelectorAll('section').length"), 3)
         opened.value("kind.value = 'text'; kind.dispatchEvent(new Event('change'))")
         self.assertIn(" of ", opened.value("found.textContent"))
