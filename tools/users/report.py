@@ -295,12 +295,12 @@ def module_table(report, places, moments):
         times = []
         if moments:
             packet, _ = moments[it.line - 1]
-            packets, times = f"{packet:,}", [report.recording.clock.told(packet)]
+            packets, times = f"{packet:,}", list(filter(None, [report.recording.clock.told(packet)]))
         when = [link(it.line), it.part, packets, *times, between(report.parts[it.part - 1])]
         rows.append([order, *(escape(cell) for cell in it[:3]), f"{it.size:,}", *when, state])
     total = sum(it.size for it in came)
     head = [f"<h2>Modules</h2><p>Modules that came: {len(came):,}, with {total:,} bytes together.</p>"]
-    times = ["stream time"] if moments else []
+    times = ["stream time"] if moments and report.recording.clock.times else []
     heads = ["", "component", "module", "version", "bytes", "line", "part", "packets", *times, "clock (ms)", "at the end"]
     return head + (table(heads, rows) if rows else [])
 

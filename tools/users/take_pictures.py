@@ -24,7 +24,8 @@ REPORTS = [("weather", 900, 1620), ("service", 900, 960)]
 def take(page, name, width, height):
     """Takes the picture of a page in a window of that size."""
     page.resize(width, height)
-    page.value("new Promise(done => requestAnimationFrame(() => requestAnimationFrame(done)))")
+    # (parts of a report are drawn once they are in sight)
+    page.value("new Promise(done => requestAnimationFrame(() => setTimeout(() => requestAnimationFrame(done), 1000)))")
     (PICTURES / name).write_bytes(page.picture(width, height, SCALE))
 
 
