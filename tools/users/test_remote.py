@@ -405,6 +405,13 @@ class InBrowser(OverExample):
         self.assertEqual(page.value("document.querySelectorAll('#picture text').length"), 1)
         page.key("u", 85, "u")
         page.wait("fault.textContent === ''")
+        for stop in (lambda: page.value("document.querySelector('#stop').click()"), lambda: page.key("Escape", 27)):
+            page.key("b", 66, "b")
+            page.wait("document.querySelector('#stop').checkVisibility() && document.querySelector('#doing').textContent.startsWith('replaying')")
+            stop()
+            page.wait("fault.textContent.startsWith('The replay was stopped.') && !document.querySelector('#stop').checkVisibility()")
+            page.key("u", 85, "u")
+            page.wait("fault.textContent === ''")
         self.assertEqual(self.started.errors, [])
 
     def test_the_page_is_driven_by_its_keys(self):
