@@ -224,7 +224,8 @@ class Follower:
                 self.taken, self.arrived[at] = place + 1, it
                 self.held[fields[0], fields[1]] = it
                 return
-        self.fault = f"The module of line {at + 1} isn't in the stream at that place: it is another stream, or another service or PID was asked for (--service, --data-pid)."
+        why = "it is another stream, or another service or PID was asked for (--service, --data-pid)"
+        self.fault = f"The module of line {at + 1} isn't in the stream at that place: {why}."
 
     def resource(self, path):
         """Returns the bytes at a path, or None where nothing is held there."""

@@ -80,7 +80,8 @@ class Colours(unittest.TestCase):
             self.assertEqual(it[3], 9)
 
     def test_what_is_no_table_is_told(self):
-        rows = [b"", b"\xa8", b"\xa8\x01", b"\xa8\x05\x04" + bytes(8), b"\xe8" + bytes(20), b"\xb8\0\0", b"\xa8\x01\x02", b"\xa8\x01\x02\1\2\3", b"\xc8\x01\x00\x01\x01" + bytes(99)]
+        rows = [b"", b"\xa8", b"\xa8\x01", b"\xa8\x05\x04" + bytes(8), b"\xe8" + bytes(20), b"\xb8\0\0", b"\xa8\x01\x02", b"\xa8\x01\x02\1\2\3"]
+        rows.append(b"\xc8\x01\x00\x01\x01" + bytes(99))
         for data in rows:
             with self.assertRaises(BadColours):
                 colours.read_colours(data)
@@ -157,6 +158,8 @@ class Styles(unittest.TestCase):
             ("<style>#x{clut:url(a)} .y{clut:url(b)} body.y{clut:url(c)}</style>", ' id="x" class="z y"', "", "url(a)"),
             ("<style>.y{clut:url(b)} body{clut:url(c)} p, .y , q{CLUT : url(d)}</style>", " class='z y'", "", "url(d)"),
             ("<style>body:focus{clut:url(a)} p body{clut:url(b)} body#z{clut:url(c)} BODY{clut:url(d)}</style>", ' id="x"', "", None),
+            ("<style>body{clut:url(a)} body, {clut:url(b)} body, p q{clut:url(c)} body, p:active{clut:url(d)} body:hover, body{clut:url(e)} :focus, body{clut:url(f)} *.x, body{clut:url(g)}</style>", "", "", "url(d)"),
+            ("<style>body{clut:url(a)}</style>", ' style="/* clut:url(b); */ clut: url(c)/* */"', "", "url(c)"),
             ("<style>body{clut:url(a)}</style>", ' style="left:0px; clut:url(/40/0000/x.clut); top:1px"', "", "url(/40/0000/x.clut)"),
             ("<style>bml{clut:url(a)}</style>", "", ' id="b"', "url(a)"),
             ("<style>bml{clut:url(a)} body{clut:url(b)}</style>", "", ' style="clut:url(c)"', "url(b)"),
