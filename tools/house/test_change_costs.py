@@ -4,6 +4,7 @@
 import sys
 
 from change_costs import code_of, kind_of, named
+from told_tests import status_of
 
 KINDS = {
     "crates/page/src/pages.rt": "sources",
@@ -33,12 +34,5 @@ def tests():
     yield "what only looks like a comment stays", "a--b" in code_of("b.antt", "f a--b = a")
 
 
-def main():
-    told = list(tests())
-    failed = [name for name, is_so in told if not is_so]
-    print(f"FAILED  change costs: {'; '.join(failed)}" if failed else f"ok      change costs: {len(told)} tests of small files")
-    return 1 if failed else 0
-
-
 if __name__ == "__main__":
-    sys.exit(main())
+    sys.exit(status_of("change costs", "tests of small files", tests()))

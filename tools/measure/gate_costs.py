@@ -10,47 +10,23 @@ It ends with the status of COMMAND.
 
 import argparse
 import os
-import re
 import subprocess
 import sys
 import time
-from pathlib import Path
 
-ROOT = Path(__file__).resolve().parents[2]
+from places import ROOT  # (first, so that the others are found)
+from processes import below, words_of
+
+from crate_list import crates_below
+
 PARTS = ("proofs", "tests", "edits")
 TICKS = os.sysconf("SC_CLK_TCK")
 
 
-def stat_of(pid):
-    """The parent of a process and the ticks that it has used, without its children."""
-    text = Path(f"/proc/{pid}/stat").read_text()
-    fields = text[text.rindex(")") + 2:].split()
-    return int(fields[1]), int(fields[11]) + int(fields[12])
-
-
-def below(top):
-    """The processes that stem from `top`, with their ticks."""
-    parents, ticks = {}, {}
-    for name in os.listdir("/proc"):
-        if name.isdigit():
-            try:
-                parents[int(name)], ticks[int(name)] = stat_of(name)
-            except (OSError, ValueError):
-                pass
-    found, more = {}, [top]
-    while more:
-        pid = more.pop()
-        for child, parent in parents.items():
-            if parent == pid and child not in found:
-                found[child] = ticks[child]
-                more.append(child)
-    return found
-
-
 def task_of(pid):
     """The crate and the part that a process of the prover works for, or None."""
+    words = words_of(pid)
     try:
-        words = Path(f"/proc/{pid}/cmdline").read_bytes().decode(errors="replace").split("\0")
         folder = os.readlink(f"/proc/{pid}/cwd")
     except OSError:
         return None
@@ -83,7 +59,7 @@ def edit_count(crate):
 
 
 def table(sums, minutes):
-    names = [re.match(r"\w+", it)[0] for it in (ROOT / "crates.txt").read_text().splitlines() if re.match(r"\w", it)]
+    names = [*crates_below()]
     out = ["| crate | proofs | tests | edits | number of edits | sum |", "|---|---|---|---|---|---|"]
     for crate in names:
         each = [sums.get((crate, part), 0.0) for part in PARTS]

@@ -9,14 +9,12 @@ What the program writes at the end is compared with what is due. Each stream is 
 
 import sys
 
-from measuring import replayed, words
-from transport import ElementaryStream, Module, ddb_section, dii_section, packets_of_sections, pat_section, pmt_section
+from measuring import MOST_BYTES, replayed, words
 
-DATA_PID = 256
-OPTIONS = ["--data-pid", str(DATA_PID)]
+from sent_modules import DATA_PID, OPTIONS
+from transport import DATA_STREAM, ElementaryStream, Module, ddb_section, dii_section, packets_of_sections, pat_section, pmt_section
+
 MAP_PID = 496
-DATA_STREAM = 0x0D
-MOST_BYTES = 1 << 20  # of a module
 MOST_MODULES = 32  # of so many bytes
 MOST_ENTRIES = 400
 

@@ -12,13 +12,9 @@ ended well and wrote as many display lists and loads as are due, else 1.
 import sys
 from typing import NamedTuple
 
-from measuring import replayed, words
-from transport import TYPE_DESCRIPTOR, Module, ddb_section, descriptor, dii_section, packets_of_sections
+from measuring import MOST_NODES, replayed, with_script, words
 
-DATA_PID = 256
-OPTIONS = ["--data-pid", str(DATA_PID)]
-BLOCK_SIZE = 4000
-MOST_NODES = 16_384
+from sent_modules import BML, OPTIONS, carousel_sections, sent
 
 
 class Case(NamedTuple):
@@ -32,9 +28,8 @@ class Case(NamedTuple):
     loads: int
 
 
-def document(script, body, style=""):
-    text = f'<bml><head><script><![CDATA[{script}]]></script></head><body style="{style}">{body}</body></bml>'
-    return text.encode("ascii")
+def document(script, body):
+    return with_script(script, body).encode("ascii")
 
 
 def boxes(handler):
@@ -70,13 +65,9 @@ def cases():
 
 
 def stream_of(documents):
-    info = descriptor(TYPE_DESCRIPTOR, b"text/X-arib-bml")
-    modules = [Module(number, 1, len(text), info) for number, text in enumerate(documents)]
-    sections = [dii_section(1, 1, BLOCK_SIZE, modules)]
-    for number, text in reversed([*enumerate(documents)]):
-        blocks = range(0, len(text), BLOCK_SIZE)
-        sections += [ddb_section(1, number, 1, at // BLOCK_SIZE, text[at : at + BLOCK_SIZE]) for at in blocks]
-    return packets_of_sections((DATA_PID, made) for made in sections)[0]
+    """Returns the packets of a carousel with these documents: the start document comes last."""
+    modules = [(number, BML, text) for number, text in enumerate(documents)]
+    return sent(carousel_sections(modules[::-1]))[0]
 
 
 def is_due(case, count, ran):

@@ -12,14 +12,10 @@ with what is due. Each is run N times (3), of which the best counts. `processor`
 import sys
 from typing import NamedTuple
 
-from measuring import replayed, words
-from transport import TYPE_DESCRIPTOR, Module, ddb_section, descriptor, dii_section, packets_of_sections
+from measuring import MOST_BYTES, MOST_NODES, Measured, measure_all, words
 
-DATA_PID = 256
-OPTIONS = ["--data-pid", str(DATA_PID)]
-BLOCK_SIZE = 4000
-MOST_BYTES = 1 << 20  # of a module, and so of a document
-MOST_NODES = 16_384
+from sent_modules import BML, announcement, carousel_sections, sent
+
 PLAIN_BOX = "box 0 0 0 0 8 0 7\n"
 
 
@@ -32,7 +28,7 @@ class Document(NamedTuple):
     name: str
     text: str
     lines: str
-    info: bytes = descriptor(TYPE_DESCRIPTOR, b"text/X-arib-bml")
+    info: bytes = BML
     diis: int = 0
 
 
@@ -148,31 +144,24 @@ def waiting():
 
 
 def sections_of(document):
-    """Returns the sections of a document, each with its PID."""
+    """Returns the sections of a document, and the DIIs behind it."""
     data = document.text.encode("ascii")
-    modules = [Module(0, 1, len(data), document.info)]
-    if document.diis:
-        modules.append(Module(1, 1, 10, b""))
-    sections = [dii_section(1, 1, BLOCK_SIZE, modules)]
-    blocks = range(0, len(data), BLOCK_SIZE)
-    sections += [ddb_section(1, 0, 1, at // BLOCK_SIZE, data[at : at + BLOCK_SIZE]) for at in blocks]
-    sections += [dii_section(2 + at, 1, BLOCK_SIZE, modules) for at in range(document.diis)]
-    return [(DATA_PID, section) for section in sections]
+    away = [(1, b"", bytes(10))] if document.diis else []
+    modules = [(0, document.info, data)]
+    again = (announcement([*modules, *away], 2 + at) for at in range(document.diis))
+    return [*carousel_sections(modules, away), *again]
+
+
+def measured(document):
+    """Returns the run of a document."""
+    stream, packets = sent(sections_of(document))
+    due = f"module 40 0000 01 {len(document.text)}\n{document.lines}end {packets}\n".encode("ascii")
+    return Measured(f"{document.name:32} {len(document.text):9,}", stream, b"all\nshow\n", due.__eq__)
 
 
 def main():
-    program, rounds = words("measure_documents.py")
-    wrong = 0
-    print(f"{'document':32} {'bytes':>9} {'seconds':>8} {'processor':>10}")
-    for document in [*documents(), *entities(), *waiting()]:
-        stream, packets = packets_of_sections(sections_of(document))
-        due = f"module 40 0000 01 {len(document.text)}\n{document.lines}end {packets}\n".encode("ascii")
-        ran, seconds, processor = replayed(program, OPTIONS, stream, b"all\nshow\n", rounds)
-        as_due = ran.returncode == 0 and ran.stdout == due
-        wrong += not as_due
-        times = f"{seconds:8.3f} {processor:10.3f}"
-        print(f"{document.name:32} {len(document.text):9,} {times}{'' if as_due else '  not what is due'}")
-    return 1 if wrong else 0
+    runs = map(measured, [*documents(), *entities(), *waiting()])
+    return measure_all(*words("measure_documents.py"), f"{'document':32} {'bytes':>9}", runs)
 
 
 if __name__ == "__main__":

@@ -11,24 +11,13 @@ where all was as due, 1 where a run went wrong.
 """
 
 import sys
+from functools import partial
 from typing import NamedTuple
 
-from measuring import replayed, words
-from transport import (
-    TYPE_DESCRIPTOR,
-    EventMessage,
-    Module,
-    ddb_section,
-    descriptor,
-    dii_section,
-    event_message,
-    packets_of_sections,
-    stream_descriptors_section,
-)
+from measuring import Measured, measure_all, with_script, words
 
-DATA_PID = 256
-OPTIONS = ["--data-pid", str(DATA_PID)]
-BLOCK_SIZE = 4000
+from sent_modules import BML, carousel_sections, sent
+from transport import EventMessage, event_message, stream_descriptors_section
 
 
 class Page(NamedTuple):
@@ -41,10 +30,6 @@ class Page(NamedTuple):
     lost: int
     stopped: int
     messages: tuple = ()
-
-
-def with_script(script, body):
-    return f"<bml><head><script><![CDATA[{script}]]></script></head><body>{body}</body></bml>"
 
 
 def many_nodes(count):
@@ -100,13 +85,9 @@ def pages():
 
 
 def sections_of(document, messages):
-    """Returns the sections of the module and those of the messages, each with its PID."""
-    modules = [Module(0, 1, len(document), descriptor(TYPE_DESCRIPTOR, b"text/X-arib-bml"))]
-    blocks = range(0, len(document), BLOCK_SIZE)
-    sections = [dii_section(1, 1, BLOCK_SIZE, modules)]
-    sections += [ddb_section(1, 0, 1, at // BLOCK_SIZE, document[at : at + BLOCK_SIZE]) for at in blocks]
-    sections += [stream_descriptors_section([event_message(it) for it in section]) for section in messages]
-    return [(DATA_PID, section) for section in sections]
+    """Returns the sections of a document as module 0000, and those of the messages."""
+    told = [stream_descriptors_section([event_message(it) for it in section]) for section in messages]
+    return [*carousel_sections([(0, BML, document)]), *told]
 
 
 def is_due(page, document, packets, written):
@@ -118,18 +99,15 @@ def is_due(page, document, packets, written):
     return lines[:2] == first and lines[-1] == f"end {packets}" and (lost, stopped, len(lines)) == (page.lost, page.stopped, told)
 
 
+def measured(page):
+    """Returns the run of a page."""
+    document = page.document.encode("ascii")
+    stream, packets = sent(sections_of(document, page.messages))
+    return Measured(f"{page.name:52}", stream, ("all\n" + page.record).encode("ascii"), partial(is_due, page, document, packets))
+
+
 def main():
-    program, rounds = words("measure_pages.py")
-    faults = 0
-    print(f"{'page':52} {'seconds':>8} {'processor':>9}")
-    for page in pages():
-        document = page.document.encode("ascii")
-        stream, packets = packets_of_sections(sections_of(document, page.messages))
-        ran, seconds, processor = replayed(program, OPTIONS, stream, ("all\n" + page.record).encode("ascii"), rounds)
-        fault = "" if ran.returncode == 0 and is_due(page, document, packets, ran.stdout) else "  not as due"
-        faults += bool(fault)
-        print(f"{page.name:52} {seconds:8.3f} {processor:9.3f}{fault}")
-    return 1 if faults else 0
+    return measure_all(*words("measure_pages.py"), f"{'page':52}", map(measured, pages()))
 
 
 if __name__ == "__main__":

@@ -16,13 +16,15 @@ import random
 import subprocess
 import sys
 import tempfile
-import time
 import zlib
 from itertools import chain, cycle, islice
 
 from measure import greatest_memory
-from measuring import USERS, processor_seconds
+from measuring import timed
+from places import USERS
+
 from multiplexed_recordings import Rate, Stage, is_possible, repeated, with_data, write_multiplex
+from sent_modules import BLOCK_SIZE, block_sections
 from transport import (
     DATA_STREAM,
     PACKET_SIZE,
@@ -30,7 +32,6 @@ from transport import (
     ElementaryStream,
     Module,
     compression_type,
-    ddb_section,
     dii_section,
     packet,
     packets_of_sections,
@@ -42,7 +43,6 @@ TOOL = str(USERS / "prepare_recording.py")
 MAP_PID = 496
 DATA_PID = 512
 OTHER_PID = 300
-BLOCK_SIZE = 4000
 EVERY = 10
 RATE, SECONDS = Rate("9M", "2M", "16M"), 20  # of a multiplex, before it is repeated
 STAGES = 4
@@ -56,8 +56,7 @@ def carousel(noise, pid):
         data = b"".join(noise.choices(words, k=noise.randrange(40_000, 120_000)))
         sent = zlib.compress(data)
         modules.append(Module(number, 1, len(sent), compression_type(len(data))))
-        for at in range(0, len(sent), BLOCK_SIZE):
-            blocks.append((pid, ddb_section(1, number, 1, at // BLOCK_SIZE, sent[at : at + BLOCK_SIZE])))
+        blocks += [(pid, block) for block in block_sections(number, sent)]
     dii = pid, dii_section(1, 1, BLOCK_SIZE, modules)
     return [section for at, block in enumerate(blocks) for section in ([dii, block] if at % 40 == 0 else [block])]
 
@@ -116,9 +115,7 @@ def main():
         size = write_multiplexed(source, asked.megabytes, room) if asked.multiplexed else write_recording(source, asked.megabytes)
         for words in (["list", source], ["unpack", source, target]):
             command = [sys.executable, "-B", TOOL, *words]
-            begin, used = time.perf_counter(), processor_seconds()
-            ran = subprocess.run(command, stdout=subprocess.DEVNULL, check=False)
-            seconds, processor = time.perf_counter() - begin, processor_seconds() - used
+            ran, seconds, processor = timed(command, stdout=subprocess.DEVNULL)
             if ran.returncode:
                 return 1
             memory = greatest_memory(command) / 1024

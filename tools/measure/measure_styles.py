@@ -12,14 +12,10 @@ wrong.
 import sys
 from typing import NamedTuple
 
-from measuring import replayed, words
-from transport import TYPE_DESCRIPTOR, Module, ddb_section, descriptor, dii_section, packets_of_sections
+from measuring import MOST_BYTES, MOST_NODES, Measured, measure_all, repeated, words
 
-DATA_PID = 256
-OPTIONS = ["--data-pid", str(DATA_PID)]
-BLOCK_SIZE = 4000
-MOST_BYTES = 1 << 20  # of a module
-MOST_NODES = 16_384
+from sent_modules import BML, CSS, carousel_sections, sent
+
 PLAIN_BOX = "box 0 0 0 0 8 0 7\n"
 MOVED_BOX = "box 1 0 0 0 8 0 7\n"
 TWICE_MOVED_BOX = "box 2 0 0 0 8 0 7\n"
@@ -38,11 +34,6 @@ class Styled(NamedTuple):
     sheet: str
     inside: str
     lines: str
-
-
-def repeated(item):
-    """As many items as a module has room for."""
-    return item * (MOST_BYTES // len(item))
 
 
 def numbered(count, form):
@@ -112,39 +103,18 @@ def document_of(styled):
     return f'<bml><head><link href="/40/0001"/></head><body>{styled.inside}</body></bml>'
 
 
-def sections_of(document, sheet):
-    """Returns the sections of both modules, each with its PID: the sheet's blocks come first."""
-    types = {DOCUMENT: descriptor(TYPE_DESCRIPTOR, b"text/X-arib-bml"), SHEET: descriptor(TYPE_DESCRIPTOR, b"text/css")}
-    contents = {SHEET: sheet, DOCUMENT: document}
-    modules = [Module(number, 1, len(contents[number]), types[number]) for number in (DOCUMENT, SHEET)]
-    sections = [dii_section(1, 1, BLOCK_SIZE, modules)]
-    for number, data in contents.items():
-        blocks = range(0, len(data), BLOCK_SIZE)
-        sections += [ddb_section(1, number, 1, at // BLOCK_SIZE, data[at : at + BLOCK_SIZE]) for at in blocks]
-    return [(DATA_PID, section) for section in sections]
-
-
-def due_of(document, sheet, lines, packets):
-    sheet_line = f"module 40 0001 01 {len(sheet)}\n"
-    document_line = f"module 40 0000 01 {len(document)}\n"
-    modules = sheet_line + document_line
-    return f"{modules}load /40/0000\nshow 0\n{lines}end {packets}\n".encode("ascii")
+def measured(styled):
+    """Returns the run of a sheet and the document that links it: the sheet's blocks come first."""
+    document, sheet = document_of(styled).encode("ascii"), styled.sheet.encode("ascii")
+    stream, packets = sent(carousel_sections([(SHEET, CSS, sheet), (DOCUMENT, BML, document)]))
+    modules = f"module 40 0001 01 {len(sheet)}\nmodule 40 0000 01 {len(document)}\n"
+    due = f"{modules}load /40/0000\nshow 0\n{styled.lines}end {packets}\n".encode("ascii")
+    return Measured(f"{styled.name:44} {len(sheet):9,} {len(document):9,}", stream, b"all\nshow\n", due.__eq__)
 
 
 def main():
-    program, rounds = words("measure_styles.py")
-    wrong = 0
-    print(f"{'sheet and document':44} {'sheet':>9} {'document':>9} {'seconds':>8} {'processor':>10}")
-    for styled in [*texts(), *nodes()]:
-        document, sheet = document_of(styled).encode("ascii"), styled.sheet.encode("ascii")
-        stream, packets = packets_of_sections(sections_of(document, sheet))
-        due = due_of(document, sheet, styled.lines, packets)
-        ran, seconds, processor = replayed(program, OPTIONS, stream, b"all\nshow\n", rounds)
-        as_due = ran.returncode == 0 and ran.stdout == due
-        wrong += not as_due
-        times = f"{seconds:8.3f} {processor:10.3f}"
-        print(f"{styled.name:44} {len(sheet):9,} {len(document):9,} {times}{'' if as_due else '  not what is due'}")
-    return 1 if wrong else 0
+    heading = f"{'sheet and document':44} {'sheet':>9} {'document':>9}"
+    return measure_all(*words("measure_styles.py"), heading, map(measured, [*texts(), *nodes()]))
 
 
 if __name__ == "__main__":

@@ -16,28 +16,14 @@ import signal
 import sys
 from pathlib import Path
 
-ROOT = Path(__file__).resolve().parents[2]
+from places import ROOT  # (first, so that the others are found)
+
+from crate_list import all_below, crates_below
+
 CRATES = ROOT / "crates"
 MIB = 2**20
 MOST_FUNCTIONS, MOST_CODE, LARGE = 100, 900, 2 * MIB
 SHOWN = 10
-
-
-def crates_below():
-    """The crates of crates.txt, each with the ones of this repository that it names."""
-    lines = [it for it in (ROOT / "crates.txt").read_text(encoding="utf-8").splitlines() if re.match(r"\w", it)]
-    named = {re.match(r"\w+", it)[0]: it.partition(":")[2].split() for it in lines}
-    return {name: [it for it in below if it in named] for name, below in named.items()}
-
-
-def all_below(crate, below):
-    found, todo = set(), list(below[crate])
-    while todo:
-        name = todo.pop()
-        if name not in found:
-            found.add(name)
-            todo += below[name]
-    return found
 
 
 def line_count(crate, ending):
@@ -84,7 +70,7 @@ def report(crate, below, out, show_all):
     functions = sum(len(re.findall(r"\bfn\s+\w", line)) for line in code)
     edits = len(list((CRATES / crate / "must-fail").glob("*.edit")))
     source, antt = line_count(crate, ".rt"), line_count(crate, ".antt")
-    planned = 1000 + source + 0.2 * antt + 0.08 * sum(line_count(it, ".rt") for it in all_below(crate, below))
+    planned = 1000 + source + 0.2 * antt + 0.08 * sum(line_count(it, ".rt") for it in below[crate])
     print(f"{crate}: {functions} functions, {len(code)} lines of code, {source} of source, {antt} of definitions and proofs, {edits} edits")
     print(f"  planned memory {planned / 1000:.1f} GB, and up to 2.5 GB for the toolchain's libraries")
     sizes = sorted(function_sizes(crate, out).items(), key=lambda it: (-it[1], it[0]))
@@ -112,7 +98,7 @@ def main():
     words.add_argument("crates", nargs="+", metavar="CRATE")
     given = words.parse_args()
     signal.signal(signal.SIGPIPE, signal.SIG_DFL)
-    below = crates_below()
+    below = all_below(crates_below())
     unknown = [it for it in given.crates if it not in below]
     if unknown:
         print(f"proof_costs.py: crates.txt has no crate {unknown[0]}", file=sys.stderr)

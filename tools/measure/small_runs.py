@@ -10,12 +10,13 @@ from pathlib import Path
 from typing import NamedTuple
 
 from measure import KINDS, write_stream
-from measure_pages import section_of_messages, sections_of, with_items, with_script
+from measure_pages import section_of_messages, sections_of, with_items
 from measure_scripts import SCRIPTS
-from measuring import DATA_PID, OPTIONS, carousel_sections
+from measuring import with_script
+
+from sent_modules import BML, DATA_PID, FILES, REPLAY, carousel_sections, sent
 from transport import DATA_STREAM, PAYLOAD_SIZE, ElementaryStream, packet, packets_of_sections, pat_section, pmt_section
 
-FILES = ["stream.ts", "record.txt"]
 MAP_PID = 496
 BROADCAST_MEGABYTES = 12  # which hold one round of its data
 SHOWN = {"box", "text", "picture", "focus"}
@@ -30,30 +31,30 @@ class Run(NamedTuple):
     due: dict
 
 
-def replay(sections, record="all\n", due=None, options=OPTIONS):
-    """A replay of sections, each with its PID."""
-    return Run(["replay", *options, *FILES], packets_of_sections(sections)[0], record, {**(due or {}), "end": 1})
+def replay(sections, due, record="all\n"):
+    """A replay of sections on the data PID."""
+    return Run(REPLAY, sent(sections)[0], record, {**due, "end": 1})
 
 
 def paged(document, behind="", due=None, messages=()):
     """A replay of a document as module 0000, of what the record has behind `all`, and of the messages of each section behind the document."""
-    return replay(sections_of(document.encode("ascii"), messages), "all\n" + behind, {"module": 1, "load": 1, **(due or {})})
+    return replay(sections_of(document.encode("ascii"), messages), {"module": 1, "load": 1, **(due or {})}, "all\n" + behind)
 
 
 def other_pids():
     packets = [packet(0x111, number % 16, False, bytes(PAYLOAD_SIZE)) for number in range(40_000)]
-    return Run(["replay", *OPTIONS, *FILES], b"".join(packets), "all\n", {"end": 1})
+    return Run(REPLAY, b"".join(packets), "all\n", {"end": 1})
 
 
 def data_alone():
     sections = carousel_sections([(1, b"", random.Random(1).randbytes(1 << 18))])
-    return replay(sections * 6, due={"module": 1})
+    return replay(sections * 6, {"module": 1})
 
 
 def tables_alone():
     streams = [ElementaryStream(DATA_STREAM, DATA_PID + place, 0x40 + place) for place in range(16)]
     tables = [(0, pat_section([(1, MAP_PID)])), (MAP_PID, pmt_section(1, streams))]
-    return replay(tables * 2_000, options=[])
+    return Run(["replay", *FILES], packets_of_sections(tables * 2_000)[0], "all\n", {"end": 1})
 
 
 def broadcast():
@@ -108,8 +109,8 @@ def timers():
 
 def launches():
     front = '<p style="nav-index:0" onkeydown="browser.launchDocument(\'/40/%\');">x</p>' + "<p/>" * 100
-    modules = [(number, b"text/X-arib-bml", with_script("", front.replace("%", other)).encode("ascii")) for number, other in [(1, "0000"), (0, "0001")]]
-    return replay(carousel_sections(modules), "all\n" + "key 19\nrelease 19\n" * 200, {"module": 2, "load": 201, "launch": 200})
+    modules = [(number, BML, with_script("", front.replace("%", other)).encode("ascii")) for number, other in [(1, "0000"), (0, "0001")]]
+    return replay(carousel_sections(modules), {"module": 2, "load": 201, "launch": 200}, "all\n" + "key 19\nrelease 19\n" * 200)
 
 
 def arrays():

@@ -6,6 +6,8 @@ import sys
 from instructions import LAST, figures_of, file_of, table
 from small_runs import RUNS, is_due
 
+from told_tests import status_of
+
 FIGURES = {"a short run": 999, "a run, with a comma": 1_234_567}
 
 
@@ -38,12 +40,5 @@ def tests():
     yield "the file has a figure of each run", list(figures_of(LAST.read_text(encoding="utf-8"))) == list(RUNS)
 
 
-def main():
-    told = list(tests())
-    failed = [name for name, is_so in told if not is_so]
-    print(f"FAILED  instructions: {'; '.join(failed)}" if failed else f"ok      instructions: {len(told)} tests of their comparison")
-    return 1 if failed else 0
-
-
 if __name__ == "__main__":
-    sys.exit(main())
+    sys.exit(status_of("instructions", "tests of their comparison", tests()))
