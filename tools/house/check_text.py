@@ -6,6 +6,7 @@
   text that is printed, and tests with their tables.
 - A file of specs/ whose head names no source: a standard and its section, or that it is this project's own, or a device of the proofs.
 - A document that names a row of tables/, as `modules: damaged`, or an example, that isn't there.
+- A file of tools/ that tools/README.md doesn't name.
 """
 
 import re
@@ -70,6 +71,14 @@ def missing_rows():
                     yield f"{path.relative_to(ROOT)}:{number}: there is no example {name}"
 
 
+def untold_tools():
+    """Files of tools/ that their list of tools doesn't name."""
+    told = (ROOT / "tools/README.md").read_text(encoding="utf-8")
+    for path in sorted((ROOT / "tools").glob("*/*")):
+        if path.is_file() and f"`{path.name}`" not in told:
+            yield f"{path.relative_to(ROOT)}: tools/README.md doesn't name it"
+
+
 def main():
     names = {it.name for it in CRATES.iterdir() if it.is_dir()}
     found = []
@@ -84,7 +93,7 @@ def main():
                 found += wide_lines(inside, lines)
             elif inside.parts[2] == "specs" and path.name != "Lib.antt":
                 found += head_without_source(inside, lines)
-    found += missing_rows()
+    found += [*missing_rows(), *untold_tools()]
     print("\n".join(found) if found else "the text is as it is to be")
     return 1 if found else 0
 
