@@ -10,6 +10,7 @@ give for each kind of change. With --counts only the numbers of files are printe
 import re
 import subprocess
 import sys
+from collections.abc import Iterable, Iterator
 from pathlib import Path
 
 ROOT = Path(__file__).resolve().parents[2]
@@ -28,23 +29,23 @@ COMMENTS = {".rt": re.compile(r"//[^\n]*"), ".antt": re.compile(r"(?:^|(?<=\s))-
 LEFT_OUT = re.compile(r"docs/(DEFINITIONS|REFUSALS)\.md|CONTRIBUTING\.md|.*/stream\.ts")
 
 
-def kind_of(path):
+def kind_of(path: str) -> str | None:
     """The kind of a file, None where it is none of these."""
     return next((kind for kind, form in KINDS.items() if re.match(form, path)), None)
 
 
-def word_of(name):
+def word_of(name: str) -> re.Pattern[str]:
     """What matches the name as a word of its own."""
     return re.compile(r"(?<![\w-])" + re.escape(name) + r"(?![\w-])")
 
 
-def code_of(path, text):
+def code_of(path: str, text: str) -> str:
     """The text without its comments."""
     comment = COMMENTS.get(Path(path).suffix)
     return comment.sub("", text) if comment else text
 
 
-def files():
+def files() -> Iterator[tuple[str, str]]:
     """The files of the repository, as their paths in it and their texts without comments."""
     listed = subprocess.run(["git", "ls-files", "-co", "--exclude-standard"], cwd=ROOT, capture_output=True, text=True, check=True)
     for path in sorted(listed.stdout.splitlines()):
@@ -52,19 +53,20 @@ def files():
             yield path, code_of(path, (ROOT / path).read_text(encoding="utf-8", errors="replace"))
 
 
-def named(names, given):
+def named(names: list[str], given: Iterable[tuple[str, str]]) -> tuple[dict[str, list[str]], list[str]]:
     """The files that have one of the names, by their kinds, and the names that stand nowhere."""
     words = {name: word_of(name) for name in names}
-    found, missing = {kind: [] for kind in KINDS}, set(names)
+    found: dict[str, list[str]] = {kind: [] for kind in KINDS}
+    missing = set(names)
     for path, text in given:
         here = {name for name, word in words.items() if word.search(text)}
         missing -= here
         if here:
-            found[kind_of(path)].append(path)
+            found[kind_of(path) or "tools"].append(path)
     return found, sorted(missing)
 
 
-def main():
+def main() -> int:
     names = [it for it in sys.argv[1:] if it != "--counts"]
     if not names or names[0].startswith("-"):
         sys.exit(__doc__.split("\n\n")[0])

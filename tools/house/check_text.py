@@ -11,6 +11,7 @@
 
 import re
 import sys
+from collections.abc import Iterator
 from pathlib import Path
 
 ROOT = Path(__file__).resolve().parents[2]
@@ -19,14 +20,14 @@ WIDTH = 100
 SOURCE = re.compile(r"ISO/IEC|ARIB|ECMA|XML|CSS|RFC|\b[Oo]wn\b|project's own|[Dd]evices? of the proofs?")
 
 
-def foreign_proofs(crate, path, lines, names):
+def foreign_proofs(crate: str, path: Path, lines: list[str], names: set[str]) -> Iterator[str]:
     for number, line in enumerate(lines, 1):
         for other in re.findall(r"\buse Rattle\.(\w+)\.proofs\b", line):
             if other != crate and other in names:
                 yield f"{path}:{number}: the proofs of {other}: a public clause or law is wanting there"
 
 
-def wide_lines(path, lines):
+def wide_lines(path: Path, lines: list[str]) -> Iterator[str]:
     if "test" in str(path):
         return
     in_text = False
@@ -36,7 +37,7 @@ def wide_lines(path, lines):
             yield f"{path}:{number}: {len(line)} columns"
 
 
-def head_without_source(path, lines):
+def head_without_source(path: Path, lines: list[str]) -> Iterator[str]:
     head = []
     for line in lines:
         if not line.startswith("--"):
@@ -46,7 +47,7 @@ def head_without_source(path, lines):
         yield f"{path}:1: the head names no source of these definitions"
 
 
-def rows_of(path):
+def rows_of(path: Path) -> set[str]:
     """The rows of a table by their names, each also with its group in front."""
     found, group = set(), ""
     for line in path.read_text(encoding="utf-8").splitlines():
@@ -58,7 +59,7 @@ def rows_of(path):
     return found
 
 
-def missing_rows():
+def missing_rows() -> Iterator[str]:
     """Rows and examples that documents name, and that aren't there."""
     rows = {path.stem: rows_of(path) for path in (ROOT / "tables").glob("*.txt")}
     for path in [ROOT / "README.md", ROOT / "CONTRIBUTING.md", *sorted((ROOT / "docs").glob("*.md"))]:
@@ -71,7 +72,7 @@ def missing_rows():
                     yield f"{path.relative_to(ROOT)}:{number}: there is no example {name}"
 
 
-def untold_tools():
+def untold_tools() -> Iterator[str]:
     """Files of tools/ that their list of tools doesn't name."""
     told = (ROOT / "tools/README.md").read_text(encoding="utf-8")
     for path in sorted((ROOT / "tools").glob("*/*")):
@@ -79,9 +80,9 @@ def untold_tools():
             yield f"{path.relative_to(ROOT)}: tools/README.md doesn't name it"
 
 
-def main():
+def main() -> int:
     names = {it.name for it in CRATES.iterdir() if it.is_dir()}
-    found = []
+    found: list[str] = []
     for crate in sorted(names):
         for path in sorted((CRATES / crate).glob("**/*")):
             inside = path.relative_to(CRATES.parent)

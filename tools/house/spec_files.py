@@ -49,8 +49,8 @@ def chunks(lines):
 
 
 def tokens(text):
-    """The tokens of a text, each with whether a dot stands directly before it."""
-    given, after_dot, last_end = [], False, -1
+    """The tokens of a text; the dot of a path is `.path`."""
+    given, last_end = [], -1
     for found in TOKEN.finditer(text):
         word = found[0]
         if word == ".":

@@ -2,6 +2,7 @@
 """Tests what change_costs.py finds, in small files that are written here. It prints a line, and ends with 1 if a test fails."""
 
 import sys
+from collections.abc import Iterator
 
 from change_costs import code_of, kind_of, named
 from told_tests import status_of
@@ -22,7 +23,7 @@ KINDS = {
 FILES = [("crates/a/src/lib.rt", "match key { Release => add-one }"), ("docs/A.md", "Released, pre-Release and Re")]
 
 
-def tests():
+def tests() -> Iterator[tuple[str, bool]]:
     """Yields what is said of the search, and whether it is so."""
     for path, kind in KINDS.items():
         yield f"{path} is of its kind", kind_of(path) == kind

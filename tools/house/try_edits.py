@@ -18,12 +18,12 @@ ROOT = Path(__file__).resolve().parents[2]
 CRATES = ROOT / "crates"
 
 
-def crates_with_edits():
+def crates_with_edits() -> list[str]:
     """The names of the crates that have wrong bodies beside those of the gate."""
     return sorted(path.parent.name for path in CRATES.glob("*/wrong-bodies"))
 
 
-def copied(room):
+def copied(room: Path) -> None:
     """Copies the files of the repository and the built libraries, and gives each crate its other edits."""
     listed = subprocess.run(["git", "ls-files", "-co", "--exclude-standard"], cwd=ROOT, capture_output=True, text=True, check=True)
     for name in listed.stdout.splitlines():
@@ -38,7 +38,7 @@ def copied(room):
         shutil.copytree(built, room / built.relative_to(ROOT))
 
 
-def main():
+def main() -> int:
     names = sys.argv[1:] or crates_with_edits()
     unknown = [name for name in names if not (CRATES / name / "wrong-bodies").is_dir()]
     if unknown:

@@ -29,23 +29,26 @@ BOUNDS = {
 class BoundedRuns:
     """The process that runs commands in a folder. A program with checks of its memory gets as many addresses as it asks for, and more time."""
 
-    def __init__(self, folder, is_checked=False):
+    def __init__(self, folder: str, is_checked: bool = False) -> None:
         import subprocess
 
         command = [sys.executable, "-S", "-E", "-B", os.path.abspath(__file__), *(["--checked"] if is_checked else [])]
         self.process = subprocess.Popen(command, stdin=subprocess.PIPE, stdout=subprocess.PIPE, text=True, cwd=folder)
 
-    def run(self, command, stdout, stderr):
+    def run(self, command: list[str], stdout: str, stderr: str) -> list[float]:
         """Returns the status, the processor seconds and the greatest resident memory of a command."""
+        assert self.process.stdin and self.process.stdout
         print(json.dumps([command, stdout, stderr]), file=self.process.stdin, flush=True)
-        return json.loads(self.process.stdout.readline())
+        answer: list[float] = json.loads(self.process.stdout.readline())
+        return answer
 
-    def end(self):
+    def end(self) -> None:
+        assert self.process.stdin
         self.process.stdin.close()
         self.process.wait()
 
 
-def become(command, stdout, stderr):
+def become(command: list[str], stdout: str, stderr: str) -> None:
     """Turns this process into the command."""
     for bound, most in BOUNDS.items():
         resource.setrlimit(bound, (most, most))
@@ -55,7 +58,7 @@ def become(command, stdout, stderr):
     os.execv(command[0], command)
 
 
-def ran(command, stdout, stderr):
+def ran(command: list[str], stdout: str, stderr: str) -> tuple[int, float, int]:
     """Runs a command, and returns what BoundedRuns.run answers."""
     child = os.fork()
     if child == 0:
@@ -70,7 +73,7 @@ def ran(command, stdout, stderr):
     return os.waitstatus_to_exitcode(status), used.ru_utime + used.ru_stime, used.ru_maxrss
 
 
-def main():
+def main() -> None:
     if sys.argv[1:] == ["--checked"]:
         BOUNDS[resource.RLIMIT_AS] = resource.RLIM_INFINITY
         BOUNDS[resource.RLIMIT_CPU] = CHECKED_PROCESSOR

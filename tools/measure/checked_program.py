@@ -26,7 +26,7 @@ ENDLESS = b'<bml><head><script>function f() { } browser.setInterval("f()", 100, 
 HOURS = 2_000
 
 
-def running_program(top):
+def running_program(top: int) -> str | None:
     """Returns the path of the program that runs with our words below a process, or None."""
     for process in below(top):
         words = words_of(process)
@@ -36,7 +36,7 @@ def running_program(top):
     return None
 
 
-def main():
+def main() -> None:
     if len(sys.argv) != 2 or sys.argv[1].startswith("-"):
         sys.exit(__doc__.split("\n\n")[0])
     out = os.path.abspath(sys.argv[1])

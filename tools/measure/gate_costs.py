@@ -19,11 +19,12 @@ from processes import below, words_of
 
 from crate_list import crates_below
 
+Task = tuple[str, str]  # a crate and a part
 PARTS = ("proofs", "tests", "edits")
 TICKS = os.sysconf("SC_CLK_TCK")
 
 
-def task_of(pid):
+def task_of(pid: int) -> Task | None:
     """The crate and the part that a process of the prover works for, or None."""
     words = words_of(pid)
     try:
@@ -38,9 +39,10 @@ def task_of(pid):
     return crate, "tests" if "--test" in words else "proofs"
 
 
-def watch(run):
+def watch(run: subprocess.Popen[bytes]) -> dict[Task, float]:
     """Sums the ticks of each task while the command runs."""
-    last, tasks = {}, {}
+    last: dict[tuple[int, Task], int] = {}
+    tasks: dict[int, Task] = {}
     while run.poll() is None:
         time.sleep(1)
         for pid, ticks in below(run.pid).items():
@@ -48,17 +50,17 @@ def watch(run):
             if task:
                 tasks[pid] = task
                 last[pid, task] = max(ticks, last.get((pid, task), 0))
-    sums = {}
+    sums: dict[Task, float] = {}
     for (_, task), ticks in last.items():
         sums[task] = sums.get(task, 0) + ticks / TICKS / 60
     return sums
 
 
-def edit_count(crate):
+def edit_count(crate: str) -> int:
     return len(list((ROOT / "crates" / crate / "must-fail").glob("*.edit")))
 
 
-def table(sums, minutes):
+def table(sums: dict[Task, float], minutes: float) -> list[str]:
     names = [*crates_below()]
     out = ["| crate | proofs | tests | edits | number of edits | sum |", "|---|---|---|---|---|---|"]
     for crate in names:
@@ -70,7 +72,7 @@ def table(sums, minutes):
     return out + ["", f"{minutes:.0f} minutes on the wall, with {len(os.sched_getaffinity(0))} processors."]
 
 
-def main():
+def main() -> int:
     words = argparse.ArgumentParser(description=__doc__.split("\n")[0])
     words.add_argument("--log", default="gate.log", metavar="FILE")
     words.add_argument("command", nargs=argparse.REMAINDER, metavar="COMMAND")

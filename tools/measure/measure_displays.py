@@ -9,7 +9,9 @@ difference of their processor seconds by the repetitions, in milliseconds. Each 
 ended well and wrote as many display lists and loads as are due, else 1.
 """
 
+import subprocess
 import sys
+from collections.abc import Iterator, Sequence
 from typing import NamedTuple
 
 from measuring import MOST_NODES, replayed, with_script, words
@@ -21,36 +23,36 @@ class Case(NamedTuple):
     """The documents, the lines of the record that are repeated, how often, and how many display lists and loads each repetition gives."""
 
     name: str
-    documents: tuple
+    documents: Sequence[bytes]
     lines: str
-    count: int
+    times: int
     shows: int
     loads: int
 
 
-def document(script, body):
+def document(script: str, body: str) -> bytes:
     return with_script(script, body).encode("ascii")
 
 
-def boxes(handler):
+def boxes(handler: str) -> str:
     """As many elements as there is room for; the first has the focus and this handler, and the second can have it, too."""
     first = f'<p id="x" style="nav-index:0;nav-down:1" onkeydown="{handler}">x</p>'
     second = f'<p id="y" style="nav-index:1;nav-down:0" onkeydown="{handler}">y</p>'
     return first + second + "<p/>" * (MOST_NODES - 10)
 
 
-def changed(statement):
+def changed(statement: str) -> bytes:
     return document(f"var n = 0; var x = document.getElementById('x'); function k() {{ n++; {statement} }}", boxes("k();"))
 
 
-def launching(other, size):
+def launching(other: str, size: int) -> bytes:
     """A document of that many bytes, whose key launches another one."""
     launch = f"browser.launchDocument('/40/{other}');"
     front = document("", f'<p id="x" style="nav-index:0" onkeydown="{launch}">x</p><p>%</p>')
     return front.replace(b"%", b"t" * (size - len(front)))
 
 
-def cases():
+def cases() -> Iterator[Case]:
     yield Case("show again, nothing changed", (changed(""),), "show\n", 20, 1, 0)
     yield Case("a colour written, and show", (changed("x.normalStyle.colorIndex = n % 8;"),), "key 19\nshow\n", 20, 1, 0)
     yield Case("a text written, and show", (changed("x.firstChild.data = n;"),), "key 19\nshow\n", 20, 1, 0)
@@ -64,31 +66,31 @@ def cases():
     yield Case("two documents of 16,384 nodes that launch each other", many, "key 19\n", 200, 0, 1)
 
 
-def stream_of(documents):
+def stream_of(documents: Sequence[bytes]) -> bytes:
     """Returns the packets of a carousel with these documents: the start document comes last."""
     modules = [(number, BML, text) for number, text in enumerate(documents)]
     return sent(carousel_sections(modules[::-1]))[0]
 
 
-def is_due(case, count, ran):
+def is_due(case: Case, count: int, ran: subprocess.CompletedProcess[bytes]) -> bool:
     lines = ran.stdout.split(b"\n")
     shows, loads = (sum(line.startswith(front) for line in lines) for front in (b"show ", b"load "))
     return ran.returncode == 0 and (shows, loads) == (case.shows * count, 1 + case.loads * count)
 
 
-def main():
+def main() -> int:
     program, rounds = words("measure_displays.py")
     faults = 0
     print(f"{'case':54} {'first':>7} {'all':>8} {'each, ms':>9}")
     for case in cases():
         stream, taken, well = stream_of(case.documents), [], True
-        for count in (0, case.count):
+        for count in (0, case.times):
             record = ("all\n" + case.lines * count).encode("ascii")
             ran, _, processor = replayed(program, OPTIONS, stream, record, rounds)
             well = well and is_due(case, count, ran)
             taken.append(processor)
         faults += not well
-        each = (taken[1] - taken[0]) / case.count * 1000
+        each = (taken[1] - taken[0]) / case.times * 1000
         print(f"{case.name:54} {taken[0]:7.3f} {taken[1]:8.3f} {each:9.3f}{'' if well else '  not as due'}")
     return 1 if faults else 0
 

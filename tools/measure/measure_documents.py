@@ -10,6 +10,7 @@ with what is due. Each is run N times (3), of which the best counts. `processor`
 """
 
 import sys
+from collections.abc import Iterator
 from typing import NamedTuple
 
 from measuring import MOST_BYTES, MOST_NODES, Measured, measure_all, words
@@ -32,25 +33,25 @@ class Document(NamedTuple):
     diis: int = 0
 
 
-def body(inside):
+def body(inside: str) -> str:
     return f"<bml><body>{inside}</body></bml>"
 
 
-def filled(front, item, back):
+def filled(front: str, item: str, back: str) -> tuple[str, int]:
     """Returns front, as many items as a document has room for, and back, with the number of items."""
     count = (MOST_BYTES - len(front) - len(back)) // len(item)
     return front + item * count + back, count
 
 
-def loaded(boxes):
+def loaded(boxes: str) -> str:
     return f"load /40/0000\nshow 0\n{boxes}"
 
 
-def refused(fault):
+def refused(fault: str) -> str:
     return f"refuse /40/0000 {fault}\nshow 0\n"
 
 
-def documents():
+def documents() -> Iterator[Document]:
     text, count = filled("<bml><body><p>", "a", "</p></body></bml>")
     yield Document("text of 1 MB", text, loaded(PLAIN_BOX * 2 + f"text 0 0 0 0 7 24 {'a' * count}\n"))
     text, count = filled("<bml><body><p>", "&amp;", "</p></body></bml>")
@@ -85,7 +86,7 @@ def documents():
     yield Document("1 MB of <", text, refused("Malformed"))
 
 
-def entity(name, text, lines):
+def entity(name: str, text: str, lines: str) -> Document:
     return Document(name, text, lines, b"")
 
 
@@ -93,7 +94,7 @@ NOTHING_LOADED = "show 0\n"
 EMPTY_PAGE = "load /40/0000/startup.bml\nshow 0\n"
 
 
-def several(parts, boundary="b"):
+def several(parts: list[str], boundary: str = "b") -> str:
     """Returns an entity of parts, each its header lines with the empty one and its bytes."""
     lines = [f'Content-Type: multipart/mixed; boundary="{boundary}"', ""]
     for part in parts:
@@ -101,7 +102,7 @@ def several(parts, boundary="b"):
     return "\r\n".join([*lines, f"--{boundary}--", ""])
 
 
-def entities():
+def entities() -> Iterator[Document]:
     page = "Content-Location: startup.bml\r\n\r\n<bml/>"
     parts = [f"Content-Location: {number}\r\n\r\n{'x' * 2000}" for number in range(511)]
     yield entity("512 parts of 2,000 bytes", several([*parts, page]), EMPTY_PAGE)
@@ -132,7 +133,7 @@ def entities():
     yield entity("16,000 needs", several([links]), EMPTY_PAGE)
 
 
-def waiting():
+def waiting() -> Iterator[Document]:
     text, _ = filled('<bml><head><link href="/40/0001"/></head><body><p>', "a", "</p></body></bml>")
     yield Document("waiting, 1 MB, 20,000 DIIs", text, NOTHING_LOADED, diis=20_000)
     links = '<link href="/41/0000/x"/>' * 16_000
@@ -143,7 +144,7 @@ def waiting():
         yield Document(name, text, NOTHING_LOADED, diis=20_000)
 
 
-def sections_of(document):
+def sections_of(document: Document) -> list[bytes]:
     """Returns the sections of a document, and the DIIs behind it."""
     data = document.text.encode("ascii")
     away = [(1, b"", bytes(10))] if document.diis else []
@@ -152,14 +153,14 @@ def sections_of(document):
     return [*carousel_sections(modules, away), *again]
 
 
-def measured(document):
+def measured(document: Document) -> Measured:
     """Returns the run of a document."""
     stream, packets = sent(sections_of(document))
     due = f"module 40 0000 01 {len(document.text)}\n{document.lines}end {packets}\n".encode("ascii")
     return Measured(f"{document.name:32} {len(document.text):9,}", stream, b"all\nshow\n", due.__eq__)
 
 
-def main():
+def main() -> int:
     runs = map(measured, [*documents(), *entities(), *waiting()])
     return measure_all(*words("measure_documents.py"), f"{'document':32} {'bytes':>9}", runs)
 

@@ -11,6 +11,7 @@ where all was as due, 1 where a run went wrong.
 """
 
 import sys
+from collections.abc import Iterator, Sequence
 from functools import partial
 from typing import NamedTuple
 
@@ -18,6 +19,9 @@ from measuring import Measured, measure_all, with_script, words
 
 from sent_modules import BML, carousel_sections, sent
 from transport import EventMessage, event_message, stream_descriptors_section
+
+
+Messages = Sequence[EventMessage]  # of a section
 
 
 class Page(NamedTuple):
@@ -29,26 +33,26 @@ class Page(NamedTuple):
     record: str
     lost: int
     stopped: int
-    messages: tuple = ()
+    messages: Sequence[Messages] = ()
 
 
-def many_nodes(count):
+def many_nodes(count: int) -> str:
     """As many elements as that leaves room for, each of which can have the focus."""
     return "".join(f'<a style="nav-index:{place % 32768};nav-down:{(place + 1) % count}" onkeydown="n++;"/>' for place in range(count))
 
 
-def with_items(count, attributes):
+def with_items(count: int, attributes: str) -> str:
     """A document with so many event items that are subscribed, alike but for their places."""
     item = f'<beitem type="EventMessageFired" subscribe="subscribe"{attributes}/>'
     return with_script("var n = 0;", item * count)
 
 
-def section_of_messages(count, version):
+def section_of_messages(count: int, version: int) -> Messages:
     """So many messages of different ids and groups in a version."""
     return tuple(EventMessage(group=number // 256, id=number % 256, version=version) for number in range(count))
 
 
-def item_pages():
+def item_pages() -> Iterator[Page]:
     for count in (3_950, 7_900, 15_800):
         items = with_items(count, ' es_ref=""')
         yield Page(f"100 sections of 300 messages, {count:,} items for none", items, "", 0, 0, (section_of_messages(300, 1),) * 100)
@@ -63,7 +67,7 @@ def item_pages():
     yield Page("an hour with 32 timers of 100 ms", with_script("var n = 0; function f() { n++; } " + timers, ""), "tick 3600000\n", 0, 0)
 
 
-def pages():
+def pages() -> Iterator[Page]:
     yield from item_pages()
     two = '<p id="x" style="nav-index:0" onfocus="go(\'y\');">-</p><p id="y" style="nav-index:1" onfocus="go(\'x\');">y</p>'
     endless = with_script("function go(i) { document.getElementById(i).focus(); }", two)
@@ -84,13 +88,13 @@ def pages():
     yield Page("100,000 digits over 8,000 elements", with_script("var n = 0;", many_nodes(8_000)), "key 5\n" * 100_000, 0, 0)
 
 
-def sections_of(document, messages):
+def sections_of(document: bytes, messages: Sequence[Messages]) -> list[bytes]:
     """Returns the sections of a document as module 0000, and those of the messages."""
     told = [stream_descriptors_section([event_message(it) for it in section]) for section in messages]
     return [*carousel_sections([(0, BML, document)]), *told]
 
 
-def is_due(page, document, packets, written):
+def is_due(page: Page, document: bytes, packets: int, written: bytes) -> bool:
     lines = written.decode("ascii").splitlines()
     first = [f"module 40 0000 01 {len(document)}", "load /40/0000"]
     lost = sum(line.startswith("lost ") for line in lines)
@@ -99,14 +103,14 @@ def is_due(page, document, packets, written):
     return lines[:2] == first and lines[-1] == f"end {packets}" and (lost, stopped, len(lines)) == (page.lost, page.stopped, told)
 
 
-def measured(page):
+def measured(page: Page) -> Measured:
     """Returns the run of a page."""
     document = page.document.encode("ascii")
     stream, packets = sent(sections_of(document, page.messages))
     return Measured(f"{page.name:52}", stream, ("all\n" + page.record).encode("ascii"), partial(is_due, page, document, packets))
 
 
-def main():
+def main() -> int:
     return measure_all(*words("measure_pages.py"), f"{'page':52}", map(measured, pages()))
 
 

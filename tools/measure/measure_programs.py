@@ -10,6 +10,7 @@ work shares the machine. Status: 0 where all was as due, 1 where a run went wron
 """
 
 import sys
+from collections.abc import Iterator
 from typing import NamedTuple
 
 from measuring import MOST_BYTES, Measured, measure_all, repeated, words
@@ -27,21 +28,22 @@ class Scripts(NamedTuple):
     name: str
     script: str
     document: str
-    bad: list
+    bad: list[int]
     stop: str = ""
 
 
-def linked(name, script, good, stop=""):
+def linked(name: str, script: str, good: bool, stop: str = "") -> Scripts:
     return Scripts(name, script, LINKED, [] if good else [1], stop)
 
 
-def in_document(name, document, bad):
+def in_document(name: str, document: str, bad: list[int]) -> Scripts:
     return Scripts(name, "", document, bad)
 
 
-def numbered(form, most=MOST_BYTES):
+def numbered(form: str, most: int = MOST_BYTES) -> str:
     """As many items as there is room for, each with its own number."""
-    items, size, number = [], 0, 0
+    items: list[str] = []
+    size, number = 0, 0
     while True:
         item = form.format(number)
         size += len(item)
@@ -51,7 +53,7 @@ def numbered(form, most=MOST_BYTES):
         number += 1
 
 
-def open_forms():
+def open_forms() -> Iterator[Scripts]:
     for item in ["(", "[", "{", "a(", "a[", "new ", "- ", "++", "if(a)", "while(a)", "for(;;)", "a=", "a?", "a?a:", "function f(){"]:
         yield linked(f"1 MB of {item.strip()} open at the end", repeated(item), False)
     half = MOST_BYTES // 2 - 8
@@ -64,7 +66,7 @@ def open_forms():
     yield linked("262,140 choices", "a?a:" * (MOST_BYTES // 4 - 4) + "a", False)
 
 
-def long_texts():
+def long_texts() -> Iterator[Scripts]:
     yield linked("one comment", "/*" + "*" * (MOST_BYTES - 4) + "*/", True)
     yield linked("comments", repeated("/**/"), True)
     yield linked("a comment that is open", "/*" + "/" * (MOST_BYTES - 2), False)
@@ -82,7 +84,7 @@ def long_texts():
     yield linked("shifts", "a" + repeated(">>>=", MOST_BYTES - 8), False)
 
 
-def long_lists():
+def long_lists() -> Iterator[Scripts]:
     yield linked("a,a,a", repeated("a,", MOST_BYTES - 2) + "a", True, "Unresolved")
     yield linked("a+a+a", repeated("a+", MOST_BYTES - 2) + "a", True, "Budget")
     yield linked("a.a.a", repeated("a.", MOST_BYTES - 2) + "a", True, "Budget")
@@ -101,11 +103,11 @@ def long_lists():
     yield linked("fault behind 1 MB", "a;" * (MOST_BYTES // 2 - 1) + ")", False)
 
 
-def of_elements(inside):
+def of_elements(inside: str) -> str:
     return f"<bml><body>{inside}</body></bml>"
 
 
-def many_sources():
+def many_sources() -> Iterator[Scripts]:
     room = MOST_BYTES - 64
     scripts = room // len("<script/>")
     yield in_document("16,380 script elements", of_elements("<script/>" * 16_380), [])
@@ -121,7 +123,7 @@ def many_sources():
     assert scripts >= 16_380
 
 
-def measured(scripts):
+def measured(scripts: Scripts) -> Measured:
     """Returns the run of scripts: the blocks of the one that is linked come first."""
     document, script = scripts.document.encode("ascii"), scripts.script.encode("ascii") or b" "
     stream, packets = sent(carousel_sections([(SCRIPT, ECMASCRIPT, script), (DOCUMENT, BML, document)]))
@@ -133,7 +135,7 @@ def measured(scripts):
     return Measured(columns, stream, b"all\n", due.__eq__)
 
 
-def main():
+def main() -> int:
     heading = f"{'scripts':44} {'script':>9} {'document':>9} {'bad':>7}"
     runs = map(measured, [*open_forms(), *long_texts(), *long_lists(), *many_sources()])
     return measure_all(*words("measure_programs.py"), heading, runs)

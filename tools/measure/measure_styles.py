@@ -10,6 +10,7 @@ wrong.
 """
 
 import sys
+from collections.abc import Iterator
 from typing import NamedTuple
 
 from measuring import MOST_BYTES, MOST_NODES, Measured, measure_all, repeated, words
@@ -36,15 +37,15 @@ class Styled(NamedTuple):
     lines: str
 
 
-def numbered(count, form):
+def numbered(count: int, form: str) -> str:
     return "".join(form.format(number) for number in range(count))
 
 
-def one_paragraph(name, sheet, lines=PLAIN_BOX * 2):
+def one_paragraph(name: str, sheet: str, lines: str = PLAIN_BOX * 2) -> Styled:
     return Styled(name, sheet, "<p/>", lines)
 
 
-def texts():
+def texts() -> Iterator[Styled]:
     for item in ["{", "}", "@", "@{", "@;", "/*", "/*/", "p{", "p{;", "a,", "left:", ":", " ", "\\", '"']:
         yield one_paragraph(f"1 MB of {item}", repeated(item))
     selectors = MOST_BYTES // 2 - 8
@@ -56,14 +57,14 @@ def texts():
     yield one_paragraph("a declaration of 1 MB", "p{left:" + "0" * (MOST_BYTES - 20) + "1px}", PLAIN_BOX + MOVED_BOX)
 
 
-def long_chains():
+def long_chains() -> str:
     """Rules of which each gives something that the later ones don't, for all selectors that match a `p` of the classes a and b."""
     marked = [name + state for name in ["*", "p", ".a", ".b", "p.a", "p.b"] for state in ["", ":focus", ":active"]]
     counts = range(len(DECLARATIONS), 0, -1)
     return "".join(f"{','.join(marked)}{{{';'.join(DECLARATIONS[:count])}}}" for count in counts)
 
 
-def nodes():
+def nodes() -> Iterator[Styled]:
     rest = MOST_NODES - 4  # beside bml, head, link and body
     plain = "<p/>" * rest
     boxes = PLAIN_BOX + MOVED_BOX * rest
@@ -99,11 +100,11 @@ def nodes():
     yield Styled("16,380 levels that fall", "", falling, PLAIN_BOX * (rest + 1))
 
 
-def document_of(styled):
+def document_of(styled: Styled) -> str:
     return f'<bml><head><link href="/40/0001"/></head><body>{styled.inside}</body></bml>'
 
 
-def measured(styled):
+def measured(styled: Styled) -> Measured:
     """Returns the run of a sheet and the document that links it: the sheet's blocks come first."""
     document, sheet = document_of(styled).encode("ascii"), styled.sheet.encode("ascii")
     stream, packets = sent(carousel_sections([(SHEET, CSS, sheet), (DOCUMENT, BML, document)]))
@@ -112,7 +113,7 @@ def measured(styled):
     return Measured(f"{styled.name:44} {len(sheet):9,} {len(document):9,}", stream, b"all\nshow\n", due.__eq__)
 
 
-def main():
+def main() -> int:
     heading = f"{'sheet and document':44} {'sheet':>9} {'document':>9}"
     return measure_all(*words("measure_styles.py"), heading, map(measured, [*texts(), *nodes()]))
 

@@ -26,12 +26,12 @@ MOST_FUNCTIONS, MOST_CODE, LARGE = 100, 900, 2 * MIB
 SHOWN = 10
 
 
-def line_count(crate, ending):
+def line_count(crate: str, ending: str) -> int:
     return sum(path.read_text(encoding="utf-8").count("\n") for path in (CRATES / crate).glob(f"**/*{ending}")
                if "out" not in path.relative_to(CRATES / crate).parts)
 
 
-def code_of(text):
+def code_of(text: str) -> list[str]:
     """The lines of code: without comments, attributes, blank lines, `ghost` items and clauses."""
     text = re.sub(r"//[^\n]*", "", text)
     text = re.sub(r"(?s)\bghost\s+use\b[^;]*;", "", text)
@@ -40,7 +40,7 @@ def code_of(text):
     return [it for it in text.splitlines() if it.strip() and it.strip() != ";" and not it.lstrip().startswith("#")]
 
 
-def without_blocks(text, head):
+def without_blocks(text: str, head: re.Pattern[str]) -> str:
     """A text without what begins so and goes on to the closing brace."""
     kept, place = [], 0
     for found in head.finditer(text):
@@ -54,9 +54,9 @@ def without_blocks(text, head):
     return "".join([*kept, text[place:]])
 
 
-def function_sizes(crate, out):
+def function_sizes(crate: str, out: Path) -> dict[str, int]:
     """What the prover made of each function: its size by the function's path, the latest where there are several."""
-    found = {}
+    found: dict[str, tuple[float, int]] = {}
     for path in (out / crate / "out").glob(f"incremental/*/Rattle-{crate}-proofs.*.Lts.oantt"):
         name = path.name.removeprefix(f"Rattle-{crate}-proofs.").removesuffix(".Lts.oantt")
         status = path.stat()
@@ -64,7 +64,7 @@ def function_sizes(crate, out):
     return {name: size for name, (_, size) in found.items()}
 
 
-def report(crate, below, out, show_all):
+def report(crate: str, below: dict[str, set[str]], out: Path, show_all: bool) -> None:
     text = [path.read_text(encoding="utf-8") for path in sorted((CRATES / crate / "src").glob("**/*.rt"))]
     code = [line for it in text for line in code_of(it)]
     functions = sum(len(re.findall(r"\bfn\s+\w", line)) for line in code)
@@ -91,7 +91,7 @@ def report(crate, below, out, show_all):
         print(f"  note: more than {MOST_CODE} lines of code")
 
 
-def main():
+def main() -> int:
     words = argparse.ArgumentParser(description=__doc__.split("\n")[0])
     words.add_argument("--all", action="store_true")
     words.add_argument("--out", type=Path, default=CRATES, metavar="FOLDER")

@@ -15,6 +15,7 @@ import subprocess
 import sys
 import tempfile
 from pathlib import Path
+from typing import Any
 
 LIBRARY = r"""
 #define _GNU_SOURCE
@@ -49,29 +50,30 @@ __attribute__((destructor)) static void told(void) {
 """
 
 
-def last_line(text):
+def last_line(text: bytes) -> str:
     lines = text.decode(errors="replace").splitlines()
     return lines[-1][:60] if lines else ""
 
 
-def are_first_lines(written, whole):
+def are_first_lines(written: bytes, whole: bytes) -> bool:
     return whole.startswith(written) and (not written or written.endswith(b"\n"))
 
 
-def put_back(path, content):
+def put_back(path: Path, content: bytes | None) -> None:
     if content is None:
         path.unlink(missing_ok=True)
     else:
         path.write_bytes(content)
 
 
-def main():
+def main() -> int:
     by_lines = sys.argv[1:2] == ["--lines"]
     command = sys.argv[2:] if by_lines else sys.argv[1:]
     if not command:
         sys.exit(__doc__.split("\n\n")[1])
     given = sys.stdin.buffer.read()
-    ends, well = collections.Counter(), True
+    ends: collections.Counter[tuple[int | str, str, str]] = collections.Counter()
+    well = True
     area = Path("nvram.bin")
     kept = area.read_bytes() if area.exists() else None
     with tempfile.TemporaryDirectory(prefix="refuse-") as room:
@@ -79,9 +81,9 @@ def main():
             file.write(LIBRARY)
         subprocess.run(["cc", "-shared", "-fPIC", "-O1", "-o", f"{room}/refuse.so", f"{room}/refuse.c", "-ldl"], check=True)
 
-        def ran(number):
+        def ran(number: int) -> subprocess.CompletedProcess[bytes]:
             told = {"LD_PRELOAD": f"{room}/refuse.so", "REFUSED_ALLOCATION": str(number), "ALLOCATIONS_MADE": f"{room}/made"}
-            how = {"input": given, "stdout": subprocess.PIPE, "stderr": subprocess.PIPE, "check": False, "timeout": 60}
+            how: dict[str, Any] = {"input": given, "stdout": subprocess.PIPE, "stderr": subprocess.PIPE, "check": False, "timeout": 60}
             try:
                 return subprocess.run(command, env={**os.environ, **told}, **how)
             finally:

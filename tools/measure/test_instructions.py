@@ -2,6 +2,7 @@
 """Tests how instructions.py compares counts, without valgrind and without the program. It prints a line, and ends with 1 if a test fails."""
 
 import sys
+from collections.abc import Iterator
 
 from instructions import LAST, figures_of, file_of, table
 from small_runs import RUNS, is_due
@@ -11,16 +12,16 @@ from told_tests import status_of
 FIGURES = {"a short run": 999, "a run, with a comma": 1_234_567}
 
 
-def grown(last, now):
+def grown(last: int, now: int) -> list[str]:
     return table({"run": last}, {"run": now})[1]
 
 
-def changes(last, now):
+def changes(last: dict[str, int], now: dict[str, int]) -> list[str]:
     """What the lines of a table say of the changes."""
     return [line.split()[-1] for line in table(last, now)[0][1:]]
 
 
-def tests():
+def tests() -> Iterator[tuple[str, bool]]:
     """Yields what is said of the comparison, and whether it is so."""
     yield "a file of figures is read as it was written", figures_of(file_of("one", "two", FIGURES)) == FIGURES
     yield "its head is no figure", "# Build: one" in file_of("one", "two", {}) and figures_of(file_of("one", "two", {})) == {}

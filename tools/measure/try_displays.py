@@ -21,7 +21,7 @@ import sys
 import tempfile
 from pathlib import Path
 
-import places  # noqa: F401 (first, so that the others are found)
+from places import ROOT  # noqa: F401 (first, so that the others are found)
 
 from sent_modules import BML, REPLAY, carousel_sections, sent
 
