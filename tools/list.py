@@ -1,7 +1,8 @@
 #!/usr/bin/env python3
 """Lists the tools that can be run, each with what it is for: list.py [--all] [WORD ..]
 
-With words it lists those whose name or whose first sentence has one of them. With --all it lists the modules that tools share, too.
+With words it lists those whose name or whose first sentence has one of them. With --all it lists the modules that
+tools share, too.
 """
 
 import ast

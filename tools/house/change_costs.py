@@ -1,10 +1,11 @@
 #!/usr/bin/env python3
 """Lists the files that name something, and so what another thing of its kind costs: change_costs.py [--counts] NAME ..
 
-A NAME is that of a constructor or a function, or a word of a format. A file is listed where one of them stands in it as a word, outside of
-comments. A part of a longer name is no word, also where a `-` parts it. A name that means several things has the files of all of them, and a
-file that treats all things of a kind alike names none of them, and isn't listed. "What a change costs" in CONTRIBUTING.md has the names to
-give for each kind of change. With --counts only the numbers of files are printed. Status: 0, or 1 where a name stands nowhere.
+A NAME is that of a constructor or a function, or a word of a format. A file is listed where one of them stands in it
+as a word, outside of comments. A part of a longer name is no word, also where a `-` parts it. A name that means
+several things has the files of all of them, and a file that treats all things of a kind alike names none of them, and
+isn't listed. "What a change costs" in CONTRIBUTING.md has the names to give for each kind of change. With --counts
+only the numbers of files are printed. Status: 0, or 1 where a name stands nowhere.
 """
 
 import re
@@ -17,7 +18,8 @@ ROOT = Path(__file__).resolve().parents[2]
 # The kinds of files: the first whose form a path has is its kind.
 KINDS = {
     "wrong bodies": r"crates/\w+/(must-fail|wrong-bodies)/",
-    "tests": r"crates/(\w+_tests|test_streams)/|examples/|tables/|hostile-cases/|tools/rows/|tools/\w+/test_|crates/\w+/(data|stdout|stdin|args)",
+    "tests": r"crates/(\w+_tests|test_streams)/|crates/\w+/(data|stdout|stdin|args)|examples/|tables/|hostile-cases/"
+    r"|tools/rows/|tools/\w+/test_",
     "sources": r"crates/\w+/src/.*\.rt$",
     "definitions": r"crates/\w+/specs/.*\.antt$",
     "proofs": r"crates/\w+/proofs/.*\.antt$",
@@ -47,7 +49,9 @@ def code_of(path: str, text: str) -> str:
 
 def files() -> Iterator[tuple[str, str]]:
     """The files of the repository, as their paths in it and their texts without comments."""
-    listed = subprocess.run(["git", "ls-files", "-co", "--exclude-standard"], cwd=ROOT, capture_output=True, text=True, check=True)
+    listed = subprocess.run(
+        ["git", "ls-files", "-co", "--exclude-standard"], cwd=ROOT, capture_output=True, text=True, check=True
+    )
     for path in sorted(listed.stdout.splitlines()):
         if kind_of(path) and not LEFT_OUT.fullmatch(path) and (ROOT / path).is_file():
             yield path, code_of(path, (ROOT / path).read_text(encoding="utf-8", errors="replace"))

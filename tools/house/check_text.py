@@ -1,14 +1,18 @@
 #!/usr/bin/env python3
-"""Refuses what the prover can't see and this repository doesn't want in its text; prints each place, and ends with 1 if there is one.
+"""Refuses what the prover can't see and this repository doesn't want in its text; prints each place, and ends with 1
+if there is one.
 
 - A crate that imports the proofs of another crate of this repository: layers join by public clauses and laws alone.
-- A line of source above 100 columns: a clause is to be read aloud. Left aside are comments, `ghost use` lines, attributes, the lines of a
-  text that is printed, and tests with their tables.
-- A file of specs/ whose head names no source: a standard and its section, or that it is this project's own, or a device of the proofs.
+- A line of source above 100 columns: a clause is to be read aloud. Left aside are comments, `ghost use` lines,
+  attributes, the lines of a text that is printed, and tests with their tables.
+- A file of specs/ whose head names no source: a standard and its section, or that it is this project's own, or a
+  device of the proofs.
 - A document that names a row of tables/, as `modules: damaged`, or an example, that isn't there.
 - A file of tools/ that tools/README.md doesn't name.
+- A line above 120 columns in one of the tools that tools/mypy.ini lists.
 """
 
+import configparser
 import re
 import sys
 from collections.abc import Iterator
@@ -16,7 +20,7 @@ from pathlib import Path
 
 ROOT = Path(__file__).resolve().parents[2]
 CRATES = ROOT / "crates"
-WIDTH = 100
+WIDTH, TOOL_WIDTH = 100, 120
 SOURCE = re.compile(r"ISO/IEC|ARIB|ECMA|XML|CSS|RFC|\b[Oo]wn\b|project's own|[Dd]evices? of the proofs?")
 
 
@@ -80,6 +84,16 @@ def untold_tools() -> Iterator[str]:
             yield f"{path.relative_to(ROOT)}: tools/README.md doesn't name it"
 
 
+def wide_tools() -> Iterator[str]:
+    """Lines that are too wide, of the tools that have types."""
+    listed = configparser.ConfigParser()
+    listed.read(ROOT / "tools/mypy.ini")
+    for name in re.findall(r"[\w/.]+", listed["mypy"]["files"]):
+        for number, line in enumerate((ROOT / "tools" / name).read_text(encoding="utf-8").splitlines(), 1):
+            if len(line) > TOOL_WIDTH:
+                yield f"tools/{name}:{number}: {len(line)} columns"
+
+
 def main() -> int:
     names = {it.name for it in CRATES.iterdir() if it.is_dir()}
     found: list[str] = []
@@ -94,7 +108,7 @@ def main() -> int:
                 found += wide_lines(inside, lines)
             elif inside.parts[2] == "specs" and path.name != "Lib.antt":
                 found += head_without_source(inside, lines)
-    found += [*missing_rows(), *untold_tools()]
+    found += [*missing_rows(), *untold_tools(), *wide_tools()]
     print("\n".join(found) if found else "the text is as it is to be")
     return 1 if found else 0
 

@@ -1,5 +1,6 @@
 #!/usr/bin/env python3
-"""Tests what change_costs.py finds, in small files that are written here. It prints a line, and ends with 1 if a test fails."""
+"""Tests what change_costs.py finds, in small files that are written here. It prints a line, and ends with 1 if a test
+fails."""
 
 import sys
 from collections.abc import Iterator
@@ -31,7 +32,9 @@ def tests() -> Iterator[tuple[str, bool]]:
     yield "a word is found", found["sources"] == ["crates/a/src/lib.rt"]
     yield "a part of a longer name isn't", found["documents"] == [] and missing == ["add"]
     yield "a name with a hyphen is one word", named(["add-one"], FILES)[0]["sources"] == ["crates/a/src/lib.rt"]
-    yield "comments of code are left out", "Show" not in code_of("a.rt", "x(); // Show") + code_of("b.antt", "-- Show\nf a--b = a  -- Show\n")
+    yield "comments of code are left out", "Show" not in code_of("a.rt", "x(); // Show") + code_of(
+        "b.antt", "-- Show\nf a--b = a  -- Show\n"
+    )
     yield "what only looks like a comment stays", "a--b" in code_of("b.antt", "f a--b = a")
 
 

@@ -1,9 +1,9 @@
 """Runs commands one after the other, each with bounds on its time, its memory and what it writes.
 
-The system counts for a command the memory of the process that starts it, too. So the commands are started by a process of their own
-that has hardly any: this file, run as a program. It reads lines of JSON, each a command and the files for its standard output and its
-standard error, and answers each with a line: its status, as `subprocess` has it, its processor seconds, and its greatest resident
-memory in KiB.
+The system counts for a command the memory of the process that starts it, too. So the commands are started by a
+process of their own that has hardly any: this file, run as a program. It reads lines of JSON, each a command and the
+files for its standard output and its standard error, and answers each with a line: its status, as `subprocess` has
+it, its processor seconds, and its greatest resident memory in KiB.
 """
 
 import json
@@ -27,7 +27,8 @@ BOUNDS = {
 
 
 class BoundedRuns:
-    """The process that runs commands in a folder. A program with checks of its memory gets as many addresses as it asks for, and more time."""
+    """The process that runs commands in a folder. A program with checks of its memory gets as many addresses as it
+    asks for, and more time."""
 
     def __init__(self, folder: str, is_checked: bool = False) -> None:
         import subprocess
@@ -52,7 +53,11 @@ def become(command: list[str], stdout: str, stderr: str) -> None:
     """Turns this process into the command."""
     for bound, most in BOUNDS.items():
         resource.setrlimit(bound, (most, most))
-    streams = [(os.devnull, os.O_RDONLY), (stdout, os.O_WRONLY | os.O_CREAT | os.O_TRUNC), (stderr, os.O_WRONLY | os.O_CREAT | os.O_TRUNC)]
+    streams = [
+        (os.devnull, os.O_RDONLY),
+        (stdout, os.O_WRONLY | os.O_CREAT | os.O_TRUNC),
+        (stderr, os.O_WRONLY | os.O_CREAT | os.O_TRUNC),
+    ]
     for number, (path, way) in enumerate(streams):
         os.dup2(os.open(path, way, 0o644), number)
     os.execv(command[0], command)

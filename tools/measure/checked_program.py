@@ -1,10 +1,11 @@
 #!/usr/bin/env python3
 """Compiles the program with checks and without proof, and keeps it: checked_program.py OUT
 
-`rt try` compiles the program so that it stops at an index out of bounds, an overflow or a bad access, and throws it away when its run has
-ended. This tool runs it by `rt try` over a record that takes long, and copies the program beside its run; it takes two minutes or so.
-The program runs by itself from then on: its functions have their names, it stops by a signal where a check fails, and it needs more
-addresses than there is memory. Nothing is proved by that. Status: 0 where the program was copied, else 1.
+`rt try` compiles the program so that it stops at an index out of bounds, an overflow or a bad access, and throws it
+away when its run has ended. This tool runs it by `rt try` over a record that takes long, and copies the program
+beside its run; it takes two minutes or so. The program runs by itself from then on: its functions have their names,
+it stops by a signal where a check fails, and it needs more addresses than there is memory. Nothing is proved by that.
+Status: 0 where the program was copied, else 1.
 """
 
 import os
@@ -48,7 +49,9 @@ def main() -> None:
         files = [word for name, path in zip(FILES, (stream, record)) for word in ("--data", f"{name}={path}")]
         with open(said, "wb") as told:
             command = ["rt", "try", "--seconds", str(SECONDS), *files, "--", *REPLAY]
-            run = subprocess.Popen(command, cwd=ROOT / "crates" / "bml_replay", stdin=subprocess.DEVNULL, stdout=told, stderr=told)
+            run = subprocess.Popen(
+                command, cwd=ROOT / "crates" / "bml_replay", stdin=subprocess.DEVNULL, stdout=told, stderr=told
+            )
         end, program = time.monotonic() + LONGEST, None
         try:
             while program is None and run.poll() is None and time.monotonic() < end:

@@ -3,9 +3,9 @@
 
     tools/measure/gate_costs.py [--log FILE] [COMMAND ..]
 
-runs COMMAND (`rt ci`, if none is given) at the top of the repository, with what it prints in FILE (gate.log), and prints a table in
-Markdown behind it. Once a second it looks at the prover's processes below it (Linux' /proc), so what a process does in its last second is lost.
-It ends with the status of COMMAND.
+runs COMMAND (`rt ci`, if none is given) at the top of the repository, with what it prints in FILE (gate.log), and
+prints a table in Markdown behind it. Once a second it looks at the prover's processes below it (Linux' /proc), so
+what a process does in its last second is lost. It ends with the status of COMMAND.
 """
 
 import argparse
@@ -65,7 +65,9 @@ def table(sums: dict[Task, float], minutes: float) -> list[str]:
     out = ["| crate | proofs | tests | edits | number of edits | sum |", "|---|---|---|---|---|---|"]
     for crate in names:
         each = [sums.get((crate, part), 0.0) for part in PARTS]
-        out.append(f"| `{crate}` | " + " | ".join(f"{it:.1f}" for it in each) + f" | {edit_count(crate)} | {sum(each):.1f} |")
+        out.append(
+            f"| `{crate}` | " + " | ".join(f"{it:.1f}" for it in each) + f" | {edit_count(crate)} | {sum(each):.1f} |"
+        )
     each = [sum(sums.get((crate, part), 0.0) for crate in names) for part in PARTS]
     edits = sum(edit_count(it) for it in names)
     out.append("| all | " + " | ".join(f"{it:.1f}" for it in each) + f" | {edits} | {sum(each):.1f} |")

@@ -3,14 +3,16 @@
 
 usage: instructions.py PROGRAM [--write BUILD] [--file FILE] [NAME ..]
 
-The runs are those of small_runs.py, or those whose names begin with NAME; all of them take about a minute. What a run writes has to be
-what is due. `valgrind --tool=callgrind` counts, so neither other work nor the speed of the machine changes a figure: two runs of one program
-differ by a few instructions. The C library is told to copy and to clear by plain instructions, whatever the processor has beside them. Each
-count is compared with the last one, in instructions.txt beside this tool or in FILE, and each run that grew by more than 2 % is named.
+The runs are those of small_runs.py, or those whose names begin with NAME; all of them take about a minute. What a run
+writes has to be what is due. `valgrind --tool=callgrind` counts, so neither other work nor the speed of the machine
+changes a figure: two runs of one program differ by a few instructions. The C library is told to copy and to clear by
+plain instructions, whatever the processor has beside them. Each count is compared with the last one, in
+instructions.txt beside this tool or in FILE, and each run that grew by more than 2 % is named.
 
-The head of the file says which build its figures are of, and with which valgrind and C library. Figures of different ones can't be compared.
-With --write the file is written anew, and BUILD says in words which build it was. This tool is tested, and not proved.
-Status: 0 where no run grew, 1 where one did or went wrong, 2 where nothing could be counted.
+The head of the file says which build its figures are of, and with which valgrind and C library. Figures of different
+ones can't be compared. With --write the file is written anew, and BUILD says in words which build it was. This tool
+is tested, and not proved. Status: 0 where no run grew, 1 where one did or went wrong, 2 where nothing could be
+counted.
 """
 
 import argparse
@@ -47,7 +49,11 @@ def figures_of(text: str) -> dict[str, int]:
 
 def file_of(build: str, counter: str, figures: dict[str, int]) -> str:
     """Returns the text of a file of figures, with the build that they are of and what counted them."""
-    heads = ["# Instructions of the runs of small_runs.py, as instructions.py counted them.", f"# Build: {build}", f"# Counted with: {counter}"]
+    heads = [
+        "# Instructions of the runs of small_runs.py, as instructions.py counted them.",
+        f"# Build: {build}",
+        f"# Counted with: {counter}",
+    ]
     return "\n".join([*heads, *(f"{count:>15,}  {name}" for name, count in figures.items()), ""])
 
 
@@ -76,7 +82,12 @@ def counted(program: str, run: Run) -> int | None:
         for name, content in zip(FILES, [run.stream, run.record.encode("ascii")]):
             Path(room, name).write_bytes(content)
         command = [shutil.which("valgrind") or "valgrind", *VALGRIND, "./program", *run.words]
-        how: dict[str, Any] = {"cwd": room, "env": {"GLIBC_TUNABLES": PLAIN_COPIES}, "stdin": subprocess.DEVNULL, "timeout": LIMIT}
+        how: dict[str, Any] = {
+            "cwd": room,
+            "env": {"GLIBC_TUNABLES": PLAIN_COPIES},
+            "stdin": subprocess.DEVNULL,
+            "timeout": LIMIT,
+        }
         try:
             ran = subprocess.run(command, capture_output=True, check=False, **how)
         except subprocess.TimeoutExpired:
@@ -122,7 +133,9 @@ def main() -> int:
     figures = {name: count for name, count in counts.items() if count is not None}
     last = figures_of(words.file.read_text(encoding="utf-8")) if words.file.is_file() else {}
     lines, grown = table(last, figures)
-    told = [f"{name}: it went wrong" for name in wrong] + [f"{name}: it grew by more than {MOST_GROWTH:.0%}" for name in grown]
+    told = [f"{name}: it went wrong" for name in wrong] + [
+        f"{name}: it grew by more than {MOST_GROWTH:.0%}" for name in grown
+    ]
     print("\n".join(lines + told))
     if words.write and not wrong:
         words.file.write_text(file_of(words.write, counter(), figures), encoding="utf-8")

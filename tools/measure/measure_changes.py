@@ -3,8 +3,9 @@
 
 usage: measure_changes.py PROGRAM [--rounds N]
 
-What the program writes at the end is compared with what is due. Each stream is run N times (3), of which the best counts.
-`each` is in microseconds of the processor for one such section. Status: 0 where all was as due, 1 where a run went wrong.
+What the program writes at the end is compared with what is due. Each stream is run N times (3), of which the best
+counts. `each` is in microseconds of the processor for one such section. Status: 0 where all was as due, 1 where a run
+went wrong.
 """
 
 import sys
@@ -13,7 +14,16 @@ from collections.abc import Iterator
 from measuring import MOST_BYTES, replayed, words
 
 from sent_modules import DATA_PID, OPTIONS
-from transport import DATA_STREAM, ElementaryStream, Module, ddb_section, dii_section, packets_of_sections, pat_section, pmt_section
+from transport import (
+    DATA_STREAM,
+    ElementaryStream,
+    Module,
+    ddb_section,
+    dii_section,
+    packets_of_sections,
+    pat_section,
+    pmt_section,
+)
 
 Sections = Iterator[tuple[int, bytes]]  # each with its PID
 MAP_PID = 496

@@ -1,12 +1,14 @@
 #!/usr/bin/env python3
-"""Measures how long a release build takes over display lists that follow each other, and over documents that launch each other.
+"""Measures how long a release build takes over display lists that follow each other, and over documents that launch
+each other.
 
 usage: measure_displays.py PROGRAM [--rounds N]
 
-Module 0000 of a carousel on PID 256 is the start document, and module 0001 another one in some cases. The record has `all`, and then the same lines
-again and again: a key whose handler changes something, and `show` in most. Each case is run with so many repetitions and with none; `each` is the
-difference of their processor seconds by the repetitions, in milliseconds. Each is run N times (3), of which the best counts. Status: 0 where each run
-ended well and wrote as many display lists and loads as are due, else 1.
+Module 0000 of a carousel on PID 256 is the start document, and module 0001 another one in some cases. The record has
+`all`, and then the same lines again and again: a key whose handler changes something, and `show` in most. Each case
+is run with so many repetitions and with none; `each` is the difference of their processor seconds by the repetitions,
+in milliseconds. Each is run N times (3), of which the best counts. Status: 0 where each run ended well and wrote as
+many display lists and loads as are due, else 1.
 """
 
 import subprocess
@@ -20,7 +22,8 @@ from sent_modules import BML, OPTIONS, carousel_sections, sent
 
 
 class Case(NamedTuple):
-    """The documents, the lines of the record that are repeated, how often, and how many display lists and loads each repetition gives."""
+    """The documents, the lines of the record that are repeated, how often, and how many display lists and loads each
+    repetition gives."""
 
     name: str
     documents: Sequence[bytes]
@@ -35,14 +38,17 @@ def document(script: str, body: str) -> bytes:
 
 
 def boxes(handler: str) -> str:
-    """As many elements as there is room for; the first has the focus and this handler, and the second can have it, too."""
+    """As many elements as there is room for; the first has the focus and this handler, and the second can have it,
+    too."""
     first = f'<p id="x" style="nav-index:0;nav-down:1" onkeydown="{handler}">x</p>'
     second = f'<p id="y" style="nav-index:1;nav-down:0" onkeydown="{handler}">y</p>'
     return first + second + "<p/>" * (MOST_NODES - 10)
 
 
 def changed(statement: str) -> bytes:
-    return document(f"var n = 0; var x = document.getElementById('x'); function k() {{ n++; {statement} }}", boxes("k();"))
+    return document(
+        f"var n = 0; var x = document.getElementById('x'); function k() {{ n++; {statement} }}", boxes("k();")
+    )
 
 
 def launching(other: str, size: int) -> bytes:
@@ -54,7 +60,9 @@ def launching(other: str, size: int) -> bytes:
 
 def cases() -> Iterator[Case]:
     yield Case("show again, nothing changed", (changed(""),), "show\n", 20, 1, 0)
-    yield Case("a colour written, and show", (changed("x.normalStyle.colorIndex = n % 8;"),), "key 19\nshow\n", 20, 1, 0)
+    yield Case(
+        "a colour written, and show", (changed("x.normalStyle.colorIndex = n % 8;"),), "key 19\nshow\n", 20, 1, 0
+    )
     yield Case("a text written, and show", (changed("x.firstChild.data = n;"),), "key 19\nshow\n", 20, 1, 0)
     yield Case("the focus moves, and show", (changed(""),), "key 2\nshow\n", 20, 1, 0)
     body = "document.getElementById('x').parentNode"
@@ -62,7 +70,14 @@ def cases() -> Iterator[Case]:
     yield Case("the body's colour written, one in it read, in turns", (changed(turns),), "key 19\n", 5, 0, 0)
     two = (launching("0001", 1_000_000), launching("0000", 1_000_000))
     yield Case("two documents of 1 MB that launch each other", two, "key 19\n", 200, 0, 1)
-    many = tuple(document("", f'<p id="x" style="nav-index:0" onkeydown="browser.launchDocument(\'/40/{it}\');">x</p>' + "<p/>" * (MOST_NODES - 8)) for it in ("0001", "0000"))
+    many = tuple(
+        document(
+            "",
+            f'<p id="x" style="nav-index:0" onkeydown="browser.launchDocument(\'/40/{it}\');">x</p>'
+            + "<p/>" * (MOST_NODES - 8),
+        )
+        for it in ("0001", "0000")
+    )
     yield Case("two documents of 16,384 nodes that launch each other", many, "key 19\n", 200, 0, 1)
 
 

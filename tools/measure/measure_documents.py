@@ -1,12 +1,13 @@
 #!/usr/bin/env python3
-"""Measures how long a release build takes over start documents, and entities with one, that are as hard as the limits let
-them be.
+"""Measures how long a release build takes over start documents, and entities with one, that are as hard as the limits
+let them be.
 
 usage: measure_documents.py PROGRAM [--rounds N]
 
-Each document or entity fills module 0000 of a carousel on PID 256; the record is `all`, `show`. What the program writes is compared
-with what is due. Each is run N times (3), of which the best counts. `processor` is in seconds too, and says more than
-`seconds` where other work shares the machine. Status: 0 where all was as due, 1 where a run went wrong.
+Each document or entity fills module 0000 of a carousel on PID 256; the record is `all`, `show`. What the program
+writes is compared with what is due. Each is run N times (3), of which the best counts. `processor` is in seconds too,
+and says more than `seconds` where other work shares the machine. Status: 0 where all was as due, 1 where a run went
+wrong.
 """
 
 import sys
@@ -23,7 +24,8 @@ PLAIN_BOX = "box 0 0 0 0 8 0 7\n"
 class Document(NamedTuple):
     """A document, or an entity, and the lines that are due behind its module's line.
 
-    So many DIIs come behind it, each with another transactionId; where there are any, module 0001 is announced and stays away.
+    So many DIIs come behind it, each with another transactionId; where there are any, module 0001 is announced and
+    stays away.
     """
 
     name: str

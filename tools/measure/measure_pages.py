@@ -3,11 +3,11 @@
 
 usage: measure_pages.py PROGRAM [--rounds N]
 
-Module 0000 of a carousel on PID 256 is a document, and the record has keys or ticks behind `all`. Some pages have sections of event messages
-behind the document. What the program writes is compared with what
-is due: a line for the module, `load`, as many lines of lost events and stopped handlers as are said beside each, and `end`. Each is run N
-times (3), of which the best counts. `processor` is in seconds too, and says more than `seconds` where other work shares the machine. Status: 0
-where all was as due, 1 where a run went wrong.
+Module 0000 of a carousel on PID 256 is a document, and the record has keys or ticks behind `all`. Some pages have
+sections of event messages behind the document. What the program writes is compared with what is due: a line for the
+module, `load`, as many lines of lost events and stopped handlers as are said beside each, and `end`. Each is run N
+times (3), of which the best counts. `processor` is in seconds too, and says more than `seconds` where other work
+shares the machine. Status: 0 where all was as due, 1 where a run went wrong.
 """
 
 import sys
@@ -25,8 +25,8 @@ Messages = Sequence[EventMessage]  # of a section
 
 
 class Page(NamedTuple):
-    """A document, the lines of the record behind `all`, how many lines tell of lost events and of stops, and the messages of each section
-    behind the document."""
+    """A document, the lines of the record behind `all`, how many lines tell of lost events and of stops, and the
+    messages of each section behind the document."""
 
     name: str
     document: str
@@ -38,7 +38,10 @@ class Page(NamedTuple):
 
 def many_nodes(count: int) -> str:
     """As many elements as that leaves room for, each of which can have the focus."""
-    return "".join(f'<a style="nav-index:{place % 32768};nav-down:{(place + 1) % count}" onkeydown="n++;"/>' for place in range(count))
+    return "".join(
+        f'<a style="nav-index:{place % 32768};nav-down:{(place + 1) % count}" onkeydown="n++;"/>'
+        for place in range(count)
+    )
 
 
 def with_items(count: int, attributes: str) -> str:
@@ -55,21 +58,46 @@ def section_of_messages(count: int, version: int) -> Messages:
 def item_pages() -> Iterator[Page]:
     for count in (3_950, 7_900, 15_800):
         items = with_items(count, ' es_ref=""')
-        yield Page(f"100 sections of 300 messages, {count:,} items for none", items, "", 0, 0, (section_of_messages(300, 1),) * 100)
+        yield Page(
+            f"100 sections of 300 messages, {count:,} items for none",
+            items,
+            "",
+            0,
+            0,
+            (section_of_messages(300, 1),) * 100,
+        )
     # Of 300 times 16,000 posts 256 find a place.
-    yield Page("a section of 300 messages that fire 16,000 items", with_items(16_000, ""), "", 4_799_744, 0, (section_of_messages(300, 1),))
+    yield Page(
+        "a section of 300 messages that fire 16,000 items",
+        with_items(16_000, ""),
+        "",
+        4_799_744,
+        0,
+        (section_of_messages(300, 1),),
+    )
     items = with_items(240, ' onoccur="n++;"')
     versions = tuple(section_of_messages(1, version) for version in range(200))
     yield Page("200 messages that fire 240 items each", items, "", 0, 0, versions)
     items = with_items(1, ' onoccur="n++;"')
-    yield Page("1,000 sections of 300 messages that repeat, an item", items, "", 44, 0, (section_of_messages(300, 1),) * 1_000)
+    yield Page(
+        "1,000 sections of 300 messages that repeat, an item", items, "", 44, 0, (section_of_messages(300, 1),) * 1_000
+    )
     timers = "".join('browser.setInterval("f()", 100, 0);' for _ in range(32))
-    yield Page("an hour with 32 timers of 100 ms", with_script("var n = 0; function f() { n++; } " + timers, ""), "tick 3600000\n", 0, 0)
+    yield Page(
+        "an hour with 32 timers of 100 ms",
+        with_script("var n = 0; function f() { n++; } " + timers, ""),
+        "tick 3600000\n",
+        0,
+        0,
+    )
 
 
 def pages() -> Iterator[Page]:
     yield from item_pages()
-    two = '<p id="x" style="nav-index:0" onfocus="go(\'y\');">-</p><p id="y" style="nav-index:1" onfocus="go(\'x\');">y</p>'
+    two = (
+        '<p id="x" style="nav-index:0" onfocus="go(\'y\');">-</p>'
+        '<p id="y" style="nav-index:1" onfocus="go(\'x\');">y</p>'
+    )
     endless = with_script("function go(i) { document.getElementById(i).focus(); }", two)
     yield Page("10,000 turns of 256 dispatches each", endless, "release 1\n" * 10_000, 0, 0)
     crowd = with_script(
@@ -85,7 +113,9 @@ def pages() -> Iterator[Page]:
     for count in (1_000, 4_000, 8_000):
         large = with_script("var n = 0;", many_nodes(count))
         yield Page(f"10,000 arrows over {count:,} elements", large, "key 2\n" * 10_000, 0, 0)
-    yield Page("100,000 digits over 8,000 elements", with_script("var n = 0;", many_nodes(8_000)), "key 5\n" * 100_000, 0, 0)
+    yield Page(
+        "100,000 digits over 8,000 elements", with_script("var n = 0;", many_nodes(8_000)), "key 5\n" * 100_000, 0, 0
+    )
 
 
 def sections_of(document: bytes, messages: Sequence[Messages]) -> list[bytes]:
@@ -100,14 +130,20 @@ def is_due(page: Page, document: bytes, packets: int, written: bytes) -> bool:
     lost = sum(line.startswith("lost ") for line in lines)
     stopped = sum(line.startswith("stop ") for line in lines)
     told = len(first) + page.lost + page.stopped + 1
-    return lines[:2] == first and lines[-1] == f"end {packets}" and (lost, stopped, len(lines)) == (page.lost, page.stopped, told)
+    return (
+        lines[:2] == first
+        and lines[-1] == f"end {packets}"
+        and (lost, stopped, len(lines)) == (page.lost, page.stopped, told)
+    )
 
 
 def measured(page: Page) -> Measured:
     """Returns the run of a page."""
     document = page.document.encode("ascii")
     stream, packets = sent(sections_of(document, page.messages))
-    return Measured(f"{page.name:52}", stream, ("all\n" + page.record).encode("ascii"), partial(is_due, page, document, packets))
+    return Measured(
+        f"{page.name:52}", stream, ("all\n" + page.record).encode("ascii"), partial(is_due, page, document, packets)
+    )
 
 
 def main() -> int:

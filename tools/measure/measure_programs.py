@@ -3,10 +3,11 @@
 
 usage: measure_programs.py PROGRAM [--rounds N]
 
-Module 0000 of a carousel on PID 256 is a document, and module 0001, which comes first, a script that it links; or else the scripts
-stand in the document itself. The record is `all`. What the program writes is compared with what is due: which scripts are bad, and
-what stops the one that is linked, is said beside each. Each is run N times (3), of which the best counts. `processor` is in seconds too, and says more than `seconds` where other
-work shares the machine. Status: 0 where all was as due, 1 where a run went wrong.
+Module 0000 of a carousel on PID 256 is a document, and module 0001, which comes first, a script that it links; or
+else the scripts stand in the document itself. The record is `all`. What the program writes is compared with what is
+due: which scripts are bad, and what stops the one that is linked, is said beside each. Each is run N times (3), of
+which the best counts. `processor` is in seconds too, and says more than `seconds` where other work shares the
+machine. Status: 0 where all was as due, 1 where a run went wrong.
 """
 
 import sys
@@ -23,7 +24,8 @@ LINKED = '<bml><head><script src="/40/0001"/></head><body/></bml>'
 
 
 class Scripts(NamedTuple):
-    """A script that is linked, the document, the numbers of those of its scripts that are bad, and what stops the one that is linked."""
+    """A script that is linked, the document, the numbers of those of its scripts that are bad, and what stops the one
+    that is linked."""
 
     name: str
     script: str
@@ -54,7 +56,23 @@ def numbered(form: str, most: int = MOST_BYTES) -> str:
 
 
 def open_forms() -> Iterator[Scripts]:
-    for item in ["(", "[", "{", "a(", "a[", "new ", "- ", "++", "if(a)", "while(a)", "for(;;)", "a=", "a?", "a?a:", "function f(){"]:
+    for item in [
+        "(",
+        "[",
+        "{",
+        "a(",
+        "a[",
+        "new ",
+        "- ",
+        "++",
+        "if(a)",
+        "while(a)",
+        "for(;;)",
+        "a=",
+        "a?",
+        "a?a:",
+        "function f(){",
+    ]:
         yield linked(f"1 MB of {item.strip()} open at the end", repeated(item), False)
     half = MOST_BYTES // 2 - 8
     yield linked("parentheses 524,280 deep", "(" * half + "a" + ")" * half, True, "Unresolved")
@@ -116,7 +134,9 @@ def many_sources() -> Iterator[Scripts]:
     bad = " ".join(f'{name}=")"' for name in HANDLERS)
     elements = room // (len(good) + 5)
     yield in_document(f"{elements * 8:,} handlers", of_elements(f"<p {good}/>" * elements), [])
-    yield in_document(f"{elements * 8:,} bad handlers", of_elements(f"<p {bad}/>" * elements), list(range(1, elements * 8 + 1)))
+    yield in_document(
+        f"{elements * 8:,} bad handlers", of_elements(f"<p {bad}/>" * elements), list(range(1, elements * 8 + 1))
+    )
     others = numbered(' a{0:x}=""', room - 200)
     yield in_document("an element of 100,000 attributes", of_elements(f"<p {good}{others}/>"), [])
     # 16,384 nodes with their texts are all that a document may have.

@@ -1,7 +1,7 @@
 """How bytes are changed at random: a few changes, one after the other, drawn from a source of random numbers.
 
-Most are small. A few words of the language of the text, and other texts of it, are put in now and then, so that not all changes end at
-the first byte that fits nowhere.
+Most are small. A few words of the language of the text, and other texts of it, are put in now and then, so that not
+all changes end at the first byte that fits nowhere.
 """
 
 import math

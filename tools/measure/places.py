@@ -1,4 +1,5 @@
-"""Where the parts of the repository are. Whoever imports this module first can import the tools of the other folders, too."""
+"""Where the parts of the repository are. Whoever imports this module first can import the tools of the other folders,
+too."""
 
 import sys
 from pathlib import Path

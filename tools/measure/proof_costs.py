@@ -1,10 +1,11 @@
 #!/usr/bin/env python3
 """Says what makes a crate dear to prove: proof_costs.py [--all] [--out FOLDER] CRATE ..
 
-For each crate that is named it prints the number of its functions, of its lines and of its must-fail edits, the memory that `rt ci` plans
-for a check of it, and its dearest functions. What the prover makes of a function is a file `.Lts.oantt` below the crate's out/; nearly all
-of a proof's time goes into these, and a large one says that the form of the code is dear. A crate that hasn't been checked has none.
-Behind `note:` stands what is past the bounds of CONTRIBUTING.md ("What a proof costs").
+For each crate that is named it prints the number of its functions, of its lines and of its must-fail edits, the
+memory that `rt ci` plans for a check of it, and its dearest functions. What the prover makes of a function is a file
+`.Lts.oantt` below the crate's out/; nearly all of a proof's time goes into these, and a large one says that the form
+of the code is dear. A crate that hasn't been checked has none. Behind `note:` stands what is past the bounds of
+CONTRIBUTING.md ("What a proof costs").
 
     --all           prints all functions, not just the ten dearest and those that are too large
     --out FOLDER    looks in FOLDER/CRATE/out for what was checked, where that isn't crates/
@@ -27,8 +28,11 @@ SHOWN = 10
 
 
 def line_count(crate: str, ending: str) -> int:
-    return sum(path.read_text(encoding="utf-8").count("\n") for path in (CRATES / crate).glob(f"**/*{ending}")
-               if "out" not in path.relative_to(CRATES / crate).parts)
+    return sum(
+        path.read_text(encoding="utf-8").count("\n")
+        for path in (CRATES / crate).glob(f"**/*{ending}")
+        if "out" not in path.relative_to(CRATES / crate).parts
+    )
 
 
 def code_of(text: str) -> list[str]:
@@ -46,7 +50,7 @@ def without_blocks(text: str, head: re.Pattern[str]) -> str:
     for found in head.finditer(text):
         if found.start() < place:
             continue
-        kept.append(text[place: found.start()])
+        kept.append(text[place : found.start()])
         depth, place = 1, found.end()
         while depth and place < len(text):
             depth += {"{": 1, "}": -1}.get(text[place], 0)
@@ -71,7 +75,10 @@ def report(crate: str, below: dict[str, set[str]], out: Path, show_all: bool) ->
     edits = len(list((CRATES / crate / "must-fail").glob("*.edit")))
     source, antt = line_count(crate, ".rt"), line_count(crate, ".antt")
     planned = 1000 + source + 0.2 * antt + 0.08 * sum(line_count(it, ".rt") for it in below[crate])
-    print(f"{crate}: {functions} functions, {len(code)} lines of code, {source} of source, {antt} of definitions and proofs, {edits} edits")
+    print(
+        f"{crate}: {functions} functions, {len(code)} lines of code, {source} of source,"
+        f" {antt} of definitions and proofs, {edits} edits"
+    )
     print(f"  planned memory {planned / 1000:.1f} GB, and up to 2.5 GB for the toolchain's libraries")
     sizes = sorted(function_sizes(crate, out).items(), key=lambda it: (-it[1], it[0]))
     if sizes:
@@ -79,7 +86,7 @@ def report(crate: str, below: dict[str, set[str]], out: Path, show_all: bool) ->
     else:
         print("  nothing of it is checked here yet")
     large = sum(size > LARGE for _, size in sizes)
-    for name, size in sizes if show_all else sizes[:max(SHOWN, large)]:
+    for name, size in sizes if show_all else sizes[: max(SHOWN, large)]:
         print(f"  {size / MIB:7.2f} MiB  {name}")
     if large:
         print(f"  note: {large} of them above 2 MiB")

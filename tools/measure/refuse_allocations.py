@@ -3,10 +3,12 @@
 
 usage: refuse_allocations.py [--lines] PROGRAM [WORD..] < INPUT
 
-The program gets the words and the input each time. A library that refuses the allocation of a number, as the system may, is compiled by
-`cc` and loaded in front of the C library. What is printed is how often the program ended in which way: its status and its last words, on
-standard output or on standard error. The kept area, `nvram.bin`, is as it was before each run. Status: 0 where each run ended by itself within a minute, 1 where one was stopped by a signal or hung, or, with
---lines, where what it wrote isn't the first lines, each to its end, of what the program writes with nothing refused.
+The program gets the words and the input each time. A library that refuses the allocation of a number, as the system
+may, is compiled by `cc` and loaded in front of the C library. What is printed is how often the program ended in which
+way: its status and its last words, on standard output or on standard error. The kept area, `nvram.bin`, is as it was
+before each run. Status: 0 where each run ended by itself within a minute, 1 where one was stopped by a signal or
+hung, or, with --lines, where what it wrote isn't the first lines, each to its end, of what the program writes with
+nothing refused.
 """
 
 import collections
@@ -79,11 +81,23 @@ def main() -> int:
     with tempfile.TemporaryDirectory(prefix="refuse-") as room:
         with open(f"{room}/refuse.c", "w") as file:
             file.write(LIBRARY)
-        subprocess.run(["cc", "-shared", "-fPIC", "-O1", "-o", f"{room}/refuse.so", f"{room}/refuse.c", "-ldl"], check=True)
+        subprocess.run(
+            ["cc", "-shared", "-fPIC", "-O1", "-o", f"{room}/refuse.so", f"{room}/refuse.c", "-ldl"], check=True
+        )
 
         def ran(number: int) -> subprocess.CompletedProcess[bytes]:
-            told = {"LD_PRELOAD": f"{room}/refuse.so", "REFUSED_ALLOCATION": str(number), "ALLOCATIONS_MADE": f"{room}/made"}
-            how: dict[str, Any] = {"input": given, "stdout": subprocess.PIPE, "stderr": subprocess.PIPE, "check": False, "timeout": 60}
+            told = {
+                "LD_PRELOAD": f"{room}/refuse.so",
+                "REFUSED_ALLOCATION": str(number),
+                "ALLOCATIONS_MADE": f"{room}/made",
+            }
+            how: dict[str, Any] = {
+                "input": given,
+                "stdout": subprocess.PIPE,
+                "stderr": subprocess.PIPE,
+                "check": False,
+                "timeout": 60,
+            }
             try:
                 return subprocess.run(command, env={**os.environ, **told}, **how)
             finally:

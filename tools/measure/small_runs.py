@@ -1,7 +1,8 @@
-"""The small runs whose instructions are counted: streams, documents, scripts, and pages that act, each the same whenever it is made.
+"""The small runs whose instructions are counted: streams, documents, scripts, and pages that act, each the same
+whenever it is made.
 
-Each is a kind of work that a broadcast brings, in such a number that this work is most of the run. What is due of it is how many
-lines begin with each word, but for those of a display list.
+Each is a kind of work that a broadcast brings, in such a number that this work is most of the run. What is due of it
+is how many lines begin with each word, but for those of a display list.
 """
 
 import random
@@ -25,7 +26,8 @@ SHOWN = {"box", "text", "picture", "focus"}
 
 
 class Run(NamedTuple):
-    """The words of the command, the stream and the record that they name, and how many lines are due by their first words."""
+    """The words of the command, the stream and the record that they name, and how many lines are due by their first
+    words."""
 
     words: list[str]
     stream: bytes
@@ -39,8 +41,11 @@ def replay(sections: list[bytes], due: Counts, record: str = "all\n") -> Run:
 
 
 def paged(document: str, behind: str = "", due: Counts | None = None, messages: Sequence[Messages] = ()) -> Run:
-    """A replay of a document as module 0000, of what the record has behind `all`, and of the messages of each section behind the document."""
-    return replay(sections_of(document.encode("ascii"), messages), {"module": 1, "load": 1, **(due or {})}, "all\n" + behind)
+    """A replay of a document as module 0000, of what the record has behind `all`, and of the messages of each section
+    behind the document."""
+    return replay(
+        sections_of(document.encode("ascii"), messages), {"module": 1, "load": 1, **(due or {})}, "all\n" + behind
+    )
 
 
 def other_pids() -> Run:
@@ -74,19 +79,31 @@ def generated() -> Run:
 
 
 def document_of_texts() -> Run:
-    rows = "".join(f'<div id="d{number}" title="row &amp; line"><p>Osaka, {number} &lt; 30</p></div>' for number in range(2_000))
+    rows = "".join(
+        f'<div id="d{number}" title="row &amp; line"><p>Osaka, {number} &lt; 30</p></div>' for number in range(2_000)
+    )
     return paged(with_script("", rows))
 
 
 def document_of_styles() -> Run:
-    rules = "".join(f"p.c{number}:focus, #i{number}, .c{number} {{ left: {number}px; color-index: {number % 8} }}\n" for number in range(800))
-    rows = "".join(f'<p class="c{number % 800}" id="i{number}" style="top:{number % 540}px">x</p>' for number in range(1_600))
-    return paged(f"<bml><head><style><![CDATA[{rules}]]></style></head><body>{rows}</body></bml>", "show\n", {"show": 1})
+    rules = "".join(
+        f"p.c{number}:focus, #i{number}, .c{number} {{ left: {number}px; color-index: {number % 8} }}\n"
+        for number in range(800)
+    )
+    rows = "".join(
+        f'<p class="c{number % 800}" id="i{number}" style="top:{number % 540}px">x</p>' for number in range(1_600)
+    )
+    return paged(
+        f"<bml><head><style><![CDATA[{rules}]]></style></head><body>{rows}</body></bml>", "show\n", {"show": 1}
+    )
 
 
 def rows_with_focus(count: int, handler: str) -> str:
     """So many elements that can have the focus, each above the next one, with a handler of keys."""
-    return "".join(f'<p style="nav-index:{place};nav-down:{(place + 1) % count}" onkeydown="{handler}">x</p>' for place in range(count))
+    return "".join(
+        f'<p style="nav-index:{place};nav-down:{(place + 1) % count}" onkeydown="{handler}">x</p>'
+        for place in range(count)
+    )
 
 
 def keys() -> Run:
@@ -95,28 +112,42 @@ def keys() -> Run:
 
 
 def display_lists() -> Run:
-    page = with_script("function k(e) { e.normalStyle.colorIndex = 1; }", rows_with_focus(1_000, "k(document.currentEvent.target);"))
+    page = with_script(
+        "function k(e) { e.normalStyle.colorIndex = 1; }", rows_with_focus(1_000, "k(document.currentEvent.target);")
+    )
     return paged(page, "show\nkey 2\nshow\n" * 10, {"show": 20})
 
 
 def messages() -> Run:
     """Messages over 1,000 items, each of which fires one of them."""
-    page = with_items(999, ' es_ref=""').replace("<body>", '<body><beitem type="EventMessageFired" subscribe="subscribe" onoccur="browser.playRomSound(\'romsound://1\');"/>')
+    page = with_items(999, ' es_ref=""').replace(
+        "<body>",
+        '<body><beitem type="EventMessageFired" subscribe="subscribe"'
+        " onoccur=\"browser.playRomSound('romsound://1');\"/>",
+    )
     return paged(page, due={"sound": 1_000}, messages=[section_of_messages(50, version) for version in range(20)])
 
 
 def timers() -> Run:
-    return paged(with_script('var n = 0; function f() { n++; } browser.setInterval("f()", 100, 0);', ""), "tick 200000\n")
+    return paged(
+        with_script('var n = 0; function f() { n++; } browser.setInterval("f()", 100, 0);', ""), "tick 200000\n"
+    )
 
 
 def launches() -> Run:
     front = '<p style="nav-index:0" onkeydown="browser.launchDocument(\'/40/%\');">x</p>' + "<p/>" * 100
-    modules = [(number, BML, with_script("", front.replace("%", other)).encode("ascii")) for number, other in [(1, "0000"), (0, "0001")]]
-    return replay(carousel_sections(modules), {"module": 2, "load": 201, "launch": 200}, "all\n" + "key 19\nrelease 19\n" * 200)
+    modules = [
+        (number, BML, with_script("", front.replace("%", other)).encode("ascii"))
+        for number, other in [(1, "0000"), (0, "0001")]
+    ]
+    return replay(
+        carousel_sections(modules), {"module": 2, "load": 201, "launch": 200}, "all\n" + "key 19\nrelease 19\n" * 200
+    )
 
 
 def arrays() -> Run:
-    script = 'var l = new Array(0, "Osaka"); for (var i = 0; i < 100; i++) { l[0] = i; browser.writePersistentArray("nvram://~/0", "U:2B,S:1V", l); }'
+    script = 'var l = new Array(0, "Osaka"); for (var i = 0; i < 100; i++) '
+    script += '{ l[0] = i; browser.writePersistentArray("nvram://~/0", "U:2B,S:1V", l); }'
     script += ' for (i = 0; i < 500; i++) browser.readPersistentArray("nvram://~/0", "U:2B,S:1V");'
     return paged(with_script(script, ""), due={"kept": 100})
 

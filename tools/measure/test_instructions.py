@@ -1,5 +1,6 @@
 #!/usr/bin/env python3
-"""Tests how instructions.py compares counts, without valgrind and without the program. It prints a line, and ends with 1 if a test fails."""
+"""Tests how instructions.py compares counts, without valgrind and without the program. It prints a line, and ends
+with 1 if a test fails."""
 
 import sys
 from collections.abc import Iterator
@@ -24,7 +25,9 @@ def changes(last: dict[str, int], now: dict[str, int]) -> list[str]:
 def tests() -> Iterator[tuple[str, bool]]:
     """Yields what is said of the comparison, and whether it is so."""
     yield "a file of figures is read as it was written", figures_of(file_of("one", "two", FIGURES)) == FIGURES
-    yield "its head is no figure", "# Build: one" in file_of("one", "two", {}) and figures_of(file_of("one", "two", {})) == {}
+    yield "its head is no figure", "# Build: one" in file_of("one", "two", {}) and figures_of(
+        file_of("one", "two", {})
+    ) == {}
     yield "2 % more is no growth that is named", grown(10_000, 10_200) == []
     yield "a little more than that is", grown(10_000, 10_201) == ["run"]
     yield "less isn't", grown(10_000, 5_000) == []

@@ -1,5 +1,6 @@
 #!/usr/bin/env python3
-"""Tests what the tools of this folder judge runs by, without the program: that what is right passes, and what isn't is told."""
+"""Tests what the tools of this folder judge runs by, without the program: that what is right passes, and what isn't
+is told."""
 
 import contextlib
 import io
@@ -40,7 +41,8 @@ pub fn first(bytes: &[u8]) -> Option<u8>
 
 
 def is_right(what: str, status: int, stdout: bytes, kept: bytes, stderr: bytes | None = None) -> bool:
-    """Whether a run in which this failed ended rightly, with what belongs to its status on standard error, or with another text."""
+    """Whether a run in which this failed ended rightly, with what belongs to its status on standard error, or with
+    another text."""
     told = fail_each.TOLD.get(status, b"") if stderr is None else stderr
     return fail_each.is_right(what, fail_each.Ended(status, stdout, told, kept), PIECES)
 
@@ -50,23 +52,41 @@ def failing() -> Tests:
     yield "a read that fails behind a piece", is_right("read", 4, PIECES[1][0], OLD)
     yield "a read that fails within a piece isn't", not is_right("read", 4, b"load", OLD)
     yield "nor one behind which the area is a later one", not is_right("read", 4, PIECES[1][0], NEW)
-    yield "nor one with another status or another text", not is_right("read", 5, b"", OLD) and not is_right("read", 4, b"", OLD, b"no memory\n")
+    yield "nor one with another status or another text", not is_right("read", 5, b"", OLD) and not is_right(
+        "read", 4, b"", OLD, b"no memory\n"
+    )
     yield "a write that fails within a piece whose area is stored", is_right("write", 5, b"load a\nke", NEW)
     yield "one behind which the area is the old one isn't", not is_right("write", 5, b"load a\nke", OLD)
     yield "nor one after which all is written", not is_right("write", 5, PIECES[-1][0], NEW)
-    yield "a store that fails leaves the old area or the new one", all(is_right("store", 6, PIECES[1][0], kept) for kept in (OLD, NEW))
+    yield "a store that fails leaves the old area or the new one", all(
+        is_right("store", 6, PIECES[1][0], kept) for kept in (OLD, NEW)
+    )
     yield "and no other", not is_right("store", 6, PIECES[1][0], b"ne")
     yield "nor the lines of its turn", not is_right("store", 6, b"load a\nkept", NEW)
     yield "a program that is killed leaves whole pieces", is_right("kill", -9, PIECES[1][0], NEW, b"")
-    yield "an opening that fails leaves nothing", is_right("opening", 3, b"", OLD) and not is_right("opening", 3, PIECES[1][0], OLD)
-    yield "an allocation may be done without", is_right("allocation", 0, *PIECES[-1]) and is_right("allocation", 9, *PIECES[1])
+    yield "an opening that fails leaves nothing", is_right("opening", 3, b"", OLD) and not is_right(
+        "opening", 3, PIECES[1][0], OLD
+    )
+    yield "an allocation may be done without", is_right("allocation", 0, *PIECES[-1]) and is_right(
+        "allocation", 9, *PIECES[1]
+    )
     yield "but not with a beginning alone", not is_right("allocation", 0, *PIECES[1])
-    yield "which call fails what", [fail_each.what_fails(*it) for it in [
-        ("openat", "record.txt", False), ("read", "stream.ts", False), ("write", "stdout", False), ("write", "nvram.bin.new", True),
-        ("read", "nvram.bin", False), ("write", "stderr", False)]] == ["opening", "read", "write", "store", "load", None]
+    yield "which call fails what", [
+        fail_each.what_fails(*it)
+        for it in [
+            ("openat", "record.txt", False),
+            ("read", "stream.ts", False),
+            ("write", "stdout", False),
+            ("write", "nvram.bin.new", True),
+            ("read", "nvram.bin", False),
+            ("write", "stderr", False),
+        ]
+    ] == ["opening", "read", "write", "store", "load", None]
 
 
-def faults(status: int, stdout: bytes, stderr: bytes = b"", record: bytes = b"all\n", kept: bytes | None = None) -> list[str]:
+def faults(
+    status: int, stdout: bytes, stderr: bytes = b"", record: bytes = b"all\n", kept: bytes | None = None
+) -> list[str]:
     case = Case([], b"", record)
     return list(try_hostile.faults_of(case, status, stdout, stderr, kept))
 
@@ -84,7 +104,10 @@ def hostile() -> Tests:
     yield "a bad line is told by its number", faults(2, b"", b"bad record line 2\n", b"all\npackets 0\n") == []
     yield "and by no other", faults(2, b"", b"bad record line 1\n", b"all\npackets 0\n") != []
     yield "an area that is cut short", faults(0, b"end 0\n", kept=b"x") == ["1 bytes are kept"]
-    yield "how many packets a record takes", try_hostile.read_record(b"# a\npackets 3\r\nshow\n packets\t4", 9) == (7, None)
+    yield "how many packets a record takes", try_hostile.read_record(b"# a\npackets 3\r\nshow\n packets\t4", 9) == (
+        7,
+        None,
+    )
 
 
 def measured(said: str) -> tuple[int, str]:
@@ -105,7 +128,9 @@ def shared() -> Tests:
     yield "a run as due is measured", right[0] == 0 and not right[1].endswith("due")
     yield "another one is told", wrong[0] == 1 and wrong[1].endswith("not what is due")
     yield "whole lines are the first ones", are_first_lines(b"a\n", b"a\nb\n") and are_first_lines(b"", b"a\n")
-    yield "a cut line and another one aren't", not are_first_lines(b"a\nb", b"a\nb\n") and not are_first_lines(b"b\n", b"a\nb\n")
+    yield "a cut line and another one aren't", not are_first_lines(b"a\nb", b"a\nb\n") and not are_first_lines(
+        b"b\n", b"a\nb\n"
+    )
     yield "code is counted without clauses and comments", len(code_of(CODE)) == 4
     language = Language([b"word"], [b"a text"])
     drawn = [mutated(random.Random(seed), b"some bytes", language) for seed in range(200)]
