@@ -94,29 +94,32 @@ class Acquisition:
         return True
 
 
-class ListedComponent:
-    """All modules that were announced on a PID of data, in the order in which they were, and which of them came whole."""
+class Listing:
+    """All modules that were announced on a PID of data, in the order in which they were, and which of them came whole; and how many sections came
+    that announce, that are blocks, that are others, and that are damaged."""
 
     def __init__(self):
         self.whole = {}  # by modules as they were announced
-        self.end()
+        self.diis = self.blocks = self.others = self.damaged = 0
+        self.begin_anew()
 
     def begin_anew(self):
         self.transaction = self.dii = None
         self.acquisitions = {}
 
-    def end(self):
-        self.assembler = Assembler()
-        self.begin_anew()
-
-    def take(self, packet_bytes):
-        for section in self.assembler.push(packet_bytes):
-            if section != self.dii and is_intact(section):
-                self.take_section(section)
-
-    def take_section(self, section):
+    def take_section(self, section, is_whole):
+        """Takes a section, and whether it is intact."""
+        if section == self.dii:
+            self.diis += 1
+            return
+        if not is_whole:
+            self.damaged += 1
+            return
         dii = read_dii(section)
         ddb = read_ddb(section) if dii is None else None
+        self.diis += dii is not None
+        self.blocks += ddb is not None
+        self.others += dii is None and ddb is None
         if dii is not None and dii.transaction != self.transaction:
             self.transaction, self.dii = dii.transaction, section
             self.announce(dii)
@@ -133,6 +136,25 @@ class ListedComponent:
             kept = old if old is not None and old.key == made.key else made
             self.acquisitions[number] = kept
             self.whole[module] = self.whole.get(module) or kept.is_whole()
+
+
+class ListedComponent:
+    """A PID of data whose modules are listed."""
+
+    def __init__(self):
+        self.listing = Listing()
+        self.end()
+
+    def begin_anew(self):
+        self.listing.begin_anew()
+
+    def end(self):
+        self.assembler = Assembler()
+        self.begin_anew()
+
+    def take(self, packet_bytes):
+        for section in self.assembler.push(packet_bytes):
+            self.listing.take_section(section, section == self.listing.dii or is_intact(section))
 
 
 class Output:
@@ -391,9 +413,11 @@ def faults_of(dii):
 class UnpackedComponent:
     """A PID of data, whose carousel is replaced from the first DII on that announces modules to unpack."""
 
-    def __init__(self, pid, output, tell):
+    def __init__(self, pid, output, tell, listing):
         self.pid = pid
         self.tell = tell  # takes a line that says why a module stays compressed
+        self.listing = listing  # of the modules as they came
+        listing.begin_anew()
         self.assembler = Assembler()
         self.channel = Channel(pid, output)
         self.written_transaction = None  # of the DII in force in the output
@@ -406,7 +430,11 @@ class UnpackedComponent:
         self.refused = {}  # that aren't, by what they are announced with
 
     def take(self, packet_bytes):
-        sections = [section for section in self.assembler.push(packet_bytes) if is_intact(section)]
+        sections = []
+        for section in self.assembler.push(packet_bytes):
+            is_whole = is_intact(section)
+            self.listing.take_section(section, is_whole)
+            sections += [section] if is_whole else []
         if not self.channel.sends and any(self.asks_to_unpack(section) for section in sections):
             self.channel.start(packet_bytes)
         for section in sections:
@@ -524,4 +552,5 @@ class UnpackedComponent:
 
     def begin_anew(self):
         self.end()
+        self.listing.begin_anew()
         self.restart()

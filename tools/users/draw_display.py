@@ -16,6 +16,7 @@ import argparse
 import sys
 from pathlib import Path
 
+from diagnosis import fault_of_output
 from drawings import BadOutput, display_lists, drawing, shapes_of
 from shown_pages import Follower, Recording, add_service
 
@@ -38,6 +39,9 @@ def main(words):
     add_service(parser)
     asked = parser.parse_args(words)
     try:
+        if fault := fault_of_output(asked.output):
+            print(f"draw_display.py: {asked.output}: {fault}", file=sys.stderr)
+            return 1
         recording = Recording(asked.stream, asked.service, asked.data_pid).read() if asked.stream else None
         drawn, faults = drawings(Path(asked.output).read_bytes().split(b"\n"), recording)
         folder = Path(asked.folder)

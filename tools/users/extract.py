@@ -27,8 +27,9 @@ from html import escape
 from pathlib import Path
 from typing import NamedTuple
 
+from diagnosis import diagnose
 from entities import BadEntity, Part, resources_of
-from recordings import Recording
+from recordings import PacketReader
 from service_modules import ServiceModules
 from transport import compression_of
 
@@ -275,9 +276,7 @@ def page_parts(folder, source, told):
 
 def read_modules(file, modules):
     """Hands the packets of a file to what follows a service, and returns their size and number."""
-    recording = Recording(file)
-    if recording.size is None:
-        raise Fault("there are no packets in it: a transport stream has 0x47 every 188, 192 or 204 bytes")
+    recording = PacketReader(file)
     for number, pid, packet in recording.packets_on(lambda: modules.wanted):
         modules.take(pid, packet, number)
     return recording.size, recording.count
@@ -292,10 +291,17 @@ def extract(source, place, service=None, data_pid=None):
         size, count = read_modules(file, modules)
     told = f"{count:,} packets of {size} bytes."
     if not folder.rows:
-        raise Fault(f"it has {count} packets of {size} bytes, and no module that came whole")
+        raise Fault(why_nothing(source, service, data_pid))
     with open(folder.place / "index.html", "x", encoding="utf-8", errors="backslashreplace") as made:
         made.writelines(f"{part}\n" for part in page_parts(folder, source, told))
     return folder
+
+
+def why_nothing(source, service, data_pid):
+    """Returns why no module of a recording came whole."""
+    findings = diagnose(source, service, data_pid)
+    told = " ".join(it.text() for it in findings if it.row not in ("packets of 192 or 204 bytes", "compressed modules"))
+    return f"no module came whole. {told}".strip()
 
 
 def number_between(least, most):

@@ -1,17 +1,18 @@
 #!/usr/bin/env python3
 """Prepares a recording from the air for bml_replay.
 
-    tools/users/prepare_recording.py list IN
-    tools/users/prepare_recording.py unpack IN OUT [--data-only [--service N]]
+    tools/users/prepare_recording.py list IN [--service N]
+    tools/users/prepare_recording.py unpack IN OUT [--data-only [--service N | --data-pid N]]
 
 IN is a transport stream in packets of 188 bytes, alone, with 4 bytes in front of each (192, as in .m2ts) or with 16 behind it (204, with
-parity). `list` prints its services, their components of data, and all modules of their carousels. `unpack` writes it in packets of
+parity). `list` prints its services, their components of data, and all modules of their carousels, and then what a replay of the first service or of
+service N needs: tools/users/diagnosis.py. `unpack` writes it in packets of
 188 bytes, in which the modules that zlib compressed are unpacked; all else stays as it came. A module that can't be unpacked stays as it is
 announced, and a line on standard error says why. tools/users/carousels.py says how a carousel is replaced.
 
 With --data-only pictures and sound are left out: what is written are the packets of the PAT, the PMTs and the PIDs of data, of all services or of
 service N, from where a table names them. A replay prints the same lines as over the whole recording, but for the number of packets in `end`, if its
-record takes all packets and it asks for no PID.
+record takes all packets and it asks for no PID. With --data-pid N the packets of that PID alone are written, and no table is read.
 
 The file is read once, from the front. What is kept of it are the carousels. Status: 0 where it was done, 1 where IN has no packets or
 tables, or a file can't be read or written, 2 where the command line is none of the above. This tool is tested, and not proved.
@@ -23,12 +24,16 @@ import re
 import stat
 import sys
 
-from carousels import ListedComponent, Output, UnpackedComponent
-from recordings import Reception, Recording, pid_of
-from transport import TYPE_DESCRIPTOR, ZLIB, compression_of, descriptors
+from carousels import Listing, Output, UnpackedComponent
+from diagnosis import TABLE, Survey, findings_of, survey
+from recordings import PacketReader, Reception, pid_of
+from transport import PACKET_SIZE, TYPE_DESCRIPTOR, ZLIB, compression_of, descriptors
 
 NAME = "prepare_recording.py"
 SHOWN_BYTES = 20_000_000  # between two states of the progress
+TOLD_BYTES = 1_000_000  # that are written more than they were read
+# What isn't to be said of a recording that was unpacked: it is mended, or was said module by module.
+MENDED = ("packets of 192 or 204 bytes", "compressed modules", "modules that never came whole")
 
 
 class Fault(Exception):
@@ -73,20 +78,13 @@ def receive_wanted(recording, reception, pass_on):
             pass_on(packet)
 
 
-def receive(file, reception, pass_on, terminal, hand_over):
-    """Hands the packets of a file to the reception by one of the two above; returns their size and number."""
-    recording = Recording(file, terminal.progress)
-    if recording.size is None:
-        raise Fault("there are no packets in it: a transport stream has 0x47 every 188, 192 or 204 bytes")
-    hand_over(recording, reception, pass_on)
-    terminal.clear()
-    found = f"{recording.count} packets of {recording.size} bytes"
-    if not reception.programs:
-        raise Fault(f"it has {found}, and no table of its services (PAT) came whole")
-    if not reception.streams:
-        raise Fault(f"it has {found}, and of none of its services the table (PMT) came whole")
-    reception.end()
-    return recording.size, recording.count
+def checked_findings(found, source):
+    """Returns what is to be known of a recording; raises a Fault where nothing can be done with it."""
+    findings = findings_of(found, source)
+    fatal = [finding for finding in findings if finding.is_fatal]
+    if fatal:
+        raise Fault(fatal[0].text())
+    return findings
 
 
 def printable(data):
@@ -105,55 +103,76 @@ def module_line(module, is_whole):
     return f"    module {module.number:04x} version {module.version:02x}, {size}, {'' if is_whole else 'not '}complete, {kind}"
 
 
-def lines_of(reception, components):
+def lines_of(found):
     """Returns the lines of the services, each with its components and their modules."""
-    lines = []
+    lines, reception = [], found.reception
     for service, pid in reception.programs.items():
         lines.append(f"service {service}, PMT on PID {pid}" + ("" if service in reception.named else ", which didn't come"))
         for stream in reception.named.get(service, {}):
             tag = "-" if stream.component is None else f"{stream.component:02x}"
             kind = "no data component" if stream.data_component is None else f"data component {stream.data_component:04x}"
             lines.append(f"  component {tag} on PID {stream.pid}, {kind}")
-            whole = components[stream.pid].whole if stream.pid in components else {}
+            whole = found.listings[stream.pid].whole if stream.pid in found.listings else {}
             lines += [module_line(module, is_whole) for module, is_whole in whole.items()]
     return lines
 
 
-def list_modules(source):
-    """Prints what is in a recording."""
-    components = {}
-
-    def component_on(pid):
-        return components.setdefault(pid, ListedComponent())
-
+def list_modules(source, service):
+    """Prints what is in a recording, and what is to be known before a replay."""
     with open(source, "rb") as file:
-        reception = Reception(component_on)
         terminal = Terminal(os.fstat(file.fileno()).st_size)
-        size, count = receive(file, reception, lambda packet: None, terminal, receive_wanted)
-    print("\n".join([f"packets of {size} bytes: {count}", *lines_of(reception, components)]))
+        found = survey(file, service, progress=terminal.progress)
+    terminal.clear()
+    findings = checked_findings(found, source)
+    print("\n".join([f"packets of {found.recording.size} bytes: {found.recording.count}", *lines_of(found)]))
+    if findings:
+        print("\n".join([f"before a replay ({TABLE}):", *(f"  {finding.text()}" for finding in findings)]))
 
 
-def unpack(source, target, data_only=False, service=None):
-    """Writes a recording whose modules are unpacked, or its data alone. It is made beside its place, and put there when it is whole."""
+def check_target(source, target):
+    """Refuses a place that what is written can't have."""
+    if os.path.exists(target) and os.path.samefile(source, target):
+        raise Fault("OUT would be written over it: name another file")
+    if os.path.exists(target) and not stat.S_ISREG(os.stat(target).st_mode):
+        raise Fault(f"{target} is no file that can be replaced")
+    part = f"{target}.part"
+    if os.path.lexists(part):
+        raise Fault(f"{part} is there: another run writes it, or one was broken off; remove it then")
+    return part
+
+
+def unpack(source, target, data_only=False, service=None, data_pid=None, tells=True):
+    """Writes a recording whose modules are unpacked, or its data alone; tells also what is to be known of it, where it is to. It is made beside its
+    place, and put there when it is whole."""
     with open(source, "rb") as file:
-        if os.path.exists(target) and os.path.samefile(source, target):
-            raise Fault("OUT would be written over it: name another file")
-        if os.path.exists(target) and not stat.S_ISREG(os.stat(target).st_mode):
-            raise Fault(f"{target} is no file that can be replaced")
-        part = f"{target}.part"
-        if os.path.lexists(part):
-            raise Fault(f"{part} is there: another run writes it, or one was broken off; remove it then")
+        part = check_target(source, target)
         with open(part, "xb+") as made:
             try:
                 terminal = Terminal(os.fstat(file.fileno()).st_size)
-                output = Output(made)
-                reception = Reception(lambda pid: UnpackedComponent(pid, output, terminal.say), service)
-                receive(file, reception, output.write, terminal, receive_wanted if data_only else receive_all)
+                output, listings = Output(made), {}
+                recording = PacketReader(file, terminal.progress)
+                reception = Reception(lambda pid: UnpackedComponent(pid, output, terminal.say, listings.setdefault(pid, Listing())), service, data_pid)
+                (receive_wanted if data_only else receive_all)(recording, reception, output.write)
+                terminal.clear()
+                findings = checked_findings(Survey(recording, reception, listings, service, data_pid), source)
+                reception.end()
                 made.flush()
                 os.replace(part, target)
             except BaseException:
                 os.remove(part)
                 raise
+    for finding in findings if tells else []:
+        if finding.row not in MENDED:
+            terminal.say(finding.text())
+    tell_growth(terminal, recording, output)
+
+
+def tell_growth(terminal, recording, output):
+    """Says why more was written than was read."""
+    growth = output.place - recording.count * PACKET_SIZE
+    if growth >= TOLD_BYTES:
+        why = "modules are unpacked each time that they come round, and sections are in packets of their own"
+        terminal.say(f"{growth / 1_000_000:,.0f} MB more than its packets had, since {why}; --data-only leaves out pictures and sound")
 
 
 def number_between(least, most):
@@ -173,14 +192,17 @@ def asked_of(words):
     commands = parser.add_subparsers(dest="command", required=True, metavar="list | unpack")
     lists = commands.add_parser("list", help="prints what is in a recording", description="Prints the services, components and modules of a recording.")
     lists.add_argument("source", metavar="IN")
+    lists.add_argument("--service", type=number_between(1, 65_535), metavar="N", help="tells what a replay of service N needs, and not of the first")
     unpacks = commands.add_parser("unpack", help="writes it for bml_replay", description="Writes a recording in packets of 188 bytes, with its modules unpacked.")
     unpacks.add_argument("source", metavar="IN")
     unpacks.add_argument("target", metavar="OUT")
     unpacks.add_argument("--data-only", action="store_true", help="leaves out pictures and sound")
-    unpacks.add_argument("--service", type=number_between(1, 65_535), metavar="N", help="keeps the data of service N alone")
+    which = unpacks.add_mutually_exclusive_group()
+    which.add_argument("--service", type=number_between(1, 65_535), metavar="N", help="keeps the data of service N alone")
+    which.add_argument("--data-pid", type=number_between(16, 8_190), metavar="N", help="keeps the packets of PID N alone")
     asked = parser.parse_args(words)
-    if asked.command == "unpack" and asked.service is not None and not asked.data_only:
-        unpacks.error("--service goes with --data-only")
+    if asked.command == "unpack" and not asked.data_only and (asked.service or asked.data_pid):
+        unpacks.error("--service and --data-pid go with --data-only")
     return asked
 
 
@@ -188,9 +210,9 @@ def main(words):
     asked = asked_of(words)
     try:
         if asked.command == "list":
-            list_modules(asked.source)
+            list_modules(asked.source, asked.service)
         else:
-            unpack(asked.source, asked.target, asked.data_only, asked.service)
+            unpack(asked.source, asked.target, asked.data_only, asked.service, asked.data_pid)
         sys.stdout.flush()
     except Fault as fault:
         print(f"{NAME}: {asked.source}: {fault}", file=sys.stderr)

@@ -6,6 +6,9 @@ have 4 bytes in front of them or 16 behind them, and all services are followed a
 """
 
 import re
+import sys
+from collections import Counter
+from itertools import compress
 from typing import NamedTuple
 
 from transport import DATA_STREAM, PACKET_SIZE, is_intact, payload_of, read_pat, read_pmt
@@ -127,7 +130,31 @@ def wanted_places(data, size, row, wanted):
         number += 1
 
 
-class Recording:
+class PacketCounts:
+    """How many packets of each PID came, how many of these are scrambled, and how many are marked as damaged."""
+
+    SCRAMBLED = bytes(byte & 0xC0 != 0 for byte in range(256))
+    DAMAGED = bytes(byte & 0x80 != 0 for byte in range(256))
+    OF_A_PID = bytes(byte & 0x1F for byte in range(256))
+
+    def __init__(self):
+        self.all, self.scrambled, self.damaged = Counter(), Counter(), Counter()
+
+    def add(self, data, size, row):
+        """Counts the packets of a row."""
+        at, count = row
+        end = at + count * size
+        upper, lower = data[at + 1 : end : size], data[at + 2 : end : size]
+        words = bytearray(2 * count)
+        words[sys.byteorder == "big" :: 2], words[sys.byteorder == "little" :: 2] = lower, upper.translate(self.OF_A_PID)
+        pids = memoryview(words).cast("H")
+        self.all.update(pids)
+        for counter, marks in ((self.scrambled, data[at + 3 : end : size].translate(self.SCRAMBLED)), (self.damaged, upper.translate(self.DAMAGED))):
+            if 1 in marks:
+                counter.update(compress(pids, marks))
+
+
+class PacketReader:
     """The packets of a file, which is read once from the front: their size, which is None where there are none, and how many were read."""
 
     def __init__(self, file, progress=lambda read: None):
@@ -138,6 +165,7 @@ class Recording:
         self.read = len(data)
         self.data = data[layout.start :] if layout else b""
         self.count = 0
+        self.counts = PacketCounts()
 
     def pieces(self):
         """Yields the file in pieces, each with its rows of packets."""
@@ -146,6 +174,8 @@ class Recording:
             data = self.data + piece
             found, self.data = packet_rows(data, self.size, not piece)
             yield data, found
+            for row in found:
+                self.counts.add(data, self.size, row)
             self.count += sum(row for _, row in found)
             self.read += len(piece)
             self.progress(self.read)
@@ -210,22 +240,24 @@ class Assembler:
 
 
 class Reception:
-    """Follows the tables of all services, or of the one that is asked for, and hands the packets of data to what takes them.
+    """Follows the tables of all services, or of the one that is asked for, and hands the packets of data to what takes them. Where a PID of data is
+    asked for, no table is read.
 
     A component begins anew where none of the services has its PID under the tag under which one had it before.
     """
 
-    def __init__(self, component_on, service=None):
+    def __init__(self, component_on, service=None, data_pid=None):
         self.component_on = component_on  # makes what takes the packets of a PID of data
         self.asked = service
-        self.tables = {PAT_PID: Assembler()}  # by PID
+        self.first = None  # the first service of the last PAT that has one
+        self.tables = {PAT_PID: Assembler()} if data_pid is None else {}  # by PID
         self.read = {}  # the section of each table that was read last
         self.programs = {}  # the PID of each service's PMT
         self.streams = {}  # of each service whose PMT came, the streams of data
         self.named = {}  # of each service, all streams of data that it ever had, in the order in which they came
-        self.components = {}  # by PID
+        self.components = {} if data_pid is None else {data_pid: component_on(data_pid)}  # by PID
         self.owners = {}  # by PID: the services that have it, with the tags
-        self.wanted = {PAT_PID}
+        self.wanted = {*self.tables, *self.components}
 
     def take(self, pid, packet):
         """Takes a packet of a wanted PID, and says whether a component took it."""
@@ -257,8 +289,9 @@ class Reception:
         first = {}
         for number, pid in programs:
             first.setdefault(number, pid)
-        self.programs.update({number: pid for number, pid in first.items() if number != 0 and self.asked in (None, number)})
-        pids = {PAT_PID, *self.programs.values()}
+        self.first = next((number for number in first if number), self.first)
+        self.programs.update({number: pid for number, pid in first.items() if number != 0})
+        pids = {PAT_PID, *(pid for number, pid in self.programs.items() if self.asked in (None, number))}
         self.tables = {pid: self.tables.get(pid) or Assembler() for pid in pids}
         self.wanted = {*self.tables, *self.components}
         return True
@@ -266,7 +299,7 @@ class Reception:
     def take_streams(self, pid, section):
         """Takes a PMT, and says whether it counts: it does on the PID of its service."""
         found = read_pmt(section)
-        if found is None or self.programs.get(found[0]) != pid:
+        if found is None or self.programs.get(found[0]) != pid or self.asked not in (None, found[0]):
             return False
         self.streams[found[0]] = [stream for stream in found[1] if stream.kind == DATA_STREAM]
         self.named.setdefault(found[0], {}).update(dict.fromkeys(self.streams[found[0]]))

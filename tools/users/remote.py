@@ -1,9 +1,9 @@
 #!/usr/bin/env python3
 """Opens a recording as a viewer would: a page with what is displayed, and the keys of a remote control.
 
-    tools/users/remote.py STREAM [--service N | --data-pid N] [--record RECORD] [--program PROGRAM] [--port N]
+    tools/users/remote.py STREAM [--service N | --data-pid N] [--record RECORD] [--program PROGRAM] [--port N] [--open]
 
-prints the address of the page, which a browser of this machine opens, and serves it until it is interrupted. The session begins
+prints the address of the page, which a browser of this machine opens (with --open at once), and serves it until it is interrupted. The session begins
 with RECORD, or else with a record that takes all packets. Each press of a key adds its lines to the record, `key` and `release` and `show`, and each
 step of time a `tick`; then PROGRAM (build/bml_replay) replays STREAM from its start, in an empty folder, so that no replay finds what another one
 kept. So what is shown is what the program printed for that record. The page saves the record, which shows the same tomorrow, takes the last press back, and has the report
@@ -34,16 +34,18 @@ import sys
 import tempfile
 import threading
 import time
+import webbrowser
 from http.server import BaseHTTPRequestHandler, ThreadingHTTPServer
 from pathlib import Path
 from typing import NamedTuple
 
-from drawings import BadOutput, DisplayList, Look, display_lists, drawing, shapes_of
+from diagnosis import diagnose, explained, refusal_of_stream
+from drawings import FONT_SCRIPT, NO_FONT, BadOutput, DisplayList, Look, display_lists, drawing, shapes_of
 from report import KEYS, items_of, kind_of, page, plain_text, policy, report_of_lines
 from shown_pages import Follower, Recording, add_service, number
 
 TOOLS = Path(__file__).resolve().parent
-PAGE = (TOOLS / "remote.html").read_text(encoding="utf-8")
+PAGE = (TOOLS / "remote.html").read_text(encoding="utf-8").replace("FONT_SCRIPT", FONT_SCRIPT).replace("NO_FONT", NO_FONT)
 PROGRAM = TOOLS.parents[1] / "build" / "bml_replay"
 FIRST_RECORD = b"# begun by tools/users/remote.py\nall\nshow\n"
 LIMIT = 600  # seconds for a replay
@@ -167,7 +169,7 @@ class Replay:
             raise Failed("The replay was stopped.")
         if self.started.returncode:
             why = told.decode("utf-8", errors="replace").strip()
-            raise Failed(f"The program ended with status {self.started.returncode}: {why[-500:]}")
+            raise Failed(f"The program ended with status {self.started.returncode}: {explained(why[-500:], self.command[-1], record)}")
         lines = printed.split(b"\n")
         return lines[:-1] if lines[-1] == b"" else lines
 
@@ -194,11 +196,14 @@ class Reading(threading.Thread):
     def __init__(self, recording):
         super().__init__(daemon=True)
         self.recording, self.read, self.fault, self.is_done = recording, 0, "", False
+        self.findings = []  # what is to be known of it
         self.start()
 
     def run(self):
+        recording = self.recording
         try:
-            self.recording.read(self.take)
+            recording.read(self.take)
+            self.findings = [it.text() for it in diagnose(recording.path, recording.service, recording.data_pid)]
         except Exception as fault:  # (whatever comes: what is shown then is the lines alone)
             self.fault = f"The recording can't be read for its pictures: {fault}"
         self.is_done = True
@@ -330,6 +335,11 @@ class Session:
             shown, recording = self.shown, self.recording()
             return page(report_of_lines("Report of a session", shown.lines if shown else [], items_of(self.text()), self.command[-1] if recording else None, recording))
 
+    def why_empty(self):
+        """Returns what is to be known of the recording, where nothing is shown."""
+        findings = self.reading.findings if self.reading and self.shown and not self.shown.listed.lines else []
+        return "\n".join(["Nothing is displayed.", *findings]) if findings else ""
+
     def state(self):
         """Returns what the page shows."""
         with self.lock:
@@ -345,7 +355,7 @@ class Session:
             return {
                 "drawing": drawn.drawing,
                 "lines": lines,
-                "fault": self.fault or drawn.fault,
+                "fault": self.fault or drawn.fault or self.why_empty(),
                 "told": told + (f". Clock: {shown.listed.clock} ms" if shown else ""),
                 "record": self.text().decode("ascii", errors="backslashreplace"),
                 "clock": shown.listed.clock if shown else None,
@@ -475,13 +485,14 @@ class Server(ThreadingHTTPServer):
 
 def main(words):
     parser = argparse.ArgumentParser(
-        usage="remote.py STREAM [--service N | --data-pid N] [--record RECORD] [--program PROGRAM] [--port N]"
+        usage="remote.py STREAM [--service N | --data-pid N] [--record RECORD] [--program PROGRAM] [--port N] [--open]"
     )
     parser.add_argument("stream")
     add_service(parser)
     parser.add_argument("--record")
     parser.add_argument("--program", default=str(PROGRAM))
     parser.add_argument("--port", type=number, default=0)
+    parser.add_argument("--open", action="store_true")
     asked = parser.parse_args(words)
     program = os.path.abspath(asked.program)
     if not (os.path.isfile(program) and os.access(program, os.X_OK)):
@@ -490,14 +501,19 @@ def main(words):
     options = [("--service", asked.service), ("--data-pid", asked.data_pid)]
     command = [program, "replay", *(word for name, value in options if value is not None for word in (name, str(value)))]
     try:
-        with open(asked.stream, "rb"):
-            record = Path(asked.record).read_bytes() if asked.record else FIRST_RECORD
+        refusal = refusal_of_stream(asked.stream)
+        if refusal:
+            print(f"remote.py: {asked.stream}: {refusal}", file=sys.stderr)
+            return 1
+        record = Path(asked.record).read_bytes() if asked.record else FIRST_RECORD
         recording = Recording(os.path.abspath(asked.stream), asked.service, asked.data_pid)
         server = Server(Session([*command, os.path.abspath(asked.stream)], record, recording), asked.port)
     except (OSError, OverflowError) as fault:
         print(f"remote.py: {fault}", file=sys.stderr)
         return 1
     print(f"Open {server.address()} in a browser of this machine. Ctrl-C ends it.", flush=True)
+    if asked.open:
+        webbrowser.open(server.address())
     with server:
         try:
             server.serve_forever()

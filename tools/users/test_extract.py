@@ -254,7 +254,7 @@ class Files(InFolder):
             self.assertEqual([" ".join(line[1:5]) for line in self.extracted(stream, *options)], [wanted])
         status, printed, told = run(self.source, self.folder / "none", "--service", 5)
         self.assertEqual((status, printed, (self.folder / "none").exists()), (1, "", False))
-        self.assertIn("no module that came whole", told)
+        self.assertIn("no module came whole. Service 5 isn't in it", told)
 
     def test_names_stay_in_their_folder(self):
         names = [b"..", b".", b"", b"../../x", b"/etc/passwd", b"a\\b", b"a\x00b\x1b", b"CON", b"com1.txt", b"A.txt", b"a.txt", b"a.txt", b".hidden", b"x."]

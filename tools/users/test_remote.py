@@ -211,7 +211,7 @@ class Answers(Served):
     def test_a_replay_that_fails_is_told_and_its_press_stays(self):
         self.serve()
         first = self.state("/press", {"key": 2})
-        rows = [(20, "The program ended with status 1: bad record line 7"), (22, "The program printed a display list that no run prints, or none.")]
+        rows = [(20, "The program ended with status 1: bad record line 7, which is \"show\""), (22, "The program printed a display list that no run prints, or none.")]
         for code, why in rows:
             failed = self.state("/press", {"key": code})
             self.assertEqual(failed["fault"], f"{why}\nThe picture is that of the record before.")
@@ -321,8 +321,9 @@ class Answers(Served):
 
 class CommandLine(Served):
     def test_what_cannot_be_used_is_told(self):
-        stream = self.program
+        stream = str(EXAMPLE / "stream.ts")
         rows = [
+            ([self.program, "--program", self.program], 1, "There are no packets in it: it is a script."),
             ([stream, "--program", f"{self.folder}/none"], 1, "is no program: build it first"),
             ([f"{self.folder}/none", "--program", self.program], 1, "No such file"),
             ([stream, "--program", self.program, "--record", f"{self.folder}/none"], 1, "No such file"),
@@ -337,7 +338,8 @@ class CommandLine(Served):
     def test_it_serves_what_the_command_line_names(self):
         script = SCRIPT.replace('print("end 5")', 'print("load", *sys.argv[1:-1])')
         Path(self.program).write_text(script, encoding="utf-8")
-        command = [sys.executable, "-B", TOOL, self.program, "--data-pid", "256", "--program", self.program]
+        stream = str(EXAMPLE / "stream.ts")
+        command = [sys.executable, "-B", TOOL, stream, "--data-pid", "256", "--program", self.program]
         # What is started in the background, as the whole test may be, has SIGINT ignored.
         heard = {"preexec_fn": lambda: signal.signal(signal.SIGINT, signal.SIG_DFL)}
         with subprocess.Popen(command, stdout=subprocess.PIPE, stderr=subprocess.PIPE, **heard) as started:
@@ -347,7 +349,7 @@ class CommandLine(Served):
             lines = self.state()["lines"]
             started.send_signal(signal.SIGINT)
             self.assertEqual((started.wait(30), started.stderr.read()), (0, b""))
-        self.assertEqual(lines[-1], ["load", f"load replay --data-pid 256 {self.program}"])
+        self.assertEqual(lines[-1], ["load", f"load replay --data-pid 256 {stream}"])
 
 
 class OverExample(Served):
@@ -403,6 +405,13 @@ class InBrowser(OverExample):
         self.assertEqual(page.value("document.querySelectorAll('#picture text').length"), 1)
         page.key("u", 85, "u")
         page.wait("fault.textContent === ''")
+        for stop in (lambda: page.value("document.querySelector('#stop').click()"), lambda: page.key("Escape", 27)):
+            page.key("b", 66, "b")
+            page.wait("document.querySelector('#stop').checkVisibility() && document.querySelector('#doing').textContent.startsWith('replaying')")
+            stop()
+            page.wait("fault.textContent.startsWith('The replay was stopped.') && !document.querySelector('#stop').checkVisibility()")
+            page.key("u", 85, "u")
+            page.wait("fault.textContent === ''")
         self.assertEqual(self.started.errors, [])
 
     def test_the_page_is_driven_by_its_keys(self):
@@ -445,7 +454,11 @@ class InBrowser(OverExample):
         self.assertTrue(page.value("record.textContent").endswith("packets 5\nshow\n# 6 packets\npackets 6\nshow\n"))
         shown = page.value("[picture, picture.querySelector('svg')].map(it => it.getBoundingClientRect()).map(it => it.width / it.height)")
         self.assertTrue(all(abs(it - 16 / 9) < 0.01 for it in shown), shown)
+        # (a text's box cuts it at its own edges)
+        cut = "getComputedStyle(document.querySelector('%s svg svg')).width"
+        self.assertIn(page.value(cut % "#picture"), ("auto", "200px"))
         opened = self.started.open(page.value("document.querySelector('#report').href"))
+        self.assertIn(opened.value(cut % "section"), ("auto", "200px"))
         self.assertEqual(opened.value("document.querySelectorAll('section').length"), 3)
         opened.value("kind.value = 'text'; kind.dispatchEvent(new Event('change'))")
         self.assertIn(" of ", opened.value("found.textContent"))
