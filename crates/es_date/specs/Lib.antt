@@ -1,0 +1,3 @@
+pub mod DayNumbers
+pub mod Dates
+pub mod Moments
