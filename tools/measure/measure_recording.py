@@ -1,13 +1,13 @@
 #!/usr/bin/env python3
-"""Measures how long prepare_recording.py takes over a large recording.
+"""Measures how long prepare_recording.py and extract.py take over a large recording.
 
 usage: measure_recording.py [--megabytes N] [--multiplexed]
 
 It makes a recording of N million bytes (300) in packets of 192 bytes: one packet in 10 is on the PIDs of two components, each with four modules
 of 200,000 to 600,000 bytes that zlib made smaller, and whose carousels repeat; the others are random. With --multiplexed it is one that ffmpeg
 makes, of two services with picture and sound at 16 Mbit/s: one packet in six is on the PIDs of three such components, the PMTs
-change three times, and it is cut in mid-packet at both ends. Each command runs once for its
-time, and once more for its greatest resident memory. Status: 0 where both were done, 1 where one wasn't, 2 where there is no ffmpeg.
+change three times, and it is cut in mid-packet at both ends. Each command runs once: `list`, `unpack`, `unpack --data-only`, and extract.py. Told are its
+time and its greatest resident memory. Status: 0 where all were done, 1 where one wasn't, 2 where there is no ffmpeg.
 """
 
 import argparse
@@ -20,8 +20,8 @@ import time
 import zlib
 from itertools import chain, cycle, islice
 
-from measure import greatest_memory
-from measuring import USERS, processor_seconds
+from places import USERS
+
 from multiplexed_recordings import Rate, Stage, is_possible, repeated, with_data, write_multiplex
 from transport import (
     DATA_STREAM,
@@ -38,7 +38,7 @@ from transport import (
     pmt_section,
 )
 
-TOOL = str(USERS / "prepare_recording.py")
+TOOL, EXTRACT = str(USERS / "prepare_recording.py"), str(USERS / "extract.py")
 MAP_PID = 496
 DATA_PID = 512
 OTHER_PID = 300
@@ -114,17 +114,31 @@ def main():
     with tempfile.TemporaryDirectory(prefix="measure-") as room:
         source, target = f"{room}/in.m2ts", f"{room}/out.ts"
         size = write_multiplexed(source, asked.megabytes, room) if asked.multiplexed else write_recording(source, asked.megabytes)
-        for words in (["list", source], ["unpack", source, target]):
-            command = [sys.executable, "-B", TOOL, *words]
-            begin, used = time.perf_counter(), processor_seconds()
-            ran = subprocess.run(command, stdout=subprocess.DEVNULL, check=False)
-            seconds, processor = time.perf_counter() - begin, processor_seconds() - used
-            if ran.returncode:
+        rows = [("list", [TOOL, "list", source], None), ("unpack", [TOOL, "unpack", source, target], target)]
+        rows += [("unpack --data-only", [TOOL, "unpack", source, f"{room}/data.ts", "--data-only"], f"{room}/data.ts"), ("extract", [EXTRACT, source, f"{room}/modules"], None)]
+        for name, words, made in rows:
+            status, seconds, processor, memory = measured([sys.executable, "-B", *words])
+            if status:
                 return 1
-            memory = greatest_memory(command) / 1024
-            print(f"{words[0]:6} {size:,} bytes: {seconds:.1f} seconds, {processor:.1f} of the processor, memory {memory:.1f} MiB")
-        print(f"{'':6} {os.path.getsize(target):,} bytes came of it")
+            print(f"{name}: {size:,} bytes, {seconds:.1f} seconds, {processor:.1f} of the processor, memory {memory / 1024:.1f} MiB", flush=True)
+            if made:
+                print(f"  {os.path.getsize(made):,} bytes came of it", flush=True)
+                os.remove(made)
     return 0
+
+
+def measured(command):
+    """Runs a command, and returns its status, its seconds, those of the processor, and the greatest resident memory that Linux tells of it
+    while it runs, in KiB."""
+    begin, ended, greatest = time.perf_counter(), 0, 0
+    with subprocess.Popen(command, stdin=subprocess.DEVNULL, stdout=subprocess.DEVNULL) as started:
+        while not ended:
+            with open(f"/proc/{started.pid}/status", encoding="ascii") as told:
+                greatest = max([greatest, *(int(line.split()[1]) for line in told if line.startswith("VmHWM:"))])
+            time.sleep(0.01)
+            ended, status, used = os.wait4(started.pid, os.WNOHANG)
+        started.returncode = os.waitstatus_to_exitcode(status)
+    return started.returncode, time.perf_counter() - begin, used.ru_utime + used.ru_stime, greatest
 
 
 if __name__ == "__main__":

@@ -19,6 +19,7 @@ HEAD = 65_536  # bytes by which a file is told
 START_MODULE = 0
 NULL_PID = 0x1FFF
 MOST_NAMED = 8  # PIDs or modules that a sentence names
+MOST_TARGETS = 32  # services or PIDs of a recording
 SEARCHED_PACKETS = 500_000  # in which carousels are searched that no table names
 
 MAGIC = [
@@ -189,16 +190,11 @@ class Survey(NamedTuple):
 def survey(file, service=None, data_pid=None, progress=lambda read: None):
     """Reads a recording to its end. Where it has no packets there is nothing in it."""
     recording, components = PacketReader(file, progress), {}
-    reception = Reception(lambda pid: components.setdefault(pid, ListedComponent()))
-    asked = ListedComponent()
-    for _, pid, packet in recording.packets_on(lambda: reception.wanted if data_pid is None else reception.wanted | {data_pid}):
-        if pid in reception.wanted:
-            reception.take(pid, packet)
-        if pid == data_pid:
-            asked.take(packet)
+    reception = Reception(lambda pid: components.setdefault(pid, ListedComponent()), data_pid=data_pid)
+    for _, pid, packet in recording.packets_on(lambda: reception.wanted):
+        reception.take(pid, packet)
     reception.end()
-    listings = {pid: component.listing for pid, component in components.items()} | ({} if data_pid is None else {data_pid: asked.listing})
-    return Survey(recording, reception, listings, service, data_pid)
+    return Survey(recording, reception, {pid: component.listing for pid, component in components.items()}, service, data_pid)
 
 
 def carousel_pids(path):
@@ -391,3 +387,32 @@ def diagnose(path, service=None, data_pid=None, progress=lambda read: None):
         return [Finding("no transport stream", f"There are no packets in it: {fault}", "Name a file", True)]
     with open(path, "rb") as file:
         return findings_of(survey(file, service, data_pid, progress), path)
+
+
+# ---- what may be replayed
+
+
+class Target(NamedTuple):
+    """What may be replayed of a recording: a service, or a PID of data."""
+
+    service: int | None = None
+    data_pid: int | None = None
+
+    def name(self):
+        return f"service {self.service}" if self.service else f"PID {self.data_pid}"
+
+    def folder(self):
+        return f"service-{self.service}" if self.service else f"pid-{self.data_pid}"
+
+    def options(self):
+        return ["--service", str(self.service)] if self.service else ["--data-pid", str(self.data_pid)]
+
+
+def targets_of(found, source):
+    """Returns what may be replayed of a recording: its services with data, or where there are none its PIDs with carousels."""
+    named = found.reception.named
+    services = [number for number in found.reception.programs if any(it.component is not None for it in named.get(number, []))]
+    if services:
+        return [Target(service=number) for number in services][:MOST_TARGETS]
+    is_read = found.recording.size is not None
+    return [Target(data_pid=pid) for pid in (carousel_pids(source) if is_read else []) if 16 <= pid <= 8190][:MOST_TARGETS]

@@ -2,7 +2,7 @@
 """Prepares a recording from the air for bml_replay.
 
     tools/users/prepare_recording.py list IN [--service N]
-    tools/users/prepare_recording.py unpack IN OUT [--data-only [--service N]]
+    tools/users/prepare_recording.py unpack IN OUT [--data-only [--service N | --data-pid N]]
 
 IN is a transport stream in packets of 188 bytes, alone, with 4 bytes in front of each (192, as in .m2ts) or with 16 behind it (204, with
 parity). `list` prints its services, their components of data, and all modules of their carousels, and then what a replay of the first service or of
@@ -12,7 +12,7 @@ announced, and a line on standard error says why. tools/users/carousels.py says 
 
 With --data-only pictures and sound are left out: what is written are the packets of the PAT, the PMTs and the PIDs of data, of all services or of
 service N, from where a table names them. A replay prints the same lines as over the whole recording, but for the number of packets in `end`, if its
-record takes all packets and it asks for no PID.
+record takes all packets and it asks for no PID. With --data-pid N the packets of that PID alone are written, and no table is read.
 
 The file is read once, from the front. What is kept of it are the carousels. Status: 0 where it was done, 1 where IN has no packets or
 tables, or a file can't be read or written, 2 where the command line is none of the above. This tool is tested, and not proved.
@@ -141,8 +141,9 @@ def check_target(source, target):
     return part
 
 
-def unpack(source, target, data_only=False, service=None):
-    """Writes a recording whose modules are unpacked, or its data alone. It is made beside its place, and put there when it is whole."""
+def unpack(source, target, data_only=False, service=None, data_pid=None, tells=True):
+    """Writes a recording whose modules are unpacked, or its data alone; tells also what is to be known of it, where it is to. It is made beside its
+    place, and put there when it is whole."""
     with open(source, "rb") as file:
         part = check_target(source, target)
         with open(part, "xb+") as made:
@@ -150,17 +151,17 @@ def unpack(source, target, data_only=False, service=None):
                 terminal = Terminal(os.fstat(file.fileno()).st_size)
                 output, listings = Output(made), {}
                 recording = PacketReader(file, terminal.progress)
-                reception = Reception(lambda pid: UnpackedComponent(pid, output, terminal.say, listings.setdefault(pid, Listing())), service)
+                reception = Reception(lambda pid: UnpackedComponent(pid, output, terminal.say, listings.setdefault(pid, Listing())), service, data_pid)
                 (receive_wanted if data_only else receive_all)(recording, reception, output.write)
                 terminal.clear()
-                findings = checked_findings(Survey(recording, reception, listings, service), source)
+                findings = checked_findings(Survey(recording, reception, listings, service, data_pid), source)
                 reception.end()
                 made.flush()
                 os.replace(part, target)
             except BaseException:
                 os.remove(part)
                 raise
-    for finding in findings:
+    for finding in findings if tells else []:
         if finding.row not in MENDED:
             terminal.say(finding.text())
     tell_growth(terminal, recording, output)
@@ -196,10 +197,12 @@ def asked_of(words):
     unpacks.add_argument("source", metavar="IN")
     unpacks.add_argument("target", metavar="OUT")
     unpacks.add_argument("--data-only", action="store_true", help="leaves out pictures and sound")
-    unpacks.add_argument("--service", type=number_between(1, 65_535), metavar="N", help="keeps the data of service N alone")
+    which = unpacks.add_mutually_exclusive_group()
+    which.add_argument("--service", type=number_between(1, 65_535), metavar="N", help="keeps the data of service N alone")
+    which.add_argument("--data-pid", type=number_between(16, 8_190), metavar="N", help="keeps the packets of PID N alone")
     asked = parser.parse_args(words)
-    if asked.command == "unpack" and asked.service is not None and not asked.data_only:
-        unpacks.error("--service goes with --data-only")
+    if asked.command == "unpack" and not asked.data_only and (asked.service or asked.data_pid):
+        unpacks.error("--service and --data-pid go with --data-only")
     return asked
 
 
@@ -209,7 +212,7 @@ def main(words):
         if asked.command == "list":
             list_modules(asked.source, asked.service)
         else:
-            unpack(asked.source, asked.target, asked.data_only, asked.service)
+            unpack(asked.source, asked.target, asked.data_only, asked.service, asked.data_pid)
         sys.stdout.flush()
     except Fault as fault:
         print(f"{NAME}: {asked.source}: {fault}", file=sys.stderr)

@@ -240,23 +240,24 @@ class Assembler:
 
 
 class Reception:
-    """Follows the tables of all services, or of the one that is asked for, and hands the packets of data to what takes them.
+    """Follows the tables of all services, or of the one that is asked for, and hands the packets of data to what takes them. Where a PID of data is
+    asked for, no table is read.
 
     A component begins anew where none of the services has its PID under the tag under which one had it before.
     """
 
-    def __init__(self, component_on, service=None):
+    def __init__(self, component_on, service=None, data_pid=None):
         self.component_on = component_on  # makes what takes the packets of a PID of data
         self.asked = service
         self.first = None  # the first service of the last PAT that has one
-        self.tables = {PAT_PID: Assembler()}  # by PID
+        self.tables = {PAT_PID: Assembler()} if data_pid is None else {}  # by PID
         self.read = {}  # the section of each table that was read last
         self.programs = {}  # the PID of each service's PMT
         self.streams = {}  # of each service whose PMT came, the streams of data
         self.named = {}  # of each service, all streams of data that it ever had, in the order in which they came
-        self.components = {}  # by PID
+        self.components = {} if data_pid is None else {data_pid: component_on(data_pid)}  # by PID
         self.owners = {}  # by PID: the services that have it, with the tags
-        self.wanted = {PAT_PID}
+        self.wanted = {*self.tables, *self.components}
 
     def take(self, pid, packet):
         """Takes a packet of a wanted PID, and says whether a component took it."""

@@ -1,9 +1,9 @@
 #!/usr/bin/env python3
 """Opens a recording as a viewer would: a page with what is displayed, and the keys of a remote control.
 
-    tools/users/remote.py STREAM [--service N | --data-pid N] [--record RECORD] [--program PROGRAM] [--port N]
+    tools/users/remote.py STREAM [--service N | --data-pid N] [--record RECORD] [--program PROGRAM] [--port N] [--open]
 
-prints the address of the page, which a browser of this machine opens, and serves it until it is interrupted. The session begins
+prints the address of the page, which a browser of this machine opens (with --open at once), and serves it until it is interrupted. The session begins
 with RECORD, or else with a record that takes all packets. Each press of a key adds its lines to the record, `key` and `release` and `show`, and each
 step of time a `tick`; then PROGRAM (build/bml_replay) replays STREAM from its start, in an empty folder, so that no replay finds what another one
 kept. So what is shown is what the program printed for that record. The page saves the record, which shows the same tomorrow, takes the last press back, and has the report
@@ -34,6 +34,7 @@ import sys
 import tempfile
 import threading
 import time
+import webbrowser
 from http.server import BaseHTTPRequestHandler, ThreadingHTTPServer
 from pathlib import Path
 from typing import NamedTuple
@@ -503,13 +504,14 @@ class Server(ThreadingHTTPServer):
 
 def main(words):
     parser = argparse.ArgumentParser(
-        usage="remote.py STREAM [--service N | --data-pid N] [--record RECORD] [--program PROGRAM] [--port N]"
+        usage="remote.py STREAM [--service N | --data-pid N] [--record RECORD] [--program PROGRAM] [--port N] [--open]"
     )
     parser.add_argument("stream")
     add_service(parser)
     parser.add_argument("--record")
     parser.add_argument("--program", default=str(PROGRAM))
     parser.add_argument("--port", type=number, default=0)
+    parser.add_argument("--open", action="store_true")
     asked = parser.parse_args(words)
     program = os.path.abspath(asked.program)
     if not (os.path.isfile(program) and os.access(program, os.X_OK)):
@@ -529,6 +531,8 @@ def main(words):
         print(f"remote.py: {fault}", file=sys.stderr)
         return 1
     print(f"Open {server.address()} in a browser of this machine. Ctrl-C ends it.", flush=True)
+    if asked.open:
+        webbrowser.open(server.address())
     with server:
         try:
             server.serve_forever()

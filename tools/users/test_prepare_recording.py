@@ -535,6 +535,16 @@ class DataOnly(InFolder):
                 self.assertEqual(lines[0][:-1], lines[1][:-1])
                 self.assertIn("module 40", lines[0][0])
 
+    def test_a_pid_is_kept_alone_without_tables(self):
+        module, sent = compressed(1)
+        data = packets_of(on(PID, [transport.dii_section(1, 1, 100, [module]), *blocks(module, sent)]))
+        stream, told = self.unpacked(b"".join(b"time" + one for one in data[:2] + [transport.packet(300, 0, True, b"")] + data[2:]), "--data-only", "--data-pid", str(PID))
+        self.assertEqual(({pid_of(stream[at : at + 188]) for at in range(0, len(stream), 188)}, told), ({PID}, ""))
+        blocks_of = [transport.read_ddb(section).block for section in sections_on(PID, stream)[1:]]
+        self.assertEqual(b"".join(blocks_of), TEXT)
+        if PROGRAM:
+            self.assertEqual(self.replay(stream, "--data-pid", str(PID))[0], "module 40 0001 01 780")
+
     def test_the_lines_of_generated_recordings_stay(self):
         for number in range(PLANS // 3):
             with self.subTest(number):
@@ -580,8 +590,8 @@ class Listing(InFolder):
 
 class CommandLine(InFolder):
     def test_a_faulty_command_line_has_status_2(self):
-        faulty = [[], ["list"], ["unpack", "x"], ["list", "x", "y"], ["help"], ["unpack", "x", "y", "z"], ["unpack", "x", "y", "--service", "1"]]
-        for words in [*faulty, *(["unpack", "x", "y", "--data-only", "--service", number] for number in ("0", "65536", "-1", "x"))]:
+        faulty = [[], ["list"], ["unpack", "x"], ["list", "x", "y"], ["help"], ["unpack", "x", "y", "z"], ["unpack", "x", "y", "--service", "1"], ["unpack", "x", "y", "--data-only", "--service", "1", "--data-pid", "16"]]
+        for words in [*faulty, *(["unpack", "x", "y", "--data-only", option, number] for option in ("--service", "--data-pid") for number in ("0", "65536", "-1", "x"))]:
             status, printed, told = run(*words)
             self.assertEqual((status, printed), (2, ""))
             self.assertIn("usage: prepare_recording.py", told)
