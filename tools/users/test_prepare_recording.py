@@ -15,6 +15,7 @@ import re
 import subprocess
 import sys
 import tempfile
+import threading
 import unittest
 import zlib
 from unittest import mock
@@ -604,6 +605,23 @@ class Listing(InFolder):
             "service 3, PMT on PID 401, which didn't come",
         ]
         self.assertEqual((status, printed.split("\n")[: len(wanted)], told), (0, wanted, ""))
+
+    def test_no_more_modules_are_listed_than_there_is_room_for(self):
+        sections = [transport.dii_section(at, 1, 9, [Module(number, at, 1) for number in range(10)]) for at in range(9)]
+        self.write(b"".join(packets_of(tables() + on(PID, [*sections, *blocks(Module(9, 8, 1), b"x", 9)]))))
+        with mock.patch.object(carousels, "MOST_LISTED", 25):
+            self.assertEqual(run("list", self.source)[1].count("    module"), 25)
+
+    def test_what_can_be_read_once_is_read_once(self):
+        packets = b"".join(packets_of(on(PID, [transport.dii_section(1, 1, 9, [Module(1, 1, 3)])])))
+        os.mkfifo(self.source)
+        for data, wanted in ((packets, "(PAT)"), (b"no packets" * 9, "no packets")):
+            writer = threading.Thread(target=self.write, args=(data,))
+            writer.start()
+            status, printed, told = run("list", self.source)
+            writer.join()
+            self.assertEqual((status, printed), (1, ""))
+            self.assertIn(wanted, told)
 
     def test_a_module_is_listed_once(self):
         module = Module(1, 1, 3)
