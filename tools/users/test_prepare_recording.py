@@ -23,6 +23,7 @@ import carousels
 import multiplexed_recordings
 import prepare_recording
 import recordings
+import shown_pages
 import transport
 from generated_recordings import (
     MAP_PID,
@@ -534,6 +535,29 @@ class DataOnly(InFolder):
                 lines = [self.replay(it, "--service", str(service)) for it in (stream, whole)]
                 self.assertEqual(lines[0][:-1], lines[1][:-1])
                 self.assertIn("module 40", lines[0][0])
+
+    def test_a_clock_reference_of_each_second_is_kept(self):
+        sections, pmt = tables(), tables()[1][1]
+        sections[1] = MAP_PID, transport.with_header(pmt[:8], (0xE000 | 300).to_bytes(2, "big") + pmt[10:-4])
+        data = packets_of(sections + on(PID, [transport.dii_section(1, 1, 100, [Module(1, 1, 3000)]), *blocks(Module(1, 1, 3000), bytes(3000))]))
+        packets, begin = data[:2], (1 << 33) - 100_000  # (the clock comes to its end on the way)
+        for at in range(100):
+            clock = (begin + 9000 * at) % (1 << 33)
+            reference = (clock >> 1).to_bytes(4, "big") + bytes([(clock & 1) << 7 | 0x7E, 0])
+            packets.append(b"\x47\x41\x2c" + bytes([0x30 | at % 16, 20, 0x50]) + reference + bytes(13) + bytes(range(163)))
+            packets += [transport.packet(300, at % 16, False, bytes(184))] + ([data[2 + at // 3]] if at % 3 == 0 and 2 + at // 3 < len(data) else [])
+        wrong = packets[2][:1] + bytes([packets[2][1] | 0x80]) + packets[2][2:]
+        stream, told = self.unpacked([*packets[:2], wrong, *packets[2:]], "--data-only")
+        kept = [stream[at : at + 188] for at in range(0, len(stream), 188)]
+        clocks = [one for one in kept if pid_of(one) == 300]
+        self.assertEqual(([one for one in kept if pid_of(one) != 300], told), (data, ""))
+        self.assertEqual([one[6:12] for one in clocks], [packets[at][6:12] for at in range(2, len(packets)) if packets[at][3] & 0x20][::10])
+        self.assertEqual({(one[1], one[3] & 0xF0, one[4], transport.payload_of(one)) for one in clocks}, {(1, 0x20, 183, None)})
+        self.assertEqual(self.lines(stream), [("module", 0x40, 1, 1, bytes(3000))])
+        whole, cut = (shown_pages.Recording(path).read() for path in (self.source, self.target))
+        times = [it.clock.at(it.arrivals[0].packet) for it in (whole, cut)]
+        self.assertLess(abs(times[0] - times[1]), 1)
+        self.assertGreater(times[1], 2)
 
     def test_a_pid_is_kept_alone_without_tables(self):
         module, sent = compressed(1)
