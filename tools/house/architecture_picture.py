@@ -16,7 +16,8 @@ from statistics import fmean as mean
 from typing import NamedTuple
 from xml.sax.saxutils import escape
 
-CRATES = Path(__file__).resolve().parents[2] / "crates.txt"
+from crate_list import all_below, crates_below
+
 PROGRAM = "bml_replay"
 BOX_WIDTH, BOX_HEIGHT, LANE, GAP, ROW = 100, 38, 10, 10, 88
 MARGIN = 10
@@ -35,23 +36,9 @@ class Place(NamedTuple):
         return LANE if self.target else BOX_WIDTH
 
 
-def read_crates(text):
-    """Returns for each crate those of this repository that it stands on. A crate is listed behind those."""
-    found = {}
-    for line in text.splitlines():
-        name, colon, below = line.split("#")[0].partition(":")
-        if colon:
-            found[name.strip()] = below.split()
-    found = {name: [it for it in below if it in found] for name, below in found.items()}
-    return {name: found[name] for name in TopologicalSorter(found).static_order()}
-
-
-def all_below(crates):
-    """Returns for each crate all that it stands on, through others too."""
-    below = {}
-    for name, direct in crates.items():
-        below[name] = set(direct).union(*(below[it] for it in direct))
-    return below
+def lowest_first(crates):
+    """Returns the crates, each behind those that it stands on."""
+    return {name: crates[name] for name in TopologicalSorter(crates).static_order()}
 
 
 def needed_lines(crates, below):
@@ -208,7 +195,7 @@ def main(words):
     if words and (words[0] != "--check" or len(words) != 2):
         print("usage: architecture_picture.py [--check FILE]", file=sys.stderr)
         return 2
-    drawn = picture(read_crates(CRATES.read_text(encoding="utf-8")))
+    drawn = picture(lowest_first(crates_below()))
     if not words:
         print(drawn, end="")
         return 0

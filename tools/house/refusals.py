@@ -21,6 +21,7 @@ from pathlib import Path
 from typing import NamedTuple
 
 from call_chains import Calls
+from crate_list import all_below, crates_below
 
 ROOT = Path(__file__).resolve().parents[2]
 CRATES = ROOT / "crates"
@@ -159,22 +160,6 @@ def traits():
     return {name: path.parents[1].name for path in CRATES.glob("*/src/*.rt") for name in re.findall(r"^pub trait (\w+)", path.read_text(), re.M)}
 
 
-def crates_below():
-    """The crates that each crate names, in crates.txt, as those that it stands on."""
-    lines = (line.partition("#")[0].partition(":") for line in (ROOT / "crates.txt").read_text().splitlines())
-    return {name.split()[0]: set(below.split()) for name, _, below in lines if name.strip()}
-
-
-def all_below(below, crate):
-    """The crates that a crate stands on, those that these stand on, and so on."""
-    found, waiting = set(), [crate]
-    while waiting:
-        new = below.get(waiting.pop(), set()) - found
-        found |= new
-        waiting += new
-    return found
-
-
 def unknown_clauses(head, words):
     """The clauses that words name and that a head doesn't have. (`out` is a parameter.)"""
     names = {name for name, _ in clauses(head)} | {"out"}
@@ -216,7 +201,7 @@ class Makers:
     def of_main(self):
         """The functions that may run where the program's `main` does, each by its crate, its type and its name."""
         names = [name for name in self.below if not TESTS.fullmatch(name) and not name.endswith("_laws")]
-        calls = Calls(CRATES, names, {name: all_below(self.below, name) for name in names})
+        calls = Calls(CRATES, names, all_below(self.below))
         starts = [it for it in calls.all if it.crate == "bml_replay" and it.name == "main"]
         reached = calls.reached_from(starts)
         # (a trait's call is that of the types that have it, of whatever crate)

@@ -49,8 +49,8 @@ def chunks(lines):
 
 
 def tokens(text):
-    """The tokens of a text, each with whether a dot stands directly before it."""
-    given, after_dot, last_end = [], False, -1
+    """The tokens of a text; the dot of a path is `.path`."""
+    given, last_end = [], -1
     for found in TOKEN.finditer(text):
         word = found[0]
         if word == ".":
@@ -304,9 +304,9 @@ class SpecFile(Scope):
         header, parts = self.header_and_parts(chunk)
         if rest[1] != "_":
             self.fail(chunk[0])
-        name, bound = self.header(" ".join(header), "module")
+        name, bound = self.header(header, "module")
         around = self.section
-        self.section = (*around, (" ".join(header).split("_", 1)[1].removesuffix("where"), bound))
+        self.section = (*around, (header.split("_", 1)[1].removesuffix("where"), bound))
         for part in parts:
             self.take(part)
         self.section = around
@@ -339,18 +339,23 @@ class SpecFile(Scope):
         return name, bound
 
     def header_and_parts(self, chunk):
-        """The lines of a header, and the parts below it."""
+        """The header, and the parts below it."""
         at = next((n for n, line in enumerate(chunk) if line.split()[-1] == "where"), None)
         if at is None:
             self.fail(chunk[0], "a header without `where` at a line's end")
-        return chunk[: at + 1], chunks(chunk[at + 1:])
+        return " ".join(chunk[: at + 1]), chunks(chunk[at + 1:])
 
-    def take_data(self, chunk, rest):
+    def begin_type(self, chunk, kind):
+        """Begins a type by its header, and returns its name, the names that are bound there, and the parts below it."""
         header, parts = self.header_and_parts(chunk)
-        name, bound = self.header(" ".join(header), "data")
+        name, bound = self.header(header, kind)
         self.begin(name)
         self.count(chunk)
-        self.items[name].add(" ".join(header).split(name, 1)[1].removesuffix("where"), bound)
+        self.items[name].add(header.split(name, 1)[1].removesuffix("where"), bound)
+        return name, bound, parts
+
+    def take_data(self, chunk, rest):
+        name, bound, parts = self.begin_type(chunk, "data")
         for part in parts:
             text = " ".join(part)
             found = re.match(r"((?:[^\s(){}.;,@\"«»:]+\s+)+):\s", text + " ")
@@ -362,11 +367,7 @@ class SpecFile(Scope):
             self.items[name].add(text[found.end():], bound)
 
     def take_record(self, chunk, rest):
-        header, parts = self.header_and_parts(chunk)
-        name, bound = self.header(" ".join(header), "record")
-        self.begin(name)
-        self.count(chunk)
-        self.items[name].add(" ".join(header).split(name, 1)[1].removesuffix("where"), bound)
+        name, bound, parts = self.begin_type(chunk, "record")
         fields = []
         for part in parts:
             text = " ".join(part)

@@ -1,9 +1,12 @@
 #!/usr/bin/env python3
-"""Tests what change_costs.py finds, in small files that are written here. It prints a line, and ends with 1 if a test fails."""
+"""Tests what change_costs.py finds, in small files that are written here. It prints a line, and ends with 1 if a test
+fails."""
 
 import sys
+from collections.abc import Iterator
 
 from change_costs import code_of, kind_of, named
+from told_tests import status_of
 
 KINDS = {
     "crates/page/src/pages.rt": "sources",
@@ -21,7 +24,7 @@ KINDS = {
 FILES = [("crates/a/src/lib.rt", "match key { Release => add-one }"), ("docs/A.md", "Released, pre-Release and Re")]
 
 
-def tests():
+def tests() -> Iterator[tuple[str, bool]]:
     """Yields what is said of the search, and whether it is so."""
     for path, kind in KINDS.items():
         yield f"{path} is of its kind", kind_of(path) == kind
@@ -29,16 +32,11 @@ def tests():
     yield "a word is found", found["sources"] == ["crates/a/src/lib.rt"]
     yield "a part of a longer name isn't", found["documents"] == [] and missing == ["add"]
     yield "a name with a hyphen is one word", named(["add-one"], FILES)[0]["sources"] == ["crates/a/src/lib.rt"]
-    yield "comments of code are left out", "Show" not in code_of("a.rt", "x(); // Show") + code_of("b.antt", "-- Show\nf a--b = a  -- Show\n")
+    yield "comments of code are left out", "Show" not in code_of("a.rt", "x(); // Show") + code_of(
+        "b.antt", "-- Show\nf a--b = a  -- Show\n"
+    )
     yield "what only looks like a comment stays", "a--b" in code_of("b.antt", "f a--b = a")
 
 
-def main():
-    told = list(tests())
-    failed = [name for name, is_so in told if not is_so]
-    print(f"FAILED  change costs: {'; '.join(failed)}" if failed else f"ok      change costs: {len(told)} tests of small files")
-    return 1 if failed else 0
-
-
 if __name__ == "__main__":
-    sys.exit(main())
+    sys.exit(status_of("change costs", "tests of small files", tests()))

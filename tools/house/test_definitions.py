@@ -329,7 +329,6 @@ def check_small_trees(tell):
         if refusal({"low/specs/Forms.antt": f"{forms}\n{text}\n"}) is None:
             tell(f"not refused: {what}")
     # what is named and isn't there, and a device of which no law speaks
-    headline = SPECS["top/specs/Headline"][0]
     for what, old, new, path in (
         ("a name that its file lacks", "{plain,", "{plainer as plain,", "top/specs/Headline"),
         ("a file that isn't there", "specs.Forms", "specs.Formless", "top/specs/Headline"),

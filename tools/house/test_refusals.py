@@ -7,6 +7,7 @@ from pathlib import Path
 
 import refusals
 from call_chains import Calls
+from told_tests import status_of
 
 SOURCES = {
     "low": """
@@ -103,12 +104,5 @@ def tests():
     yield "a call without one is told", refusals.kept_by("low", "Box::put", HEAD_OF_PUT.replace("err {", "new {").replace("OnErr", "OnOk")) is None
 
 
-def main():
-    told = list(tests())
-    failed = [name for name, is_so in told if not is_so]
-    print(f"FAILED  refusals: {'; '.join(failed)}" if failed else f"ok      refusals: {len(told)} tests of small sources")
-    return 1 if failed else 0
-
-
 if __name__ == "__main__":
-    sys.exit(main())
+    sys.exit(status_of("refusals", "tests of small sources", tests()))

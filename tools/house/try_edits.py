@@ -1,11 +1,11 @@
 #!/usr/bin/env python3
 """Tries the wrong bodies of crates that the gate doesn't try: try_edits.py [CRATE ..]
 
-The gate tries the edits in each crate's must-fail/, a handful of telling ones. The others stand in wrong-bodies/, in the same form. This
-copies the repository, with the libraries that are built in it, into a folder of its own, makes those in wrong-bodies/ the edits of the copy,
-and runs `rt must-fail` there over the crates that are named, or over all that have any. Each costs its crate's proof once, and then
-15 to 100 seconds an edit.
-Status: that of `rt must-fail`, which is 0 where each edit was refused; 2 where nothing could be tried.
+The gate tries the edits in each crate's must-fail/, a handful of telling ones. The others stand in wrong-bodies/, in
+the same form. This copies the repository, with the libraries that are built in it, into a folder of its own, makes
+those in wrong-bodies/ the edits of the copy, and runs `rt must-fail` there over the crates that are named, or over
+all that have any. Each costs its crate's proof once, and then 15 to 100 seconds an edit. Status: that of `rt
+must-fail`, which is 0 where each edit was refused; 2 where nothing could be tried.
 """
 
 import shutil
@@ -18,14 +18,16 @@ ROOT = Path(__file__).resolve().parents[2]
 CRATES = ROOT / "crates"
 
 
-def crates_with_edits():
+def crates_with_edits() -> list[str]:
     """The names of the crates that have wrong bodies beside those of the gate."""
     return sorted(path.parent.name for path in CRATES.glob("*/wrong-bodies"))
 
 
-def copied(room):
+def copied(room: Path) -> None:
     """Copies the files of the repository and the built libraries, and gives each crate its other edits."""
-    listed = subprocess.run(["git", "ls-files", "-co", "--exclude-standard"], cwd=ROOT, capture_output=True, text=True, check=True)
+    listed = subprocess.run(
+        ["git", "ls-files", "-co", "--exclude-standard"], cwd=ROOT, capture_output=True, text=True, check=True
+    )
     for name in listed.stdout.splitlines():
         part = Path(name)
         if "must-fail" in part.parts or not (ROOT / part).is_file():
@@ -38,7 +40,7 @@ def copied(room):
         shutil.copytree(built, room / built.relative_to(ROOT))
 
 
-def main():
+def main() -> int:
     names = sys.argv[1:] or crates_with_edits()
     unknown = [name for name in names if not (CRATES / name / "wrong-bodies").is_dir()]
     if unknown:

@@ -42,7 +42,7 @@ import tempfile
 from pathlib import Path
 from typing import NamedTuple
 
-from hostile_places import ROOT  # (also has the folders of the other tools)
+import places  # noqa: F401 (first, so that the others are found)
 from refuse_allocations import LIBRARY
 
 from cases import KEPT, case

@@ -3,54 +3,31 @@
 
     tools/measure/gate_costs.py [--log FILE] [COMMAND ..]
 
-runs COMMAND (`rt ci`, if none is given) at the top of the repository, with what it prints in FILE (gate.log), and prints a table in
-Markdown behind it. Once a second it looks at the prover's processes below it (Linux' /proc), so what a process does in its last second is lost.
-It ends with the status of COMMAND.
+runs COMMAND (`rt ci`, if none is given) at the top of the repository, with what it prints in FILE (gate.log), and
+prints a table in Markdown behind it. Once a second it looks at the prover's processes below it (Linux' /proc), so
+what a process does in its last second is lost. It ends with the status of COMMAND.
 """
 
 import argparse
 import os
-import re
 import subprocess
 import sys
 import time
-from pathlib import Path
 
-ROOT = Path(__file__).resolve().parents[2]
+from places import ROOT  # (first, so that the others are found)
+from processes import below, words_of
+
+from crate_list import crates_below
+
+Task = tuple[str, str]  # a crate and a part
 PARTS = ("proofs", "tests", "edits")
 TICKS = os.sysconf("SC_CLK_TCK")
 
 
-def stat_of(pid):
-    """The parent of a process and the ticks that it has used, without its children."""
-    text = Path(f"/proc/{pid}/stat").read_text()
-    fields = text[text.rindex(")") + 2:].split()
-    return int(fields[1]), int(fields[11]) + int(fields[12])
-
-
-def below(top):
-    """The processes that stem from `top`, with their ticks."""
-    parents, ticks = {}, {}
-    for name in os.listdir("/proc"):
-        if name.isdigit():
-            try:
-                parents[int(name)], ticks[int(name)] = stat_of(name)
-            except (OSError, ValueError):
-                pass
-    found, more = {}, [top]
-    while more:
-        pid = more.pop()
-        for child, parent in parents.items():
-            if parent == pid and child not in found:
-                found[child] = ticks[child]
-                more.append(child)
-    return found
-
-
-def task_of(pid):
+def task_of(pid: int) -> Task | None:
     """The crate and the part that a process of the prover works for, or None."""
+    words = words_of(pid)
     try:
-        words = Path(f"/proc/{pid}/cmdline").read_bytes().decode(errors="replace").split("\0")
         folder = os.readlink(f"/proc/{pid}/cwd")
     except OSError:
         return None
@@ -62,9 +39,10 @@ def task_of(pid):
     return crate, "tests" if "--test" in words else "proofs"
 
 
-def watch(run):
+def watch(run: subprocess.Popen[bytes]) -> dict[Task, float]:
     """Sums the ticks of each task while the command runs."""
-    last, tasks = {}, {}
+    last: dict[tuple[int, Task], int] = {}
+    tasks: dict[int, Task] = {}
     while run.poll() is None:
         time.sleep(1)
         for pid, ticks in below(run.pid).items():
@@ -72,29 +50,31 @@ def watch(run):
             if task:
                 tasks[pid] = task
                 last[pid, task] = max(ticks, last.get((pid, task), 0))
-    sums = {}
+    sums: dict[Task, float] = {}
     for (_, task), ticks in last.items():
         sums[task] = sums.get(task, 0) + ticks / TICKS / 60
     return sums
 
 
-def edit_count(crate):
+def edit_count(crate: str) -> int:
     return len(list((ROOT / "crates" / crate / "must-fail").glob("*.edit")))
 
 
-def table(sums, minutes):
-    names = [re.match(r"\w+", it)[0] for it in (ROOT / "crates.txt").read_text().splitlines() if re.match(r"\w", it)]
+def table(sums: dict[Task, float], minutes: float) -> list[str]:
+    names = [*crates_below()]
     out = ["| crate | proofs | tests | edits | number of edits | sum |", "|---|---|---|---|---|---|"]
     for crate in names:
         each = [sums.get((crate, part), 0.0) for part in PARTS]
-        out.append(f"| `{crate}` | " + " | ".join(f"{it:.1f}" for it in each) + f" | {edit_count(crate)} | {sum(each):.1f} |")
+        out.append(
+            f"| `{crate}` | " + " | ".join(f"{it:.1f}" for it in each) + f" | {edit_count(crate)} | {sum(each):.1f} |"
+        )
     each = [sum(sums.get((crate, part), 0.0) for crate in names) for part in PARTS]
     edits = sum(edit_count(it) for it in names)
     out.append("| all | " + " | ".join(f"{it:.1f}" for it in each) + f" | {edits} | {sum(each):.1f} |")
     return out + ["", f"{minutes:.0f} minutes on the wall, with {len(os.sched_getaffinity(0))} processors."]
 
 
-def main():
+def main() -> int:
     words = argparse.ArgumentParser(description=__doc__.split("\n")[0])
     words.add_argument("--log", default="gate.log", metavar="FILE")
     words.add_argument("command", nargs=argparse.REMAINDER, metavar="COMMAND")

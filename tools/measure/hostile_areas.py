@@ -4,7 +4,7 @@ arrays. `area_case` draws a case from a source of random numbers.
 
 import functools
 
-from hostile_places import TABLES  # (first, so that the others are found)
+from places import TABLES  # (first, so that the others are found)
 from hostile_texts import BML, Case, case_of, record_of
 from mutations import Language, mutated
 

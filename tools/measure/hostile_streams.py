@@ -4,7 +4,7 @@ tables and messages out of a few numbers, so that they meet; and noise. `stream_
 
 import functools
 
-from hostile_places import EXAMPLES, TABLES  # (first, so that the others are found)
+from places import EXAMPLES, TABLES  # (first, so that the others are found)
 from hostile_texts import BML, Case, documents, events_section
 from mutations import Language, about, mutated
 

@@ -7,34 +7,21 @@ import functools
 import re
 from typing import NamedTuple
 
-from hostile_places import DATA, EXAMPLES, TABLES  # (first, so that the others are found)
+from places import DATA, EXAMPLES, TABLES  # (first, so that the others are found)
 from mutations import Language, about, mutated
 
 import document_rows
 import line_rows
 import style_rows
 import tables
-from transport import (
-    TYPE_DESCRIPTOR,
-    EventMessage,
-    Module,
-    ddb_section,
-    descriptor,
-    dii_section,
-    event_message,
-    packets_of_sections,
-    stream_descriptors_section,
-)
+from sent_modules import BLOCK_SIZE, BML, CSS, ECMASCRIPT, OPTIONS, carousel_sections, sent
+from transport import EventMessage, Module, descriptor, dii_section, event_message, stream_descriptors_section
 
-DATA_PID = 256
-OPTIONS = ["--data-pid", str(DATA_PID)]
-BLOCK_SIZE = 4000
 MOST_BYTES = 1 << 20  # of a module
 MOST_LEVELS = 64
 MOST_NODES = 16_384
 MOST_CALLS = 64
 KEYS = [*range(1, 15), *range(18, 25)]
-BML, CSS, ECMASCRIPT = (descriptor(TYPE_DESCRIPTOR, name) for name in (b"text/X-arib-bml", b"text/css", b"text/X-arib-ecmascript"))
 ENTITY = b""  # the info of a module that holds an entity
 LOAD = b"load /40/0000"
 
@@ -51,13 +38,8 @@ class Case(NamedTuple):
 
 def case_of(modules, record, due=b"", behind=()):
     """Returns the case of modules, each with its info and its bytes, from module 0000 on; this one comes last, and behind it these sections."""
-    entries = [Module(number, 1, len(data), info) for number, (info, data) in enumerate(modules)]
-    sections = [dii_section(1, 1, BLOCK_SIZE, entries)]
-    for number, (_, data) in reversed(list(enumerate(modules))):
-        blocks = range(0, len(data), BLOCK_SIZE)
-        sections += [ddb_section(1, number, 1, at // BLOCK_SIZE, data[at : at + BLOCK_SIZE]) for at in blocks]
-    sections += behind
-    return Case(OPTIONS, packets_of_sections((DATA_PID, section) for section in sections)[0], record, due)
+    numbered = [(number, info, data) for number, (info, data) in enumerate(modules)]
+    return Case(OPTIONS, sent([*carousel_sections(numbered[::-1]), *behind])[0], record, due)
 
 
 def record_of(dice):

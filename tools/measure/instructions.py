@@ -3,14 +3,16 @@
 
 usage: instructions.py PROGRAM [--write BUILD] [--file FILE] [NAME ..]
 
-The runs are those of small_runs.py, or those whose names begin with NAME; all of them take about a minute. What a run writes has to be
-what is due. `valgrind --tool=callgrind` counts, so neither other work nor the speed of the machine changes a figure: two runs of one program
-differ by a few instructions. The C library is told to copy and to clear by plain instructions, whatever the processor has beside them. Each
-count is compared with the last one, in instructions.txt beside this tool or in FILE, and each run that grew by more than 2 % is named.
+The runs are those of small_runs.py, or those whose names begin with NAME; all of them take about a minute. What a run
+writes has to be what is due. `valgrind --tool=callgrind` counts, so neither other work nor the speed of the machine
+changes a figure: two runs of one program differ by a few instructions. The C library is told to copy and to clear by
+plain instructions, whatever the processor has beside them. Each count is compared with the last one, in
+instructions.txt beside this tool or in FILE, and each run that grew by more than 2 % is named.
 
-The head of the file says which build its figures are of, and with which valgrind and C library. Figures of different ones can't be compared.
-With --write the file is written anew, and BUILD says in words which build it was. This tool is tested, and not proved.
-Status: 0 where no run grew, 1 where one did or went wrong, 2 where nothing could be counted.
+The head of the file says which build its figures are of, and with which valgrind and C library. Figures of different
+ones can't be compared. With --write the file is written anew, and BUILD says in words which build it was. This tool
+is tested, and not proved. Status: 0 where no run grew, 1 where one did or went wrong, 2 where nothing could be
+counted.
 """
 
 import argparse
@@ -21,8 +23,11 @@ import subprocess
 import sys
 import tempfile
 from pathlib import Path
+from typing import Any
 
-from small_runs import FILES, RUNS, is_due
+from small_runs import RUNS, Run, is_due
+
+from sent_modules import FILES
 
 LAST = Path(__file__).resolve().parent / "instructions.txt"
 MOST_GROWTH = 0.02
@@ -32,7 +37,7 @@ VALGRIND = ["--tool=callgrind", "--callgrind-out-file=/dev/null"]
 LIMIT = 300  # seconds for each run
 
 
-def figures_of(text):
+def figures_of(text: str) -> dict[str, int]:
     """Returns the figures of a file, by the names of the runs."""
     found = {}
     for line in text.splitlines():
@@ -42,20 +47,24 @@ def figures_of(text):
     return found
 
 
-def file_of(build, counter, figures):
+def file_of(build: str, counter: str, figures: dict[str, int]) -> str:
     """Returns the text of a file of figures, with the build that they are of and what counted them."""
-    heads = ["# Instructions of the runs of small_runs.py, as instructions.py counted them.", f"# Build: {build}", f"# Counted with: {counter}"]
+    heads = [
+        "# Instructions of the runs of small_runs.py, as instructions.py counted them.",
+        f"# Build: {build}",
+        f"# Counted with: {counter}",
+    ]
     return "\n".join([*heads, *(f"{count:>15,}  {name}" for name, count in figures.items()), ""])
 
 
-def growth(last, now):
+def growth(last: int | None, now: int) -> float | None:
     """Returns by which part a count grew, None where there is none to compare it with."""
     return (now - last) / last if last else None
 
 
-def table(last, now):
+def table(last: dict[str, int], now: dict[str, int]) -> tuple[list[str], list[str]]:
     """Returns a line for each run that was counted, and the names of those that grew by more than they may."""
-    lines, grown = [f"{'run':42} {'last':>15} {'now':>15} {'change':>8}"], []
+    lines, grown = [f"{'run':42} {'last':>15} {'now':>15} {'change':>8}"], list[str]()
     for name, count in now.items():
         part = growth(last.get(name), count)
         change = "new" if part is None else f"{part:+.2%}"
@@ -65,15 +74,20 @@ def table(last, now):
     return lines, grown
 
 
-def counted(program, run):
+def counted(program: str, run: Run) -> int | None:
     """Runs the program in a folder of its own, and returns its instructions, None where the run went wrong."""
     with tempfile.TemporaryDirectory(prefix="instructions-") as room:
         # (the same names each time, since the names that a program is given are among what it reads)
         shutil.copy(program, f"{room}/program")
         for name, content in zip(FILES, [run.stream, run.record.encode("ascii")]):
             Path(room, name).write_bytes(content)
-        command = [shutil.which("valgrind"), *VALGRIND, "./program", *run.words]
-        how = {"cwd": room, "env": {"GLIBC_TUNABLES": PLAIN_COPIES}, "stdin": subprocess.DEVNULL, "timeout": LIMIT}
+        command = [shutil.which("valgrind") or "valgrind", *VALGRIND, "./program", *run.words]
+        how: dict[str, Any] = {
+            "cwd": room,
+            "env": {"GLIBC_TUNABLES": PLAIN_COPIES},
+            "stdin": subprocess.DEVNULL,
+            "timeout": LIMIT,
+        }
         try:
             ran = subprocess.run(command, capture_output=True, check=False, **how)
         except subprocess.TimeoutExpired:
@@ -82,13 +96,13 @@ def counted(program, run):
     return int(found[1]) if found and is_due(run, ran.returncode, ran.stdout) else None
 
 
-def counter():
+def counter() -> str:
     """The versions of valgrind and of the C library."""
     version = subprocess.run(["valgrind", "--version"], capture_output=True, text=True, check=True).stdout.strip()
     return f"{version}, {' '.join(platform.libc_ver())}"
 
 
-def asked():
+def asked() -> argparse.Namespace:
     parser = argparse.ArgumentParser(usage="instructions.py PROGRAM [--write BUILD] [--file FILE] [NAME ..]")
     parser.add_argument("program")
     parser.add_argument("names", nargs="*")
@@ -97,7 +111,7 @@ def asked():
     return parser.parse_intermixed_args()
 
 
-def hindrance(words, names):
+def hindrance(words: argparse.Namespace, names: list[str]) -> str | None:
     """Returns why nothing can be counted, None where it can be."""
     if not shutil.which("valgrind"):
         return "there is no valgrind"
@@ -108,17 +122,20 @@ def hindrance(words, names):
     return "--write takes all runs" if words.write and words.names else None
 
 
-def main():
+def main() -> int:
     words = asked()
     names = [name for name in RUNS if not words.names or name.startswith(tuple(words.names))]
-    if told := hindrance(words, names):
-        print(f"instructions.py: {told}", file=sys.stderr)
+    if hindered := hindrance(words, names):
+        print(f"instructions.py: {hindered}", file=sys.stderr)
         return 2
-    figures = {name: counted(words.program, RUNS[name]()) for name in names}
-    wrong = [name for name, count in figures.items() if count is None]
+    counts = {name: counted(words.program, RUNS[name]()) for name in names}
+    wrong = [name for name, count in counts.items() if count is None]
+    figures = {name: count for name, count in counts.items() if count is not None}
     last = figures_of(words.file.read_text(encoding="utf-8")) if words.file.is_file() else {}
-    lines, grown = table(last, {name: count for name, count in figures.items() if count is not None})
-    told = [f"{name}: it went wrong" for name in wrong] + [f"{name}: it grew by more than {MOST_GROWTH:.0%}" for name in grown]
+    lines, grown = table(last, figures)
+    told = [f"{name}: it went wrong" for name in wrong] + [
+        f"{name}: it grew by more than {MOST_GROWTH:.0%}" for name in grown
+    ]
     print("\n".join(lines + told))
     if words.write and not wrong:
         words.file.write_text(file_of(words.write, counter(), figures), encoding="utf-8")

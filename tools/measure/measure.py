@@ -28,13 +28,14 @@ import tempfile
 import time
 from typing import NamedTuple
 
-from measuring import processor_seconds
+from measuring import timed
+
+from sent_modules import BLOCK_SIZE, DATA_PID, OPTIONS, block_sections
 from transport import (
     PACKET_SIZE,
     PAYLOAD_SIZE,
     ElementaryStream,
     Module,
-    ddb_section,
     dii_section,
     packet,
     packets_taken,
@@ -43,13 +44,11 @@ from transport import (
     section_packets,
 )
 
-DATA_PID = 256
 MAP_PID = 496
 COMPONENTS = 16
 # The PIDs of the others: fifteen times a picture's, three times a sound's, once that of null packets.
 OTHER_PIDS = [0x111] * 15 + [0x112] * 3 + [0x1FFF]
 MODULE_SIZE = 1 << 20
-BLOCK_SIZE = 4000
 
 
 class WentWrong(Exception):
@@ -88,15 +87,13 @@ def carousel_of(noise, pid, numbers):
     """Returns the payloads of one round of a carousel of modules with these numbers: the DII and each block."""
     sections = [dii_section(1, 1, BLOCK_SIZE, [Module(number, 1, MODULE_SIZE) for number in numbers])]
     for number in numbers:
-        content = noise.randbytes(MODULE_SIZE)
-        for block, at in enumerate(range(0, MODULE_SIZE, BLOCK_SIZE)):
-            sections.append(ddb_section(1, number, 1, block, content[at : at + BLOCK_SIZE]))
+        sections += block_sections(number, noise.randbytes(MODULE_SIZE))
     return payloads_of(pid, sections)
 
 
 def one_module(noise, every):
     line = f"module 40 0001 01 {MODULE_SIZE}\n"
-    return Kind([], carousel_of(noise, DATA_PID, [1]), every, ["--data-pid", str(DATA_PID)], line)
+    return Kind([], carousel_of(noise, DATA_PID, [1]), every, OPTIONS, line)
 
 
 def whole_service(noise):
@@ -127,10 +124,7 @@ def sections_of(modules):
     """Returns one round of a carousel of modules, each a number and its bytes: for each block what is sent, where the DII
     stands before every fortieth."""
     dii = dii_section(1, 1, BLOCK_SIZE, [Module(number, 1, len(content)) for number, content in modules])
-    blocks = []
-    for number, content in modules:
-        for block, at in enumerate(range(0, len(content), BLOCK_SIZE)):
-            blocks.append(ddb_section(1, number, 1, block, content[at : at + BLOCK_SIZE]))
+    blocks = [block for number, content in modules for block in block_sections(number, content)]
     return [[dii, block] if at % 40 == 0 else [block] for at, block in enumerate(blocks)]
 
 
@@ -217,12 +211,10 @@ class Cost(NamedTuple):
 def run(command, wanted):
     """Runs a command, compares its output with what is wanted where that is not None, and returns what it took."""
     to = subprocess.DEVNULL if wanted is None else subprocess.PIPE
-    begin, used = time.perf_counter(), processor_seconds()
-    ran = subprocess.run(command, stdin=subprocess.DEVNULL, stdout=to, check=False)
-    cost = Cost(time.perf_counter() - begin, processor_seconds() - used)
+    ran, *cost = timed(command, stdout=to)
     if ran.returncode or ran.stdout != wanted:
         raise WentWrong(f"{command[0]} ended with status {ran.returncode} and wrote {ran.stdout!r}; {wanted!r} is due")
-    return cost
+    return Cost(*cost)
 
 
 def greatest_memory(command):
@@ -275,7 +267,7 @@ def main():
     parser.add_argument("--megabytes", type=int, default=320)
     parser.add_argument("--rounds", type=int, default=3)
     parser.add_argument("--stream")
-    asked = parser.parse_args()
+    asked = parser.parse_intermixed_args()
     with tempfile.TemporaryDirectory(prefix="measure-") as room:
         stream, record = asked.stream or f"{room}/stream.ts", f"{room}/record.txt"
         with open(record, "wb") as file:

@@ -18,7 +18,7 @@ import time
 import zlib
 from pathlib import Path
 
-from measuring import USERS
+from places import USERS
 from transport import (
     DATA_STREAM,
     PAYLOAD_SIZE,

@@ -3,25 +3,35 @@
 
 usage: measure_changes.py PROGRAM [--rounds N]
 
-What the program writes at the end is compared with what is due. Each stream is run N times (3), of which the best counts.
-`each` is in microseconds of the processor for one such section. Status: 0 where all was as due, 1 where a run went wrong.
+What the program writes at the end is compared with what is due. Each stream is run N times (3), of which the best
+counts. `each` is in microseconds of the processor for one such section. Status: 0 where all was as due, 1 where a run
+went wrong.
 """
 
 import sys
+from collections.abc import Iterator
 
-from measuring import replayed, words
-from transport import ElementaryStream, Module, ddb_section, dii_section, packets_of_sections, pat_section, pmt_section
+from measuring import MOST_BYTES, replayed, words
 
-DATA_PID = 256
-OPTIONS = ["--data-pid", str(DATA_PID)]
+from sent_modules import DATA_PID, OPTIONS
+from transport import (
+    DATA_STREAM,
+    ElementaryStream,
+    Module,
+    ddb_section,
+    dii_section,
+    packets_of_sections,
+    pat_section,
+    pmt_section,
+)
+
+Sections = Iterator[tuple[int, bytes]]  # each with its PID
 MAP_PID = 496
-DATA_STREAM = 0x0D
-MOST_BYTES = 1 << 20  # of a module
 MOST_MODULES = 32  # of so many bytes
 MOST_ENTRIES = 400
 
 
-def maps(count):
+def maps(count: int) -> Sections:
     """PMTs with 16 components, and between them such as have one other."""
     full = [ElementaryStream(DATA_STREAM, DATA_PID + place, 0x40 + place) for place in range(16)]
     other = [ElementaryStream(DATA_STREAM, 0x200, 0x80)]
@@ -30,14 +40,14 @@ def maps(count):
         yield MAP_PID, pmt_section(1, other if number % 2 else full)
 
 
-def announced(count, modules, size):
+def announced(count: int, modules: int, size: int) -> Sections:
     """DIIs that announce so many modules, each in another version than before."""
     for number in range(count):
         entries = [Module(module, number % 256, size) for module in range(modules)]
         yield DATA_PID, dii_section(number, 1, 4000, entries)
 
 
-def begun(count):
+def begun(count: int) -> Sections:
     """DIIs that announce 32 MiB anew, and behind each for each of its modules one block from near its end."""
     for number in range(count):
         entries = [Module(module, number % 256, MOST_BYTES) for module in range(MOST_MODULES)]
@@ -47,7 +57,7 @@ def begun(count):
 
 
 # Each with its sections, the number of those that change much, and the words behind `replay`.
-STREAMS = [
+STREAMS: list[tuple[str, Sections, int, list[str]]] = [
     ("PMTs, 16 components and another", maps(2_000), 2_000, []),
     ("DIIs, 32 modules of 1 MiB", announced(500, MOST_MODULES, MOST_BYTES), 500, OPTIONS),
     ("the same with one block of each", begun(100), 100, OPTIONS),
@@ -55,7 +65,7 @@ STREAMS = [
 ]
 
 
-def main():
+def main() -> int:
     program, rounds = words("measure_changes.py")
     wrong = 0
     print(f"{'stream':34} {'bytes':>10} {'processor':>10} {'each':>8}")

@@ -1,63 +1,68 @@
 #!/usr/bin/env python3
-"""Measures how long a release build takes over display lists that follow each other, and over documents that launch each other.
+"""Measures how long a release build takes over display lists that follow each other, and over documents that launch
+each other.
 
 usage: measure_displays.py PROGRAM [--rounds N]
 
-Module 0000 of a carousel on PID 256 is the start document, and module 0001 another one in some cases. The record has `all`, and then the same lines
-again and again: a key whose handler changes something, and `show` in most. Each case is run with so many repetitions and with none; `each` is the
-difference of their processor seconds by the repetitions, in milliseconds. Each is run N times (3), of which the best counts. Status: 0 where each run
-ended well and wrote as many display lists and loads as are due, else 1.
+Module 0000 of a carousel on PID 256 is the start document, and module 0001 another one in some cases. The record has
+`all`, and then the same lines again and again: a key whose handler changes something, and `show` in most. Each case
+is run with so many repetitions and with none; `each` is the difference of their processor seconds by the repetitions,
+in milliseconds. Each is run N times (3), of which the best counts. Status: 0 where each run ended well and wrote as
+many display lists and loads as are due, else 1.
 """
 
+import subprocess
 import sys
+from collections.abc import Iterator, Sequence
 from typing import NamedTuple
 
-from measuring import replayed, words
-from transport import TYPE_DESCRIPTOR, Module, ddb_section, descriptor, dii_section, packets_of_sections
+from measuring import MOST_NODES, replayed, with_script, words
 
-DATA_PID = 256
-OPTIONS = ["--data-pid", str(DATA_PID)]
-BLOCK_SIZE = 4000
-MOST_NODES = 16_384
+from sent_modules import BML, OPTIONS, carousel_sections, sent
 
 
 class Case(NamedTuple):
-    """The documents, the lines of the record that are repeated, how often, and how many display lists and loads each repetition gives."""
+    """The documents, the lines of the record that are repeated, how often, and how many display lists and loads each
+    repetition gives."""
 
     name: str
-    documents: tuple
+    documents: Sequence[bytes]
     lines: str
-    count: int
+    times: int
     shows: int
     loads: int
 
 
-def document(script, body, style=""):
-    text = f'<bml><head><script><![CDATA[{script}]]></script></head><body style="{style}">{body}</body></bml>'
-    return text.encode("ascii")
+def document(script: str, body: str) -> bytes:
+    return with_script(script, body).encode("ascii")
 
 
-def boxes(handler):
-    """As many elements as there is room for; the first has the focus and this handler, and the second can have it, too."""
+def boxes(handler: str) -> str:
+    """As many elements as there is room for; the first has the focus and this handler, and the second can have it,
+    too."""
     first = f'<p id="x" style="nav-index:0;nav-down:1" onkeydown="{handler}">x</p>'
     second = f'<p id="y" style="nav-index:1;nav-down:0" onkeydown="{handler}">y</p>'
     return first + second + "<p/>" * (MOST_NODES - 10)
 
 
-def changed(statement):
-    return document(f"var n = 0; var x = document.getElementById('x'); function k() {{ n++; {statement} }}", boxes("k();"))
+def changed(statement: str) -> bytes:
+    return document(
+        f"var n = 0; var x = document.getElementById('x'); function k() {{ n++; {statement} }}", boxes("k();")
+    )
 
 
-def launching(other, size):
+def launching(other: str, size: int) -> bytes:
     """A document of that many bytes, whose key launches another one."""
     launch = f"browser.launchDocument('/40/{other}');"
     front = document("", f'<p id="x" style="nav-index:0" onkeydown="{launch}">x</p><p>%</p>')
     return front.replace(b"%", b"t" * (size - len(front)))
 
 
-def cases():
+def cases() -> Iterator[Case]:
     yield Case("show again, nothing changed", (changed(""),), "show\n", 20, 1, 0)
-    yield Case("a colour written, and show", (changed("x.normalStyle.colorIndex = n % 8;"),), "key 19\nshow\n", 20, 1, 0)
+    yield Case(
+        "a colour written, and show", (changed("x.normalStyle.colorIndex = n % 8;"),), "key 19\nshow\n", 20, 1, 0
+    )
     yield Case("a text written, and show", (changed("x.firstChild.data = n;"),), "key 19\nshow\n", 20, 1, 0)
     yield Case("the focus moves, and show", (changed(""),), "key 2\nshow\n", 20, 1, 0)
     body = "document.getElementById('x').parentNode"
@@ -65,39 +70,42 @@ def cases():
     yield Case("the body's colour written, one in it read, in turns", (changed(turns),), "key 19\n", 5, 0, 0)
     two = (launching("0001", 1_000_000), launching("0000", 1_000_000))
     yield Case("two documents of 1 MB that launch each other", two, "key 19\n", 200, 0, 1)
-    many = tuple(document("", f'<p id="x" style="nav-index:0" onkeydown="browser.launchDocument(\'/40/{it}\');">x</p>' + "<p/>" * (MOST_NODES - 8)) for it in ("0001", "0000"))
+    many = tuple(
+        document(
+            "",
+            f'<p id="x" style="nav-index:0" onkeydown="browser.launchDocument(\'/40/{it}\');">x</p>'
+            + "<p/>" * (MOST_NODES - 8),
+        )
+        for it in ("0001", "0000")
+    )
     yield Case("two documents of 16,384 nodes that launch each other", many, "key 19\n", 200, 0, 1)
 
 
-def stream_of(documents):
-    info = descriptor(TYPE_DESCRIPTOR, b"text/X-arib-bml")
-    modules = [Module(number, 1, len(text), info) for number, text in enumerate(documents)]
-    sections = [dii_section(1, 1, BLOCK_SIZE, modules)]
-    for number, text in reversed([*enumerate(documents)]):
-        blocks = range(0, len(text), BLOCK_SIZE)
-        sections += [ddb_section(1, number, 1, at // BLOCK_SIZE, text[at : at + BLOCK_SIZE]) for at in blocks]
-    return packets_of_sections((DATA_PID, made) for made in sections)[0]
+def stream_of(documents: Sequence[bytes]) -> bytes:
+    """Returns the packets of a carousel with these documents: the start document comes last."""
+    modules = [(number, BML, text) for number, text in enumerate(documents)]
+    return sent(carousel_sections(modules[::-1]))[0]
 
 
-def is_due(case, count, ran):
+def is_due(case: Case, count: int, ran: subprocess.CompletedProcess[bytes]) -> bool:
     lines = ran.stdout.split(b"\n")
     shows, loads = (sum(line.startswith(front) for line in lines) for front in (b"show ", b"load "))
     return ran.returncode == 0 and (shows, loads) == (case.shows * count, 1 + case.loads * count)
 
 
-def main():
+def main() -> int:
     program, rounds = words("measure_displays.py")
     faults = 0
     print(f"{'case':54} {'first':>7} {'all':>8} {'each, ms':>9}")
     for case in cases():
         stream, taken, well = stream_of(case.documents), [], True
-        for count in (0, case.count):
+        for count in (0, case.times):
             record = ("all\n" + case.lines * count).encode("ascii")
             ran, _, processor = replayed(program, OPTIONS, stream, record, rounds)
             well = well and is_due(case, count, ran)
             taken.append(processor)
         faults += not well
-        each = (taken[1] - taken[0]) / case.count * 1000
+        each = (taken[1] - taken[0]) / case.times * 1000
         print(f"{case.name:54} {taken[0]:7.3f} {taken[1]:8.3f} {each:9.3f}{'' if well else '  not as due'}")
     return 1 if faults else 0
 

@@ -1,60 +1,59 @@
 #!/usr/bin/env python3
-"""Measures how long a release build takes over start documents, and entities with one, that are as hard as the limits let
-them be.
+"""Measures how long a release build takes over start documents, and entities with one, that are as hard as the limits
+let them be.
 
 usage: measure_documents.py PROGRAM [--rounds N]
 
-Each document or entity fills module 0000 of a carousel on PID 256; the record is `all`, `show`. What the program writes is compared
-with what is due. Each is run N times (3), of which the best counts. `processor` is in seconds too, and says more than
-`seconds` where other work shares the machine. Status: 0 where all was as due, 1 where a run went wrong.
+Each document or entity fills module 0000 of a carousel on PID 256; the record is `all`, `show`. What the program
+writes is compared with what is due. Each is run N times (3), of which the best counts. `processor` is in seconds too,
+and says more than `seconds` where other work shares the machine. Status: 0 where all was as due, 1 where a run went
+wrong.
 """
 
 import sys
+from collections.abc import Iterator
 from typing import NamedTuple
 
-from measuring import replayed, words
-from transport import TYPE_DESCRIPTOR, Module, ddb_section, descriptor, dii_section, packets_of_sections
+from measuring import MOST_BYTES, MOST_NODES, Measured, measure_all, words
 
-DATA_PID = 256
-OPTIONS = ["--data-pid", str(DATA_PID)]
-BLOCK_SIZE = 4000
-MOST_BYTES = 1 << 20  # of a module, and so of a document
-MOST_NODES = 16_384
+from sent_modules import BML, announcement, carousel_sections, sent
+
 PLAIN_BOX = "box 0 0 0 0 8 0 7\n"
 
 
 class Document(NamedTuple):
     """A document, or an entity, and the lines that are due behind its module's line.
 
-    So many DIIs come behind it, each with another transactionId; where there are any, module 0001 is announced and stays away.
+    So many DIIs come behind it, each with another transactionId; where there are any, module 0001 is announced and
+    stays away.
     """
 
     name: str
     text: str
     lines: str
-    info: bytes = descriptor(TYPE_DESCRIPTOR, b"text/X-arib-bml")
+    info: bytes = BML
     diis: int = 0
 
 
-def body(inside):
+def body(inside: str) -> str:
     return f"<bml><body>{inside}</body></bml>"
 
 
-def filled(front, item, back):
+def filled(front: str, item: str, back: str) -> tuple[str, int]:
     """Returns front, as many items as a document has room for, and back, with the number of items."""
     count = (MOST_BYTES - len(front) - len(back)) // len(item)
     return front + item * count + back, count
 
 
-def loaded(boxes):
+def loaded(boxes: str) -> str:
     return f"load /40/0000\nshow 0\n{boxes}"
 
 
-def refused(fault):
+def refused(fault: str) -> str:
     return f"refuse /40/0000 {fault}\nshow 0\n"
 
 
-def documents():
+def documents() -> Iterator[Document]:
     text, count = filled("<bml><body><p>", "a", "</p></body></bml>")
     yield Document("text of 1 MB", text, loaded(PLAIN_BOX * 2 + f"text 0 0 0 0 7 24 {'a' * count}\n"))
     text, count = filled("<bml><body><p>", "&amp;", "</p></body></bml>")
@@ -89,7 +88,7 @@ def documents():
     yield Document("1 MB of <", text, refused("Malformed"))
 
 
-def entity(name, text, lines):
+def entity(name: str, text: str, lines: str) -> Document:
     return Document(name, text, lines, b"")
 
 
@@ -97,7 +96,7 @@ NOTHING_LOADED = "show 0\n"
 EMPTY_PAGE = "load /40/0000/startup.bml\nshow 0\n"
 
 
-def several(parts, boundary="b"):
+def several(parts: list[str], boundary: str = "b") -> str:
     """Returns an entity of parts, each its header lines with the empty one and its bytes."""
     lines = [f'Content-Type: multipart/mixed; boundary="{boundary}"', ""]
     for part in parts:
@@ -105,7 +104,7 @@ def several(parts, boundary="b"):
     return "\r\n".join([*lines, f"--{boundary}--", ""])
 
 
-def entities():
+def entities() -> Iterator[Document]:
     page = "Content-Location: startup.bml\r\n\r\n<bml/>"
     parts = [f"Content-Location: {number}\r\n\r\n{'x' * 2000}" for number in range(511)]
     yield entity("512 parts of 2,000 bytes", several([*parts, page]), EMPTY_PAGE)
@@ -136,7 +135,7 @@ def entities():
     yield entity("16,000 needs", several([links]), EMPTY_PAGE)
 
 
-def waiting():
+def waiting() -> Iterator[Document]:
     text, _ = filled('<bml><head><link href="/40/0001"/></head><body><p>', "a", "</p></body></bml>")
     yield Document("waiting, 1 MB, 20,000 DIIs", text, NOTHING_LOADED, diis=20_000)
     links = '<link href="/41/0000/x"/>' * 16_000
@@ -147,32 +146,25 @@ def waiting():
         yield Document(name, text, NOTHING_LOADED, diis=20_000)
 
 
-def sections_of(document):
-    """Returns the sections of a document, each with its PID."""
+def sections_of(document: Document) -> list[bytes]:
+    """Returns the sections of a document, and the DIIs behind it."""
     data = document.text.encode("ascii")
-    modules = [Module(0, 1, len(data), document.info)]
-    if document.diis:
-        modules.append(Module(1, 1, 10, b""))
-    sections = [dii_section(1, 1, BLOCK_SIZE, modules)]
-    blocks = range(0, len(data), BLOCK_SIZE)
-    sections += [ddb_section(1, 0, 1, at // BLOCK_SIZE, data[at : at + BLOCK_SIZE]) for at in blocks]
-    sections += [dii_section(2 + at, 1, BLOCK_SIZE, modules) for at in range(document.diis)]
-    return [(DATA_PID, section) for section in sections]
+    away = [(1, b"", bytes(10))] if document.diis else []
+    modules = [(0, document.info, data)]
+    again = (announcement([*modules, *away], 2 + at) for at in range(document.diis))
+    return [*carousel_sections(modules, away), *again]
 
 
-def main():
-    program, rounds = words("measure_documents.py")
-    wrong = 0
-    print(f"{'document':32} {'bytes':>9} {'seconds':>8} {'processor':>10}")
-    for document in [*documents(), *entities(), *waiting()]:
-        stream, packets = packets_of_sections(sections_of(document))
-        due = f"module 40 0000 01 {len(document.text)}\n{document.lines}end {packets}\n".encode("ascii")
-        ran, seconds, processor = replayed(program, OPTIONS, stream, b"all\nshow\n", rounds)
-        as_due = ran.returncode == 0 and ran.stdout == due
-        wrong += not as_due
-        times = f"{seconds:8.3f} {processor:10.3f}"
-        print(f"{document.name:32} {len(document.text):9,} {times}{'' if as_due else '  not what is due'}")
-    return 1 if wrong else 0
+def measured(document: Document) -> Measured:
+    """Returns the run of a document."""
+    stream, packets = sent(sections_of(document))
+    due = f"module 40 0000 01 {len(document.text)}\n{document.lines}end {packets}\n".encode("ascii")
+    return Measured(f"{document.name:32} {len(document.text):9,}", stream, b"all\nshow\n", due.__eq__)
+
+
+def main() -> int:
+    runs = map(measured, [*documents(), *entities(), *waiting()])
+    return measure_all(*words("measure_documents.py"), f"{'document':32} {'bytes':>9}", runs)
 
 
 if __name__ == "__main__":

@@ -3,84 +3,101 @@
 
 usage: measure_pages.py PROGRAM [--rounds N]
 
-Module 0000 of a carousel on PID 256 is a document, and the record has keys or ticks behind `all`. Some pages have sections of event messages
-behind the document. What the program writes is compared with what
-is due: a line for the module, `load`, as many lines of lost events and stopped handlers as are said beside each, and `end`. Each is run N
-times (3), of which the best counts. `processor` is in seconds too, and says more than `seconds` where other work shares the machine. Status: 0
-where all was as due, 1 where a run went wrong.
+Module 0000 of a carousel on PID 256 is a document, and the record has keys or ticks behind `all`. Some pages have
+sections of event messages behind the document. What the program writes is compared with what is due: a line for the
+module, `load`, as many lines of lost events and stopped handlers as are said beside each, and `end`. Each is run N
+times (3), of which the best counts. `processor` is in seconds too, and says more than `seconds` where other work
+shares the machine. Status: 0 where all was as due, 1 where a run went wrong.
 """
 
 import sys
+from collections.abc import Iterator, Sequence
+from functools import partial
 from typing import NamedTuple
 
-from measuring import replayed, words
-from transport import (
-    TYPE_DESCRIPTOR,
-    EventMessage,
-    Module,
-    ddb_section,
-    descriptor,
-    dii_section,
-    event_message,
-    packets_of_sections,
-    stream_descriptors_section,
-)
+from measuring import Measured, measure_all, with_script, words
 
-DATA_PID = 256
-OPTIONS = ["--data-pid", str(DATA_PID)]
-BLOCK_SIZE = 4000
+from sent_modules import BML, carousel_sections, sent
+from transport import EventMessage, event_message, stream_descriptors_section
+
+
+Messages = Sequence[EventMessage]  # of a section
 
 
 class Page(NamedTuple):
-    """A document, the lines of the record behind `all`, how many lines tell of lost events and of stops, and the messages of each section
-    behind the document."""
+    """A document, the lines of the record behind `all`, how many lines tell of lost events and of stops, and the
+    messages of each section behind the document."""
 
     name: str
     document: str
     record: str
     lost: int
     stopped: int
-    messages: tuple = ()
+    messages: Sequence[Messages] = ()
 
 
-def with_script(script, body):
-    return f"<bml><head><script><![CDATA[{script}]]></script></head><body>{body}</body></bml>"
-
-
-def many_nodes(count):
+def many_nodes(count: int) -> str:
     """As many elements as that leaves room for, each of which can have the focus."""
-    return "".join(f'<a style="nav-index:{place % 32768};nav-down:{(place + 1) % count}" onkeydown="n++;"/>' for place in range(count))
+    return "".join(
+        f'<a style="nav-index:{place % 32768};nav-down:{(place + 1) % count}" onkeydown="n++;"/>'
+        for place in range(count)
+    )
 
 
-def with_items(count, attributes):
+def with_items(count: int, attributes: str) -> str:
     """A document with so many event items that are subscribed, alike but for their places."""
     item = f'<beitem type="EventMessageFired" subscribe="subscribe"{attributes}/>'
     return with_script("var n = 0;", item * count)
 
 
-def section_of_messages(count, version):
+def section_of_messages(count: int, version: int) -> Messages:
     """So many messages of different ids and groups in a version."""
     return tuple(EventMessage(group=number // 256, id=number % 256, version=version) for number in range(count))
 
 
-def item_pages():
+def item_pages() -> Iterator[Page]:
     for count in (3_950, 7_900, 15_800):
         items = with_items(count, ' es_ref=""')
-        yield Page(f"100 sections of 300 messages, {count:,} items for none", items, "", 0, 0, (section_of_messages(300, 1),) * 100)
+        yield Page(
+            f"100 sections of 300 messages, {count:,} items for none",
+            items,
+            "",
+            0,
+            0,
+            (section_of_messages(300, 1),) * 100,
+        )
     # Of 300 times 16,000 posts 256 find a place.
-    yield Page("a section of 300 messages that fire 16,000 items", with_items(16_000, ""), "", 4_799_744, 0, (section_of_messages(300, 1),))
+    yield Page(
+        "a section of 300 messages that fire 16,000 items",
+        with_items(16_000, ""),
+        "",
+        4_799_744,
+        0,
+        (section_of_messages(300, 1),),
+    )
     items = with_items(240, ' onoccur="n++;"')
     versions = tuple(section_of_messages(1, version) for version in range(200))
     yield Page("200 messages that fire 240 items each", items, "", 0, 0, versions)
     items = with_items(1, ' onoccur="n++;"')
-    yield Page("1,000 sections of 300 messages that repeat, an item", items, "", 44, 0, (section_of_messages(300, 1),) * 1_000)
+    yield Page(
+        "1,000 sections of 300 messages that repeat, an item", items, "", 44, 0, (section_of_messages(300, 1),) * 1_000
+    )
     timers = "".join('browser.setInterval("f()", 100, 0);' for _ in range(32))
-    yield Page("an hour with 32 timers of 100 ms", with_script("var n = 0; function f() { n++; } " + timers, ""), "tick 3600000\n", 0, 0)
+    yield Page(
+        "an hour with 32 timers of 100 ms",
+        with_script("var n = 0; function f() { n++; } " + timers, ""),
+        "tick 3600000\n",
+        0,
+        0,
+    )
 
 
-def pages():
+def pages() -> Iterator[Page]:
     yield from item_pages()
-    two = '<p id="x" style="nav-index:0" onfocus="go(\'y\');">-</p><p id="y" style="nav-index:1" onfocus="go(\'x\');">y</p>'
+    two = (
+        '<p id="x" style="nav-index:0" onfocus="go(\'y\');">-</p>'
+        '<p id="y" style="nav-index:1" onfocus="go(\'x\');">y</p>'
+    )
     endless = with_script("function go(i) { document.getElementById(i).focus(); }", two)
     yield Page("10,000 turns of 256 dispatches each", endless, "release 1\n" * 10_000, 0, 0)
     crowd = with_script(
@@ -96,40 +113,41 @@ def pages():
     for count in (1_000, 4_000, 8_000):
         large = with_script("var n = 0;", many_nodes(count))
         yield Page(f"10,000 arrows over {count:,} elements", large, "key 2\n" * 10_000, 0, 0)
-    yield Page("100,000 digits over 8,000 elements", with_script("var n = 0;", many_nodes(8_000)), "key 5\n" * 100_000, 0, 0)
+    yield Page(
+        "100,000 digits over 8,000 elements", with_script("var n = 0;", many_nodes(8_000)), "key 5\n" * 100_000, 0, 0
+    )
 
 
-def sections_of(document, messages):
-    """Returns the sections of the module and those of the messages, each with its PID."""
-    modules = [Module(0, 1, len(document), descriptor(TYPE_DESCRIPTOR, b"text/X-arib-bml"))]
-    blocks = range(0, len(document), BLOCK_SIZE)
-    sections = [dii_section(1, 1, BLOCK_SIZE, modules)]
-    sections += [ddb_section(1, 0, 1, at // BLOCK_SIZE, document[at : at + BLOCK_SIZE]) for at in blocks]
-    sections += [stream_descriptors_section([event_message(it) for it in section]) for section in messages]
-    return [(DATA_PID, section) for section in sections]
+def sections_of(document: bytes, messages: Sequence[Messages]) -> list[bytes]:
+    """Returns the sections of a document as module 0000, and those of the messages."""
+    told = [stream_descriptors_section([event_message(it) for it in section]) for section in messages]
+    return [*carousel_sections([(0, BML, document)]), *told]
 
 
-def is_due(page, document, packets, written):
+def is_due(page: Page, document: bytes, packets: int, written: bytes) -> bool:
     lines = written.decode("ascii").splitlines()
     first = [f"module 40 0000 01 {len(document)}", "load /40/0000"]
     lost = sum(line.startswith("lost ") for line in lines)
     stopped = sum(line.startswith("stop ") for line in lines)
     told = len(first) + page.lost + page.stopped + 1
-    return lines[:2] == first and lines[-1] == f"end {packets}" and (lost, stopped, len(lines)) == (page.lost, page.stopped, told)
+    return (
+        lines[:2] == first
+        and lines[-1] == f"end {packets}"
+        and (lost, stopped, len(lines)) == (page.lost, page.stopped, told)
+    )
 
 
-def main():
-    program, rounds = words("measure_pages.py")
-    faults = 0
-    print(f"{'page':52} {'seconds':>8} {'processor':>9}")
-    for page in pages():
-        document = page.document.encode("ascii")
-        stream, packets = packets_of_sections(sections_of(document, page.messages))
-        ran, seconds, processor = replayed(program, OPTIONS, stream, ("all\n" + page.record).encode("ascii"), rounds)
-        fault = "" if ran.returncode == 0 and is_due(page, document, packets, ran.stdout) else "  not as due"
-        faults += bool(fault)
-        print(f"{page.name:52} {seconds:8.3f} {processor:9.3f}{fault}")
-    return 1 if faults else 0
+def measured(page: Page) -> Measured:
+    """Returns the run of a page."""
+    document = page.document.encode("ascii")
+    stream, packets = sent(sections_of(document, page.messages))
+    return Measured(
+        f"{page.name:52}", stream, ("all\n" + page.record).encode("ascii"), partial(is_due, page, document, packets)
+    )
+
+
+def main() -> int:
+    return measure_all(*words("measure_pages.py"), f"{'page':52}", map(measured, pages()))
 
 
 if __name__ == "__main__":

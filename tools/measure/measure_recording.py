@@ -20,7 +20,8 @@ import time
 import zlib
 from itertools import chain, cycle, islice
 
-from measuring import USERS
+from places import USERS
+
 from multiplexed_recordings import Rate, Stage, is_possible, repeated, with_data, write_multiplex
 from transport import (
     DATA_STREAM,

@@ -12,14 +12,15 @@ given until the script stops for want of them. Last it runs the worst scripts on
 
 import argparse
 import os
-import resource
 import shutil
 import subprocess
 import sys
 import tempfile
 from pathlib import Path
 
-ROOT = Path(__file__).resolve().parents[2]
+from measuring import least
+from places import ROOT
+
 BELOW = ["bml_bytes", "es_lexer", "es_expressions", "es_reader", "es_values", "es_builtins", "es_frames", "es_shapes", "es_eval"]
 NAME = "script_timer"
 
@@ -171,14 +172,8 @@ def built(room):
 
 def seconds(command, given, rounds):
     """Returns what the command wrote last, and its least processor seconds."""
-    least, wrote = None, b""
-    for _ in range(rounds):
-        before = resource.getrusage(resource.RUSAGE_CHILDREN)
-        wrote = subprocess.run(command, input=given, stdout=subprocess.PIPE, stderr=subprocess.DEVNULL, check=True).stdout
-        after = resource.getrusage(resource.RUSAGE_CHILDREN)
-        took = after.ru_utime + after.ru_stime - before.ru_utime - before.ru_stime
-        least = took if least is None else min(least, took)
-    return wrote, least
+    ran, _, processor = least(command, rounds, input=given, stdout=subprocess.PIPE, stderr=subprocess.DEVNULL, check=True)
+    return ran.stdout, processor
 
 
 def mujs_seconds(script, times, rounds, room):

@@ -1,37 +1,25 @@
-"""What the measuring tools share: their words, the folder of the tools that make streams, and runs with their times."""
+"""What the measuring tools share: their words, pages with scripts, and runs with their times."""
 
 import argparse
 import os
 import resource
 import subprocess
-import sys
 import tempfile
 import time
-from pathlib import Path
+from collections.abc import Callable, Iterable
+from typing import Any, NamedTuple
 
-# Where the tools for users are, and what makes streams among them: whoever imports this module can import those.
-USERS = Path(__file__).resolve().parents[1] / "users"
-sys.path.append(str(USERS))
+import places  # noqa: F401 (first, so that the others are found)
 
-from transport import TYPE_DESCRIPTOR, Module, ddb_section, descriptor, dii_section
+from sent_modules import FILES, OPTIONS
 
-DATA_PID = 256
-OPTIONS = ["--data-pid", str(DATA_PID)]
-BLOCK_SIZE = 4000
-
-
-def carousel_sections(modules):
-    """Returns the sections, each with its PID, that send modules once: each module is its number, its media type, or b"" where none is
-    said, and its bytes. The DII has them by their numbers, and the blocks come as the modules are listed."""
-    announced = [Module(number, 1, len(data), descriptor(TYPE_DESCRIPTOR, kind) if kind else b"") for number, kind, data in sorted(modules)]
-    sections = [dii_section(1, 1, BLOCK_SIZE, announced)]
-    for number, _, data in modules:
-        blocks = range(0, max(len(data), 1), BLOCK_SIZE)
-        sections += [ddb_section(1, number, 1, at // BLOCK_SIZE, data[at : at + BLOCK_SIZE]) for at in blocks]
-    return [(DATA_PID, section) for section in sections]
+# A run, its seconds and its processor seconds.
+Timed = tuple[subprocess.CompletedProcess[bytes], float, float]
+MOST_BYTES = 1 << 20  # of a module, and so of a document
+MOST_NODES = 16_384  # of a document
 
 
-def words(name):
+def words(name: str) -> tuple[str, int]:
     """Returns the program and the number of rounds that the command line asks for."""
     parser = argparse.ArgumentParser(usage=f"{name} PROGRAM [--rounds N]")
     parser.add_argument("program")
@@ -40,24 +28,65 @@ def words(name):
     return os.path.abspath(asked.program), max(1, asked.rounds)
 
 
-def processor_seconds():
+def with_script(script: str, body: str) -> str:
+    """Returns a document with a script and the inside of its body."""
+    return f"<bml><head><script><![CDATA[{script}]]></script></head><body>{body}</body></bml>"
+
+
+def repeated(item: str, most: int = MOST_BYTES) -> str:
+    """As many items as there is room for."""
+    return item * (most // len(item))
+
+
+def processor_seconds() -> float:
     """Returns what the commands that ended so far took, with what the system took for them."""
     used = resource.getrusage(resource.RUSAGE_CHILDREN)
     return used.ru_utime + used.ru_stime
 
 
-def replayed(program, options, stream, record, rounds):
-    """Replays a stream some times, and returns the last run, the least seconds and the least processor seconds."""
-    seconds, processor = [], []
+def timed(command: list[str], **how: Any) -> Timed:
+    """Runs a command, and returns the run, its seconds, and its processor seconds."""
+    begin, used = time.perf_counter(), processor_seconds()
+    if "input" not in how:
+        how["stdin"] = subprocess.DEVNULL
+    how.setdefault("check", False)
+    ran = subprocess.run(command, **how)
+    return ran, time.perf_counter() - begin, processor_seconds() - used
+
+
+def least(command: list[str], rounds: int, **how: Any) -> Timed:
+    """Runs a command some times, and returns the last run, the least seconds and the least processor seconds."""
+    runs = [timed(command, **how) for _ in range(rounds)]
+    return runs[-1][0], min(seconds for _, seconds, _ in runs), min(processor for _, _, processor in runs)
+
+
+def replayed(program: str, options: list[str], stream: bytes, record: bytes, rounds: int) -> Timed:
+    """Replays a stream some times, and returns what `least` does."""
     with tempfile.TemporaryDirectory(prefix="measure-") as room:
-        names = [f"{room}/stream.ts", f"{room}/record.txt"]
+        names = [f"{room}/{name}" for name in FILES]
         for name, content in zip(names, [stream, record]):
             with open(name, "wb") as file:
                 file.write(content)
-        for _ in range(rounds):
-            begin, used = time.perf_counter(), processor_seconds()
-            command = [program, "replay", *options, *names]
-            ran = subprocess.run(command, stdin=subprocess.DEVNULL, stdout=subprocess.PIPE, check=False)
-            seconds.append(time.perf_counter() - begin)
-            processor.append(processor_seconds() - used)
-    return ran, min(seconds), min(processor)
+        return least([program, "replay", *options, *names], rounds, stdout=subprocess.PIPE)
+
+
+class Measured(NamedTuple):
+    """A run on the data PID: what is printed in front of its times, its stream and record, and whether what it wrote
+    is what is due."""
+
+    columns: str
+    stream: bytes
+    record: bytes
+    is_due: Callable[[bytes], bool]
+
+
+def measure_all(program: str, rounds: int, heading: str, runs: Iterable[Measured]) -> int:
+    """Prints what each run takes, and returns the status: 1 where one wrote something else than what is due."""
+    wrong = 0
+    print(f"{heading} {'seconds':>8} {'processor':>10}")
+    for run in runs:
+        ran, seconds, processor = replayed(program, OPTIONS, run.stream, run.record, rounds)
+        as_due = ran.returncode == 0 and run.is_due(ran.stdout)
+        wrong += not as_due
+        print(f"{run.columns} {seconds:8.3f} {processor:10.3f}{'' if as_due else '  not what is due'}", flush=True)
+    return 1 if wrong else 0

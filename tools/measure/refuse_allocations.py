@@ -3,10 +3,12 @@
 
 usage: refuse_allocations.py [--lines] PROGRAM [WORD..] < INPUT
 
-The program gets the words and the input each time. A library that refuses the allocation of a number, as the system may, is compiled by
-`cc` and loaded in front of the C library. What is printed is how often the program ended in which way: its status and its last words, on
-standard output or on standard error. The kept area, `nvram.bin`, is as it was before each run. Status: 0 where each run ended by itself within a minute, 1 where one was stopped by a signal or hung, or, with
---lines, where what it wrote isn't the first lines, each to its end, of what the program writes with nothing refused.
+The program gets the words and the input each time. A library that refuses the allocation of a number, as the system
+may, is compiled by `cc` and loaded in front of the C library. What is printed is how often the program ended in which
+way: its status and its last words, on standard output or on standard error. The kept area, `nvram.bin`, is as it was
+before each run. Status: 0 where each run ended by itself within a minute, 1 where one was stopped by a signal or
+hung, or, with --lines, where what it wrote isn't the first lines, each to its end, of what the program writes with
+nothing refused.
 """
 
 import collections
@@ -15,6 +17,7 @@ import subprocess
 import sys
 import tempfile
 from pathlib import Path
+from typing import Any
 
 LIBRARY = r"""
 #define _GNU_SOURCE
@@ -49,39 +52,52 @@ __attribute__((destructor)) static void told(void) {
 """
 
 
-def last_line(text):
+def last_line(text: bytes) -> str:
     lines = text.decode(errors="replace").splitlines()
     return lines[-1][:60] if lines else ""
 
 
-def are_first_lines(written, whole):
+def are_first_lines(written: bytes, whole: bytes) -> bool:
     return whole.startswith(written) and (not written or written.endswith(b"\n"))
 
 
-def put_back(path, content):
+def put_back(path: Path, content: bytes | None) -> None:
     if content is None:
         path.unlink(missing_ok=True)
     else:
         path.write_bytes(content)
 
 
-def main():
+def main() -> int:
     by_lines = sys.argv[1:2] == ["--lines"]
     command = sys.argv[2:] if by_lines else sys.argv[1:]
     if not command:
         sys.exit(__doc__.split("\n\n")[1])
     given = sys.stdin.buffer.read()
-    ends, well = collections.Counter(), True
+    ends: collections.Counter[tuple[int | str, str, str]] = collections.Counter()
+    well = True
     area = Path("nvram.bin")
     kept = area.read_bytes() if area.exists() else None
     with tempfile.TemporaryDirectory(prefix="refuse-") as room:
         with open(f"{room}/refuse.c", "w") as file:
             file.write(LIBRARY)
-        subprocess.run(["cc", "-shared", "-fPIC", "-O1", "-o", f"{room}/refuse.so", f"{room}/refuse.c", "-ldl"], check=True)
+        subprocess.run(
+            ["cc", "-shared", "-fPIC", "-O1", "-o", f"{room}/refuse.so", f"{room}/refuse.c", "-ldl"], check=True
+        )
 
-        def ran(number):
-            told = {"LD_PRELOAD": f"{room}/refuse.so", "REFUSED_ALLOCATION": str(number), "ALLOCATIONS_MADE": f"{room}/made"}
-            how = {"input": given, "stdout": subprocess.PIPE, "stderr": subprocess.PIPE, "check": False, "timeout": 60}
+        def ran(number: int) -> subprocess.CompletedProcess[bytes]:
+            told = {
+                "LD_PRELOAD": f"{room}/refuse.so",
+                "REFUSED_ALLOCATION": str(number),
+                "ALLOCATIONS_MADE": f"{room}/made",
+            }
+            how: dict[str, Any] = {
+                "input": given,
+                "stdout": subprocess.PIPE,
+                "stderr": subprocess.PIPE,
+                "check": False,
+                "timeout": 60,
+            }
             try:
                 return subprocess.run(command, env={**os.environ, **told}, **how)
             finally:

@@ -1,27 +1,33 @@
 #!/usr/bin/env python3
-"""Tests how instructions.py compares counts, without valgrind and without the program. It prints a line, and ends with 1 if a test fails."""
+"""Tests how instructions.py compares counts, without valgrind and without the program. It prints a line, and ends
+with 1 if a test fails."""
 
 import sys
+from collections.abc import Iterator
 
 from instructions import LAST, figures_of, file_of, table
 from small_runs import RUNS, is_due
 
+from told_tests import status_of
+
 FIGURES = {"a short run": 999, "a run, with a comma": 1_234_567}
 
 
-def grown(last, now):
+def grown(last: int, now: int) -> list[str]:
     return table({"run": last}, {"run": now})[1]
 
 
-def changes(last, now):
+def changes(last: dict[str, int], now: dict[str, int]) -> list[str]:
     """What the lines of a table say of the changes."""
     return [line.split()[-1] for line in table(last, now)[0][1:]]
 
 
-def tests():
+def tests() -> Iterator[tuple[str, bool]]:
     """Yields what is said of the comparison, and whether it is so."""
     yield "a file of figures is read as it was written", figures_of(file_of("one", "two", FIGURES)) == FIGURES
-    yield "its head is no figure", "# Build: one" in file_of("one", "two", {}) and figures_of(file_of("one", "two", {})) == {}
+    yield "its head is no figure", "# Build: one" in file_of("one", "two", {}) and figures_of(
+        file_of("one", "two", {})
+    ) == {}
     yield "2 % more is no growth that is named", grown(10_000, 10_200) == []
     yield "a little more than that is", grown(10_000, 10_201) == ["run"]
     yield "less isn't", grown(10_000, 5_000) == []
@@ -38,12 +44,5 @@ def tests():
     yield "the file has a figure of each run", list(figures_of(LAST.read_text(encoding="utf-8"))) == list(RUNS)
 
 
-def main():
-    told = list(tests())
-    failed = [name for name, is_so in told if not is_so]
-    print(f"FAILED  instructions: {'; '.join(failed)}" if failed else f"ok      instructions: {len(told)} tests of their comparison")
-    return 1 if failed else 0
-
-
 if __name__ == "__main__":
-    sys.exit(main())
+    sys.exit(status_of("instructions", "tests of their comparison", tests()))

@@ -21,10 +21,10 @@ import sys
 import tempfile
 from pathlib import Path
 
-from measuring import USERS  # (whoever imports it can import the tools for users)
-from transport import TYPE_DESCRIPTOR, Module, ddb_section, descriptor, dii_section, packets_of_sections
+from places import ROOT  # noqa: F401 (first, so that the others are found)
 
-DATA_PID, BLOCK_SIZE = 256, 4000
+from sent_modules import BML, REPLAY, carousel_sections, sent
+
 TAGS = ("div", "p", "p", "span", "a", "input", "object")
 CLASSES = ("c", "d", "e")
 STATES = ("normalStyle", "focusStyle", "activeStyle")
@@ -134,13 +134,7 @@ class Page:
 
 def stream_of(documents):
     """Returns the packets of a carousel with these documents, the first of which is the start document."""
-    info = descriptor(TYPE_DESCRIPTOR, b"text/X-arib-bml")
-    modules = [Module(number, 1, len(document), info) for number, document in enumerate(documents)]
-    sections = [dii_section(1, 1, BLOCK_SIZE, modules)]
-    for number, document in enumerate(documents):
-        blocks = [document[at : at + BLOCK_SIZE] for at in range(0, len(document), BLOCK_SIZE)]
-        sections += [ddb_section(1, number, 1, place, block) for place, block in enumerate(blocks)]
-    return packets_of_sections((DATA_PID, made) for made in sections)[0]
+    return sent(carousel_sections([(number, BML, document) for number, document in enumerate(documents)]))[0]
 
 
 def record_of(dice):
@@ -204,7 +198,7 @@ class Trial:
         for places in self.asked:
             Path(self.room, "record.txt").write_text(with_shows(self.items, places))
             Path(self.room, "nvram.bin").unlink(missing_ok=True)
-            command = [self.program, "replay", "--data-pid", str(DATA_PID), "stream.ts", "record.txt"]
+            command = [self.program, *REPLAY]
             ran = subprocess.run(command, cwd=self.room, stdin=subprocess.DEVNULL, stdout=subprocess.PIPE, check=False)
             if ran.returncode:
                 return False

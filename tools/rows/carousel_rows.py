@@ -6,20 +6,10 @@ come of them is from docs/FORMATS.md, "Messages of a data carousel" and "Modules
 
 import itertools
 
-from tables import Run
-from transport import MESSAGE_DDB, MESSAGE_DII, TYPE_DESCRIPTOR, Module, ddb_section, descriptor, dii_section, packets_of_sections, section
+from sent_modules import BML, CSS, block_sections, run_of_sections
+from transport import MESSAGE_DDB, MESSAGE_DII, Module, ddb_section, dii_section, section
 
-DATA_PID = 256
-REPLAY = ["replay", "--data-pid", str(DATA_PID), "stream.ts", "record.txt"]
 BLOCK_SIZE = 4
-BML, CSS = (descriptor(TYPE_DESCRIPTOR, name) for name in (b"text/X-arib-bml", b"text/css"))
-
-
-def run_of(name, sections, told, record="all\n"):
-    """Returns the run of sections, each in packets of its own, which prints `told` before its last line."""
-    stream, packets = packets_of_sections((DATA_PID, made) for made in sections)
-    stdout = f"{told}end {packets}\n".encode("ascii")
-    return Run(name, REPLAY, stream, record.encode("ascii"), stdout, b"", 0)
 
 
 # Messages byte by byte
@@ -114,7 +104,7 @@ def message_run(name, table_id, message, told):
         ddb_section(1, 2, 1, 0, b"ijkl"),
         ddb_section(1, 1, 1, 1, b"efgh"),
     ]
-    return run_of(name, sections, told)
+    return run_of_sections(name, sections, told, "all\n")
 
 
 def messages():
@@ -138,33 +128,28 @@ SHEET = b"p{top:5px}"
 SHOWN = "load /40/0000\nshow 0\nbox 0 0 0 0 8 0 7\nbox 0 5 0 0 8 0 7\ntext 0 5 0 0 7 24 a\n"
 
 
-def blocks(module, data, size=BLOCK_SIZE):
-    """Returns the sections of a module's blocks."""
-    return [ddb_section(1, module, 1, at // size, data[at : at + size]) for at in range(0, len(data), size)]
-
-
 def orders():
     """Returns the runs of a DII and the blocks of the sheet in each order, behind the DII and the page.
 
     The DII that comes again is the one in force, or another one that says the same.
     """
     modules = [Module(0, 1, len(PAGE), BML), Module(1, 1, len(SHEET), CSS)]
-    first = [dii_section(1, 1, BLOCK_SIZE, modules), *blocks(0, PAGE)]
+    first = [dii_section(1, 1, BLOCK_SIZE, modules), *block_sections(0, PAGE, BLOCK_SIZE)]
     told = f"module 40 0000 01 {len(PAGE)}\nmodule 40 0001 01 {len(SHEET)}\n{SHOWN}"
     runs = []
     for transaction in (1, 2):
-        again = {"D": dii_section(transaction, 1, BLOCK_SIZE, modules), **dict(zip("012", blocks(1, SHEET)))}
+        again = {"D": dii_section(transaction, 1, BLOCK_SIZE, modules), **dict(zip("012", block_sections(1, SHEET, BLOCK_SIZE)))}
         for order in itertools.permutations(again):
             name = f"order {''.join(order)}, transaction {transaction}"
-            runs.append(run_of(name, [*first, *(again[each] for each in order)], told, "all\nshow\n"))
+            runs.append(run_of_sections(name, [*first, *(again[each] for each in order)], told, "all\nshow\n"))
     return runs
 
 
 def most_blocks():
     """Returns the run of a module of 65,536 blocks, each of 15 bytes: the number of the last one is as great as may be."""
     data, size = bytes(983_040), 15
-    sections = [dii_section(1, 1, size, [Module(1, 1, len(data))]), *blocks(1, data, size)]
-    return run_of("65,536 blocks", sections, f"module 40 0001 01 {len(data)}\n")
+    sections = [dii_section(1, 1, size, [Module(1, 1, len(data))]), *block_sections(1, data, size)]
+    return run_of_sections("65,536 blocks", sections, f"module 40 0001 01 {len(data)}\n", "all\n")
 
 
 def all_blocks():

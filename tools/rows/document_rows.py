@@ -4,13 +4,8 @@ A row here is a document, or a part of one, so these stand in Python and not in 
 module 0000 of a carousel. What has to come of it is from docs/FORMATS.md, "The start document".
 """
 
-from tables import Run
-from transport import TYPE_DESCRIPTOR, Module, ddb_section, descriptor, dii_section, packets_of_sections
+from sent_modules import BML, carousel_sections, run_of_sections
 
-DATA_PID = 256
-REPLAY = ["replay", "--data-pid", str(DATA_PID), "stream.ts", "record.txt"]
-BLOCK_SIZE = 4000
-BML = descriptor(TYPE_DESCRIPTOR, b"text/X-arib-bml")
 LOAD = "load /40/0000\n"
 
 # A body whose text a script writes. No rule of a sheet moves it.
@@ -23,21 +18,12 @@ def run_of(name, document, told, record="all\nshow\n", resource=None):
 
     A resource, in module 0001, comes before it; where it is empty it is announced and stays away.
     """
-    sent = [(0, document.encode("latin-1"))]
-    modules = [Module(0, 1, len(sent[0][1]), BML)]
-    if resource is not None:
-        modules.append(Module(1, 1, len(resource) or 1, BML))
+    modules = [(0, BML, document.encode("latin-1"))]
     if resource:
-        sent.insert(0, (1, resource.encode("latin-1")))
-    sections = [(DATA_PID, dii_section(1, 1, BLOCK_SIZE, modules))]
-    lines = ""
-    for number, data in sent:
-        for at in range(0, len(data), BLOCK_SIZE):
-            sections.append((DATA_PID, ddb_section(1, number, 1, at // BLOCK_SIZE, data[at : at + BLOCK_SIZE])))
-        lines += f"module 40 {number:04x} 01 {len(data)}\n"
-    stream, packets = packets_of_sections(sections)
-    stdout = f"{lines}{told}end {packets}\n".encode("latin-1")
-    return Run(name, REPLAY, stream, record.encode("ascii"), stdout, b"", 0)
+        modules.insert(0, (1, BML, resource.encode("latin-1")))
+    away = [(1, BML, b"-")] if resource == "" else []
+    lines = "".join(f"module 40 {number:04x} 01 {len(data)}\n" for number, _, data in modules)
+    return run_of_sections(name, carousel_sections(modules, away), lines + told, record)
 
 
 def escaped(text):

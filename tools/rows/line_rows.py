@@ -8,9 +8,9 @@ in gen_rows.py.
 
 from pathlib import Path
 
+from sent_modules import REPLAY
 from tables import Run
 
-REPLAY = ["replay", "--data-pid", "256", "stream.ts", "record.txt"]
 USAGE = Path(__file__).resolve().parents[2] / "examples" / "usage" / "stderr"
 
 # Each of them is an item, a line that asks for nothing, or bad.

@@ -7,10 +7,9 @@ section by section, by the rules of docs/FORMATS.md, "Modules".
 
 from typing import NamedTuple
 
-from tables import Run
-from transport import Module, ddb_section, dii_section, packets_of_sections
+from sent_modules import run_of_sections
+from transport import Module, ddb_section, dii_section
 
-DATA_PID = 256
 ROWS, SECTIONS = 20, 60
 BLOCK_SIZE = 4
 # The modules of each DII, by its transaction: the second has another version of module 2, and
@@ -107,10 +106,7 @@ def runs():
         for _ in range(SECTIONS):
             seed = (seed * 1_664_525 + 1_013_904_223) % 2**32
             sent = SENT[(seed >> 16) % len(SENT)]
-            sections.append((DATA_PID, sent.section()))
+            sections.append(sent.section())
             lines += counted.lines_of(sent)
-        stream, packets = packets_of_sections(sections)
-        arguments = ["replay", "--data-pid", str(DATA_PID), "stream.ts", "record.txt"]
-        stdout = "".join([*lines, f"end {packets}\n"]).encode("ascii")
-        found.append(Run(f"order {row + 1}", arguments, stream, b"all\n", stdout, b"", 0))
+        found.append(run_of_sections(f"order {row + 1}", sections, "".join(lines), "all\n"))
     return found

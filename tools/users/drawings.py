@@ -17,6 +17,16 @@ OTHER = (128, 128, 128, 255)
 MOST_NAME = 100  # characters of a name that are shown
 # A rounded gothic with half widths, as receivers have; then what other systems have, and whatever this one has.
 FONTS = "'Rounded M+ 1m for ARIB','Rounded Mgen+ 1m','Kosugi Maru',MotoyaLMaru,HGMaruGothicMPRO,'Hiragino Maru Gothic ProN','Noto Sans Mono CJK JP','MS Gothic',monospace"
+NO_FONT = "This system has no Japanese font, so that texts can't be read here. On Debian the package fonts-noto-cjk has one."
+# For the script of a page: it shows the element `fonts` where one sign stands for whatever is Japanese.
+FONT_SCRIPT = """function inked(letter) {
+  const canvas = document.createElement("canvas"), pen = canvas.getContext("2d");
+  pen.font = "24px monospace";
+  pen.fillText(letter, 0, 24);
+  return canvas.toDataURL();
+}
+document.querySelector("#fonts").hidden = inked("\\u6674") !== inked("\\u8a9e");
+"""
 CHECK = 20  # the side of a square of the ground
 
 
@@ -124,7 +134,9 @@ def row_shapes(cells, right, down, size, paint):
             shapes.append(label(places, down, size, paint, text))
         else:
             fitted = f'textLength="{len(run) * size / 2:g}" lengthAdjust="spacingAndGlyphs" {paint}'
-            shapes.append(label(f"{left:g}", down, size, fitted, text))
+            # (spaces at its ends stay)
+            kept = ' xml:space="preserve"' if " " in (text[0], text[-1]) or "  " in text else ""
+            shapes.append(label(f"{left:g}", down, size, fitted + kept, text))
     return shapes
 
 
@@ -144,13 +156,13 @@ class Pen:
             if place > 0:
                 self.right, self.down = 0, self.down + size
             cells = cells_of(row)
-            if paint and size:
-                drawn += row_shapes(cells, self.right, self.down + size - size // 5, size, paint)
+            if paint and size > 0:
+                drawn += row_shapes(cells, self.right, self.down + size - size // 8, size, paint)
             self.right += sum(1 + cell.is_wide for cell in cells) * size / 2
         if not drawn:
             return []
         # a box without a size cuts nothing: its text is still to be seen
-        frame = f'width="{width or self.look.width}" height="{height or self.look.height}"'
+        frame = f'width="{width if width > 0 else self.look.width}" height="{height if height > 0 else self.look.height}"'
         return [f'<svg x="{x}" y="{y}" {frame}>', *drawn, "</svg>", *self.look.noted(x, y, number)]
 
 
@@ -160,7 +172,7 @@ def picture(fields, look):
     try:
         found = look.picture(unescaped(name))
         # (an object without a size has that of its picture)
-        sides = (width, height) if width and height else (found.width, found.height)
+        sides = (width, height) if width > 0 and height > 0 else (found.width, found.height)
         return [look.image(found, f'x="{x}" y="{y}" width="{sides[0]}" height="{sides[1]}"')]
     except BadPicture as bad:
         told = " ".join([readable(unescaped(kind))[:MOST_NAME], readable(unescaped(name))[:MOST_NAME], *([f"({bad})"] if str(bad) else [])])
@@ -206,7 +218,7 @@ def shapes_of(lines, look):
 
 
 def ground(width, height):
-    """What is behind the display, where a receiver has the programme's picture: squares of two greys, in two paths whose dashes they are."""
+    """What is behind the display, where a receiver has the programme's picture: squares of two greys, of which the lighter ones are the dashes of a path."""
     rows = [f"M{number % 2 * CHECK} {number * CHECK + CHECK // 2}H{width}" for number in range(-(-height // CHECK))]
     squares = f'fill="none" stroke="#4a5464" stroke-width="{CHECK}" stroke-dasharray="{CHECK} {CHECK}"'
     return [rectangle(0, 0, width, height, 'fill="#3c4654"'), f'<path d="{"".join(rows)}" {squares}/>']
@@ -217,5 +229,5 @@ def drawing(clock, shapes, look):
     # (the plane may have other proportions than the screen: then its pixels aren't square)
     height = round(look.width / look.ratio)
     head = f'<svg xmlns="http://www.w3.org/2000/svg" width="{look.width}" height="{height}" viewBox="0 0 {look.width} {look.height}"'
-    head += f' preserveAspectRatio="none" font-family="{FONTS}" style="font-variant-emoji:text" xml:space="preserve">'
+    head += f' preserveAspectRatio="none" font-family="{FONTS}" style="font-variant-emoji:text">'
     return "\n".join([head, f"<title>show {clock}</title>", *ground(look.width, look.height), *shapes, "</svg>"]) + "\n"

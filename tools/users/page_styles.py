@@ -13,7 +13,9 @@ PROPERTIES = ("clut", "resolution", "display-aspect-ratio")
 NAME = rb"[A-Za-z_][A-Za-z0-9_.:-]*"
 START = re.compile(rb"<(" + NAME + rb")((?:[ \t\r\n]+" + NAME + rb"[ \t\r\n]*=[ \t\r\n]*(?:\"[^\"<]*\"|'[^'<]*'))*)[ \t\r\n]*(/?)>")
 ATTRIBUTE = re.compile(rb"(" + NAME + rb")[ \t\r\n]*=[ \t\r\n]*(?:\"([^\"]*)\"|'([^']*)')")
-SELECTOR = re.compile(r"(\*|[A-Za-z_][A-Za-z0-9_-]*)?(?:([.#])([A-Za-z_][A-Za-z0-9_-]*))?")
+WORD = "[A-Za-z_][A-Za-z0-9_-]*"
+SELECTOR = re.compile(rf"(?=[*.#A-Za-z_])(?:\*|({WORD})?(?:([.#])({WORD}))?)(:(?:focus|active))?", re.IGNORECASE)
+COMMENT = re.compile(r"/\*.*?(?:\*/|\Z)", re.DOTALL)
 ADDRESS = re.compile(r"url\([ \t\r\n]*(?:\"([^\"]*)\"|'([^']*)'|([^\"'()]*?))[ \t\r\n]*\)", re.IGNORECASE)
 WHITE = re.compile("[ \\t\\n\\r]*")
 BRACES = re.compile("[;{}]")
@@ -80,9 +82,9 @@ def elements_of(document):
 
 
 def declarations_of(text):
-    """Returns the declarations of a rule that are of use here, in their order."""
+    """Returns the declarations of a rule or of an inline text that are of use here, in their order."""
     found = []
-    for declaration in text.split(";"):
+    for declaration in COMMENT.sub(" ", text).split(";"):
         name, _, value = declaration.partition(":")
         if name.strip().lower() in PROPERTIES and value.strip():
             found.append((name.strip().lower(), value.strip()))
@@ -91,7 +93,7 @@ def declarations_of(text):
 
 def rules_of(sheet):
     """Yields the selectors and the declarations of each rule of a style text."""
-    sheet, at = re.sub(r"/\*.*?(?:\*/|\Z)", " ", sheet, flags=re.DOTALL), 0
+    sheet, at = COMMENT.sub(" ", sheet), 0
     while True:
         at = WHITE.match(sheet, at).end()
         if sheet.startswith("@", at):
@@ -119,7 +121,7 @@ def behind_at_rule(sheet, at):
 def weight_of(selector, element):
     """Returns how specific a selector is, where the element matches it in its normal state, and else None."""
     found = SELECTOR.fullmatch(selector.strip())
-    if not found or not selector.strip() or found[1] not in (None, "*", element.name):
+    if found[4] or found[1] not in (None, element.name):
         return None
     has = {".": element.attributes.get("class", "").split(), "#": [element.attributes.get("id")], None: [None]}
     if found[3] not in has[found[2]]:
@@ -127,11 +129,17 @@ def weight_of(selector, element):
     return found[2] == "#", found[2] == ".", found[1] == element.name
 
 
+def sheet_of(element, resource):
+    """Returns the style text of an element, which is empty where it has none."""
+    if element.name == "link" and "href" in element.attributes:
+        return resource(element.attributes["href"]).decode("latin-1")
+    return element.text
+
+
 def styles_of(document, resource):
     """Returns the values that the styles of a document give the properties of the whole display; resource gives the bytes that a text names."""
     elements = elements_of(document)
-    sheets = [it.text if it.name == "style" else resource(it.attributes["href"]).decode("latin-1") for it in elements if it.name == "style" or (it.name == "link" and "href" in it.attributes)]
-    rules = [rule for sheet in sheets for rule in rules_of(sheet)]
+    rules = [rule for it in elements for rule in rules_of(sheet_of(it, resource))]
     values = {}
     for element in [next((it for it in elements if it.name == name), None) for name in reversed(WHOLE)]:
         if element:
@@ -143,6 +151,8 @@ def values_of(element, rules):
     """Returns the values of an element: its inline style counts first, then the most specific declaration, of equal ones the last."""
     weights, values = {}, {}
     for selectors, declarations in rules:
+        if not all(SELECTOR.fullmatch(it.strip()) for it in selectors):
+            continue
         matching = [weight for it in selectors if (weight := weight_of(it, element)) is not None]
         for name, value in declarations if matching else []:
             if max(matching) >= weights.get(name, (False, False, False)):

@@ -40,12 +40,12 @@ from pathlib import Path
 from typing import NamedTuple
 
 from diagnosis import diagnose, explained, refusal_of_stream
-from drawings import BadOutput, DisplayList, Look, display_lists, drawing, shapes_of
+from drawings import FONT_SCRIPT, NO_FONT, BadOutput, DisplayList, Look, display_lists, drawing, shapes_of
 from report import KEYS, items_of, kind_of, page, plain_text, policy, report_of_lines
 from shown_pages import Follower, Recording, add_service, number
 
 TOOLS = Path(__file__).resolve().parent
-PAGE = (TOOLS / "remote.html").read_text(encoding="utf-8")
+PAGE = (TOOLS / "remote.html").read_text(encoding="utf-8").replace("FONT_SCRIPT", FONT_SCRIPT).replace("NO_FONT", NO_FONT)
 PROGRAM = TOOLS.parents[1] / "build" / "bml_replay"
 FIRST_RECORD = b"# begun by tools/users/remote.py\nall\nshow\n"
 LIMIT = 600  # seconds for a replay

@@ -30,7 +30,7 @@ from pathlib import Path
 from typing import NamedTuple
 
 from diagnosis import diagnose, fault_of_output
-from drawings import BadOutput, DisplayList, data_address, display_lists, drawing, numbers, rectangle, shapes_of
+from drawings import FONT_SCRIPT, NO_FONT, BadOutput, DisplayList, data_address, display_lists, drawing, numbers, rectangle, shapes_of
 from pictures import BadPicture
 from shown_pages import Follower, Recording, add_service
 
@@ -49,7 +49,6 @@ KINDS = ["module", "gone", "skip", "load", "refuse", "badscript", "stop", "lost"
 KEYS = {1: "up", 2: "down", 3: "left", 4: "right", 18: "enter", 19: "back", 20: "data", 21: "blue", 22: "red", 23: "green", 24: "yellow"}
 KEYS |= {5 + digit: str(digit) for digit in range(10)}
 
-NO_FONT = "This system has no Japanese font, so that texts can't be read here. On Debian the package fonts-noto-cjk has one."
 STYLE = """
 body{font:15px/1.5 sans-serif;margin:0 auto;padding:0 1em 4em;max-width:1080px;color:#202428;background:#fff}
 h1{font-size:1.5em}h2{font-size:1.2em;margin:2em 0 .5em}h3{font-size:1em;margin:1.5em 0 .3em}
@@ -58,7 +57,7 @@ table{border-collapse:collapse}td,th{text-align:left;padding:.1em .8em;border-bo
 .lines p[data-at]::after{content:attr(data-at);float:right;color:#687078;margin-left:2em}.lines p[id]::before{content:attr(id);display:inline-block;min-width:5em;color:#687078}
 .stop,.lost,.badscript,.refuse,.skip{background:#fff0d0}.new{background:#f8e0f8}.was{color:#687078;text-decoration:line-through}
 section{content-visibility:auto;contain-intrinsic-size:auto 400px;border-top:1px solid #d8dce0}
-section svg{width:100%;max-width:640px;height:auto;display:block;margin:.5em 0}
+section > svg{width:100%;max-width:640px;height:auto;display:block;margin:.5em 0}
 nav{position:sticky;top:0;background:#fff;padding:.6em 0;border-bottom:2px solid #202428;z-index:1}
 #pictures{position:absolute;width:0;height:0}input,select{font:inherit}#part{width:5em}section{scroll-margin-top:4em}p[id]{scroll-margin-top:5em}small{color:#586068}[hidden]{display:none!important}
 """
@@ -80,19 +79,12 @@ function filter() {
   }
   found.textContent = all ? "" : count + " of " + lines.length + " lines";
 }
-function inked(letter) {
-  const canvas = document.createElement("canvas"), pen = canvas.getContext("2d");
-  pen.font = "24px monospace";
-  pen.fillText(letter, 0, 24);
-  return canvas.toDataURL();
-}
-// (a font without Japanese has one sign for all that it lacks)
-document.querySelector("#fonts").hidden = inked("\u6674") !== inked("\u8a9e");
 let waiting = 0;
 text.addEventListener("input", () => { clearTimeout(waiting); waiting = setTimeout(filter, 200); });
 kind.addEventListener("change", filter);
 document.querySelector("#part").addEventListener("change", event => { location.hash = "P" + event.target.value; });
 """
+SCRIPT += FONT_SCRIPT
 
 
 class Part(NamedTuple):
@@ -303,12 +295,12 @@ def module_table(report, places, moments):
         times = []
         if moments:
             packet, _ = moments[it.line - 1]
-            packets, times = f"{packet:,}", [report.recording.clock.told(packet)]
+            packets, times = f"{packet:,}", list(filter(None, [report.recording.clock.told(packet)]))
         when = [link(it.line), it.part, packets, *times, between(report.parts[it.part - 1])]
         rows.append([order, *(escape(cell) for cell in it[:3]), f"{it.size:,}", *when, state])
     total = sum(it.size for it in came)
     head = [f"<h2>Modules</h2><p>Modules that came: {len(came):,}, with {total:,} bytes together.</p>"]
-    times = ["stream time"] if moments else []
+    times = ["stream time"] if moments and report.recording.clock.times else []
     heads = ["", "component", "module", "version", "bytes", "line", "part", "packets", *times, "clock (ms)", "at the end"]
     return head + (table(heads, rows) if rows else [])
 

@@ -11,8 +11,10 @@ module as it was, and what is drawn is what came. Tested, and not proved.
 
 import re
 from bisect import bisect_right
+from itertools import islice
 from typing import NamedTuple
 
+from arib_text import readable
 from colours import FIXED, BadColours, read_colours, with_colours
 from drawings import Look, unescaped
 from entities import BadEntity, resources_of
@@ -22,6 +24,7 @@ from recordings import PacketReader, pid_of
 from service_modules import ServiceModules
 from transport import compression_of, is_intact, read_pmt
 
+SEARCHED_PIECES = 8  # of a stream, for its first clock reference
 MOST_KEPT = 1 << 28  # bytes of modules of a stream
 MOST_PICTURES = 100  # that are remembered
 MOST_NAME = 64  # characters
@@ -66,27 +69,33 @@ class Clock:
     """Times in a stream, by its clock references (ISO/IEC 13818-1, 2.4.3.5), which are counted from the first of them."""
 
     def __init__(self):
-        self.packets, self.times, self.last = [], [], None
+        self.packets, self.times, self.last, self.pid = [], [], 0, None
 
-    def take(self, packet, number):
-        """Takes the clock reference of a packet, where it has one, and says whether it has; a jump counts as no time."""
+    @staticmethod
+    def field_of(packet):
+        """Returns the clock reference of a packet in steps of the clock, or None where it has none."""
         if not (packet[3] & 0x20 and packet[4] >= 7 and packet[5] & 0x10):
-            return False
+            return None
         field = int.from_bytes(packet[6:12], "big")
-        now = (field >> 15) * 300 + (field & 0x1FF)
-        step = 0 if self.last is None else (now - self.last) % CLOCK_END
+        return (field >> 15) * 300 + (field & 0x1FF)
+
+    def take(self, pid, packet, number):
+        """Takes the clock reference of a packet, where it has one; a jump, and a change to another PID, counts as no time."""
+        now = self.field_of(packet)
+        if now is None:
+            return
+        step = (now - self.last) % CLOCK_END if pid == self.pid else 0
         self.times.append((self.times[-1] if self.times else 0) + (step if step <= MOST_STEP else 0))
         self.packets.append(number)
-        self.last = now
-        return True
+        self.last, self.pid = now, pid
 
     def told(self, number):
         """Returns the time at a packet as a text, which is empty where there are no clock references."""
         seconds = self.at(number)
         if seconds is None:
             return ""
-        minutes, seconds = divmod(seconds, 60)
-        return f"{int(minutes) // 60}:{int(minutes) % 60:02}:{seconds:06.3f}"
+        minutes, milliseconds = divmod(round(1000 * seconds), 60_000)
+        return f"{minutes // 60}:{minutes % 60:02}:{milliseconds // 1000:02}.{milliseconds % 1000:03}"
 
     def at(self, number):
         """Returns the seconds at the last clock reference up to a packet, or None where there are no clock references."""
@@ -97,7 +106,13 @@ class Clock:
 class TimedModules(ServiceModules):
     """The modules of a service, with the PID of its clock references."""
 
-    clock_pid = None
+    clock_pid, asked_for = None, (None, None, set())
+
+    def all_wanted(self):
+        """Returns the PIDs of tables, data and clock references."""
+        if self.asked_for[:2] != (self.wanted, self.clock_pid):
+            self.asked_for = self.wanted, self.clock_pid, self.wanted | {self.clock_pid} - {None}
+        return self.asked_for[2]
 
     def take_streams(self, section):
         super().take_streams(section)
@@ -126,22 +141,27 @@ class Recording:
 
     def read(self, progress=lambda read: None):
         """Reads the stream, and tells after each piece how many bytes were read."""
+        modules, clock = self.modules, self.clock
+        modules.clock_pid = first_clock(self.path)
         with open(self.path, "rb") as file:
-            for packets in PacketReader(file, progress).packets():
-                self.take(packets)
+            reader = PacketReader(file, progress)
+            for number, pid, packet in reader.packets_on(modules.all_wanted):
+                if pid in modules.wanted:
+                    modules.take(pid, packet, number)
+                if pid == modules.clock_pid:
+                    clock.take(pid, packet, number)
+        self.packets = reader.count
         return self
 
-    def take(self, packets):
-        modules, clock = self.modules, self.clock
-        for number, packet in enumerate(packets, self.packets + 1):
-            pid = pid_of(packet)
-            if pid in modules.wanted:
-                modules.take(pid, packet, number)
-            if pid == modules.clock_pid:
-                clock.take(packet, number)
-            elif modules.clock_pid is None and clock.take(packet, number):
-                modules.clock_pid = pid
-        self.packets += len(packets)
+
+def first_clock(path):
+    """Returns the PID of the first clock reference near the stream's beginning, or None: that of a service whose tables name none."""
+    with open(path, "rb") as file:
+        for packets in islice(PacketReader(file).packets(), SEARCHED_PIECES):
+            for packet in packets:
+                if Clock.field_of(packet) is not None:
+                    return pid_of(packet)
+    return None
 
 
 class PageLook(Look):
@@ -204,7 +224,8 @@ class Follower:
                 self.taken, self.arrived[at] = place + 1, it
                 self.held[fields[0], fields[1]] = it
                 return
-        self.fault = f"The module of line {at + 1} isn't in the stream at that place: it is another stream, or another service or PID was asked for."
+        why = "it is another stream, or another service or PID was asked for (--service, --data-pid)"
+        self.fault = f"The module of line {at + 1} isn't in the stream at that place: {why}."
 
     def resource(self, path):
         """Returns the bytes at a path, or None where nothing is held there."""
@@ -240,7 +261,8 @@ class Follower:
             try:
                 colours = with_colours(read_colours(table or b""))
             except BadColours as bad:
-                fault = f"the colour table isn't held: {address[:80]}" if table is None else f"the colour table {address[:80]} can't be read: {bad}"
+                name = readable(address.encode("latin-1", errors="replace"))[:MOST_NAME]
+                fault = f"the colour table isn't held: {name}" if table is None else f"the colour table {name} can't be read: {bad}"
         return PageLook(self.values, colours, self.picture, fault)
 
 

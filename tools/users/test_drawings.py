@@ -5,9 +5,14 @@ Where there is a Chromium, the pictures are opened in it too.
 """
 
 import base64
+import contextlib
+import io
 import itertools
 import os
+import random
 import struct
+import subprocess
+import sys
 import tempfile
 import unicodedata
 import unittest
@@ -18,15 +23,33 @@ from xml.etree import ElementTree
 import arib_text
 import browser
 import colours
+import draw_display
 import page_styles
 import pictures
+import report
 from colours import BadColours
 from drawings import Look, display_lists, drawing, shapes_of
-from generated_pages import CLOCK_END, PID, chunk, clock_packet, clut_of, entity_of, jpeg_of, mng_of, png_of, stream_of
+from generated_pages import CLOCK_END, CLOCK_PID, PID, chunk, clock_packet, clut_of, entity_of, jpeg_of, mng_of, png_of, stream_of
 from pictures import BadPicture
 from shown_pages import Clock, Follower, Path as Place, Recording, resolved
 
+EXAMPLE = Path(__file__).resolve().parents[2] / "examples" / "weather"
 SVG = "{http://www.w3.org/2000/svg}"
+
+
+def mutated(chance, data):
+    """Returns bytes of which some are others, or left out, or doubled."""
+    data = bytearray(data)
+    for _ in range(chance.choice([1, 3, 20])):
+        at, other = chance.randrange(len(data)), chance.randrange(len(data))
+        kind = chance.randrange(4)
+        if kind == 0:
+            data[at] = chance.randrange(256)
+        elif kind == 1:
+            del data[at : at + chance.randrange(1, 60)]
+        else:
+            data[at : at + (8 if kind == 2 else 0)] = data[other : other + 8]
+    return bytes(data)
 
 
 class Colours(unittest.TestCase):
@@ -57,7 +80,8 @@ class Colours(unittest.TestCase):
             self.assertEqual(it[3], 9)
 
     def test_what_is_no_table_is_told(self):
-        rows = [b"", b"\xa8", b"\xa8\x01", b"\xa8\x05\x04" + bytes(8), b"\xe8" + bytes(20), b"\xb8\0\0", b"\xa8\x01\x02", b"\xa8\x01\x02\1\2\3", b"\xc8\x01\x00\x01\x01" + bytes(99)]
+        rows = [b"", b"\xa8", b"\xa8\x01", b"\xa8\x05\x04" + bytes(8), b"\xe8" + bytes(20), b"\xb8\0\0", b"\xa8\x01\x02", b"\xa8\x01\x02\1\2\3"]
+        rows.append(b"\xc8\x01\x00\x01\x01" + bytes(99))
         for data in rows:
             with self.assertRaises(BadColours):
                 colours.read_colours(data)
@@ -134,6 +158,8 @@ class Styles(unittest.TestCase):
             ("<style>#x{clut:url(a)} .y{clut:url(b)} body.y{clut:url(c)}</style>", ' id="x" class="z y"', "", "url(a)"),
             ("<style>.y{clut:url(b)} body{clut:url(c)} p, .y , q{CLUT : url(d)}</style>", " class='z y'", "", "url(d)"),
             ("<style>body:focus{clut:url(a)} p body{clut:url(b)} body#z{clut:url(c)} BODY{clut:url(d)}</style>", ' id="x"', "", None),
+            ("<style>body{clut:url(a)} body, {clut:url(b)} body, p q{clut:url(c)} body, p:active{clut:url(d)} body:hover, body{clut:url(e)} :focus, body{clut:url(f)} *.x, body{clut:url(g)}</style>", "", "", "url(d)"),
+            ("<style>body{clut:url(a)}</style>", ' style="/* clut:url(b); */ clut: url(c)/* */"', "", "url(c)"),
             ("<style>body{clut:url(a)}</style>", ' style="left:0px; clut:url(/40/0000/x.clut); top:1px"', "", "url(/40/0000/x.clut)"),
             ("<style>bml{clut:url(a)}</style>", "", ' id="b"', "url(a)"),
             ("<style>bml{clut:url(a)} body{clut:url(b)}</style>", "", ' style="clut:url(c)"', "url(b)"),
@@ -189,17 +215,18 @@ class Texts(unittest.TestCase):
             self.assertEqual(("".join(it.text for it in cells), "".join("-#"[it.is_wide] for it in cells)), (text, widths))
 
     def test_each_character_has_its_place(self):
-        data = b"ab\xa4\xa2\xa4\xa4\xfa\xd0c"
+        data = b"a \xa4\xa2\xa4\xa4\xfa\xd0c"
         lines = [b"text 5 6 400 90 7 24 " + data, b"text 5 6 400 90 2 20 \xa4\xa6%0Ad"]
         root = ElementTree.fromstring(drawing(0, shapes_of(lines, Look()), Look()))
         found = [[it.get("x"), it.get("y"), it.get("textLength"), it.text] for it in root.iter(f"{SVG}text")]
-        wide = [["24 48", "20", None, "\u3042\u3044"], ["72", "20", None, "\U0001f14a"]]
-        self.assertEqual(found, [["0", "20", "24", "ab"], *wide, ["96", "20", "12", "c"], ["108", "16", None, "\u3046"], ["0", "36", "10", "d"]])
+        wide = [["24 48", "21", None, "\u3042\u3044"], ["72", "21", None, "\U0001f14a"]]
+        self.assertEqual(found, [["0", "21", "24", "a "], *wide, ["96", "21", "12", "c"], ["108", "18", None, "\u3046"], ["0", "38", "10", "d"]])
 
     def test_long_texts_and_sizes_of_nothing(self):
-        lines = [b"text 0 0 9 9 7 24 " + b"\xa4\xa2a" * 10_000, b"text 0 0 9 9 7 0 x", b"text 0 0 9 9 7 32767 x"]
+        lines = [b"text 0 0 9 9 7 24 " + b"\xa4\xa2a" * 10_000, b"text 0 0 9 9 7 0 x", b"text 0 0 9 9 7 -5 x", b"text 0 0 -9 -9 7 32767 x"]
         shapes = shapes_of(lines, Look())
         self.assertLess(sum(map(len, shapes)), 4_000_000)
+        self.assertNotIn('="-', "".join(shapes))
 
 
 class InFolder(unittest.TestCase):
@@ -284,6 +311,10 @@ class Following(InFolder):
         self.assertLess(max(map(len, texts)), 250)
         self.assertEqual(os.listdir(self.folder), ["stream.ts"])
 
+    def test_a_name_is_no_command_to_a_terminal(self):
+        look = self.look({"startup.bml": b'<bml><body style="clut:url(\x1b[31m&amp;\x9b)"></body></bml>'})
+        self.assertEqual(look.fault, "the colour table isn't held: \u241b[31m&\ufffd")
+
     def test_resources_of_their_own_and_tables_are_followed(self):
         page = b'<bml><body style="clut:url(/40/0000)"></body></bml>'
         data = stream_of([(b"text/X-arib-bml", page)], with_tables=True)
@@ -295,18 +326,75 @@ class Following(InFolder):
         self.assertEqual(self.recording(b"").packets, 0)
 
 
+class Example(InFolder):
+    """Tests over the example weather: its own files, and the lines that it wants."""
+
+    def test_its_pictures_are_those_that_its_script_draws(self):
+        subprocess.run([sys.executable, "-B", EXAMPLE / "draw_pictures.py", self.folder], check=True, timeout=120)
+        made = sorted(os.listdir(self.folder))
+        self.assertEqual(made, sorted(it.name for it in EXAMPLE.iterdir() if it.suffix in (".png", ".clut")))
+        for name in made:
+            one, other = (Path(folder, name).read_bytes() for folder in (self.folder, EXAMPLE))
+            if name.endswith(".png"):
+                # (how zlib looks for repeats changes with its version)
+                one, other = ([zlib.decompress(body) if kind == b"IDAT" else body for kind, body in itertools.islice(pictures.chunks_of(it), 3)] for it in (one, other))
+            self.assertEqual(one, other, name)
+
+    def test_it_is_drawn_in_its_colours_with_its_pictures(self):
+        output = (EXAMPLE / "stdout").read_bytes().split(b"\n")
+        drawn, faults = draw_display.drawings(output, Recording(EXAMPLE / "stream.ts").read())
+        self.assertEqual((len(drawn), faults), (2, []))
+        shown = [ElementTree.fromstring(it) for it in drawn]
+        self.assertEqual([len(list(it.iter(f"{SVG}image"))) for it in shown], [4, 4])
+        self.assertEqual(len({image.get("href") for it in shown for image in it.iter(f"{SVG}image")}), 5)
+        fills = {it.get("fill"): it.get("fill-opacity") for it in shown[0].iter(f"{SVG}rect")}
+        self.assertEqual([fills.get(it, "none") for it in ("#0c1430", "#ec7a22", "#14245c", "#808080")], ["0.69", None, None, "none"])
+        texts = ["".join(it.text for it in root.iter(f"{SVG}text")) for root in shown]
+        for wanted in ("\u304a\u5929\u6c17\u2600", "12\u67081\u65e5\u322b", "\u82b1\u7c89\uff76\uff8c\uff9d"):
+            self.assertIn(wanted, texts[0])
+        self.assertIn("\u5927\u962a \u96e8 \u964d\u6c34\u78ba\u7387 80% \u6700\u9ad8 9\u2103", texts[1])
+
+    def test_the_tool_writes_its_drawings(self):
+        words = [sys.executable, "-B", draw_display.__file__, EXAMPLE / "stdout", f"{self.folder}/made", "--stream", EXAMPLE / "stream.ts"]
+        ran = subprocess.run(words, capture_output=True, check=True, timeout=120)
+        self.assertEqual((ran.stdout, ran.stderr, sorted(os.listdir(f"{self.folder}/made"))), (b"2 display lists drawn\n", b"", ["show-1.svg", "show-2.svg"]))
+        ran = subprocess.run([*words, "--service", "7"], capture_output=True, check=True, timeout=120)
+        self.assertIn("another service or PID was asked for", ran.stderr.decode())
+
+
+class Mutations(InFolder):
+    def test_no_input_ends_a_tool_with_a_trace_or_writes_elsewhere(self):
+        chance = random.Random(58)
+        lines, stream = (EXAMPLE / "stdout").read_bytes(), (EXAMPLE / "stream.ts").read_bytes()
+        rows = [(mutated(chance, lines), stream) for _ in range(15)] + [(lines, mutated(chance, stream)) for _ in range(15)]
+        statuses = set()
+        for output, data in rows:
+            Path(f"{self.folder}/output").write_bytes(output)
+            Path(f"{self.folder}/stream.ts").write_bytes(data)
+            for tool in (draw_display, report):
+                with contextlib.redirect_stdout(io.StringIO()), contextlib.redirect_stderr(io.StringIO()):
+                    statuses.add(tool.main([f"{self.folder}/output", f"{self.folder}/made", "--stream", f"{self.folder}/stream.ts"]))
+            for name in os.listdir(f"{self.folder}/made") if os.path.exists(f"{self.folder}/made") else []:
+                if name.endswith(".svg"):
+                    ElementTree.parse(f"{self.folder}/made/{name}")
+                self.assertRegex(name, r"\A(show-[0-9]+\.svg|report\.html)\Z")
+            self.assertLessEqual({*os.listdir(self.folder)}, {"output", "stream.ts", "made"})
+        self.assertEqual(statuses, {0, 1})
+
+
 class Clocks(unittest.TestCase):
     def test_times_go_on_past_the_end_of_the_clock_and_jumps(self):
         clock, start = Clock(), CLOCK_END - 27_000_000
         self.assertEqual(clock.at(5), None)
         for number, ticks in ((3, start), (5, start + 13_500_000), (9, start + 54_000_000), (10, 5), (12, 27_000_005)):
-            self.assertTrue(clock.take(clock_packet(ticks), number))
-        self.assertFalse(clock.take(bytes([0x47, 1, 0, 0x10]) + bytes(184), 13))
-        self.assertFalse(clock.take(bytes([0x47, 1, 0, 0x30, 183, 0]) + bytes(182), 13))
+            clock.take(CLOCK_PID, clock_packet(ticks), number)
+        for packet in (bytes([0x47, 1, 0, 0x10]) + bytes(184), bytes([0x47, 1, 0, 0x30, 183, 0]) + bytes(182)):
+            clock.take(CLOCK_PID, packet, 13)
+        clock.take(7, clock_packet(27_000_005 + 999), 20)
         self.assertEqual([clock.at(it) for it in (1, 3, 4, 5, 8, 9, 10, 11, 12, 99)], [0, 0, 0, 0.5, 0.5, 2, 2, 2, 3, 3])
         self.assertEqual([clock.told(it) for it in (5, 12)], ["0:00:00.500", "0:00:03.000"])
         clock.times[-1] = 7384 * 27_000_000
-        self.assertEqual((clock.told(12), Clock().told(1)), ("2:03:04.000", ""))
+        self.assertEqual((clock.told(20), Clock().told(1)), ("2:03:04.000", ""))
 
 
 @unittest.skipUnless(browser.program(), "there is no Chromium")

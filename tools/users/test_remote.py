@@ -405,6 +405,13 @@ class InBrowser(OverExample):
         self.assertEqual(page.value("document.querySelectorAll('#picture text').length"), 1)
         page.key("u", 85, "u")
         page.wait("fault.textContent === ''")
+        for stop in (lambda: page.value("document.querySelector('#stop').click()"), lambda: page.key("Escape", 27)):
+            page.key("b", 66, "b")
+            page.wait("document.querySelector('#stop').checkVisibility() && document.querySelector('#doing').textContent.startsWith('replaying')")
+            stop()
+            page.wait("fault.textContent.startsWith('The replay was stopped.') && !document.querySelector('#stop').checkVisibility()")
+            page.key("u", 85, "u")
+            page.wait("fault.textContent === ''")
         self.assertEqual(self.started.errors, [])
 
     def test_the_page_is_driven_by_its_keys(self):
@@ -447,7 +454,11 @@ class InBrowser(OverExample):
         self.assertTrue(page.value("record.textContent").endswith("packets 5\nshow\n# 6 packets\npackets 6\nshow\n"))
         shown = page.value("[picture, picture.querySelector('svg')].map(it => it.getBoundingClientRect()).map(it => it.width / it.height)")
         self.assertTrue(all(abs(it - 16 / 9) < 0.01 for it in shown), shown)
+        # (a text's box cuts it at its own edges)
+        cut = "getComputedStyle(document.querySelector('%s svg svg')).width"
+        self.assertIn(page.value(cut % "#picture"), ("auto", "200px"))
         opened = self.started.open(page.value("document.querySelector('#report').href"))
+        self.assertIn(opened.value(cut % "section"), ("auto", "200px"))
         self.assertEqual(opened.value("document.querySelectorAll('section').length"), 3)
         opened.value("kind.value = 'text'; kind.dispatchEvent(new Event('change'))")
         self.assertIn(" of ", opened.value("found.textContent"))

@@ -251,7 +251,7 @@ class Reports(InFolder):
 class InBrowser(InFolder):
     def test_reports_of_examples_open(self):
         with browser.Browser() as started:
-            for name in ("menu-keys", "styles", "document"):
+            for name in ("menu-keys", "styles", "document", "weather"):
                 with self.subTest(name):
                     self.opens(started, EXAMPLES / name)
             self.no_text_acts(started)
@@ -264,7 +264,9 @@ class InBrowser(InFolder):
         if PROGRAM:
             ran = subprocess.run([PROGRAM, *words], cwd=example, capture_output=True, check=True, timeout=60)
             lines = ran.stdout.splitlines()
-        self.report(lines, "--record", str(example / "record.txt"), "--stream", str(example / "stream.ts"))
+        # (the run's own option, between `replay` and the two files)
+        html = self.report(lines, "--record", str(example / "record.txt"), "--stream", str(example / "stream.ts"), *words[1:-2])
+        self.assertNotIn("another service or PID was asked for", html)
         page = started.open(f"file://{self.folder}/made/report.html")
         found = drawings.display_lists(lines)
         drawn = [it for at, it in enumerate(found) if it.lines != (found[at - 1].lines if at else [])]
@@ -274,7 +276,7 @@ class InBrowser(InFolder):
         self.assertIn(page.value("document.querySelector('#fonts').hidden"), [True, False] if has_font is None else [has_font])
         self.assertEqual(page.value("[...document.querySelectorAll('section > svg')].every(it => it.getBoundingClientRect().height > 300)"), True)
         texts = page.value("[...document.querySelectorAll('section > svg text')].map(it => it.textContent).join('')")
-        for text in {"menu-keys": ["Weather", "picked 1"], "styles": ["gale", "storm"], "document": ["Osaka: 晴れ, 21%"]}[example.name]:
+        for text in {"menu-keys": ["Weather", "picked 1"], "styles": ["gale", "storm"], "document": ["Osaka: 晴れ, 21%"], "weather": ["お天気☀"]}[example.name]:
             self.assertIn(text, texts)
         self.filters(page, len(lines))
 
