@@ -13,7 +13,7 @@ lists them in the order in which they were whole: component, module, version, ty
 counted from 1. It shows pictures and texts. A line `module cc mmmm vv size PLACE` is printed for each.
 
 What names a part comes from a broadcast: see `safe_name` for what becomes of it. A name that a browser would run has `.txt` behind it. At most
-4 GB and 100,000 files are written, and the page has at most 5,000 rows. Status: 0 where it was done, 1 where IN has no packets or no module
+4 GB, 100,000 files and 200,000 modules are written, and the page has at most 5,000 rows. Status: 0 where it was done, 1 where IN has no packets or no module
 comes, or a file can't be read or written, 2 where the command line is none of the above. This tool is tested, and not proved.
 """
 
@@ -37,6 +37,7 @@ NAME = "extract.py"
 MOST_BYTES = 4_000_000_000  # that are written
 MOST_FILES = 100_000
 MOST_ROWS = 5_000  # of the page
+MOST_MODULES = 200_000  # that are noted; more aren't written
 MOST_SHOWN = 4_000_000  # characters of all texts on the page together
 MOST_OF_A_TEXT = 20_000
 MOST_NAME_BYTES = 100  # of a file
@@ -141,7 +142,7 @@ class Folder:
         self.rows = []
         self.skips = []
         self.places = {}  # of each version of a module: where it is, by the digest of its bytes
-        self.bytes = self.files = self.shown = 0
+        self.bytes = self.files = self.shown = self.left = 0
 
     def check(self):
         """Refuses a place where something is."""
@@ -149,10 +150,14 @@ class Folder:
             raise Fault(f"{self.place} is there and isn't an empty folder: name another")
 
     def take_skip(self, skip):
-        self.skips.append(skip)
+        if len(self.skips) < MOST_ROWS:
+            self.skips.append(skip)
 
     def take_arrival(self, arrival):
         """Writes a module, and prints its line."""
+        if len(self.rows) >= MOST_MODULES:
+            self.left += 1
+            return
         component, module, data = arrival.component, arrival.module, arrival.data
         same = self.places.setdefault((component, module.number, module.version), {})
         digest = hashlib.sha256(data + bytes([arrival.fault is None])).digest()
@@ -262,11 +267,13 @@ def page_parts(folder, source, told):
     for order, row in enumerate(folder.rows[:MOST_ROWS], 1):
         yield row_html(folder.place, order, row)
     yield "</table>"
+    if folder.left:
+        yield f'<p class="fault">{folder.left:,} modules that came behind the first {MOST_MODULES:,} aren\'t written.</p>'
     if len(folder.rows) > MOST_ROWS:
         yield f"<p>{len(folder.rows) - MOST_ROWS:,} more aren't on this page; their files are in the folder.</p>"
     if folder.skips:
         yield "<h2>Modules that weren't taken</h2><table><tr><th>component</th><th>module</th><th>version</th><th>packet</th><th>why</th></tr>"
-        for skip in folder.skips[:MOST_ROWS]:
+        for skip in folder.skips:
             module, why = skip.module, ("compressed: " if compression_of(skip.module.info) else "") + skip.fault
             cells = [f"{skip.component:02x}", f"{module.number:04x}", f"{module.version:02x}", f"{skip.packet:,}", escape(why)]
             yield "<tr>" + "".join(f"<td>{cell}</td>" for cell in cells) + "</tr>"

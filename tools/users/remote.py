@@ -49,6 +49,8 @@ PAGE = (TOOLS / "remote.html").read_text(encoding="utf-8").replace("FONT_SCRIPT"
 PROGRAM = TOOLS.parents[1] / "build" / "bml_replay"
 FIRST_RECORD = b"# begun by tools/users/remote.py\nall\nshow\n"
 LIMIT = 600  # seconds for a replay
+# So many seconds may a replay take before it is said that the stream can be cut, if it has so many bytes.
+LONG, LARGE = 1, 10_000_000
 PATIENCE = 2  # seconds in which a stream is read before its first picture is drawn
 MOST_MILLISECONDS = 3_600_000
 MOST_PACKETS = (1 << 32) - 1
@@ -234,7 +236,7 @@ class Session:
         self.printed = []  # for the record before each press that is in it, and for the whole one; None where a replay failed
         self.shown = None  # of the last replay that didn't fail
         self.drawn, self.drawn_with, self.has_waited = None, None, False
-        self.running = None
+        self.running, self.seconds = None, 0
         self.lock = threading.Lock()
         # (whoever asks for the state waits for the first replay, and may ask how far it is)
         self.lock.acquire()
@@ -279,7 +281,7 @@ class Session:
             self.fail(str(fault))
         except (BadOutput, IndexError):
             self.fail("The program printed a display list that no run prints, or none.")
-        self.running = None
+        self.seconds, self.running = time.monotonic() - self.running.begun, None
 
     def fail(self, fault):
         self.fault = fault + ("\nThe picture is that of the record before." if self.shown else "")
@@ -354,6 +356,14 @@ class Session:
             shown, recording = self.shown, self.recording()
             return page(report_of_lines("Report of a session", shown.lines if shown else [], items_of(self.text()), self.command[-1] if recording else None, recording))
 
+    def proposal(self):
+        """Returns what makes presses quicker, where they take long."""
+        stream = self.command[-1]
+        if self.seconds <= LONG or not os.path.isfile(stream) or os.path.getsize(stream) < LARGE:
+            return ""
+        cut = "tools/users/prepare_recording.py unpack --data-only leaves pictures and sound out, and what it writes replays in a moment."
+        return f" The last press took {self.seconds:.1f} seconds: {cut}"
+
     def why_empty(self):
         """Returns what is to be known of the recording, where nothing is shown."""
         findings = self.reading.findings if self.reading and self.shown and not self.shown.listed.lines else []
@@ -375,7 +385,7 @@ class Session:
                 "drawing": drawn.drawing,
                 "lines": lines,
                 "fault": self.fault or drawn.fault or (self.reading.fault if self.reading else "") or self.why_empty(),
-                "told": told + (f". Clock: {shown.listed.clock} ms" if shown else ""),
+                "told": told + (f". Clock: {shown.listed.clock} ms" if shown else "") + self.proposal(),
                 "record": self.text().decode("ascii", errors="backslashreplace"),
                 "clock": shown.listed.clock if shown else None,
                 "taken": shown.packets if shown else None,
