@@ -51,8 +51,9 @@ class Ended(NamedTuple):
 class Room:
     """A folder with the files of the example, in which the program is run once."""
 
-    def __init__(self, program: str, folder: str) -> None:
-        self.program, self.folder = program, Path(folder)
+    def __init__(self, program: str, folder: str, library: str = "") -> None:
+        """A library may be loaded in front of the C library."""
+        self.program, self.folder, self.library = program, Path(folder), library
         for name in ("stream.ts", "record.txt"):
             shutil.copy(EXAMPLE / name, self.folder / name)
 
@@ -64,17 +65,22 @@ class Room:
             "stderr": subprocess.PIPE,
             **how,
         }
-        ran = subprocess.run([*before, self.program, *words], cwd=self.folder, timeout=LIMIT, check=False, **given)
+        command = [*(before or self.preloaded("env")), self.program, *words]
+        ran = subprocess.run(command, cwd=self.folder, timeout=LIMIT, check=False, **given)
         kept = self.folder / KEPT
         return Ended(
             ran.returncode, ran.stdout or b"", ran.stderr or b"", kept.read_bytes() if kept.is_file() else None
         )
 
+    def preloaded(self, word: str) -> list[str]:
+        """The words that have the program load the library."""
+        return [word, f"LD_PRELOAD={self.library}"] if self.library else []
+
     def interrupted(self, call: str, every: str, paths: tuple[str, ...]) -> Ended:
         """Runs it with some of its calls of a kind interrupted, of those on these files where any are given."""
         injected = ("-e", f"trace={call}", "-e", f"inject={call}:error=EINTR:when={every}")
         of_files = [word for path in paths for word in ("-P", path)]
-        ended = self.run(before=("strace", "-f", "-o", "trace", *of_files, *injected))
+        ended = self.run(before=("strace", *self.preloaded("-E"), "-f", "-o", "trace", *of_files, *injected))
         # (where these files are is what strace says of them)
         return ended._replace(stderr=re.sub(rb"strace: Requested path .*\n", b"", ended.stderr))
 
@@ -233,11 +239,15 @@ def areas() -> Iterator[tuple[str, Case]]:
     yield "a full disk where it is stored", is_stored_not
 
 
-def check(program: str, case: Case) -> str:
+def cases() -> list[tuple[str, Case]]:
+    return [*words(), *outputs(), *reads(), *areas()]
+
+
+def check(program: str, case: Case, library: str = "") -> str:
     """Returns what is wrong with a case, and nothing where it passed."""
     with tempfile.TemporaryDirectory(prefix="edge-") as folder:
         try:
-            return "" if case(Room(program, folder)) else "it ends otherwise"
+            return "" if case(Room(program, folder, library)) else "it ends otherwise"
         except subprocess.TimeoutExpired:
             return f"it takes more than {LIMIT} seconds"
 
@@ -249,7 +259,7 @@ def main() -> int:
     if not os.access(program, os.X_OK):
         print(f"test_edges.py: {program} is no program: build it first", file=sys.stderr)
         return 2
-    told = [(name, check(program, case)) for name, case in [*words(), *outputs(), *reads(), *areas()]]
+    told = [(name, check(program, case)) for name, case in cases()]
     failed = [f"        {name}: {fault}" for name, fault in told if fault]
     beside = "" if can_interrupt() else "; without strace, so no call was interrupted"
     print(f"{'FAILED' if failed else 'ok':7} edges: {len(told) - len(failed)} of {len(told)} cases{beside}")
