@@ -54,8 +54,8 @@ def recording_rows(source, told):
 def target_cells(base, told):
     """Returns the cells of a service: its picture, and what came of it."""
     place, links = f"{base}/{told['folder']}", []
-    links += [f'<a href="{place}/modules/index.html">{told["modules"]:,} modules, {told["bytes"]:,} bytes</a>'] if told["modules"] else []
-    links += [f'<a href="{place}/report.html">report of {told["lines"]:,} lines</a>'] if "lines" in told else []
+    links += [f'<a href="{place}/modules/index.html">modules: {told["modules"]:,}, with {told["bytes"]:,} bytes</a>'] if told["modules"] else []
+    links += [f'<a href="{place}/report.html">report, lines: {told["lines"]:,}</a>'] if "lines" in told else []
     warnings = f'<div class="fault">lines that warn: {told["warnings"]:,}</div>' if told.get("warnings") else ""
     faults = "".join(f'<div class="fault">{escape(it)}</div>' for it in told["faults"])
     loads = "<br>".join(escape(it) for it in told.get("loads", []))

@@ -43,6 +43,8 @@ MOST_CAROUSEL_BYTES = 1 << 25
 MOST_BLOCKS = 1 << 16
 # So many DIIs of a carousel may wait for a module; then it is given up.
 MOST_OPEN = 256
+# So many modules of a PID are listed.
+MOST_LISTED = 100_000
 NULL_PID = 0x1FFF
 NULL_PACKET = packet(NULL_PID, 0, False, b"")
 PCR_FLAG = 0x10
@@ -126,7 +128,12 @@ class Listing:
         elif ddb is not None and ddb.module in self.acquisitions:
             acquisition = self.acquisitions[ddb.module]
             if acquisition.takes(ddb) and acquisition.is_whole():
-                self.whole[acquisition.module] = True
+                self.note(acquisition.module, True)
+
+    def note(self, module, is_whole):
+        """Lists a module, where there is room."""
+        if module in self.whole or len(self.whole) < MOST_LISTED:
+            self.whole[module] = self.whole.get(module) or is_whole
 
     def announce(self, dii):
         before, self.acquisitions = self.acquisitions, {}
@@ -135,7 +142,7 @@ class Listing:
             old = before.get(number)
             kept = old if old is not None and old.key == made.key else made
             self.acquisitions[number] = kept
-            self.whole[module] = self.whole.get(module) or kept.is_whole()
+            self.note(module, kept.is_whole())
 
 
 class ListedComponent:

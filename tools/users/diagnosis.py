@@ -110,7 +110,9 @@ def kind_of(data):
 
 
 def beginning(path):
-    """Returns the beginning of a file."""
+    """Returns the beginning of a file; of what can't be read twice, as a pipe, nothing that has a kind."""
+    if os.path.exists(path) and not os.path.isfile(path) and not os.path.isdir(path):
+        return b"\x00"
     with open(path, "rb") as file:
         return file.read(HEAD)
 
@@ -200,6 +202,8 @@ def survey(file, service=None, data_pid=None, progress=lambda read: None):
 def carousel_pids(path):
     """Returns the PIDs at the beginning of a recording on which a DII or a block of a carousel comes, whether a table names them or not."""
     found, assemblers = set(), {}
+    if not os.path.isfile(path):
+        return []
     with open(path, "rb") as file:
         recording = PacketReader(file)
         for packets in recording.packets():

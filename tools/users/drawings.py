@@ -27,6 +27,7 @@ FONT_SCRIPT = """function inked(letter) {
 }
 document.querySelector("#fonts").hidden = inked("\\u6674") !== inked("\\u8a9e");
 """
+NUMBERS = re.compile(rb"-?[0-9]{1,20}(?: -?[0-9]{1,20})*")
 CHECK = 20  # the side of a square of the ground
 
 
@@ -86,7 +87,7 @@ def unescaped(field):
 
 def numbers(fields, count):
     """The numbers in the first fields of a line."""
-    if len(fields) < count or not all(re.fullmatch(rb"-?[0-9]{1,20}", it) for it in fields[:count]):
+    if not NUMBERS.fullmatch(b" ".join(fields[:count])) or len(fields) < count:
         raise BadOutput("with a line that no run prints")
     return [int(it) for it in fields[:count]]
 

@@ -10,10 +10,10 @@ for. FOLDER has to be new or empty. Each module that is whole is written to it, 
 
 A module that zlib compressed is unpacked. One that has other bytes than before in the same version is 0000.v01.2, and so on. FOLDER/index.html
 lists them in the order in which they were whole: component, module, version, type, bytes, names, and the packet with which it was whole,
-counted from 1. It shows pictures and texts. A line `module cc mmmm vv size PLACE` is printed for each.
+counted from 1. It shows texts, and pictures in their own colours, or in the receivers' common fixed ones where they have none. A line `module cc mmmm vv size PLACE` is printed for each.
 
 What names a part comes from a broadcast: see `safe_name` for what becomes of it. A name that a browser would run has `.txt` behind it. At most
-4 GB and 100,000 files are written, and the page has at most 5,000 rows. Status: 0 where it was done, 1 where IN has no packets or no module
+4 GB, 100,000 files and 200,000 modules are written, and the page has at most 5,000 rows. Status: 0 where it was done, 1 where IN has no packets or no module
 comes, or a file can't be read or written, 2 where the command line is none of the above. This tool is tested, and not proved.
 """
 
@@ -27,8 +27,11 @@ from html import escape
 from pathlib import Path
 from typing import NamedTuple
 
+from colours import FIXED
 from diagnosis import diagnose
+from drawings import data_address
 from entities import BadEntity, Part, resources_of
+from pictures import JPEG, MNG, PNG, BadPicture, picture_of
 from recordings import PacketReader
 from service_modules import ServiceModules
 from transport import compression_of
@@ -37,7 +40,10 @@ NAME = "extract.py"
 MOST_BYTES = 4_000_000_000  # that are written
 MOST_FILES = 100_000
 MOST_ROWS = 5_000  # of the page
+MOST_MODULES = 200_000  # that are noted; more aren't written
 MOST_SHOWN = 4_000_000  # characters of all texts on the page together
+MOST_PICTURES = 1_000  # that are shown
+MOST_EMBEDDED = 10_000_000  # bytes of those that stand in the page
 MOST_OF_A_TEXT = 20_000
 MOST_NAME_BYTES = 100  # of a file
 # The names of what has none, by its media type.
@@ -141,7 +147,7 @@ class Folder:
         self.rows = []
         self.skips = []
         self.places = {}  # of each version of a module: where it is, by the digest of its bytes
-        self.bytes = self.files = self.shown = 0
+        self.bytes = self.files = self.shown = self.left = 0
 
     def check(self):
         """Refuses a place where something is."""
@@ -149,10 +155,14 @@ class Folder:
             raise Fault(f"{self.place} is there and isn't an empty folder: name another")
 
     def take_skip(self, skip):
-        self.skips.append(skip)
+        if len(self.skips) < MOST_ROWS:
+            self.skips.append(skip)
 
     def take_arrival(self, arrival):
         """Writes a module, and prints its line."""
+        if len(self.rows) >= MOST_MODULES:
+            self.left += 1
+            return
         component, module, data = arrival.component, arrival.module, arrival.data
         same = self.places.setdefault((component, module.number, module.version), {})
         digest = hashlib.sha256(data + bytes([arrival.fault is None])).digest()
@@ -210,16 +220,32 @@ class Folder:
         return text + ("\n.." if len(data) > MOST_OF_A_TEXT else "")
 
 
-def picture_kind(data):
-    """Returns what a picture is by its first bytes, where a browser may show it."""
-    if data.startswith(b"\xff\xd8\xff"):
-        return "jpeg"
-    if data.startswith(b"\x89PNG\r\n\x1a\n"):
-        return "png"
-    return None
+class Pictures:
+    """The pictures of a page: how many are shown, and how many bytes of them stand in it."""
+
+    def __init__(self):
+        self.shown = self.embedded = 0
+
+    def html(self, file, data):
+        """Returns a picture as it is shown, where bytes are one and there is room: one that a browser can show is its file, and another stands in the
+        page with the receivers' common fixed colours."""
+        if not data.startswith((JPEG, PNG, MNG)) or self.shown >= MOST_PICTURES:
+            return []
+        try:
+            found = picture_of(data, FIXED)
+        except BadPicture as fault:
+            return [f'<small class="fault">a picture that can\'t be shown: {escape(str(fault))}</small>']
+        self.shown += 1
+        address, note = path_url(file), ""
+        if data.startswith(MNG) or b"PLTE" in found.data and b"PLTE" not in data:
+            if self.embedded + len(found.data) > MOST_EMBEDDED:
+                return []
+            self.embedded += len(found.data)
+            address, note = data_address(found), "<small>its first picture, or in the receivers' common fixed colours</small>"
+        return [f'<img loading="lazy" src="{escape(address)}" alt="a picture that this browser can\'t show">{note}']
 
 
-def resource_html(folder, resource):
+def resource_html(folder, resource, pictures):
     """Returns a part of a module, with its picture or its text."""
     written = [f'<a href="{escape(path_url(resource.file))}">{escape(resource.name or "(no name)")}</a>']
     written.append(f"<small>{escape(resource.media_type or 'no type')}, {resource.size:,} bytes</small>")
@@ -228,9 +254,7 @@ def resource_html(folder, resource):
         written.append(f"<small>written as {escape(file)}</small>")
     if resource.note:
         written.append(f'<small class="fault">{escape(resource.note)}</small>')
-    with open(folder / resource.file, "rb") as data:
-        if picture_kind(data.read(16)):
-            written.append(f'<img loading="lazy" src="{escape(path_url(resource.file))}" alt="a picture that this browser can\'t show">')
+    written += pictures.html(resource.file, (folder / resource.file).read_bytes())
     if resource.shown is not None:
         written.append(f"<details><summary>its text</summary><pre>{escape(resource.shown)}</pre></details>")
     return "<div>" + " ".join(written) + "</div>"
@@ -241,10 +265,10 @@ def path_url(path):
     return "".join(chr(it) if chr(it).isalnum() and it < 0x80 or it in b"/.-_~" else f"%{it:02X}" for it in path.encode())
 
 
-def row_html(folder, order, row):
+def row_html(folder, order, row, pictures):
     """Returns the row of a module."""
     note = f'<div class="fault">{escape(row.note)}</div>' if row.note and not row.note.startswith("unpacked") else f"<small>{escape(row.note)}</small>"
-    resources = "".join(resource_html(folder, it) for it in row.resources)
+    resources = "".join(resource_html(folder, it, pictures) for it in row.resources)
     cells = [order, f"{row.component:02x}", f"{row.number:04x}", f"{row.version:02x}", f"{row.size:,}", f"{row.packet:,}", resources + note]
     return "<tr>" + "".join(f"<td>{cell}</td>" for cell in cells) + "</tr>"
 
@@ -259,14 +283,17 @@ def page_parts(folder, source, told):
     yield "<p><small>Numbers of components, modules and versions are hexadecimal. A packet is the one with which the module was whole,"
     yield " counted from 1 in the recording. This page is tested, and not proved.</small></p>"
     yield "<table><tr>" + "".join(f"<th>{it}</th>" for it in ["", "component", "module", "version", "bytes", "packet", "what is in it"]) + "</tr>"
+    pictures = Pictures()
     for order, row in enumerate(folder.rows[:MOST_ROWS], 1):
-        yield row_html(folder.place, order, row)
+        yield row_html(folder.place, order, row, pictures)
     yield "</table>"
+    if folder.left:
+        yield f'<p class="fault">{folder.left:,} modules that came behind the first {MOST_MODULES:,} aren\'t written.</p>'
     if len(folder.rows) > MOST_ROWS:
         yield f"<p>{len(folder.rows) - MOST_ROWS:,} more aren't on this page; their files are in the folder.</p>"
     if folder.skips:
         yield "<h2>Modules that weren't taken</h2><table><tr><th>component</th><th>module</th><th>version</th><th>packet</th><th>why</th></tr>"
-        for skip in folder.skips[:MOST_ROWS]:
+        for skip in folder.skips:
             module, why = skip.module, ("compressed: " if compression_of(skip.module.info) else "") + skip.fault
             cells = [f"{skip.component:02x}", f"{module.number:04x}", f"{module.version:02x}", f"{skip.packet:,}", escape(why)]
             yield "<tr>" + "".join(f"<td>{cell}</td>" for cell in cells) + "</tr>"

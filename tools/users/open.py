@@ -61,7 +61,9 @@ def target_of(asked):
     """Returns what is to be opened, and says what is to be known of the recording."""
     named = Target(asked.service, asked.data_pid)
     with open(asked.source, "rb") as file:
-        found = survey(file, asked.service, asked.data_pid)
+        terminal = prepare_recording.Terminal(os.fstat(file.fileno()).st_size)
+        found = survey(file, asked.service, asked.data_pid, terminal.progress)
+        terminal.clear()
     findings, targets = findings_of(found, asked.source), targets_of(found, asked.source)
     if named != Target():
         targets = [named]

@@ -11,7 +11,7 @@ service N needs: tools/users/diagnosis.py. `unpack` writes it in packets of
 announced, and a line on standard error says why. tools/users/carousels.py says how a carousel is replaced.
 
 With --data-only pictures and sound are left out: what is written are the packets of the PAT, the PMTs and the PIDs of data, of all services or of
-service N, from where a table names them. A replay prints the same lines as over the whole recording, but for the number of packets in `end`, if its
+service N, from where a table names them, and a clock reference of each second, so that times are known. A replay prints the same lines as over the whole recording, but for the number of packets in `end`, if its
 record takes all packets and it asks for no PID. With --data-pid N the packets of that PID alone are written, and no table is read.
 
 The file is read once, from the front. What is kept of it are the carousels. Status: 0 where it was done, 1 where IN has no packets or
@@ -31,6 +31,8 @@ from transport import PACKET_SIZE, TYPE_DESCRIPTOR, ZLIB, compression_of, descri
 
 NAME = "prepare_recording.py"
 SHOWN_BYTES = 20_000_000  # between two states of the progress
+CLOCK_STEP = 90_000  # a second
+NO_CLOCK = 0x1FFF  # the PID of clock references where there are none
 TOLD_BYTES = 1_000_000  # that are written more than they were read
 # What isn't to be said of a recording that was unpacked: it is mended, or was said module by module.
 MENDED = ("packets of 192 or 204 bytes", "compressed modules", "modules that never came whole")
@@ -72,10 +74,31 @@ def receive_all(recording, reception, pass_on):
 
 
 def receive_wanted(recording, reception, pass_on):
-    """Hands the packets that the reception wants to it, and those of them that it doesn't take to pass_on."""
-    for _, pid, packet in recording.packets_on(lambda: reception.wanted):
-        if not reception.take(pid, packet):
+    """Hands the packets that the reception wants to it, and those of them that it doesn't take to pass_on, with a clock reference each second."""
+    clocks = Clocks(reception, pass_on)
+    for _, pid, packet in recording.packets_on(lambda: reception.wanted, clocks.pids):
+        if pid not in reception.wanted:
+            clocks.take(pid, packet)
+        elif not reception.take(pid, packet):
             pass_on(packet)
+
+
+class Clocks:
+    """The clock references of the services, of which one for each second is passed on, in a packet without anything else."""
+
+    def __init__(self, reception, pass_on):
+        self.reception, self.pass_on = reception, pass_on
+        self.last = {}  # by PID, in steps of 90 kHz
+
+    def pids(self):
+        return {pid for pid in self.reception.clocks.values() if pid not in self.reception.wanted and pid != NO_CLOCK}
+
+    def take(self, pid, packet):
+        now = int.from_bytes(packet[6:10], "big") << 1 | packet[10] >> 7
+        if pid not in self.last or (now - self.last[pid]) % (1 << 33) >= CLOCK_STEP:
+            self.last[pid] = now
+            field = bytes([PACKET_SIZE - 5]) + packet[5 : 5 + packet[4]].ljust(PACKET_SIZE - 5, b"\xff")
+            self.pass_on(packet[:1] + bytes([packet[1] & 0x1F]) + packet[2:3] + bytes([0x20 | packet[3] & 0x0F]) + field)
 
 
 def checked_findings(found, source):

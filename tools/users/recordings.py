@@ -11,7 +11,7 @@ from collections import Counter
 from itertools import compress
 from typing import NamedTuple
 
-from transport import DATA_STREAM, PACKET_SIZE, is_intact, payload_of, read_pat, read_pmt
+from transport import DATA_STREAM, PACKET_SIZE, is_intact, payload_of, read_clock_pid, read_pat, read_pmt
 
 PIECE = 1 << 20  # bytes that are read at a time
 SYNC = b"\x47"
@@ -108,26 +108,54 @@ def marks_of(bits, values):
     return bytes(byte & bits in values for byte in range(256))
 
 
-def wanted_places(data, size, row, wanted):
-    """Yields the places of a row's packets on PIDs that are wanted: wanted() gives these, and may give others after each place. The packets in
-    between aren't looked at one by one."""
-    at, count = row
-    end, number = at + count * size, 0
-    upper, lower = data[at + 1 : end : size], data[at + 2 : end : size]
-    while number < count:
-        pids = wanted()
-        masks = upper.translate(marks_of(0x1F, {pid >> 8 for pid in pids})), lower.translate(marks_of(0xFF, {pid & 0xFF for pid in pids}))
-        marks = (int.from_bytes(masks[0], "little") & int.from_bytes(masks[1], "little")).to_bytes(count, "little")
-        number = marks.find(1, number)
-        while number >= 0:
-            if (upper[number] & 0x1F) << 8 | lower[number] in pids:
-                yield at + number * size
-                if wanted() != pids:
-                    break
-            number = marks.find(1, number + 1)
-        if number < 0:
-            return
-        number += 1
+def as_number(marks):
+    return int.from_bytes(marks, "little")
+
+
+def has_clock(packet):
+    """Whether a packet has a clock reference (ISO/IEC 13818-1, 2.4.3.4), and isn't marked as damaged."""
+    return bool(packet[3] & 0x20 and packet[4] >= 7 and packet[5] & 0x10 and not packet[1] & 0x80)
+
+
+class Row:
+    """A row of packets, of which those are found that are wanted, without a look at each of them."""
+
+    def __init__(self, data, size, row):
+        self.data, self.size = data, size
+        self.at, self.count = row
+        self.upper, self.lower = self.bytes_at(1), self.bytes_at(2)
+
+    def bytes_at(self, place):
+        """Returns the bytes at that place of all packets."""
+        return self.data[self.at + place : self.at + self.count * self.size : self.size]
+
+    def marks(self, pids):
+        """Returns marks at the packets that may be on these PIDs, as the bytes of a number."""
+        return as_number(self.upper.translate(marks_of(0x1F, {pid >> 8 for pid in pids}))) & as_number(self.lower.translate(marks_of(0xFF, {pid & 0xFF for pid in pids})))
+
+    def clock_marks(self):
+        """Returns marks at the packets that may have a clock reference."""
+        return as_number(self.bytes_at(3).translate(marks_of(0x20, {0x20}))) & as_number(self.bytes_at(5).translate(marks_of(0x10, {0x10})))
+
+    def places(self, wanted, clocks):
+        """Yields the places of the packets on PIDs that are wanted, and of those with a clock reference on the PIDs of clocks: wanted() and
+        clocks() give these, and may give others after each place."""
+        number = 0
+        while number < self.count:
+            pids, clock_pids = wanted(), clocks()
+            found = self.marks(pids) | (self.marks(clock_pids) & self.clock_marks() if clock_pids else 0)
+            marks = found.to_bytes(self.count, "little")
+            number = marks.find(1, number)
+            while number >= 0:
+                pid, place = (self.upper[number] & 0x1F) << 8 | self.lower[number], self.at + number * self.size
+                if pid in pids or (pid in clock_pids and has_clock(self.data[place : place + PACKET_SIZE])):
+                    yield place
+                    if wanted() != pids or clocks() != clock_pids:
+                        break
+                number = marks.find(1, number + 1)
+            if number < 0:
+                return
+            number += 1
 
 
 class PacketCounts:
@@ -187,13 +215,13 @@ class PacketReader:
         for data, found in self.pieces():
             yield packets_in(data, self.size, found)
 
-    def packets_on(self, wanted):
-        """Yields the packets on PIDs that are wanted, each with its number, counted from 1, and its PID: wanted() gives these PIDs, and may
-        give others after each packet."""
+    def packets_on(self, wanted, clocks=frozenset):
+        """Yields the packets on PIDs that are wanted, and those with a clock reference on the PIDs of clocks, each with its number, counted from 1, and
+        its PID: wanted() and clocks() give these PIDs, and may give others after each packet."""
         for data, found in self.pieces():
             before = self.count
             for row in found:
-                for place in wanted_places(data, self.size, row, wanted):
+                for place in Row(data, self.size, row).places(wanted, clocks):
                     packet = data[place : place + PACKET_SIZE]
                     yield before + (place - row[0]) // self.size + 1, pid_of(packet), packet
                 before += row[1]
@@ -258,6 +286,7 @@ class Reception:
         self.components = {} if data_pid is None else {data_pid: component_on(data_pid)}  # by PID
         self.owners = {}  # by PID: the services that have it, with the tags
         self.wanted = {*self.tables, *self.components}
+        self.clocks = {}  # of each service whose PMT came, the PID of its clock references
 
     def take(self, pid, packet):
         """Takes a packet of a wanted PID, and says whether a component took it."""
@@ -301,6 +330,7 @@ class Reception:
         found = read_pmt(section)
         if found is None or self.programs.get(found[0]) != pid or self.asked not in (None, found[0]):
             return False
+        self.clocks[found[0]] = read_clock_pid(section)
         self.streams[found[0]] = [stream for stream in found[1] if stream.kind == DATA_STREAM]
         self.named.setdefault(found[0], {}).update(dict.fromkeys(self.streams[found[0]]))
         owners = {}

@@ -49,6 +49,8 @@ PAGE = (TOOLS / "remote.html").read_text(encoding="utf-8").replace("FONT_SCRIPT"
 PROGRAM = TOOLS.parents[1] / "build" / "bml_replay"
 FIRST_RECORD = b"# begun by tools/users/remote.py\nall\nshow\n"
 LIMIT = 600  # seconds for a replay
+# So many seconds may a replay take before it is said that the stream can be cut, if it has so many bytes.
+LONG, LARGE = 1, 10_000_000
 PATIENCE = 2  # seconds in which a stream is read before its first picture is drawn
 MOST_MILLISECONDS = 3_600_000
 MOST_PACKETS = (1 << 32) - 1
@@ -195,7 +197,8 @@ class Reading(threading.Thread):
 
     def __init__(self, recording):
         super().__init__(daemon=True)
-        self.recording, self.read, self.fault, self.is_done = recording, 0, "", False
+        self.recording, self.read, self.fault = recording, 0, ""
+        self.is_read = self.is_done = False  # whether its modules are there, and whether it was looked through
         self.findings = []  # what is to be known of it
         self.start()
 
@@ -203,6 +206,7 @@ class Reading(threading.Thread):
         recording = self.recording
         try:
             recording.read(self.take)
+            self.is_read = True
             self.findings = [it.text() for it in diagnose(recording.path, recording.service, recording.data_pid)]
         except Exception as fault:  # (whatever comes: what is shown then is the lines alone)
             self.fault = f"The recording can't be read for its pictures: {fault}"
@@ -231,10 +235,24 @@ class Session:
         self.presses, self.fault = [], ""
         self.printed = []  # for the record before each press that is in it, and for the whole one; None where a replay failed
         self.shown = None  # of the last replay that didn't fail
-        self.drawn, self.drawn_with = None, None
-        self.running = None
+        self.drawn, self.drawn_with, self.has_waited = None, None, False
+        self.running, self.seconds = None, 0
         self.lock = threading.Lock()
-        self.replay()
+        # (whoever asks for the state waits for the first replay, and may ask how far it is)
+        self.lock.acquire()
+        threading.Thread(target=self.begin, daemon=True).start()
+
+    def begin(self):
+        """Replays the record for the first time."""
+        try:
+            self.replay()
+        finally:
+            self.lock.release()
+
+    def end(self):
+        """Ends the replay that runs, where one does, with whatever it keeps on the disk."""
+        self.stop()
+        self.lock.acquire(timeout=PATIENCE)
 
     def text(self):
         """Returns the whole record."""
@@ -242,7 +260,7 @@ class Session:
 
     def recording(self):
         """Returns the recording, once it is read."""
-        return self.reading.recording if self.reading and self.reading.is_done and not self.reading.fault else None
+        return self.reading.recording if self.reading and self.reading.is_read else None
 
     def replay(self):
         """Replays the record, and keeps what was printed, or else why nothing was."""
@@ -263,7 +281,7 @@ class Session:
             self.fail(str(fault))
         except (BadOutput, IndexError):
             self.fail("The program printed a display list that no run prints, or none.")
-        self.running = None
+        self.seconds, self.running = time.monotonic() - self.running.begun, None
 
     def fail(self, fault):
         self.fault = fault + ("\nThe picture is that of the record before." if self.shown else "")
@@ -271,14 +289,15 @@ class Session:
 
     def draw(self):
         """Returns the drawing of what is shown, which is another one once the recording is read."""
-        if self.reading and self.drawn is None:
+        if self.reading and not self.has_waited:
             self.reading.join(PATIENCE)
+            self.has_waited = True
         recording = self.recording()
         if self.drawn is None or self.drawn_with is not recording:
             follower = Follower(self.shown.lines, recording)
             look = follower.look_at(self.shown.listed.place)
             drawn = drawing(self.shown.listed.clock, shapes_of(self.shown.listed.lines, look), look)
-            self.drawn, self.drawn_with = Drawn(drawn, follower.fault or look.fault or (self.reading.fault if self.reading else "")), recording
+            self.drawn, self.drawn_with = Drawn(drawn, follower.fault or look.fault), recording
         return self.drawn
 
     def press(self, press):
@@ -316,7 +335,9 @@ class Session:
         """Returns what is going on, as the page shows it."""
         if running := self.running:
             return {"what": "replaying", "part": running.part(), "seconds": round(time.monotonic() - running.begun, 1)}
-        if self.reading and not self.reading.is_done:
+        # (where nothing is displayed, it is also told why)
+        is_empty = self.shown and not self.shown.listed.lines
+        if self.reading and not (self.reading.is_done or (self.reading.is_read and not is_empty)):
             return {"what": "reading", "part": self.reading.part(), "seconds": 0}
         return {"what": "", "part": None, "seconds": 0}
 
@@ -334,6 +355,14 @@ class Session:
         with self.lock:
             shown, recording = self.shown, self.recording()
             return page(report_of_lines("Report of a session", shown.lines if shown else [], items_of(self.text()), self.command[-1] if recording else None, recording))
+
+    def proposal(self):
+        """Returns what makes presses quicker, where they take long."""
+        stream = self.command[-1]
+        if self.seconds <= LONG or not os.path.isfile(stream) or os.path.getsize(stream) < LARGE:
+            return ""
+        cut = "tools/users/prepare_recording.py unpack --data-only leaves pictures and sound out, and what it writes replays in a moment."
+        return f" The last press took {self.seconds:.1f} seconds: {cut}"
 
     def why_empty(self):
         """Returns what is to be known of the recording, where nothing is shown."""
@@ -355,8 +384,8 @@ class Session:
             return {
                 "drawing": drawn.drawing,
                 "lines": lines,
-                "fault": self.fault or drawn.fault or self.why_empty(),
-                "told": told + (f". Clock: {shown.listed.clock} ms" if shown else ""),
+                "fault": self.fault or drawn.fault or (self.reading.fault if self.reading else "") or self.why_empty(),
+                "told": told + (f". Clock: {shown.listed.clock} ms" if shown else "") + self.proposal(),
                 "record": self.text().decode("ascii", errors="backslashreplace"),
                 "clock": shown.listed.clock if shown else None,
                 "taken": shown.packets if shown else None,
@@ -519,6 +548,7 @@ def main(words):
             server.serve_forever()
         except KeyboardInterrupt:
             print()
+        server.session.end()
     return 0
 
 

@@ -331,7 +331,8 @@ def outlines(lines, colour):
 
 
 def display_html(shown, before, room, look):
-    """Returns a display list with its drawing, where there is room for it, and what differs from the one before."""
+    """Returns a display list with its drawing, where there is room for it, and what differs from the one before; and the room that was taken, which is all of
+    it where the drawing found none."""
     new = list((Counter(shown.lines) - Counter(before)).elements())
     was = list((Counter(before) - Counter(shown.lines)).elements())
     told, marks = "nothing was shown before", []
@@ -339,11 +340,14 @@ def display_html(shown, before, room, look):
         told = f"new lines: {len(new):,} (dashed in magenta), lines gone: {len(was):,} (dashed in grey)"
         told = told if new or was else "the same lines as before in another order"
         marks = outlines(was, "#a0a0a0") + outlines(new, "#ff40ff")
-    picture = drawing(shown.clock, shapes_of(shown.lines, look) + marks, look) if shown.lines != before else ""
-    if shown.lines == before:
+    picture, is_new = "", shown.lines != before
+    if not is_new:
         told = "the same as the one before" if before else "nothing is shown"
-    if len(picture) > room:
-        told, picture = told + "; not drawn here, since this report is large", ""
+    elif room > 0:
+        picture = drawing(shown.clock, shapes_of(shown.lines, look) + marks, look)
+    taken = len(picture)
+    if is_new and not 0 < taken <= room:
+        told, picture, taken = told + "; not drawn here, since this report is large", "", max(room, 0)
     left, listed = Counter(new), []
     for at, line in enumerate(shown.lines, shown.place + 1):
         listed.append(line_html(at, line, "new" if left[line] else ""))
@@ -351,11 +355,11 @@ def display_html(shown, before, room, look):
     listed += [f'<p class="was">{shown_text(line)}</p>' for line in was]
     told += f"; {escape(look.fault)}" if look.fault else ""
     head = f"<summary>The display list: {len(shown.lines):,} lines; {told}</summary>"
-    return [picture, "<details>", head, '<div class="lines">', *listed, "</div></details>"], len(picture)
+    return [picture, "<details>", head, '<div class="lines">', *listed, "</div></details>"], taken
 
 
 def part_html(report, number, before, room, look, moments):
-    """Returns a part with its lines and its display list, and how much its drawing has."""
+    """Returns a part with its lines and its display list, and the room that its drawing took."""
     part = report.parts[number - 1]
     shown = "behind the last display list" if number > 1 else "without a display list"
     shown = f"up to the display list at {part.clock} ms" if part.shown else shown

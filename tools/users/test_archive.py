@@ -129,7 +129,7 @@ class Archives(InFolder):
         page = self.page()
         self.assertIn("8 recordings: 6 done, 2 failed.", page)
         self.assertEqual(page.count("<img "), 6)
-        self.assertIn("2 modules, ", page)
+        self.assertIn("modules: 2, with ", page)
         self.assertIn("lines that warn: 1", page)
         for link in re.findall(r'(?:href|src)="([^"]*)"', page):
             self.assertTrue((self.out / link).is_file(), link)

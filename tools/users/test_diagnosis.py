@@ -17,6 +17,7 @@ import sys
 import tempfile
 import unittest
 from pathlib import Path
+from unittest import mock
 
 import diagnosis
 import draw_display
@@ -260,6 +261,15 @@ class Tools(InFolder):
             self.assertEqual(self.session("show 0\nbox 0 0 9 9 1 1 1\nend 1")["fault"], "")
         self.write(GOOD)
         self.assertEqual(self.session("show 0\nend 1")["fault"], "")
+
+    def test_the_remote_proposes_to_cut_a_stream_whose_presses_take_long(self):
+        self.write(GOOD)
+        with mock.patch.object(remote, "LARGE", 1000), mock.patch.object(remote, "LONG", 0):
+            self.assertRegex(self.session("show 0\nend 1")["told"], r"The last press took [0-9.]+ seconds: .* unpack --data-only leaves")
+            with mock.patch.object(remote, "LONG", 3600):
+                self.assertNotIn("--data-only", self.session("show 0\nend 1")["told"])
+        with mock.patch.object(remote, "LONG", 0):
+            self.assertNotIn("--data-only", self.session("show 0\nend 1")["told"])
 
     def test_the_remote_refuses_what_is_no_stream(self):
         for data, wanted in ((b"", "It has no bytes"), (JPEG, "it is a JPEG picture"), (b"all\nshow\n", "It is a record of bml_replay")):

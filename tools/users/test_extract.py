@@ -23,6 +23,7 @@ import entities
 import extract
 import prepare_recording
 import transport
+from generated_pages import chunk, jpeg_of, mng_of, png_of
 from generated_recordings import MAP_PID, PID, TEXT, Model, Plan, blocks, compressed, framed, on, packets_of, packets_of_plan, tables
 from transport import COMPRESSION_TYPE, DATA_STREAM, PACKET_SIZE, TYPE_DESCRIPTOR, ElementaryStream, Module, descriptor
 
@@ -32,7 +33,7 @@ import cases
 PROGRAM = None  # whose lines are compared
 PLANS = 80
 BML = b"text/X-arib-bml"
-JPEG = b"\xff\xd8\xff\xe0\x00\x10JFIF\x00 and more"
+JPEG = jpeg_of(4, 2)
 
 
 def run(*words):
@@ -282,17 +283,36 @@ class Files(InFolder):
         for tag in re.findall(r"<[^>]*>", self.page):
             self.assertRegex(tag, r"\A<(!DOCTYPE|/?(html|head|body|meta|title|style|h1|h2|p|small|table|tr|th|td|div|a|img|details|summary|pre)\b)", tag)
 
+    def test_pictures_are_shown_in_their_colours_or_in_the_fixed_ones(self):
+        own, fixed = png_of([b"\1\2", b"\3\0"], more=chunk(b"PLTE", bytes(12))), png_of([b"\1\2", b"\3\0"])
+        modules = [(1, own, b"image/png"), (2, fixed, b"image/X-arib-png"), (3, mng_of(fixed), b"image/X-arib-mng"), (4, own[:-16], b"image/png"), (5, JPEG, b"image/jpeg")]
+        modules.append((6, png_of([b"\1\2", b"\3\0"], more=chunk(b"PLTE", bytes(3))), b"image/png"))
+        modules.append((7, png_of([b"\1"], more=chunk(b"PLTE", bytes(4))), b"image/png"))
+        found = self.written(carousel(modules))
+        self.assertEqual(found["40/0002.v01/resource.png"], fixed)
+        sources = re.findall(r'<img [^>]*src="([^"]*)"', self.page)
+        self.assertEqual([it[:23] for it in sources], ["40/0001.v01/resource.pn", *["data:image/png;base64,i"] * 2, "40/0005.v01/resource.jp", "40/0006.v01/resource.pn"])
+        self.assertEqual(self.page.count("a picture that can't be shown: it is cut"), 1)
+        self.assertEqual(self.page.count("a picture that can't be shown: it has a palette of 4 bytes"), 1)
+        with mock.patch.object(extract, "MOST_PICTURES", 1), mock.patch.object(extract, "MOST_EMBEDDED", 9):
+            self.written(carousel(modules))
+        self.assertEqual(self.page.count("<img "), 1)
+
     def test_what_says_that_it_is_a_picture(self):
-        """A picture is told by its first bytes: one of 1 MiB that isn't one is a link, and a cut one is a picture that a browser can't show."""
+        """A picture is told by its first bytes: one of 1 MiB that isn't one is a link, and a cut one is told as such."""
         found = self.written(carousel([(1, b"no jpeg " * 131_072, b"image/jpeg"), (2, JPEG[:4], b"image/jpeg"), (3, b"", b"image/png")], 4000))
         self.assertEqual({path: len(data) for path, data in found.items()}, {"40/0001.v01/resource.jpg": 1 << 20, "40/0002.v01/resource.jpg": 4, "40/0003.v01/resource.png": 0})
-        self.assertEqual(self.page.count("<img "), 1)
+        self.assertEqual(self.page.count("<img "), 0)
+        self.assertIn("a picture that can't be shown: it is a JPEG that is cut or damaged", self.page)
 
     def test_a_folder_is_filled_up_to_its_limits(self):
         sections = carousel([(at, b"%d" % at * 10, b"text/plain") for at in range(10)])
         with mock.patch.object(extract, "MOST_FILES", 4), mock.patch.object(extract, "MOST_ROWS", 3):
             self.assertEqual(len(self.written(sections)), 4)
         self.assertIn("7 more aren't on this page", self.page)
+        with mock.patch.object(extract, "MOST_MODULES", 6):
+            self.assertEqual(len(self.written(sections)), 6)
+        self.assertIn("4 modules that came behind the first 6 aren't written", self.page)
         with mock.patch.object(extract, "MOST_BYTES", 25):
             self.assertEqual(len(self.written(sections)), 2)
         self.assertIn("not written, since this folder is full", self.page)

@@ -15,6 +15,7 @@ import re
 import subprocess
 import sys
 import tempfile
+import threading
 import unittest
 import zlib
 from unittest import mock
@@ -23,6 +24,7 @@ import carousels
 import multiplexed_recordings
 import prepare_recording
 import recordings
+import shown_pages
 import transport
 from generated_recordings import (
     MAP_PID,
@@ -535,6 +537,29 @@ class DataOnly(InFolder):
                 self.assertEqual(lines[0][:-1], lines[1][:-1])
                 self.assertIn("module 40", lines[0][0])
 
+    def test_a_clock_reference_of_each_second_is_kept(self):
+        sections, pmt = tables(), tables()[1][1]
+        sections[1] = MAP_PID, transport.with_header(pmt[:8], (0xE000 | 300).to_bytes(2, "big") + pmt[10:-4])
+        data = packets_of(sections + on(PID, [transport.dii_section(1, 1, 100, [Module(1, 1, 3000)]), *blocks(Module(1, 1, 3000), bytes(3000))]))
+        packets, begin = data[:2], (1 << 33) - 100_000  # (the clock comes to its end on the way)
+        for at in range(100):
+            clock = (begin + 9000 * at) % (1 << 33)
+            reference = (clock >> 1).to_bytes(4, "big") + bytes([(clock & 1) << 7 | 0x7E, 0])
+            packets.append(b"\x47\x41\x2c" + bytes([0x30 | at % 16, 20, 0x50]) + reference + bytes(13) + bytes(range(163)))
+            packets += [transport.packet(300, at % 16, False, bytes(184))] + ([data[2 + at // 3]] if at % 3 == 0 and 2 + at // 3 < len(data) else [])
+        wrong = packets[2][:1] + bytes([packets[2][1] | 0x80]) + packets[2][2:]
+        stream, told = self.unpacked([*packets[:2], wrong, *packets[2:]], "--data-only")
+        kept = [stream[at : at + 188] for at in range(0, len(stream), 188)]
+        clocks = [one for one in kept if pid_of(one) == 300]
+        self.assertEqual(([one for one in kept if pid_of(one) != 300], told), (data, ""))
+        self.assertEqual([one[6:12] for one in clocks], [packets[at][6:12] for at in range(2, len(packets)) if packets[at][3] & 0x20][::10])
+        self.assertEqual({(one[1], one[3] & 0xF0, one[4], transport.payload_of(one)) for one in clocks}, {(1, 0x20, 183, None)})
+        self.assertEqual(self.lines(stream), [("module", 0x40, 1, 1, bytes(3000))])
+        whole, cut = (shown_pages.Recording(path).read() for path in (self.source, self.target))
+        times = [it.clock.at(it.arrivals[0].packet) for it in (whole, cut)]
+        self.assertLess(abs(times[0] - times[1]), 1)
+        self.assertGreater(times[1], 2)
+
     def test_a_pid_is_kept_alone_without_tables(self):
         module, sent = compressed(1)
         data = packets_of(on(PID, [transport.dii_section(1, 1, 100, [module]), *blocks(module, sent)]))
@@ -580,6 +605,23 @@ class Listing(InFolder):
             "service 3, PMT on PID 401, which didn't come",
         ]
         self.assertEqual((status, printed.split("\n")[: len(wanted)], told), (0, wanted, ""))
+
+    def test_no_more_modules_are_listed_than_there_is_room_for(self):
+        sections = [transport.dii_section(at, 1, 9, [Module(number, at, 1) for number in range(10)]) for at in range(9)]
+        self.write(b"".join(packets_of(tables() + on(PID, [*sections, *blocks(Module(9, 8, 1), b"x", 9)]))))
+        with mock.patch.object(carousels, "MOST_LISTED", 25):
+            self.assertEqual(run("list", self.source)[1].count("    module"), 25)
+
+    def test_what_can_be_read_once_is_read_once(self):
+        packets = b"".join(packets_of(on(PID, [transport.dii_section(1, 1, 9, [Module(1, 1, 3)])])))
+        os.mkfifo(self.source)
+        for data, wanted in ((packets, "(PAT)"), (b"no packets" * 9, "no packets")):
+            writer = threading.Thread(target=self.write, args=(data,))
+            writer.start()
+            status, printed, told = run("list", self.source)
+            writer.join()
+            self.assertEqual((status, printed), (1, ""))
+            self.assertIn(wanted, told)
 
     def test_a_module_is_listed_once(self):
         module = Module(1, 1, 3)

@@ -87,6 +87,9 @@ class Served(unittest.TestCase):
     def serve(self, record=remote.FIRST_RECORD, command=None, recording=None):
         """Serves a session, and returns it."""
         session = remote.Session(command or [self.program, "replay", "stream.ts"], record, recording)
+        self.addCleanup(session.end)
+        with session.lock:
+            pass  # (the first replay is over)
         self.server = remote.Server(session)
         thread = threading.Thread(target=self.server.serve_forever, kwargs={"poll_interval": 0.02})
         thread.start()
@@ -251,6 +254,16 @@ class Answers(Served):
         self.assertEqual(answers[0]["fault"], "The replay was stopped.\nThe picture is that of the record before.")
         self.assertEqual(self.state("/undo", {}), first)
         self.assertEqual(self.ask("/stop", {})[0], 200)
+
+    def test_the_first_replay_is_followed_too(self):
+        Path(self.program).write_text(f"#!{sys.executable} -S\nimport time\ntime.sleep(60)\n", encoding="utf-8")
+        session = remote.Session([self.program, "replay", "stream.ts"], remote.FIRST_RECORD)
+        end = time.monotonic() + 30
+        while session.progress()["what"] != "replaying" and time.monotonic() < end:
+            time.sleep(0.02)
+        self.assertEqual(session.progress()["what"], "replaying")
+        session.stop()
+        self.assertEqual(session.state()["fault"], "The replay was stopped.")
 
     def test_the_slider_goes_to_a_packet(self):
         Path(self.program).write_text(COUNTING, encoding="utf-8")

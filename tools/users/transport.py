@@ -319,6 +319,11 @@ def read_pmt(section_bytes):
     return (int.from_bytes(section_bytes[3:5], "big"), streams) if at == len(body) else None
 
 
+def read_clock_pid(section_bytes):
+    """Returns the PID of the clock references that a PMT names."""
+    return int.from_bytes(section_bytes[8:10], "big") & 0x1FFF
+
+
 def read_message(kind, section_bytes):
     """Returns the transactionId or downloadId of a message of that kind, its reserved byte, its adaptation bytes and the rest."""
     table_id, message_id = kind

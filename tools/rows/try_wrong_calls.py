@@ -1,0 +1,93 @@
+#!/usr/bin/env python3
+"""Tries wrong ways to call the system against test_edges.py, each of which fails there: try_wrong_calls.py PROGRAM
+
+Each is a library in front of the C library, which `cc` compiles. It does what a wrong body of the adapters would do, as
+to take an interrupted read for the end of the file. Printed is for each how many cases failed, and one of them. Status:
+0 where each failed one, 1 where one passed all, 2 where nothing could be tried.
+"""
+
+import os
+import shutil
+import subprocess
+import sys
+import tempfile
+from pathlib import Path
+
+from test_edges import cases, check
+
+HEAD = r"""
+#define _GNU_SOURCE
+#include <dlfcn.h>
+#include <errno.h>
+#include <fcntl.h>
+#include <stdarg.h>
+#include <stdio.h>
+#include <string.h>
+#include <sys/stat.h>
+#include <unistd.h>
+#define REAL(name) ((__typeof__(&name))dlsym(RTLD_NEXT, #name))
+"""
+READ = (
+    "ssize_t read(int file, void *into, size_t count) { ssize_t done = REAL(read)(file, into, count); %s return done; }"
+)
+WRITE = "ssize_t write(int file, const void *from, size_t count) { %s }"
+OPEN = (
+    "int open(const char *path, int flags, ...)"
+    " { char name[4096]; strcpy(name, path); %s return REAL(open)(name, flags, 0666); }"
+)
+STATX = (
+    "int statx(int at, const char *path, int flags, unsigned mask, struct statx *into)"
+    " { int done = REAL(statx)(at, path, flags, mask, into); %s return done; }"
+)
+WRONG = {
+    "an interrupted read is the end": READ % "if (done < 0 && errno == EINTR) return 0;",
+    "an interrupted read is a fault": READ % "if (done < 0 && errno == EINTR) errno = EIO;",
+    "a short read is the end": READ % "static int short_; if (short_) return 0; short_ = done > 0 && done < 200;",
+    "an interrupted write is a fault": WRITE
+    % "ssize_t done = REAL(write)(file, from, count); if (done < 0 && errno == EINTR) errno = EIO; return done;",
+    "a failed write is none": WRITE
+    % "ssize_t done = REAL(write)(file, from, count); return done < 0 ? (ssize_t)count : done;",
+    "the status goes to standard output": WRITE % "return REAL(write)(file == 2 ? 1 : file, from, count);",
+    "lines go to standard error": WRITE % "return REAL(write)(file == 1 ? 2 : file, from, count);",
+    "blanks at the end of a name are dropped": OPEN
+    % "for (size_t end = strlen(name); end && name[end - 1] == ' '; ) name[--end] = 0;",
+    "bytes of a name above 7F are dropped": OPEN
+    % "char *to = name; for (const char *from = path; *from; from++) if (*from > 0) *to++ = *from; *to = 0;",
+    "an interrupted opening is a fault": OPEN
+    % "int file = REAL(open)(name, flags, 0666); if (file < 0 && errno == EINTR) errno = EIO; return file;",
+    "an interrupted sync is a fault": "int fsync(int file)"
+    " { int done = REAL(fsync)(file); if (done && errno == EINTR) errno = EIO; return done; }",
+    "a longer area is cut": STATX
+    % "if (!done && into->stx_size > 1024 && into->stx_size < 1100) into->stx_size = 1024;",
+    "a shorter area is empty": STATX % "if (!done && into->stx_size > 0 && into->stx_size < 1024) into->stx_size = 0;",
+    "an area that can't be opened is none": OPEN
+    % "int file = REAL(open)(name, flags, 0666); if (file < 0 && errno == ELOOP) errno = ENOENT; return file;",
+    "an area is stored in its place": OPEN % 'if (!strcmp(name, "nvram.bin.new")) strcpy(name, "nvram.bin");',
+}
+
+
+def compiled(folder: str, text: str) -> str:
+    """Returns the library of a text of C."""
+    Path(folder, "wrong.c").write_text(HEAD + text + "\n")
+    library = f"{folder}/wrong.so"
+    subprocess.run(["cc", "-shared", "-fPIC", "-w", "-o", library, f"{folder}/wrong.c", "-ldl"], check=True)
+    return library
+
+
+def main() -> int:
+    if len(sys.argv) != 2 or not os.access(sys.argv[1], os.X_OK) or not shutil.which("cc"):
+        print("usage: try_wrong_calls.py PROGRAM; it needs cc", file=sys.stderr)
+        return 2
+    program, passed = os.path.abspath(sys.argv[1]), 0
+    for name, text in WRONG.items():
+        with tempfile.TemporaryDirectory(prefix="wrong-") as folder:
+            library = compiled(folder, text)
+            failed = [case for case, test in cases() if check(program, test, library)]
+        passed += not failed
+        told = f"{len(failed)} cases, as `{failed[0]}`" if failed else "PASSED"
+        print(f"{name:42} {told}", flush=True)
+    return 1 if passed else 0
+
+
+if __name__ == "__main__":
+    sys.exit(main())
