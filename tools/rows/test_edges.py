@@ -232,7 +232,7 @@ def is_stored_not(room: Room) -> bool:
 
 
 def areas() -> Iterator[tuple[str, Case]]:
-    for size in (1, 3, 1023, 1025, 5_000):
+    for size in (1, 3, 1023, 1025, 3071, 3073, 5_000):
         yield f"an area of {size:,} bytes", bad_length(size)
     yield "an empty area", lambda room: done(with_area(room, b""))
     yield "an area that can't be opened", lambda room: ends(linked(room, KEPT, KEPT), KEEP_FAULT)
