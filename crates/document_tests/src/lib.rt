@@ -16,3 +16,5 @@ mod objects;
 mod small_documents;
 #[cfg(test)]
 mod styles;
+#[cfg(test)]
+mod text_rows;

@@ -1,0 +1,5 @@
+pub mod Measures
+pub mod Breaking
+pub mod ReadBack
+pub mod RowLines
+pub mod devices
