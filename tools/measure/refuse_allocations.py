@@ -5,7 +5,7 @@ usage: refuse_allocations.py [--lines] PROGRAM [WORD..] < INPUT
 
 The program gets the words and the input each time. A library that refuses the allocation of a number, as the system may, is compiled by
 `cc` and loaded in front of the C library. What is printed is how often the program ended in which way: its status and its last words, on
-standard output or on standard error. The kept area, `nvram.bin`, is as it was before each run. Status: 0 where each run ended by itself within a minute, 1 where one was stopped by a signal or hung, or, with
+standard output or on standard error. The journal of the kept area, `nvram.jnl`, is as it was before each run. Status: 0 where each run ended by itself within a minute, 1 where one was stopped by a signal or hung, or, with
 --lines, where what it wrote isn't the first lines, each to its end, of what the program writes with nothing refused.
 """
 
@@ -15,6 +15,10 @@ import subprocess
 import sys
 import tempfile
 from pathlib import Path
+
+from hostile_places import ROOT  # (also has the folders of the other tools)
+
+from journals import JOURNAL
 
 LIBRARY = r"""
 #define _GNU_SOURCE
@@ -72,8 +76,8 @@ def main():
         sys.exit(__doc__.split("\n\n")[1])
     given = sys.stdin.buffer.read()
     ends, well = collections.Counter(), True
-    area = Path("nvram.bin")
-    kept = area.read_bytes() if area.exists() else None
+    journal = Path(JOURNAL)
+    kept = journal.read_bytes() if journal.exists() else None
     with tempfile.TemporaryDirectory(prefix="refuse-") as room:
         with open(f"{room}/refuse.c", "w") as file:
             file.write(LIBRARY)
@@ -85,7 +89,7 @@ def main():
             try:
                 return subprocess.run(command, env={**os.environ, **told}, **how)
             finally:
-                put_back(area, kept)
+                put_back(journal, kept)
 
         whole = ran(0).stdout
         with open(f"{room}/made") as file:

@@ -21,7 +21,9 @@ import sys
 import tempfile
 from pathlib import Path
 
+from hostile_places import ROOT  # (also has the folders of the other tools)
 from measuring import USERS  # (whoever imports it can import the tools for users)
+from journals import keep
 from transport import TYPE_DESCRIPTOR, Module, ddb_section, descriptor, dii_section, packets_of_sections
 
 DATA_PID, BLOCK_SIZE = 256, 4000
@@ -203,7 +205,7 @@ class Trial:
         Path(self.room, "stream.ts").write_bytes(self.stream)
         for places in self.asked:
             Path(self.room, "record.txt").write_text(with_shows(self.items, places))
-            Path(self.room, "nvram.bin").unlink(missing_ok=True)
+            keep(self.room, None)
             command = [self.program, "replay", "--data-pid", str(DATA_PID), "stream.ts", "record.txt"]
             ran = subprocess.run(command, cwd=self.room, stdin=subprocess.DEVNULL, stdout=subprocess.PIPE, check=False)
             if ran.returncode:
