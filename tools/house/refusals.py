@@ -44,6 +44,9 @@ EXCEPTIONS = [
     ("bml_ports", r"Keeper::load", "what is kept stays (`kept`); the failure is counted (`counted`)"),
     ("bml_ports", r"Keeper::store", "what is kept is what was, or the area (`stored`); the failure is counted (`counted`)"),
     ("bml_ports", r"World::\w+", "no byte is taken (`bytes`), the other port and the files stay (`other`, `files`), and the failure is counted (`counted`)"),
+    ("nv_journal", r"Disk::read_at|Disk::sync", "what reads give and the images stay (`content`); the failure is counted (`counted`)"),
+    ("nv_journal", r"Disk::write_at", "the images have the range besides, or stay, and what reads give is one of them (`content`); the failure is counted (`counted`)"),
+    ("nv_journal", r"close_gate|write_area|open_gate", "each image stands for what was stood for, or in the last step for the area (`content`); a count of faults rose (`rose`)"),
     ("replay_run", r"replay_files", "what `out` held stays at its beginning (`grows`); where the files are refused nothing is appended (`unchanged`)"),
     ("display_list", r"Shower::show|show\w*", "the styles may keep more values, and count them (`sources`, `right_still`); what `out` held stays at its beginning (`grows`)"),
 ]

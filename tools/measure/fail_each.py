@@ -6,7 +6,7 @@ usage: fail_each.py PROGRAM [CASE..]
 A case is `example NAME` or `TABLE: ROW` of tables/, with the row's group; without one the six of DEFAULT are run. Each begins in a folder of its own. Its
 pieces are found by runs over the first packets and items of its record, one more each time: their lines, and what is kept behind them. Then
 
-- each opening, read, write, look at the length, sync and renaming of the case's files fails in a run of its own, as with an error of the disk (by `strace`)
+- each opening, lock, read, write, look at the length and sync of the case's files fails in a run of its own, as with an error of the disk (by `strace`)
 - the program is killed at each of its calls that stores what is kept
 - each allocation is refused in a run of its own (by a library of `refuse_allocations.py`, which `cc` compiles)
 - in one run each read and each write takes one byte alone (by another library)
@@ -45,7 +45,8 @@ from typing import NamedTuple
 import places  # noqa: F401 (first, so that the others are found)
 from refuse_allocations import LIBRARY
 
-from cases import KEPT, case
+from cases import case
+from journals import JOURNAL, OLDER, kept_in
 from transport import PACKET_SIZE
 
 DEFAULT = [
@@ -56,11 +57,10 @@ DEFAULT = [
     "example second-visit",
     "example generated",
 ]
-NEW = f"{KEPT}.new"
 MOST_SECONDS = 60  # for each run
 TOLD = {3: b"open fault\n", 4: b"read fault\n", 5: b"write fault\n", 6: b"keep fault\n", 9: b"no memory\n"}
 STATUSES = {"nothing": 0, "bytes": 0, "opening": 3, "read": 4, "write": 5, "load": 6, "store": 6, "refused": 9, "kill": -signal.SIGKILL}
-CALLS = "openat,open,creat,read,readv,pread64,write,writev,pwrite64,fsync,fdatasync,rename,renameat,renameat2,fstat,stat,statx,newfstatat,lseek,ftruncate"
+CALLS = "openat,open,creat,flock,read,readv,pread64,write,writev,pwrite64,fsync,fdatasync,fstat,stat,statx,newfstatat,lseek,ftruncate"
 
 
 # Reads and writes a byte at a time.
@@ -116,8 +116,7 @@ class Room:
         command = [*before, self.program, *self.case.words]
         how = {"cwd": self.folder, "stdin": subprocess.DEVNULL, "capture_output": True, "timeout": MOST_SECONDS, "check": False}
         ran = subprocess.run(command, env={**os.environ, **(environment or {})}, **how)
-        kept = self.folder / KEPT
-        return Ended(ran.returncode, ran.stdout, ran.stderr, kept.read_bytes() if kept.is_file() else None)
+        return Ended(ran.returncode, ran.stdout, ran.stderr, kept_in(self.folder))
 
     def steps(self):
         """The lines of the record, with each packet and each millisecond in a line of its own."""
@@ -150,7 +149,7 @@ def calls_of(room):
     """The calls of the system on the case's files, by a trace of a run in which nothing fails."""
     trace = room.folder.parent / "trace"
     room.run(before=["strace", "-o", str(trace), "-e", f"trace={CALLS}"])
-    counts, paths, found = collections.Counter(), {1: "stdout"}, []
+    counts, paths, found, loading = collections.Counter(), {1: "stdout"}, [], True
     for line in trace.read_text(errors="replace").splitlines():
         it = re.match(r"(\w+)\((.*)\) += (-?[0-9]+)", line)
         if not it:
@@ -161,25 +160,22 @@ def calls_of(room):
         if name in ("openat", "open", "creat"):
             path = named[0]
             paths[answer] = path
-            store = "O_WRONLY" in words or "O_RDWR" in words
-        elif name.startswith("rename"):
-            path, store = named[-1], True
         else:
             handle = re.match(r"[0-9]+", words)
-            path = paths.get(int(handle[0]), "") if handle and not named[:1] == [KEPT] else (named or [""])[0]
-            store = name.startswith(("write", "pwrite", "fsync", "fdatasync", "ftruncate"))
-        what = what_fails(name, path, store)
+            path = paths.get(int(handle[0]), "") if handle else (named or [""])[0]
+        loading = loading and not (path in ("stream.ts", "record.txt") and name.startswith("read"))
+        what = what_fails(name, path, loading)
         if what:
             found.append(Call(name, counts[name], what, line[:90]))
     return found
 
 
-def what_fails(name, path, store):
-    """What fails where a call on a file fails; None where it is no file of the case."""
+def what_fails(name, path, loading):
+    """What fails where a call on a file fails, while what is kept is loaded, which ends before the first read of stream or record, or later; None where it is no file of the case."""
     if path in ("stream.ts", "record.txt"):
         return "opening" if name in ("openat", "open") else "read"
-    if path in (KEPT, NEW):
-        return "store" if store or path == NEW else "load"
+    if path in (JOURNAL, OLDER, "."):
+        return "load" if loading else "store"
     return "write" if path == "stdout" and name.startswith("write") else None
 
 

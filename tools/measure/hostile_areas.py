@@ -1,5 +1,5 @@
-"""Hostile kept areas: bytes of chance, areas of the rows with changes, and areas of another length, each with a page that reads and writes
-arrays. `area_case` draws a case from a source of random numbers.
+"""Hostile kept areas: bytes of chance, areas of the rows with changes, areas of another length, and journals whose slots are torn, each with a
+page that reads and writes arrays. `area_case` draws a case from a source of random numbers.
 """
 
 import functools
@@ -9,9 +9,9 @@ from hostile_texts import BML, Case, case_of, record_of
 from mutations import Language, mutated
 
 import tables
+from journals import AREA_SIZE, JOURNAL, SLOT_SIZE, files_of
 
-AREA_SIZE = tables.AREA_SIZE
-EARLIER_AREA_SIZE = tables.EARLIER_AREA_SIZE
+EARLIER_AREA_SIZE = 1024  # bytes of an area that an earlier receiver kept
 ARRAY_COUNT = AREA_SIZE // 64
 LENGTHS = [0, 0, 1, 2, 1000, 1023, EARLIER_AREA_SIZE, EARLIER_AREA_SIZE, 1025, 2048, 3071, 3073, 1 << 20]
 FIELDS = ["B:1b", "U:1B", "U:2B", "U:4B", "I:1B", "I:2B", "I:4B", "S:1B", "S:5B", "S:63B", "S:64B", "S:1V", "S:1V"]
@@ -55,4 +55,14 @@ def area_case(dice):
     else:
         kept = mutated(dice, dice.choice(areas().texts), areas())
         kept = (kept + bytes(AREA_SIZE))[:AREA_SIZE] if way < 0.95 else kept
-    return Case(options, stream, record, kept=kept)
+    files = files_of(kept)
+    if dice.random() < 0.4:
+        files[JOURNAL] = journal_of(dice, kept)
+    return Case(options, stream, record, files=files)
+
+
+def journal_of(dice, kept):
+    """Returns a journal: slots of chance or with this area, with gates and numbers of chance, whole or cut, or longer than it should be."""
+    areas = [dice.choice(((kept + bytes(AREA_SIZE))[:AREA_SIZE], dice.randbytes(AREA_SIZE), bytes(AREA_SIZE))) for _ in range(2)]
+    slots = b"".join(bytes([dice.choice((1, 1, 0, 255)), dice.choice((0, 1, 2, 2, 255))]) + area for area in areas)
+    return slots[: dice.choice((2 * SLOT_SIZE, 2 * SLOT_SIZE, SLOT_SIZE, dice.randrange(2 * SLOT_SIZE)))] + dice.choice((b"", b"", b"\1"))

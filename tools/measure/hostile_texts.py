@@ -27,13 +27,13 @@ LOAD = b"load /40/0000"
 
 
 class Case(NamedTuple):
-    """The words behind `replay`, the two files, a line that the run has to write, where one is known, and what is kept before it, where something is."""
+    """The words behind `replay`, the two files, a line that the run has to write, where one is known, and the files of what is kept before it, where there are some."""
 
     options: list[str]
     stream: bytes
     record: bytes
     due: bytes = b""
-    kept: bytes | None = None
+    files: dict[str, bytes] | None = None
 
 
 def case_of(modules, record, due=b"", behind=()):

@@ -5,8 +5,8 @@ usage: refuse_allocations.py [--lines] PROGRAM [WORD..] < INPUT
 
 The program gets the words and the input each time. A library that refuses the allocation of a number, as the system
 may, is compiled by `cc` and loaded in front of the C library. What is printed is how often the program ended in which
-way: its status and its last words, on standard output or on standard error. The kept area, `nvram.bin`, is as it was
-before each run. Status: 0 where each run ended by itself within a minute, 1 where one was stopped by a signal or
+way: its status and its last words, on standard output or on standard error. The journal of the kept area, `nvram.jnl`,
+is as it was before each run. Status: 0 where each run ended by itself within a minute, 1 where one was stopped by a signal or
 hung, or, with --lines, where what it wrote isn't the first lines, each to its end, of what the program writes with
 nothing refused.
 """
@@ -18,6 +18,10 @@ import sys
 import tempfile
 from pathlib import Path
 from typing import Any
+
+import places  # noqa: F401 (first, so that the others are found)
+
+from journals import JOURNAL
 
 LIBRARY = r"""
 #define _GNU_SOURCE
@@ -76,8 +80,8 @@ def main() -> int:
     given = sys.stdin.buffer.read()
     ends: collections.Counter[tuple[int | str, str, str]] = collections.Counter()
     well = True
-    area = Path("nvram.bin")
-    kept = area.read_bytes() if area.exists() else None
+    journal = Path(JOURNAL)
+    kept = journal.read_bytes() if journal.exists() else None
     with tempfile.TemporaryDirectory(prefix="refuse-") as room:
         with open(f"{room}/refuse.c", "w") as file:
             file.write(LIBRARY)
@@ -101,7 +105,7 @@ def main() -> int:
             try:
                 return subprocess.run(command, env={**os.environ, **told}, **how)
             finally:
-                put_back(area, kept)
+                put_back(journal, kept)
 
         whole = ran(0).stdout
         with open(f"{room}/made") as file:

@@ -23,6 +23,7 @@ from pathlib import Path
 
 from places import ROOT  # noqa: F401 (first, so that the others are found)
 
+from journals import keep
 from sent_modules import BML, REPLAY, carousel_sections, sent
 
 TAGS = ("div", "p", "p", "span", "a", "input", "object")
@@ -197,7 +198,7 @@ class Trial:
         Path(self.room, "stream.ts").write_bytes(self.stream)
         for places in self.asked:
             Path(self.room, "record.txt").write_text(with_shows(self.items, places))
-            Path(self.room, "nvram.bin").unlink(missing_ok=True)
+            keep(self.room, None)
             command = [self.program, *REPLAY]
             ran = subprocess.run(command, cwd=self.room, stdin=subprocess.DEVNULL, stdout=subprocess.PIPE, check=False)
             if ran.returncode:

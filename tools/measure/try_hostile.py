@@ -37,10 +37,11 @@ from pathlib import Path
 from typing import NamedTuple
 
 from bounded_runs import BoundedRuns
-from hostile_areas import AREA_SIZE, EARLIER_AREA_SIZE, area_case
+from hostile_areas import EARLIER_AREA_SIZE, area_case
 from hostile_streams import stream_case
 from hostile_texts import document_case, entity_case, record_case, script_case, style_case
 
+from journals import AREA_SIZE, keep, kept_in
 from recordings import cut
 from transport import PACKET_SIZE
 
@@ -56,7 +57,6 @@ KINDS = {
 TOLD_PROCESSOR, TOLD_CHECKED = 2.0, 20.0  # seconds; more is told
 HANDLER, CHECKED_HANDLER = 0.5, 10  # seconds, at most, of a handler that takes all its steps
 NO_AREA, NO_MEMORY = 7, 9
-KEPT = "nvram.bin"
 
 # What a record has
 
@@ -173,12 +173,12 @@ def faults_of_lines(lines):
         before = name
 
 
-def faults_of(case, status, stdout, stderr, kept):
-    """Yields what is wrong with a run, which left this kept."""
+def faults_of(case, before, status, stdout, stderr, kept):
+    """Yields what is wrong with a run, which began with what was kept before and left this kept."""
     taken, bad_line = read_record(case.record, len(cut(case.stream, PACKET_SIZE, True)[0]))
-    is_no_area = case.kept is not None and len(case.kept) not in (0, EARLIER_AREA_SIZE, AREA_SIZE)
-    told = {0: b"", 2: b"bad record line %d\n" % (bad_line or 0), NO_AREA: b"bad area length %d\n" % len(case.kept or b""), NO_MEMORY: b"no memory\n"}
-    if kept != case.kept and (is_no_area or kept is None or len(kept) != AREA_SIZE):
+    is_no_area = before is not None and len(before) not in (0, EARLIER_AREA_SIZE, AREA_SIZE)
+    told = {0: b"", 2: b"bad record line %d\n" % (bad_line or 0), NO_AREA: b"bad area length %d\n" % len(before or b""), NO_MEMORY: b"no memory\n"}
+    if kept != before and (is_no_area or kept is None or len(kept) != AREA_SIZE):
         yield f"{len(kept or b'')} bytes are kept"
     if is_no_area and stdout:
         yield "it writes lines, though what is kept is no area"
@@ -217,13 +217,13 @@ class Trial:
         stream, record, stdout, stderr = self.files(self.room)
         Path(stream).write_bytes(case.stream)
         Path(record).write_bytes(case.record)
-        area = Path(self.room, KEPT)
-        area.unlink(missing_ok=True)
-        if case.kept is not None:
-            area.write_bytes(case.kept)
+        keep(self.room, None)
+        for name, content in (case.files or {}).items():
+            Path(self.room, name).write_bytes(content)
+        before = kept_in(self.room)
         status, processor, memory = self.runs.run([self.program, "replay", *case.options, stream, record], stdout, stderr)
         written, error = Path(stdout).read_bytes(), Path(stderr).read_bytes()
-        faults = list(faults_of(case, status, written, error, area.read_bytes() if area.is_file() else None))
+        faults = list(faults_of(case, before, status, written, error, kept_in(self.room)))
         self.words[kind].update(line.split(b" ", 1)[0].decode("ascii", "replace") for line in written.split(b"\n")[:-1])
         ran = Ran(number, status, processor, memory, written, error, faults)
         ran = ran._replace(faults=[]) if ran.is_paid(self.asked.checked) else ran
@@ -237,9 +237,10 @@ class Trial:
         folder.mkdir(parents=True, exist_ok=True)
         cost = f"{ran.processor:.2f} seconds of the processor, {ran.memory / 1024:.0f} MiB"
         told = ran.faults or [f"{cost}, status {ran.status}, {ran.stopped():,} handlers took all their steps"]
-        for path, data in zip([*self.files(folder), folder / KEPT], (case.stream, case.record, ran.stdout, ran.stderr, case.kept)):
-            if data is not None:
-                Path(path).write_bytes(data)
+        for path, data in zip(self.files(folder), (case.stream, case.record, ran.stdout, ran.stderr)):
+            Path(path).write_bytes(data)
+        for name, content in (case.files or {}).items():
+            (folder / name).write_bytes(content)
         (folder / "args").write_text(" ".join(["replay", *case.options, "stream.ts", "record.txt"]) + "\n")
         (folder / "told").write_text("\n".join([*told, ""]))
         if not self.asked.keep_all or ran.faults:

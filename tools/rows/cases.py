@@ -8,9 +8,8 @@ ROOT = Path(__file__).resolve().parents[2]
 EXAMPLES, TABLES = ROOT / "examples", ROOT / "tables"
 sys.path.append(str(ROOT / "tools" / "users"))
 
+from journals import JOURNAL, files_of
 from tables import runs_of
-
-KEPT = "nvram.bin"
 
 
 class Case(NamedTuple):
@@ -32,7 +31,7 @@ def example(folder):
 
 def row(table, run):
     """Returns the first run of a row."""
-    files = {"stream.ts": run.stream, "record.txt": run.record} | ({} if run.kept is None else {KEPT: run.kept})
+    files = {"stream.ts": run.stream, "record.txt": run.record} | files_of(run.kept) | ({} if run.journal is None else {JOURNAL: run.journal})
     return Case(f"{table}: {run.name}", run.arguments, files, run.stdout, run.status)
 
 
@@ -45,7 +44,7 @@ def examples():
 def rows():
     """Yields the first runs of the rows of tables/, but for those that need a folder."""
     for path in sorted(TABLES.glob("*.txt")):
-        yield from (row(path.stem, run) for run in runs_of(path) if not run.folder)
+        yield from (row(path.stem, run) for run in runs_of(path) if not (run.folder or run.link))
 
 
 def case(name):

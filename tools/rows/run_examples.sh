@@ -4,8 +4,8 @@
 # With no example named it runs all of them. It makes each stream anew from its description and compares it with the
 # file beside it, and where there is a file unpacked.ts it lists and unpacks the stream by prepare_recording.py and compares what that gave. It
 # runs the program in a copy of the example's folder, for at most 60 seconds and with 256 MiB of addresses,
-# and compares standard output, standard error, status and what is kept with what the example wants: the file nvram.bin is to be as nvram.after
-# is, or as it was before where there is no such file. It prints a line for each example, with what differs behind it, and a sum.
+# and compares standard output, standard error, status and what is kept with what the example wants: the newest area of the file nvram.jnl
+# is to be as nvram.after is, or that file as it was before where there is none. It prints a line for each example, with what differs behind it, and a sum.
 # Status: 0 where all passed, 1 where one failed, 2 where nothing could be run.
 set -uo pipefail
 
@@ -68,12 +68,13 @@ check_run() {
 
 # Prints how what is kept after the run differs from what an example wants.
 check_kept() {
-  local wanted=$1/nvram.after
-  [ -e "$wanted" ] || wanted=$1/nvram.bin
-  if [ -e "$wanted" ]; then
-    cmp "$wanted" "$room/run/nvram.bin" 2>&1
-  elif [ -e "$room/run/nvram.bin" ]; then
-    echo "nvram.bin was written, and nothing is to be kept"
+  local journal=$room/run/nvram.jnl
+  if [ -e "$1/nvram.after" ]; then
+    python3 -B "$root/tools/rows/journals.py" "$room/run" | cmp "$1/nvram.after" - 2>&1
+  elif [ -e "$1/nvram.jnl" ]; then
+    cmp "$1/nvram.jnl" "$journal" 2>&1
+  elif [ -e "$journal" ]; then
+    echo "nvram.jnl was written, and nothing is to be kept"
   fi
 }
 

@@ -8,6 +8,7 @@ from collections import ChainMap
 from typing import NamedTuple
 
 import make_stream
+from journals import AREA_SIZE
 from make_stream import Fault, Stream
 
 NAME = r"[a-z][a-z0-9-]*"
@@ -18,15 +19,13 @@ ALONE = re.compile(r"\$\{([^{}]*)\}")
 PIECE = re.compile(r"\$\{([^{}]*)\}|\\(x[0-9A-Fa-f]{2}|.?)|((?:[^\\$]|\$(?!\{))+)")
 ESCAPES = {"n": b"\n", "r": b"\r", "t": b"\t", "\\": b"\\"}
 # The fields that a row may do without.
-OPTIONAL = {"stderr": [], "status": ["0"], "kept": [], "kept-after": ["${kept}"], "folder": []}
-AREA_SIZE = 3072  # bytes of the area that a run keeps
-EARLIER_AREA_SIZE = 1024  # those of earlier versions, which a run takes over
+OPTIONAL = {"stderr": [], "status": ["0"], "kept": [], "kept-after": ["${kept}"], "journal": [], "folder": [], "link": []}
 
 
 class Run(NamedTuple):
     """A run of the program, and what it has to write, to end with and to keep.
 
-    What is kept, before and after it, are the bytes of the file nvram.bin, or None where there is none.
+    What is kept, before and after it, are the bytes of an area, or those of the file nvram.bin, or None where there are none.
     """
 
     name: str
@@ -39,6 +38,8 @@ class Run(NamedTuple):
     kept: bytes | None = None
     kept_after: bytes | None = None
     folder: str = ""  # a folder beside the files, where it has a name
+    journal: bytes | None = None  # the bytes of the file of the journal, where they are told
+    link: str = ""  # a link beside them that leads nowhere, where it has a name
     again: "Run | None" = None  # the next run in the same place
 
 
@@ -59,7 +60,7 @@ class Row:
 
     def run(self):
         """Returns the run that the row describes, with those that follow it in the same place."""
-        if self.again and self.again.own.keys() & {"kept", "folder"}:
+        if self.again and self.again.own.keys() & {"kept", "journal", "folder", "link"}:
             raise Fault("what is there before a further run is what the one before it left")
         stream = RowStream(self)
         stream.describe(self.lines("stream").decode("ascii"))
@@ -75,6 +76,8 @@ class Row:
             self.kept("kept"),
             self.kept("kept-after"),
             self.text("folder").decode("ascii"),
+            self.kept("journal"),
+            self.text("link").decode("ascii"),
             self.again and self.again.run(),
         )
         for name in self.own:
@@ -83,7 +86,7 @@ class Row:
         return run
 
     def kept(self, name):
-        """Returns the bytes of nvram.bin that a field tells, or None where it is empty.
+        """Returns the kept bytes that a field tells, or None where it is empty.
 
         They are written as in descriptions of streams, and `..` behind them fills the area up.
         """

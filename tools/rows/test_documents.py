@@ -29,12 +29,12 @@ import line_rows
 import node_rows
 import shuffled_blocks
 import style_rows
+from journals import AREA_SIZE, JOURNAL, OLDER, keep, kept_in, older_in
 from make_stream import Fault
-from tables import AREA_SIZE, runs_of
+from tables import runs_of
 
 TABLES = Path(__file__).resolve().parents[2] / "tables"
 LIMIT = 60  # seconds for each run
-KEPT = "nvram.bin"  # the file of what is kept
 
 
 def all_tables():
@@ -76,16 +76,10 @@ def written_kept(kept):
     return " ".join([*words, ".."] if len(front) < len(kept) else words or ['""'])
 
 
-def kept_in(room):
-    """Returns the bytes that are kept in a folder, or None where there is no file of them."""
-    path = Path(room, KEPT)
-    return path.read_bytes() if path.is_file() else None
-
-
 def differing_files(room, run):
     """Returns how what the program left in its folder differs from what the run wants."""
     wanted, left = written_kept(run.kept_after), written_kept(kept_in(room))
-    others = set(os.listdir(room)) - {"stream.ts", "record.txt", KEPT, run.folder}
+    others = set(os.listdir(room)) - {"stream.ts", "record.txt", JOURNAL, OLDER, run.folder}
     told = [f"the file {name} was left" for name in sorted(others)]
     return told if left == wanted else [f"kept is {left}", f"and wanted {wanted}", *told]
 
@@ -111,12 +105,18 @@ def check(program, run):
     """Runs a row, with the runs that follow in the same place up to the first bad one, and returns the lines that tell what is wrong."""
     told, number = [], 1
     with tempfile.TemporaryDirectory(prefix="row-") as room:
-        if run.kept is not None:
-            Path(room, KEPT).write_bytes(run.kept)
+        keep(room, run.kept)
+        if run.journal is not None:
+            Path(room, JOURNAL).write_bytes(run.journal)
         if run.folder:
             Path(room, run.folder).mkdir()
+        if run.link:
+            Path(room, run.link).symlink_to("nowhere/file")
+        older = older_in(room)
         while run and not told:
             told = check_run(program, run, room)
+            if older_in(room) != older:
+                told.append(f"{OLDER} was written")
             if told and number > 1:
                 told.insert(0, f"in run {number}:")
             run, number = run.again, number + 1

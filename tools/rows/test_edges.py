@@ -23,18 +23,21 @@ from collections.abc import Callable, Iterator
 from pathlib import Path
 from typing import Any, NamedTuple
 
+from journals import JOURNAL, OLDER, kept_in
+
 EXAMPLE = Path(__file__).resolve().parents[2] / "examples" / "first-visit"
 WORDS: list[str | bytes] = ["replay", "--data-pid", "256", "stream.ts", "record.txt"]
 LIMIT = 60  # seconds for each run
-KEPT, NEXT = "nvram.bin", "nvram.bin.new"
 USAGE, OPEN_FAULT, WRITE_FAULT, KEEP_FAULT, BAD_LENGTH = 1, 3, 5, 6, 7
 TOLD = {OPEN_FAULT: b"open fault\n", WRITE_FAULT: b"write fault\n", KEEP_FAULT: b"keep fault\n"}
 # Calls that may be interrupted, and the files on which they are: what starts a program opens and reads others.
 INTERRUPTED: dict[str, tuple[str, ...]] = {
-    "openat": ("stream.ts", "record.txt", NEXT),
+    "openat": ("stream.ts", "record.txt", JOURNAL),
     "read": ("stream.ts", "record.txt"),
+    "pread64": (JOURNAL,),
     "write": (),
-    "fsync": (),
+    "pwrite64": (JOURNAL,),
+    "fdatasync": (JOURNAL,),
 }
 WHOLE = (EXAMPLE / "stdout").read_bytes()
 
@@ -67,10 +70,7 @@ class Room:
         }
         command = [*(before or self.preloaded("env")), self.program, *words]
         ran = subprocess.run(command, cwd=self.folder, timeout=LIMIT, check=False, **given)
-        kept = self.folder / KEPT
-        return Ended(
-            ran.returncode, ran.stdout or b"", ran.stderr or b"", kept.read_bytes() if kept.is_file() else None
-        )
+        return Ended(ran.returncode, ran.stdout or b"", ran.stderr or b"", kept_in(self.folder))
 
     def preloaded(self, word: str) -> list[str]:
         """The words that have the program load the library."""
@@ -207,7 +207,7 @@ def reads() -> Iterator[tuple[str, Case]]:
 
 
 def with_area(room: Room, area: bytes) -> Ended:
-    (room.folder / KEPT).write_bytes(area)
+    (room.folder / OLDER).write_bytes(area)
     return room.run()
 
 
@@ -226,16 +226,15 @@ def linked(room: Room, name: str, target: str) -> Ended:
 def is_stored_not(room: Room) -> bool:
     """Whether the old area stays, and no line of the turn is written, where the disk is full when it is stored."""
     old = bytes(1024)
-    (room.folder / KEPT).write_bytes(old)
-    ended = linked(room, NEXT, "/dev/full")
-    return ends(ended, KEEP_FAULT) and ended.kept == old
+    (room.folder / OLDER).write_bytes(old)
+    return ends(linked(room, JOURNAL, "/dev/full"), KEEP_FAULT) and (room.folder / OLDER).read_bytes() == old
 
 
 def areas() -> Iterator[tuple[str, Case]]:
     for size in (1, 3, 1023, 1025, 3071, 3073, 5_000):
         yield f"an area of {size:,} bytes", bad_length(size)
     yield "an empty area", lambda room: done(with_area(room, b""))
-    yield "an area that can't be opened", lambda room: ends(linked(room, KEPT, KEPT), KEEP_FAULT)
+    yield "an area that can't be opened", lambda room: ends(linked(room, OLDER, OLDER), KEEP_FAULT)
     yield "a full disk where it is stored", is_stored_not
 
 

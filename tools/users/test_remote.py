@@ -68,7 +68,7 @@ print(f"end {taken}")
 """
 # What a program begins with that keeps a file where it runs, and tells how long it is.
 KEEPING = """import sys, time
-with open("nvram.bin", "ab") as kept:
+with open("nvram.jnl", "ab") as kept:
     kept.write(b"x")
     print(f"kept nvram://~/0 {kept.tell()}")"""
 

@@ -15,6 +15,7 @@ mod memory_sinks;
 mod memory_worlds;
 mod outside;
 
+pub use crate::memory_calls::{Calls, is_listed};
 pub use crate::memory_keepers::MemoryKeeper;
 pub use crate::memory_sinks::MemorySink;
 pub use crate::memory_worlds::{MemorySource, MemoryWorld};

@@ -3,6 +3,7 @@ use Rattle.std.specs.Prelude.{ℕ, false, None}
 use Rattle.bml_ports.specs.Counters.{Counter}
 use Rattle.bml_ports.specs.Keepers.{KeeperState}
 use Rattle.bml_ports.specs.Worlds.{PortState, WorldState}
+use Rattle.nv_journal.specs.Disks.{DiskState}
 use Rattle.bml_ports_std.specs.Calls.{no_faults}
 
 -- a port at which no name was asked for
@@ -29,3 +30,7 @@ pub record AreaFileState : Type 0 where
 
 abbrev pub told_by_area_file : AreaFileState → KeeperState
 told_by_area_file file = record { faults = file.faults; calls = file.calls; kept = None }
+
+-- the calls on the journal's file: how many of them failed
+abbrev pub told_by_disk_file : Counter → DiskState
+told_by_disk_file faults = record { faults = faults; content = None }

@@ -1,4 +1,4 @@
-//! The file of the kept area.
+//! The file in which the area was kept before there was a journal.
 
 ghost use Rattle.std.specs.Prelude.{◌≡◌};
 ghost use Rattle.bml_ports_std.specs.Calls.{no_faults};
@@ -6,21 +6,15 @@ ghost use Rattle.bml_ports_std.specs.Files.{told_by_area_file};
 
 use crate::faults::Faults;
 use bml_ports::{AreaBytes, Failed, Keeper};
-use std::fs::{self, File};
-use std::io::{self, ErrorKind, Read, Write};
+use std::fs::File;
+use std::io::{self, ErrorKind, Read};
 use std::marker::Model;
 
-/// The file of the kept area, in the current folder.
+/// The file of an older area, in the current folder.
 const NAME: &str = "nvram.bin";
 
-/// The name under which a new area is written, before it becomes the kept one.
-const NEW_NAME: &str = "nvram.bin.new";
-
-/// Keeps the area in the file `nvram.bin` of the current folder. A missing file is loaded as an
-/// area of length 0. A store writes the whole area to `nvram.bin.new`, has the system put it on the
-/// disk, and then gives it the other name. So a stop in the middle leaves the old area or the new
-/// one, where renaming a file is one step, as POSIX asks of a system that goes on. What a disk
-/// keeps of the renaming when the power fails is the file system's to say.
+/// The area in the file `nvram.bin` of the current folder, which is read and never written: a store
+/// fails. A missing file is loaded as an area of length 0.
 #[derive(Drop)]
 pub struct AreaFile {
     rt: HostRuntime,
@@ -57,9 +51,9 @@ impl Keeper for AreaFile {
         self.faults.count(load_area(&self.rt, &mut into.bytes))
     }
 
-    fn store(&mut self, from: &AreaBytes) -> Result<(), Failed> {
+    fn store(&mut self, _from: &AreaBytes) -> Result<(), Failed> {
         self.calls = self.calls.saturating_add(1);
-        self.faults.count(store_area(&self.rt, from.bytes()))
+        self.faults.count(Err(ErrorKind::Unsupported.into()))
     }
 }
 
@@ -77,13 +71,4 @@ fn load_area(rt: &HostRuntime, area: &mut [u8]) -> io::Result<u64> {
         .min(usize::try_from(length).unwrap_or(area.len()));
     file.read_exact(&mut area[..fits])?;
     Ok(length)
-}
-
-// Writes the area under another name, and puts it in the place of the kept one.
-fn store_area(rt: &HostRuntime, area: &[u8]) -> io::Result<()> {
-    let mut file = File::create(rt, NEW_NAME)?;
-    file.write_all(area)?;
-    file.sync_all()?;
-    drop(file);
-    fs::rename(rt, NEW_NAME, NAME)
 }

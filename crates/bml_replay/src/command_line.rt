@@ -31,7 +31,7 @@ bml_replay gen SEED COUNT
 replay prints a line for each module that comes, goes or is skipped, for each document that is loaded, refused or launched,
 for each script that is bad or stopped, for each event that is lost, for each sound and for each persistent array that is
 written. It prints the display lists that the record asks for, and at the end the number of packets taken. What pages write
-to persistent arrays is kept in the file nvram.bin of the current folder, where the next run finds it.
+to persistent arrays is kept in the file nvram.jnl of the current folder, where the next run finds it.
 gen generates a stream, replays it in memory, and prints its packets, the bytes of its modules and the lines of the
 replay. It uses no file.
 The status is 0 where all was done. Otherwise standard error says what was not.

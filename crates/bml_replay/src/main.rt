@@ -1,6 +1,6 @@
 //! Replays a recorded transport stream of Japanese data broadcasting, as a receiver would see it.
 //!
-//! The program gives its words, the real files, the real standard output and the file of the kept area to
+//! The program gives its words, the real files, the real standard output and the files of the kept area to
 //! `replay_run::run`, which carries the promise, says on standard error how the run ended, and ends with
 //! the status' number.
 #![tactic(auto)]
@@ -9,7 +9,8 @@ mod command_line;
 
 use crate::command_line::{Asked, HELP, SYNOPSIS, VERSION, read_words, request_of};
 use bml_ports::Text;
-use bml_ports_std::{AreaFile, FileWorld, StandardOutput};
+use bml_ports_std::{AreaFile, DiskFile, FileWorld, StandardOutput};
+use nv_journal::Journal;
 use replay_run::{Status, run};
 use std::process::ExitCode;
 
@@ -34,7 +35,7 @@ fn obey(rt: &HostRuntime, words: &[Text]) -> Status {
 // Runs the command that the words are, over the files and standard output.
 fn run_words(rt: &HostRuntime, words: &[Text]) -> Status {
     let mut world = FileWorld::new(*rt);
-    let mut keeper = AreaFile::new(*rt);
+    let mut keeper = Journal::new(DiskFile::new(*rt), AreaFile::new(*rt));
     let mut out = StandardOutput::new(rt.stdout());
     run(rt.alloc(), words, &mut world, &mut keeper, &mut out)
 }

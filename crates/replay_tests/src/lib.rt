@@ -20,6 +20,8 @@ mod area_files;
 #[cfg(test)]
 mod faults;
 #[cfg(test)]
+mod journals;
+#[cfg(test)]
 mod kept_areas;
 #[cfg(test)]
 mod long_records;

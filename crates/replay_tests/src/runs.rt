@@ -5,7 +5,7 @@ ghost use Rattle.bml_ports.specs.MemoryWorlds.{told_by_world};
 ghost use Rattle.replay_run.specs.Opening.{IsUnasked};
 
 use crate::piece_sinks::PieceSink;
-use bml_ports::{MemoryKeeper, MemorySink, MemorySource, MemoryWorld, NoMemory, Text};
+use bml_ports::{Keeper, MemoryKeeper, MemorySink, MemorySource, MemoryWorld, NoMemory, Text};
 use replay_run::{Status, run};
 use std::alloc::Global;
 
@@ -64,8 +64,7 @@ pub fn replayed(
     ports: Ports,
 ) -> Result<Ended, NoMemory> {
     let words = texts_of(alloc, words)?;
-    let sink = MemorySink::new(alloc, ports.room, vec![in alloc; ports.write]?)?;
-    let mut sink = PieceSink::new(sink, ports.write_piece);
+    let mut sink = sink_of(alloc, ports)?;
     let kept = Vec::from_slice(alloc, ports.kept)?;
     let mut keeper = MemoryKeeper::new(kept, vec![in alloc; ports.keeping]?);
     let mut world = world_of(alloc, stream, record, ports)?;
@@ -76,6 +75,25 @@ pub fn replayed(
         keeper,
         sink,
     })
+}
+
+/// Replays the data on PID 256 over another keeper, and answers how that ended, and what was written.
+pub fn replayed_over<K: Keeper>(
+    alloc: Global,
+    stream: &[u8],
+    record: &[u8],
+    keeper: &mut K,
+) -> Result<(Status, PieceSink), NoMemory> {
+    let words = texts_of(alloc, REPLAY)?;
+    let mut sink = sink_of(alloc, SOUND)?;
+    let mut world = world_of(alloc, stream, record, SOUND)?;
+    let status = run(alloc, words.as_slice(), &mut world, keeper, &mut sink);
+    Ok((status, sink))
+}
+
+fn sink_of(alloc: Global, ports: Ports) -> Result<PieceSink, NoMemory> {
+    let sink = MemorySink::new(alloc, ports.room, vec![in alloc; ports.write]?)?;
+    Ok(PieceSink::new(sink, ports.write_piece))
 }
 
 fn world_of(

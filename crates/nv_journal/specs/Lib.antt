@@ -1,0 +1,7 @@
+pub mod Disks
+pub mod Histories
+pub mod Journals
+pub mod MemoryDisks
+pub mod Slots
+pub mod Steps
+pub mod devices
