@@ -31,6 +31,10 @@ READ = (
     "ssize_t read(int file, void *into, size_t count) { ssize_t done = REAL(read)(file, into, count); %s return done; }"
 )
 WRITE = "ssize_t write(int file, const void *from, size_t count) { %s }"
+WRITE_AT = (
+    "ssize_t pwrite64(int file, const void *from, size_t count, off64_t at)"
+    " { ssize_t done = REAL(pwrite64)(file, from, count, at); %s return done; }"
+)
 OPEN = (
     "int open(const char *path, int flags, ...)"
     " { char name[4096]; strcpy(name, path); %s return REAL(open)(name, flags, 0666); }"
@@ -55,14 +59,18 @@ WRONG = {
     % "char *to = name; for (const char *from = path; *from; from++) if (*from > 0) *to++ = *from; *to = 0;",
     "an interrupted opening is a fault": OPEN
     % "int file = REAL(open)(name, flags, 0666); if (file < 0 && errno == EINTR) errno = EIO; return file;",
-    "an interrupted sync is a fault": "int fsync(int file)"
-    " { int done = REAL(fsync)(file); if (done && errno == EINTR) errno = EIO; return done; }",
+    "an interrupted sync is a fault": "int fdatasync(int file)"
+    " { int done = REAL(fdatasync)(file); if (done && errno == EINTR) errno = EIO; return done; }",
+    "an interrupted write to the journal is a fault": WRITE_AT
+    % "if (done < 0 && errno == EINTR) errno = EIO;",
+    "a failed write to the journal is none": WRITE_AT % "if (done < 0) return (ssize_t)count;",
+    "an interrupted read of the journal is the end": "ssize_t pread64(int file, void *into, size_t count, off64_t at)"
+    " { ssize_t done = REAL(pread64)(file, into, count, at); return done < 0 && errno == EINTR ? 0 : done; }",
     "a longer area is cut": STATX
     % "if (!done && into->stx_size > 1024 && into->stx_size < 1100) into->stx_size = 1024;",
     "a shorter area is empty": STATX % "if (!done && into->stx_size > 0 && into->stx_size < 1024) into->stx_size = 0;",
     "an area that can't be opened is none": OPEN
     % "int file = REAL(open)(name, flags, 0666); if (file < 0 && errno == ELOOP) errno = ENOENT; return file;",
-    "an area is stored in its place": OPEN % 'if (!strcmp(name, "nvram.bin.new")) strcpy(name, "nvram.bin");',
 }
 
 
