@@ -17,7 +17,6 @@ from transport import MESSAGE_DDB, MESSAGE_DII, compression_of, is_intact, paylo
 TABLE = 'docs/TROUBLE.md, "What the tools say of a recording"'
 HEAD = 65_536  # bytes by which a file is told
 START_MODULE = 0
-NULL_PID = 0x1FFF
 MOST_NAMED = 8  # PIDs or modules that a sentence names
 MOST_TARGETS = 32  # services or PIDs of a recording
 SEARCHED_PACKETS = 500_000  # in which carousels are searched that no table names
