@@ -34,10 +34,9 @@ TOLD = {OPEN_FAULT: b"open fault\n", WRITE_FAULT: b"write fault\n", KEEP_FAULT: 
 INTERRUPTED: dict[str, tuple[str, ...]] = {
     "openat": ("stream.ts", "record.txt", JOURNAL),
     "read": ("stream.ts", "record.txt"),
-    "pread64": (JOURNAL,),
     "write": (),
-    "pwrite64": (JOURNAL,),
-    "fdatasync": (JOURNAL,),
+    "pwrite64": (),
+    "fdatasync": (),
 }
 WHOLE = (EXAMPLE / "stdout").read_bytes()
 
