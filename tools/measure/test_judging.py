@@ -77,8 +77,8 @@ def failing() -> Tests:
             ("openat", "record.txt", False),
             ("read", "stream.ts", False),
             ("write", "stdout", False),
-            ("write", "nvram.bin.new", True),
-            ("read", "nvram.bin", False),
+            ("pwrite64", "nvram.jnl", False),
+            ("read", "nvram.bin", True),
             ("write", "stderr", False),
         ]
     ] == ["opening", "read", "write", "store", "load", None]
@@ -88,7 +88,7 @@ def faults(
     status: int, stdout: bytes, stderr: bytes = b"", record: bytes = b"all\n", kept: bytes | None = None
 ) -> list[str]:
     case = Case([], b"", record)
-    return list(try_hostile.faults_of(case, status, stdout, stderr, kept))
+    return list(try_hostile.faults_of(case, None, status, stdout, stderr, kept))
 
 
 def hostile() -> Tests:
