@@ -26,14 +26,14 @@ def head_of(path: Path) -> str:
 
 
 def sentence_of(path: Path) -> str:
-    """The first sentence of a tool's head, without the usage that may stand behind it."""
+    """The first sentence of a tool's head, without the usage that may stand after it."""
     first = " ".join(head_of(path).split("\n\n")[0].split())
     first = re.split(r": \w+\.(?:py|sh)\b", first)[0].rstrip(".") + "."
     return re.split(r"(?<=\.) (?=[A-Z])", first)[0]
 
 
 def tools(folder: str, with_modules: bool = False) -> list[Path]:
-    """The tools of a folder in the order of their names, those that tests are behind the others."""
+    """The tools of a folder in the order of their names, those that tests are after the others."""
     found = [path for path in (TOOLS / folder).iterdir() if path.suffix in (".py", ".sh")]
     found = [path for path in found if with_modules or os.access(path, os.X_OK)]
     return sorted(found, key=lambda path: (path.name.startswith("test_"), path.name))

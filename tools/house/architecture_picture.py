@@ -37,7 +37,7 @@ class Place(NamedTuple):
 
 
 def lowest_first(crates):
-    """Returns the crates, each behind those that it stands on."""
+    """Returns the crates, each after those that it stands on."""
     return {name: crates[name] for name in TopologicalSorter(crates).static_order()}
 
 

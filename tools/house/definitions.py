@@ -3,8 +3,8 @@
 
 It begins with the clauses of a public function (the program's top call `run`, if none is named), with the traits in its signature and
 with the types of its arguments and its result. From there it follows each name to the definition that it means, in whatever crate, down
-to numbers, lists and the toolchain's own library. It prints what it found file by file as Markdown, the headline's own file first, and
-each file before those that it rests on.
+to numbers, lists and the toolchain's own library. It prints what it found as Markdown, theme by theme (themes.py) and file by file: the
+headline's own theme first, and in each theme a file before those that it rests on.
 
 It reads every form that the files of specs/ have, and ends with an error at any other one, so that nothing is left out unseen.
 
@@ -22,6 +22,7 @@ from pathlib import Path
 import spec_files
 from spec_files import SpecFile, Unknown, walk
 from source_files import Sources
+from themes import OTHERS, THEMES, sources_of, theme_of
 
 ROOT = Path(__file__).resolve().parents[2]
 HEADLINE = ("replay_run", "run")
@@ -51,7 +52,7 @@ class Reader:
         return self.files[key]
 
     def resolve(self, path, name, where):
-        """What a name behind a path of modules means: a node, or None where it is the toolchain's own."""
+        """What a name after a path of modules means: a node, or None where it is the toolchain's own."""
         found = re.match(r"Rattle\.(\w+)\.(.+)$", path)
         if not found or found[1] not in self.names:
             self.library.setdefault(path, set()).add(name)
@@ -198,17 +199,53 @@ def as_markdown(text):
     return "`".join(part if n % 2 else re.sub(r"([*<])", r"\\\1", part) for n, part in enumerate(parts))
 
 
-def files_as_text(reader, nodes):
-    """The files of these definitions in reading order, with the count of definitions and of their lines."""
-    out, count, lines = [], 0, 0
+class Listed:
+    """Files of definitions as they are listed: their text, how many definitions and lines they have, and what their heads say."""
+
+    def __init__(self, reader, nodes, files):
+        self.files, self.text, self.count, self.lines, self.heads = files, [], 0, 0, []
+        for crate, module in files:
+            file = reader.file(crate, module)
+            names = [it for it in file.items if ("spec", crate, module, it) in nodes]
+            self.count += len(names)
+            self.lines += sum(file.lines[it] for it in names)
+            self.heads.append(file.sentence())
+            shown = f"crates/{crate}/specs/{module.replace('.', '/')}.antt"
+            self.text += [f"#### `{shown}`", "", as_markdown(file.sentence()), "", ", ".join(f"`{it}`" for it in names), ""]
+
+
+def by_theme(reader, nodes, themes):
+    """The themes that have files of these definitions, in their order, each with its files in reading order."""
+    of = {}
     for crate, module in reader.order(nodes):
-        file = reader.file(crate, module)
-        names = [it for it in file.items if ("spec", crate, module, it) in nodes]
-        count += len(names)
-        lines += sum(file.lines[it] for it in names)
-        shown = f"crates/{crate}/specs/{module.replace('.', '/')}.antt"
-        out += [f"### `{shown}`", "", as_markdown(file.sentence()), "", ", ".join(f"`{it}`" for it in names), ""]
-    return out, count, lines
+        of.setdefault(theme_of(crate, module, themes), []).append((crate, module))
+    return {theme: Listed(reader, nodes, of[theme]) for theme in [*themes, OTHERS] if theme in of}
+
+
+def rests_on(reader, nodes, listed):
+    """For each theme the other ones whose definitions its own name, in their order."""
+    theme_at = {file: theme for theme, it in listed.items() for file in it.files}
+    named = {theme: set() for theme in listed}
+    for node in nodes:
+        if node[0] == "spec":
+            named[theme_at[node[1:3]]] |= {theme_at[to[1:3]] for to in reader.edges[node] if to in nodes and to[0] == "spec"}
+    return {theme: [it for it in listed if it in named[theme] and it != theme] for theme in listed}
+
+
+def themes_as_text(reader, nodes, themes):
+    """A table of the themes, and then the files of each."""
+    listed = by_theme(reader, nodes, themes)
+    below = rests_on(reader, nodes, listed)
+    numbers = {theme: number for number, theme in enumerate(listed, 1)}
+    table, text, sum_ = ["| | theme | lines | together | definitions | follows | rests on |", "|---|---|---|---|---|---|---|"], [], 0
+    for theme, it in listed.items():
+        sum_ += it.lines
+        follows = ", ".join(sources_of(it.heads))
+        on = ", ".join(str(numbers[other]) for other in below[theme])
+        table.append(f"| {numbers[theme]} | {theme.title} | {it.lines:,} | {sum_:,} | {it.count:,} | {follows} | {on} |")
+        told = f"{theme.about} {counted(it.count, 'definition')} in {counted(len(it.files), 'file')}, {counted(it.lines, 'line')}."
+        text += [f"### {numbers[theme]}. {theme.title}", "", told, "", *it.text]
+    return [*table, "", *text], sum(it.count for it in listed.values()), sum_
 
 
 def types_as_text(reader, nodes):
@@ -227,33 +264,34 @@ def counted(number, word):
     return f"{number:,} {word}" + ("" if number == 1 else "s")
 
 
-def page(reader, what):
+def page(reader, what, themes=THEMES):
     everything = set(reader.edges)
     believed = reader.reachable(lambda it: not reader.is_device(it))
     passed = everything - believed
-    text, count, lines = files_as_text(reader, believed)
-    devices, device_count, device_lines = files_as_text(reader, passed)
+    text, count, lines = themes_as_text(reader, believed, themes)
+    devices = Listed(reader, passed, reader.order(passed))
     spec_count = len({it[1:3] for it in believed if it[0] == "spec"})
-    device_files = len({it[1:3] for it in passed if it[0] == "spec"})
     out = [
         "# Definitions",
         "",
         f"These are the definitions that {what} rests on. A reader who finds them right, and trusts what `README.md` lists as trusted, may believe",
         "what it says. The code and the proofs needn't be read for that: the prover checks them against these definitions.",
         "",
-        "The list is in reading order, from the top down: each file comes before those that it rests on. For each file the list has its first",
-        "lines and the definitions that are used. `tools/house/definitions.py` makes this page by following names, and ends with an error at",
-        "a form that it doesn't know. `.ci/run` makes the page anew and compares. `tools/house/test_definitions.py` finds the same definitions",
-        "in a second way, by words alone.",
+        "The list goes by theme in the order of a reader, the meaning of a run first. Each theme can be read by itself: the table has its lines, the",
+        "lines up to its end, the standards that its files name, and the numbers of the themes that it rests on. In a theme each file comes before",
+        "those that it rests on. For each file the list has its first lines and the definitions that are used.",
+        "",
+        "`tools/house/definitions.py` makes this page by following names, and ends with an error at a form that it doesn't know. `.ci/run` makes the",
+        "page anew and compares. `tools/house/test_definitions.py` finds the same definitions in a second way, by words alone.",
         "",
         f"{counted(count, 'definition')} in {counted(spec_count, 'file')}, {counted(lines, 'line')} without comments; and the types of the code at the end."
-        + (f" Beside them {counted(device_count, 'device')} in {counted(device_files, 'file')}, {counted(device_lines, 'line')}." if device_count else ""),
+        + (f" Beside them {counted(devices.count, 'device')} in {counted(len(devices.files), 'file')}, {counted(devices.lines, 'line')}." if devices.count else ""),
         "",
         "## To be believed",
         "",
         *text,
     ]
-    if device_count:
+    if devices.count:
         out += [
             "## Devices",
             "",
@@ -261,13 +299,13 @@ def page(reader, what):
             "says that both agree: " + ", ".join(sorted(f"`{law}` of `crates/{crate}/src/{source}`" for (crate, source), laws in reader.laws.items() for law in laws))
             + ". Who trusts the prover needn't read what follows here.",
             "",
-            *devices,
+            *devices.text,
         ]
     out += [
         "## Types of the code",
         "",
         "The definitions speak of values of these types. A type without a remark is seen as it is written in the code, field by field. One",
-        "with `as` is seen as the type behind that word. Of a trait all clauses count: they say what the outside may do.",
+        "with `as` is seen as the type after that word. Of a trait all clauses count: they say what the outside may do.",
         "",
         *types_as_text(reader, everything),
         "",

@@ -6,7 +6,7 @@ It is run by `gdb` over the examples, and then over the rows of tables/, but for
 status that is wanted, 0, and writes what is wanted: want of memory would have ended it with status 9. Of each call the first such run is
 printed, in a line `CRATE CALL: example NAME` or `CRATE CALL: TABLE: ROW`, as `calls_made.txt` beside this file has them. The calls that no run
 makes are named on standard error. It takes ten minutes. With `--more` the lines of calls_made.txt are taken over, and it looks for the other
-calls alone, in the examples and rows that are named behind it, or in all.
+calls alone, in the examples and rows that are named after it, or in all.
 """
 
 import re

@@ -1,6 +1,6 @@
 #!/usr/bin/env python3
 """Lists each public call that can refuse: with want of memory, a fault or another error. For each it says which clause tells what stays as it
-was behind a refusal, and which example, row or test makes the call with enough memory.
+was after a refusal, and which example, row or test makes the call with enough memory.
 
     tools/house/refusals.py                prints the list
     tools/house/refusals.py --check FILE   says whether FILE holds just that list, and ends with 1 if it doesn't
@@ -128,7 +128,7 @@ def other_answer(head):
 
 
 def kept_by(crate, call, head):
-    """The words that say what stays as it was behind a refusal, None where there are none."""
+    """The words that say what stays as it was after a refusal, None where there are none."""
     names = clauses(head)
     for of, calls, words in EXCEPTIONS:
         if of == crate and re.fullmatch(calls, call):
@@ -237,7 +237,7 @@ class Makers:
 
 
 class Call(NamedTuple):
-    """A public call: its name, its error or its other answer, what stays behind a refusal, and what makes it."""
+    """A public call: its name, its error or its other answer, what stays after a refusal, and what makes it."""
 
     name: str
     error: str | None
@@ -279,7 +279,7 @@ def rows():
 
 HEAD = """# Refusals
 
-Each public call that can refuse, with what it refuses with, what stays as it was behind a refusal, and an example, a row or a test that makes the call with enough memory. `NoMemory` is
+Each public call that can refuse, with what it refuses with, what stays as it was after a refusal, and an example, a row or a test that makes the call with enough memory. `NoMemory` is
 want of memory. The list is made by `tools/house/refusals.py`, which ends with an error where a place would be empty. The calls, their answers and the names of the clauses are read
 from the sources. The words of the exceptions are written by hand there; that the clauses that they name are there is checked.
 
@@ -297,7 +297,7 @@ def tables_of(calls):
     errors = [f"| `{it.name}` | `{it.error}` | {it.kept} | {it.made} |" for it in sorted(calls) if it.error]
     others = [f"| `{it.name}` | `{it.answer}` | {it.kept} | {it.made} |" for it in sorted(calls) if not it.error]
     if errors:
-        yield from ["", "| call | refuses with | behind a refusal | made with enough memory in |", "|---|---|---|---|", *errors]
+        yield from ["", "| call | refuses with | after a refusal | made with enough memory in |", "|---|---|---|---|", *errors]
     if others:
         yield from ["", "| call | answers | clauses | made in |", "|---|---|---|---|", *others]
 

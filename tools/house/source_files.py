@@ -12,7 +12,7 @@ def without_comments(text):
 
 
 def end_of(text, place, opening, closing_mark):
-    """The place behind the bracket that closes the one at a place."""
+    """The place after the bracket that closes the one at a place."""
     depth = 0
     for at in range(place, len(text)):
         if text[at] == opening:

@@ -54,7 +54,7 @@ def tokens(text):
     for found in TOKEN.finditer(text):
         word = found[0]
         if word == ".":
-            # the dot of a path has no blank on either side; that of a `λ` has one behind it
+            # the dot of a path has no blank on either side; that of a `λ` has one after it
             joined = found.start() == last_end and found.end() < len(text) and not text[found.end()].isspace()
             given.append(".path" if joined else ".")
         else:
@@ -98,7 +98,7 @@ def is_variable(word, constructors):
 
 
 def walk(definition, scope):
-    """The names that a definition uses: each with the one behind its first dot, or None."""
+    """The names that a definition uses: each with the one after its first dot, or None."""
     for text, bound in definition.texts:
         yield from walk_text(tokens(text), bound, scope)
 
@@ -326,7 +326,7 @@ class SpecFile(Scope):
 
     @staticmethod
     def header(text, kind):
-        """The words of a header behind its marks, up to `where`, and the names that its brackets bind."""
+        """The words of a header after its marks, up to `where`, and the names that its brackets bind."""
         words = tokens(text)
         at = words.index(kind) + 1
         name, bound, place = words[at], [], at + 1

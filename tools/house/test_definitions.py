@@ -13,6 +13,7 @@ from pathlib import Path
 
 import definitions
 from spec_files import Unknown
+from themes import OTHERS, THEMES, Theme, sources_of
 
 ROOT = Path(__file__).resolve().parents[2]
 
@@ -162,7 +163,7 @@ named_by_helper n = n
 named_by_inner : ℕ → ℕ
 named_by_inner n = n
 
--- an implicit argument, a label and a variable cover definitions; the text is no name, and neither is what is behind `--`
+-- an implicit argument, a label and a variable cover definitions; the text is no name, and neither is what is after `--`
 unfoldable pub opened {ℓ} : {A : Type ℓ} → ℕ → ℕ
 opened label_only = record { label_only = λ variable_only. variable_only "text_only"; faults = let let_only = let_value in let_only } -- remark_only
 
@@ -274,7 +275,7 @@ REFUSED = {
     "a comment over lines": "{- a comment -}",
     "the same name twice": "abbrev pub plain : Type 0\nplain = Unit {0}",
     "an import of all names": "use Rattle.low.specs.Told.*",
-    "marks in front of nothing": "abbrev pub",
+    "marks before nothing": "abbrev pub",
 }
 
 
@@ -339,6 +340,30 @@ def check_small_trees(tell):
         text = SPECS[path][0]
         if refusal({f"{path}.antt": text.replace(old, new)}) is None:
             tell(f"not refused: {what}")
+
+
+def check_themes(tell):
+    """The themes of a small tree: their order, their sums, what they follow and rest on, and what is in none."""
+    reader, _ = read()
+    believed = reader.reachable(lambda it: not reader.is_device(it))
+    themes = [Theme("Below", "Numbers.", "low/Laws low/Models"), Theme("Top", "Runs.", "top"), Theme("None", "Nothing.", "high"), Theme("Rest", "Forms.", "low")]
+    listed = definitions.by_theme(reader, believed, themes)
+    files = [(it.title, len(found.files)) for it, found in listed.items()]
+    if files != [("Below", 2), ("Top", 1), ("Rest", 4)]:
+        tell(f"themes: {files}")
+    below = {it.title: [on.title for on in found] for it, found in definitions.rests_on(reader, believed, listed).items()}
+    if "Rest" not in below["Top"] or "Top" in below["Rest"] or any(it in on for it, on in below.items()):
+        tell(f"themes rest on others: {below}")
+    text, count, lines = definitions.themes_as_text(reader, believed, themes)
+    whole = definitions.by_theme(reader, believed, [])
+    if (count, lines) != (whole[OTHERS].count, whole[OTHERS].lines) or len(whole) != 1:
+        tell("a file in no theme isn't among the others")
+    rows = [row.split(" | ") for row in text if re.match(r"\| \d", row)]
+    sums = [int(row[3].replace(",", "")) for row in rows]
+    if sums != [sum(int(row[2]) for row in rows[: n + 1]) for n in range(len(rows))]:
+        tell(f"the lines of themes together: {sums}")
+    if sources_of(["X (ECMA-262 second edition, 7).", "Y (MIME, RFC 2046; ISO/IEC 13818-6)."]) != ["ISO/IEC 13818-6", "ECMA-262 second edition", "MIME"]:
+        tell("the sources of two heads")
 
 
 # ---- this repository, by words alone
@@ -432,17 +457,36 @@ def check_repository(tell):
         tell(f"named by words alone, and not listed: {it}")
     for it in sorted(mine - crude):
         tell(f"listed, and not named by words alone: {it}")
+    check_its_themes(reader, tell)
     return len(mine), len({it[:2] for it in mine})
+
+
+def check_its_themes(reader, tell):
+    """Each file is in a theme, each theme has a file, and each file says what it follows."""
+    believed = reader.reachable(lambda it: not reader.is_device(it))
+    listed = definitions.by_theme(reader, believed, THEMES)
+    for it in listed[OTHERS].files if OTHERS in listed else []:
+        tell(f"in no theme of themes.py: {it}")
+    files = {f"{crate}/{module}" for found in listed.values() for crate, module in found.files}
+    for theme in THEMES:
+        for name in theme.files.split():
+            if theme not in listed or not any(file == name or file.startswith(name + "/") for file in files):
+                tell(f"the theme {theme.title} names {name}, of which nothing is listed")
+    for theme, found in listed.items():
+        for (crate, module), head in zip(found.files, found.heads):
+            if not sources_of([head]):
+                tell(f"{crate}/{module} names no source that themes.py knows")
 
 
 def main():
     told = []
     check_small_trees(told.append)
+    check_themes(told.append)
     count, files = check_repository(told.append)
     for line in told:
         print(f"FAILED  {line}")
     if not told:
-        print(f"ok      definitions: each form, {len(REFUSED) + 5} refusals, and {count} definitions in {files} files by both ways")
+        print(f"ok      definitions: each form, {len(REFUSED) + 5} refusals, {len(THEMES)} themes, and {count} definitions in {files} files by both ways")
     return 1 if told else 0
 
 

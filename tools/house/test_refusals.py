@@ -92,7 +92,7 @@ def tests():
         calls = written(folder)
     by_name = {it.name: it for it in calls.all if (it.crate, it.name) != ("other", "put")}
     of_main, of_test = names(calls.reached_from([by_name["main"]])), names(calls.reached_from([by_name["a_byte_is_taken"]]))
-    yield "a function behind another is reached", ("low", "Box", "put") in of_main
+    yield "a function after another is reached", ("low", "Box", "put") in of_main
     yield "one that only a comment names is not", ("low", "Box", "lost") not in of_main
     yield "one of a crate that isn't below is not", ("other", None, "put") not in of_main
     yield "one that nothing calls is not", ("low", None, "is_one") not in of_main and ("low", "Box", "take") not in of_main

@@ -58,6 +58,7 @@ def main() -> None:
                 time.sleep(0.2)
                 program = running_program(run.pid)
             if program:
+                os.makedirs(os.path.dirname(out), exist_ok=True)
                 shutil.copy(program, out)
         finally:
             run.terminate()

@@ -1,14 +1,17 @@
 #!/usr/bin/env python3
-"""Compares the dates of `es_date` with those of Python's datetime: compare_dates.py
+"""Compares the dates of `es_date` with those of Python's datetime: compare_dates.py [--program PROGRAM] [--write]
 
-Runs the program `date_tests`, without any proof, over the rows of crates/date_tests/data and over all 182,621 days of the years 1900 to
-2399: of each its date, its day of the week, and the number that this date has again. It prints the first answers that differ, and how many
-answers were compared. The answers of Python are worked out by `datetime.date` and `divmod` alone. With --write it also writes those to the
-rows as the file `stdout`, which `rt ci` compares.
+Runs the program `date_tests` over the rows of crates/date_tests/data and over all 182,621 days of the years 1900 to
+2399, in pieces: of each day its date, its day of the week, and the number that this date has again. The program is
+compiled without proof for each piece; with --program PROGRAM it is one that was built, as `rt ci` leaves it in
+crates/date_tests/out. It prints the first answers that differ, and how many answers were compared. The answers of
+Python are worked out by `datetime.date` and `divmod` alone. With --write it also writes those to the rows as the file
+`stdout`, which `rt ci` compares.
 Status: 0 where all answers are the same, 1 where one differs, and 2 where the program didn't run.
 """
 
 import argparse
+import os
 import subprocess
 import sys
 import tempfile
@@ -18,6 +21,8 @@ from pathlib import Path
 CRATE = Path(__file__).resolve().parents[2] / "crates" / "date_tests"
 EPOCH = date(1970, 1, 1)
 FIRST, LAST = (date(1900, 1, 1) - EPOCH).days, (date(2399, 12, 31) - EPOCH).days
+# How many days are asked for at once: `rt try` ends a run that prints more than 1 MiB.
+AT_ONCE = 30_000
 UNITS = {1: 1, 2: 60, 3: 3600, 4: 86_400, 5: 604_800}
 
 
@@ -96,33 +101,45 @@ def expected_day(day):
     return f"{day} {joined(civil(day))} {day}"
 
 
-def printed(path):
-    """The lines that the program prints over the rows of a file."""
-    run = subprocess.run(["rt", "try", "--", str(path)], cwd=CRATE, capture_output=True, text=True, check=False)
+def printed(path, program):
+    """The lines that the program prints over the rows of a file; where none is named, the crate runs unproved."""
+    command = [program, str(path)] if program else ["rt", "try", "--", str(path)]
+    run = subprocess.run(command, cwd=CRATE, capture_output=True, text=True, check=False)
     if run.returncode != 0:
-        sys.stderr.write(run.stderr)
+        sys.stderr.write(run.stderr[-2000:])
         sys.exit(2)
     return run.stdout.splitlines()
 
 
+def questions(data):
+    """What is asked in each run: rows, and the lines that are expected of them."""
+    yield data, [expected(row) for row in data]
+    for first in range(FIRST, LAST + 1, AT_ONCE):
+        end = min(first + AT_ONCE, LAST + 1)
+        row = f"days {first} {end}"
+        yield [row], [f"{row}:", *map(expected_day, range(first, end))]
+
+
 def main():
     parser = argparse.ArgumentParser(description="Compares dates with those of Python.")
-    parser.add_argument("--write", action="store_true", help="write the answers to the rows of the data to the file stdout")
+    parser.add_argument("--write", action="store_true", help="write the answers to the rows as the file stdout")
+    parser.add_argument("--program", type=os.path.abspath, help="date_tests as it was built")
     options = parser.parse_args()
     data = (CRATE / "data" / "dates.txt").read_text(encoding="ascii").splitlines()
-    answers = [expected(row) for row in data]
     if options.write:
-        (CRATE / "stdout").write_text("\n".join(answers) + "\n", encoding="ascii")
+        (CRATE / "stdout").write_text("".join(expected(row) + "\n" for row in data), encoding="ascii")
+    wanted, lines = [], []
     with tempfile.TemporaryDirectory() as room:
-        rows = Path(room) / "all.txt"
-        rows.write_text("\n".join([*data, f"days {FIRST} {LAST + 1}"]) + "\n", encoding="ascii")
-        lines = printed(rows)
-    answers += [f"days {FIRST} {LAST + 1}:", *map(expected_day, range(FIRST, LAST + 1))]
-    wrong = [pair for pair in zip(answers, lines) if pair[0] != pair[1]]
-    for wanted, line in wrong[:10]:
-        print(f"printed {line!r}, but {wanted!r} was expected")
-    print(f"{len(answers)} lines, of which {len(lines)} were printed and {len(wrong)} differ")
-    return 1 if wrong or len(lines) != len(answers) else 0
+        asked = Path(room) / "rows.txt"
+        for rows, answers in questions(data):
+            asked.write_text("\n".join(rows) + "\n", encoding="ascii")
+            wanted += answers
+            lines += printed(asked, options.program)
+    wrong = [pair for pair in zip(wanted, lines) if pair[0] != pair[1]]
+    for answer, line in wrong[:10]:
+        print(f"printed {line!r}, but {answer!r} was expected")
+    print(f"{len(wanted)} lines, of which {len(lines)} were printed and {len(wrong)} differ")
+    return 1 if wrong or len(lines) != len(wanted) else 0
 
 
 if __name__ == "__main__":

@@ -4,7 +4,7 @@
 usage: fail_each.py PROGRAM [CASE..]
 
 A case is `example NAME` or `TABLE: ROW` of tables/, with the row's group; without one the six of DEFAULT are run. Each begins in a folder of its own. Its
-pieces are found by runs over the first packets and items of its record, one more each time: their lines, and what is kept behind them. Then
+pieces are found by runs over the first packets and items of its record, one more each time: their lines, and what is kept after them. Then
 
 - each opening, lock, read, write, look at the length and sync of the case's files fails in a run of its own, as with an error of the disk (by `strace`)
 - the program is killed at each of its calls that stores what is kept
@@ -16,15 +16,15 @@ What a run has to come to:
 | what fails | status | written | kept |
 |---|---|---|---|
 | the opening of stream or record | 3 | nothing | as before |
-| a read of stream or record | 4 | whole pieces | as behind them |
-| a write to standard output | 5 | whole pieces and a part of the next one, but not all of it | as behind this one |
+| a read of stream or record | 4 | whole pieces | as after them |
+| a write to standard output | 5 | whole pieces and a part of the next one, but not all of it | as after this one |
 | the loading of what is kept | 6 | nothing | as before |
-| a store of what is kept | 6 | whole pieces | as behind them, or behind the next one |
+| a store of what is kept | 6 | whole pieces | as after them, or after the next one |
 | nothing, but the program is killed in a store | by the signal | whole pieces | the same |
-| an allocation | 9 | whole pieces | as behind them |
+| an allocation | 9 | whole pieces | as after them |
 | an allocation of a call that opens or stores a file | 3 or 6 | as where this call fails | the same |
-| an allocation that the program can do without | 0 | all | as behind all |
-| nothing, but each read and write takes a byte | 0 | all | as behind all |
+| an allocation that the program can do without | 0 | all | as after all |
+| nothing, but each read and write takes a byte | 0 | all | as after all |
 
 Two packets whose sections end in one turn each are pieces of their own; a packet with several turns counts as one piece here. So a case has its sections
 in packets of their own. Printed are for each case its pieces, and how many runs of which kind went well; each that went wrong is named. Status: 0 where all
@@ -84,7 +84,7 @@ ssize_t write(int file, const void *from, size_t count) {
 
 
 class Ended(NamedTuple):
-    """How a run ended: its status, what it wrote, and what is kept behind it, None where there is no file."""
+    """How a run ended: its status, what it wrote, and what is kept after it, None where there is no file."""
 
     status: int
     stdout: bytes
@@ -108,7 +108,7 @@ class Room:
         self.program, self.case, self.folder = program, made, Path(folder, "room")
 
     def run(self, record=None, before=(), environment=None):
-        """Runs the case, with another record where one is given, behind other words."""
+        """Runs the case, with another record where one is given, after other words."""
         shutil.rmtree(self.folder, ignore_errors=True)
         self.folder.mkdir()
         for name, content in self.case.files.items():
@@ -132,7 +132,7 @@ class Room:
                 yield line
 
     def pieces(self):
-        """What is written and kept behind each number of pieces, the last one with the line of the end."""
+        """What is written and kept after each number of pieces, the last one with the line of the end."""
         found, steps = [], list(self.steps()) if "record.txt" in self.case.files else []
         for count in range(len(steps) + 1):
             ended = self.run("".join(f"{step}\n" for step in steps[:count]).encode("ascii")) if steps else Ended(0, b"", b"", None)

@@ -4,7 +4,7 @@
     tools/measure/gate_costs.py [--log FILE] [COMMAND ..]
 
 runs COMMAND (`rt ci`, if none is given) at the top of the repository, with what it prints in FILE (gate.log), and
-prints a table in Markdown behind it. Once a second it looks at the prover's processes below it (Linux' /proc), so
+prints a table in Markdown after it. Once a second it looks at the prover's processes below it (Linux' /proc), so
 what a process does in its last second is lost. It ends with the status of COMMAND.
 """
 

@@ -42,7 +42,7 @@ INFOS = [b"", BML, descriptor(0x01, b"multipart/mixed"), compression_type(100), 
 
 @functools.cache
 def known():
-    """Returns the streams of the examples and rows, each with the words in front of it and its record."""
+    """Returns the streams of the examples and rows, each with the words before it and its record."""
     found = []
     for folder in sorted(EXAMPLES.iterdir()):
         if (folder / "stream.ts").is_file():

@@ -1,5 +1,5 @@
 """Hostile documents, entities, styles, scripts and records: some mutated from those of the rows, some made by their grammars, some at
-the limits that docs/FORMATS.md has. Event messages and other announcements come behind documents and scripts. For each kind a function
+the limits that docs/FORMATS.md has. Event messages and other announcements come after documents and scripts. For each kind a function
 draws a case from a source of random numbers.
 """
 
@@ -27,7 +27,7 @@ LOAD = b"load /40/0000"
 
 
 class Case(NamedTuple):
-    """The words behind `replay`, the two files, a line that the run has to write, where one is known, and the files of what is kept before it, where there are some."""
+    """The words after `replay`, the two files, a line that the run has to write, where one is known, and the files of what is kept before it, where there are some."""
 
     options: list[str]
     stream: bytes
@@ -37,7 +37,7 @@ class Case(NamedTuple):
 
 
 def case_of(modules, record, due=b"", behind=()):
-    """Returns the case of modules, each with its info and its bytes, from module 0000 on; this one comes last, and behind it these sections."""
+    """Returns the case of modules, each with its info and its bytes, from module 0000 on; this one comes last, and after it these sections."""
     numbered = [(number, info, data) for number, (info, data) in enumerate(modules)]
     return Case(OPTIONS, sent([*carousel_sections(numbered[::-1]), *behind])[0], record, due)
 
@@ -602,7 +602,7 @@ def item(dice):
 
 @functools.cache
 def recorded_pages():
-    """Returns streams with pages that answer keys, each with the words in front of it."""
+    """Returns streams with pages that answer keys, each with the words before it."""
     found = []
     for name in ("menu-keys", "scripts", "styles", "service"):
         words = (EXAMPLES / name / "args").read_text().split()

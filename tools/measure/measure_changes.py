@@ -48,7 +48,7 @@ def announced(count: int, modules: int, size: int) -> Sections:
 
 
 def begun(count: int) -> Sections:
-    """DIIs that announce 32 MiB anew, and behind each for each of its modules one block from near its end."""
+    """DIIs that announce 32 MiB anew, and after each for each of its modules one block from near its end."""
     for number in range(count):
         entries = [Module(module, number % 256, MOST_BYTES) for module in range(MOST_MODULES)]
         yield DATA_PID, dii_section(number, 1, 17, entries)
@@ -56,7 +56,7 @@ def begun(count: int) -> Sections:
             yield DATA_PID, ddb_section(1, module, number % 256, 60_000, b"x" * 17)
 
 
-# Each with its sections, the number of those that change much, and the words behind `replay`.
+# Each with its sections, the number of those that change much, and the words after `replay`.
 STREAMS: list[tuple[str, Sections, int, list[str]]] = [
     ("PMTs, 16 components and another", maps(2_000), 2_000, []),
     ("DIIs, 32 modules of 1 MiB", announced(500, MOST_MODULES, MOST_BYTES), 500, OPTIONS),

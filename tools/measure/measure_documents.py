@@ -22,9 +22,9 @@ PLAIN_BOX = "box 0 0 0 0 8 0 7\n"
 
 
 class Document(NamedTuple):
-    """A document, or an entity, and the lines that are due behind its module's line.
+    """A document, or an entity, and the lines that are due after its module's line.
 
-    So many DIIs come behind it, each with another transactionId; where there are any, module 0001 is announced and
+    So many DIIs come after it, each with another transactionId; where there are any, module 0001 is announced and
     stays away.
     """
 
@@ -147,7 +147,7 @@ def waiting() -> Iterator[Document]:
 
 
 def sections_of(document: Document) -> list[bytes]:
-    """Returns the sections of a document, and the DIIs behind it."""
+    """Returns the sections of a document, and the DIIs after it."""
     data = document.text.encode("ascii")
     away = [(1, b"", bytes(10))] if document.diis else []
     modules = [(0, document.info, data)]

@@ -3,8 +3,8 @@
 
 usage: measure_pages.py PROGRAM [--rounds N]
 
-Module 0000 of a carousel on PID 256 is a document, and the record has keys or ticks behind `all`. Some pages have
-sections of event messages behind the document. What the program writes is compared with what is due: a line for the
+Module 0000 of a carousel on PID 256 is a document, and the record has keys or ticks after `all`. Some pages have
+sections of event messages after the document. What the program writes is compared with what is due: a line for the
 module, `load`, as many lines of lost events and stopped handlers as are said beside each, and `end`. Each is run N
 times (3), of which the best counts. `processor` is in seconds too, and says more than `seconds` where other work
 shares the machine. Status: 0 where all was as due, 1 where a run went wrong.
@@ -25,8 +25,8 @@ Messages = Sequence[EventMessage]  # of a section
 
 
 class Page(NamedTuple):
-    """A document, the lines of the record behind `all`, how many lines tell of lost events and of stops, and the
-    messages of each section behind the document."""
+    """A document, the lines of the record after `all`, how many lines tell of lost events and of stops, and the
+    messages of each section after the document."""
 
     name: str
     document: str

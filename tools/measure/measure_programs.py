@@ -118,7 +118,7 @@ def long_lists() -> Iterator[Scripts]:
     yield linked("parameters", "function f(a" + numbered(",b{0:x}", MOST_BYTES - 20) + "){}", True)
     yield linked("functions", repeated("function f(){}"), True)
     yield linked("functions that differ", numbered("function f{0:x}(a){{var b;}}"), True)
-    yield linked("fault behind 1 MB", "a;" * (MOST_BYTES // 2 - 1) + ")", False)
+    yield linked("fault after 1 MB", "a;" * (MOST_BYTES // 2 - 1) + ")", False)
 
 
 def of_elements(inside: str) -> str:

@@ -30,7 +30,7 @@ DECLARATIONS = (
 
 
 class Styled(NamedTuple):
-    """A sheet, the inside of a body, and the lines that are due behind that of the load."""
+    """A sheet, the inside of a body, and the lines that are due after that of the load."""
 
     name: str
     sheet: str

@@ -71,7 +71,7 @@ def replayed(program: str, options: list[str], stream: bytes, record: bytes, rou
 
 
 class Measured(NamedTuple):
-    """A run on the data PID: what is printed in front of its times, its stream and record, and whether what it wrote
+    """A run on the data PID: what is printed before its times, its stream and record, and whether what it wrote
     is what is due."""
 
     columns: str

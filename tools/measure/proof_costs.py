@@ -4,7 +4,7 @@
 For each crate that is named it prints the number of its functions, of its lines and of its must-fail edits, the
 memory that `rt ci` plans for a check of it, and its dearest functions. What the prover makes of a function is a file
 `.Lts.oantt` below the crate's out/; nearly all of a proof's time goes into these, and a large one says that the form
-of the code is dear. A crate that hasn't been checked has none. Behind `note:` stands what is past the bounds of
+of the code is dear. A crate that hasn't been checked has none. After `note:` stands what is past the bounds of
 CONTRIBUTING.md ("What a proof costs").
 
     --all           prints all functions, not just the ten dearest and those that are too large

@@ -4,7 +4,7 @@
 usage: refuse_allocations.py [--lines] PROGRAM [WORD..] < INPUT
 
 The program gets the words and the input each time. A library that refuses the allocation of a number, as the system
-may, is compiled by `cc` and loaded in front of the C library. What is printed is how often the program ended in which
+may, is compiled by `cc` and loaded before the C library. What is printed is how often the program ended in which
 way: its status and its last words, on standard output or on standard error. The journal of the kept area,
 `nvram.jnl`, is as it was before each run. Status: 0 where each run ended by itself within a minute, 1 where one was
 stopped by a signal or hung, or, with --lines, where what it wrote isn't the first lines, each to its end, of what the

@@ -41,8 +41,8 @@ def replay(sections: list[bytes], due: Counts, record: str = "all\n") -> Run:
 
 
 def paged(document: str, behind: str = "", due: Counts | None = None, messages: Sequence[Messages] = ()) -> Run:
-    """A replay of a document as module 0000, of what the record has behind `all`, and of the messages of each section
-    behind the document."""
+    """A replay of a document as module 0000, of what the record has after `all`, and of the messages of each section
+    after the document."""
     return replay(
         sections_of(document.encode("ascii"), messages), {"module": 1, "load": 1, **(due or {})}, "all\n" + behind
     )

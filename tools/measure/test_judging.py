@@ -25,7 +25,7 @@ from told_tests import status_of
 
 Tests = Iterator[tuple[str, bool]]
 OLD, NEW = b"old", b"new"
-# What is written and kept behind each piece of a run: the second stores.
+# What is written and kept after each piece of a run: the second stores.
 PIECES = [(b"", OLD), (b"load a\n", OLD), (b"load a\nkept b 3\n", NEW), (b"load a\nkept b 3\nend 3\n", NEW)]
 CODE = """
 // a comment
@@ -49,14 +49,14 @@ def is_right(what: str, status: int, stdout: bytes, kept: bytes, stderr: bytes |
 
 def failing() -> Tests:
     """Of fail_each.py."""
-    yield "a read that fails behind a piece", is_right("read", 4, PIECES[1][0], OLD)
+    yield "a read that fails after a piece", is_right("read", 4, PIECES[1][0], OLD)
     yield "a read that fails within a piece isn't", not is_right("read", 4, b"load", OLD)
-    yield "nor one behind which the area is a later one", not is_right("read", 4, PIECES[1][0], NEW)
+    yield "nor one after which the area is a later one", not is_right("read", 4, PIECES[1][0], NEW)
     yield "nor one with another status or another text", not is_right("read", 5, b"", OLD) and not is_right(
         "read", 4, b"", OLD, b"no memory\n"
     )
     yield "a write that fails within a piece whose area is stored", is_right("write", 5, b"load a\nke", NEW)
-    yield "one behind which the area is the old one isn't", not is_right("write", 5, b"load a\nke", OLD)
+    yield "one after which the area is the old one isn't", not is_right("write", 5, b"load a\nke", OLD)
     yield "nor one after which all is written", not is_right("write", 5, PIECES[-1][0], NEW)
     yield "a store that fails leaves the old area or the new one", all(
         is_right("store", 6, PIECES[1][0], kept) for kept in (OLD, NEW)
@@ -94,8 +94,8 @@ def faults(
 def hostile() -> Tests:
     """Of try_hostile.py."""
     yield "a run that ends well has no fault", faults(0, b"show 7\nbox 0 0 0 0 8 0 7\nend 0\n") == []
-    yield "a box behind no display list is one", len(faults(0, b"box 0 0 0 0 8 0 7\nend 0\n")) == 1
-    yield "so is a line behind the end", faults(0, b"end 0\nshow 0\n") != []
+    yield "a box after no display list is one", len(faults(0, b"box 0 0 0 0 8 0 7\nend 0\n")) == 1
+    yield "so is a line after the end", faults(0, b"end 0\nshow 0\n") != []
     yield "a line of no known form", faults(0, b"shows 0\nend 0\n") != []
     yield "a line without its end", faults(0, b"end 0") != []
     yield "another number of packets", faults(0, b"end 1\n") != []

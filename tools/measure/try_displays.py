@@ -5,7 +5,7 @@ usage: try_displays.py PROGRAM [--seed N] [--pages N] [--first N] [--keep FOLDER
 
 A case is worked out from the seed (1) and its number: a page of nested elements with a style sheet, inline styles and handlers that write and read
 styles and texts and move the focus, or two pages that launch each other; and a record of keys, releases and ticks. There are N cases (1,000), from
---first (1) on. Each is run once with `show` behind every item of its record, once with one `show` alone, at a place that chance picks, and once
+--first (1) on. Each is run once with `show` after every item of its record, once with one `show` alone, at a place that chance picks, and once
 with one at the end. A `show` changes nothing that is printed later. So what the first run prints between and in its display lists has to be what
 the others print there. In them, the values of styles are worked out anew, since nothing was asked for before.
 
@@ -139,7 +139,7 @@ def stream_of(documents):
 
 
 def record_of(dice):
-    """Returns the items of a record behind `all`, without any `show`."""
+    """Returns the items of a record after `all`, without any `show`."""
     items = ["all"]
     for _ in range(dice.randrange(1, 12)):
         form = dice.random()
@@ -153,12 +153,12 @@ def record_of(dice):
 
 
 def with_shows(items, places):
-    """Returns the record with a `show` behind the items at these places."""
+    """Returns the record with a `show` after the items at these places."""
     return "".join(item + "\n" + ("show\n" if place in places else "") for place, item in enumerate(items))
 
 
 def parts_of(output, items, places):
-    """Returns what a run wrote: all that is in no display list, and the display lists by the places behind which they were asked for."""
+    """Returns what a run wrote: all that is in no display list, and the display lists by the places after which they were asked for."""
     beside, lists, ended = [], {}, iter(sorted(places))
     within = None
     for line in output.split(b"\n"):

@@ -97,7 +97,7 @@ FORMS = {
     b"end": PLUS,
 }
 FORM = re.compile(rb"|".join(rb"(?:%b %b)" % form for form in FORMS.items()))
-# The lines behind which these may stand.
+# The lines after which these may stand.
 BEHIND = {
     b"box": {b"show", b"box", b"text", b"picture"},
     b"text": {b"box", b"text", b"picture"},

@@ -1,21 +1,22 @@
 #!/usr/bin/env python3
 """Runs a program over journals as a stop, a fault of the disk or another run may leave them, and tells what came of it.
 
-usage: try_journals.py PROGRAM [--every N]
+usage: try_journals.py PROGRAM [--every N] [--jobs N]
 
 - a journal with two areas is cut at each N-th length (1), and each byte of its gates and numbers gets each N-th value, and 0 to 3 and 255; beside it lies an older area
 - a file may grow to no more than a length (as on a disk that is full) while a page stores
 - two runs are in one folder at the same time, where there is a journal and where there is none
 - a page stores 100 times: how long that takes, and which calls of the system a store makes (by `strace`, if it is there)
 
-Which area a run has to begin with is worked out by tools/rows/journals.py, a second way than the program's. Status: 0 where all went well, 1 where a run went
+Of the runs over journals as many go on at once as --jobs says (1). Which area a run has to begin with is worked out by tools/rows/journals.py, a second way than the program's. Status: 0 where all went well, 1 where a run went
 wrong, 2 where nothing could be run.
 """
 
 import argparse
 import collections
-import fcntl
+import itertools
 import os
+import queue
 import re
 import resource
 import shutil
@@ -24,6 +25,7 @@ import subprocess
 import sys
 import tempfile
 import time
+from concurrent.futures import ThreadPoolExecutor
 from pathlib import Path
 
 from hostile_texts import BML, case_of  # (also finds the folders of the other tools)
@@ -37,6 +39,8 @@ STORES = 100
 SLOTS = b"\1\0" + b"\7" * AREA_SIZE + b"\1\1" + b"\x08" * AREA_SIZE
 LIMITS = [0, 1, 2, AREA_SIZE, SLOT_SIZE - 1, SLOT_SIZE, SLOT_SIZE + 1, SLOT_SIZE + 2, 2 * SLOT_SIZE - 1, 2 * SLOT_SIZE]
 MOST_SECONDS = 60
+SECONDS_TO_LOAD = 5  # in which a run has loaded what is kept, on a machine that has much else to do too
+OLDER_AREA = b"\5" * 1024
 
 
 class Folder:
@@ -82,18 +86,34 @@ def journals(every):
             yield f"byte {place} is {value}", SLOTS[:place] + bytes([value]) + SLOTS[place + 1 :]
 
 
-def try_journals(folder, every):
-    """Yields what went wrong, and at last how many journals there were."""
-    reading, older, count = case(READING), b"\5" * 1024, 0
-    for said, journal in journals(every):
-        folder.prepare(reading, journal, older)
-        status, output, _ = folder.run(reading)
-        wanted = (newest(journal) or older)[0]
-        if status or told_by(output) != wanted:
-            yield True, f"{said}: status {status}, begins with {told_by(output)} in place of {wanted}"
-        if (folder.path / JOURNAL).read_bytes() != journal or (folder.path / OLDER).read_bytes() != older:
-            yield True, f"{said}: a file was written"
-        count += 1
+def try_journal(folder, reading, said, journal):
+    """Yields what goes wrong in a run that begins with a journal."""
+    folder.prepare(reading, journal, OLDER_AREA)
+    status, output, _ = folder.run(reading)
+    wanted = (newest(journal) or OLDER_AREA)[0]
+    if status or told_by(output) != wanted:
+        yield f"{said}: status {status}, begins with {told_by(output)} in place of {wanted}"
+    if (folder.path / JOURNAL).read_bytes() != journal or (folder.path / OLDER).read_bytes() != OLDER_AREA:
+        yield f"{said}: a file was written"
+
+
+def try_journals(folders, every):
+    """Yields what went wrong, and at last how many journals there were. A run goes on in each of the folders."""
+    reading, count, free = case(READING), 0, queue.SimpleQueue()
+    for folder in folders:
+        free.put(folder)
+
+    def tried(journal):
+        folder = free.get()
+        try:
+            return list(try_journal(folder, reading, *journal))
+        finally:
+            free.put(folder)
+
+    with ThreadPoolExecutor(len(folders)) as pool:
+        for found in pool.map(tried, journals(every)):
+            count += 1
+            yield from ((True, said) for said in found)
     yield False, f"{count:,} journals"
 
 
@@ -124,7 +144,7 @@ def try_two_runs(folder):
         os.mkfifo(stream)
         first = subprocess.Popen([folder.program, *storing.words], cwd=folder.path, stdin=subprocess.DEVNULL, stdout=subprocess.PIPE, stderr=subprocess.PIPE)
         with open(stream, "wb") as pipe:
-            time.sleep(1)  # the first run loads what is kept, and waits for the stream
+            time.sleep(SECONDS_TO_LOAD)  # the first run loads what is kept, and waits for the stream
             words = ["other.ts" if word == "stream.ts" else word for word in storing.words]
             second = folder.run(storing._replace(words=words))
             pipe.write((folder.path / "other.ts").read_bytes())
@@ -164,9 +184,10 @@ def try_speed(folder):
 
 
 def main():
-    parser = argparse.ArgumentParser(usage="try_journals.py PROGRAM [--every N]")
+    parser = argparse.ArgumentParser(usage="try_journals.py PROGRAM [--every N] [--jobs N]")
     parser.add_argument("program")
     parser.add_argument("--every", type=int, default=1)
+    parser.add_argument("--jobs", type=int, default=1)
     asked = parser.parse_args()
     program = os.path.abspath(asked.program)
     if not os.access(program, os.X_OK):
@@ -174,8 +195,9 @@ def main():
         return 2
     wrong = 0
     with tempfile.TemporaryDirectory(prefix="journals-") as room:
-        folder = Folder(program, Path(room, "run"))
-        for is_wrong, said in [*try_journals(folder, asked.every), *try_full_disks(folder), *try_two_runs(folder), *try_speed(folder)]:
+        folders = [Folder(program, Path(room, f"run-{number}")) for number in range(asked.jobs)]
+        alone = folders[0]
+        for is_wrong, said in itertools.chain(try_full_disks(alone), try_two_runs(alone), try_journals(folders, asked.every), try_speed(alone)):
             print(f"{'WRONG' if is_wrong else 'tried'}   {said}", flush=True)
             wrong += is_wrong
     return 1 if wrong else 0

@@ -25,7 +25,7 @@ def dii(
     private="0000",
     behind="",
 ):
-    """Returns the message of a DII in hexadecimal digits, with the bytes behind it in its section.
+    """Returns the message of a DII in hexadecimal digits, with the bytes after it in its section.
 
     It has the transactionId 2, the downloadId 1 and the blockSize 4, and announces 8 bytes of module 1 in version 2.
     The lengths are adaptationLength and messageLength.
@@ -40,24 +40,24 @@ def ddb(kind="1103 1003", lengths="00 000A", adaptation="", fields="0001 01 00 0
 
 
 # Messages that are read, and those that are passed over, since a length doesn't fit or they are of another kind. In some
-# of these the bytes behind the message would make a length fit.
+# of these the bytes after the message would make a length fit.
 DIIS = [
     ("a DII", dii()),
     ("a DII with adaptation bytes", dii(lengths="02 0020", adaptation="0505")),
     ("a DII with all lengths", dii(lengths="00 0024", compatibility="0001 09", entry="0001 00000008 02 02 5200", private="0003 090909")),
-    ("bytes behind a DII", dii(behind="090909")),
+    ("bytes after a DII", dii(behind="090909")),
 ]
 DDBS = [
     ("a DDB", ddb()),
     ("a DDB with adaptation bytes", ddb(lengths="03 000D", adaptation="050505")),
-    ("bytes behind a DDB", ddb(behind="090909")),
+    ("bytes after a DDB", ddb(behind="090909")),
 ]
 PASSED_DIIS = [
     ("infoLength passes the message", dii(entry="0001 00000008 02 03")),
     ("infoLength passes the message, and not the section", dii(entry="0001 00000008 02 03", behind="00 0000")),
     ("infoLength takes privateDataLength", dii(entry="0001 00000008 02 02")),
     ("numberOfModules 2 and one module", dii(count="0002")),
-    ("numberOfModules 2, and the second one behind the message", dii(count="0002", behind="00000004 01 00 0000")),
+    ("numberOfModules 2, and the second one after the message", dii(count="0002", behind="00000004 01 00 0000")),
     ("numberOfModules 0 and one module", dii(count="0000")),
     ("compatibility bytes past the message", dii(compatibility="0100")),
     ("private bytes past the message", dii(private="0001")),
@@ -96,7 +96,7 @@ READ_DDB = "module 40 0001 01 8\nmodule 40 0002 01 4\n"
 
 
 def message_run(name, table_id, message, told):
-    """Returns the run of a message behind the first block of module 1, and in front of its second one and that of module 2."""
+    """Returns the run of a message after the first block of module 1, and before its second one and that of module 2."""
     sections = [
         dii_section(1, 1, BLOCK_SIZE, [Module(1, 1, 8), Module(2, 1, 4)]),
         ddb_section(1, 1, 1, 0, b"abcd"),
@@ -129,7 +129,7 @@ SHOWN = "load /40/0000\nshow 0\nbox 0 0 0 0 8 0 7\nbox 0 5 0 0 8 0 7\ntext 0 5 0
 
 
 def orders():
-    """Returns the runs of a DII and the blocks of the sheet in each order, behind the DII and the page.
+    """Returns the runs of a DII and the blocks of the sheet in each order, after the DII and the page.
 
     The DII that comes again is the one in force, or another one that says the same.
     """

@@ -14,7 +14,7 @@ WRITE = 'document.getElementById("t").firstChild.data'
 
 
 def run_of(name, document, told, record="all\nshow\n", resource=None):
-    """Returns the run of a document, which prints `told` behind the lines of the modules.
+    """Returns the run of a document, which prints `told` after the lines of the modules.
 
     A resource, in module 0001, comes before it; where it is empty it is announced and stays away.
     """
@@ -218,13 +218,13 @@ SOURCES = [
     ("<bml><p onclick='a' id=')' onblur='c' class=')' onclic=')' onclick2=')' onchange=')' onload=')'/></bml>", [3]),
     # tags and names compare by case
     ("<bml onLoad=')' ONCLICK=')' onload='c'><SCRIPT>)</SCRIPT><Script>)</Script><script Src='x'>)</script></bml>", [2]),
-    # the handlers of a script element come behind its own source
+    # the handlers of a script element come after its own source
     ("<bml><script onclick=')' onload='c'/><script onblur='e'>)</script></bml>", [2, 4]),
     # an empty script is a program
     ("<bml><script/><script></script><script> /* a */ </script><p onclick=''/><p onload=')'/></bml>", [5]),
     # the text in an element that stands in a script isn't that of the script
     ("<bml><script>var a<p onclick=')'>)</p>;</script></bml>", [2]),
-    # a script in a script is a source of its own, behind the outer one
+    # a script in a script is a source of its own, after the outer one
     ("<bml><script>var a;<script>)</script></script></bml>", [2]),
     ("<bml><script>)<script>;</script></script></bml>", [1]),
     # comments, character data and references of the document

@@ -5,7 +5,7 @@
 # file beside it, and where there is a file unpacked.ts it lists and unpacks the stream by prepare_recording.py and compares what that gave. It
 # runs the program in a copy of the example's folder, for at most 60 seconds and with 256 MiB of addresses,
 # and compares standard output, standard error, status and what is kept with what the example wants: the newest area of the file nvram.jnl
-# is to be as nvram.after is, or that file as it was before where there is none. It prints a line for each example, with what differs behind it, and a sum.
+# is to be as nvram.after is, or that file as it was before where there is none. It prints a line for each example, with what differs after it, and a sum.
 # Status: 0 where all passed, 1 where one failed, 2 where nothing could be run.
 set -uo pipefail
 

@@ -118,7 +118,7 @@ STYLED = [
     # the text in an element that stands in a style isn't that of the style
     ("<style>d{left:1px}<p>d{top:2px}</p>d{width:3px}</style>", None, "1px 0px 3px"),
     ("<style>d{left:<p>d{top:2px}</p>1px}</style>", None, "1px 0px 0px"),
-    # a style in a style or in a link is a style text of its own, behind the outer one
+    # a style in a style or in a link is a style text of its own, after the outer one
     ("<style>d{left:1px;top:1px}<style>d{left:2px;width:2px}</style>d{width:3px}</style>", None, "2px 1px 2px"),
     ("<link href='/40/0001'><style>d{left:2px}</style></link>", "d{left:1px;top:1px}", "2px 1px 0px"),
     # comments, character data and references of the document
@@ -131,7 +131,7 @@ STYLED = [
     ("<STYLE>d{left:1px}</STYLE><Link href='/40/0001'/><styles>d{left:1px}</styles>", "d{top:1px}", "0px 0px 0px"),
 ]
 
-# Long sheets, of so many pieces behind a front, which a slow reader would go through again and again,
+# Long sheets, of so many pieces after a front, which a slow reader would go through again and again,
 # and the same of `d`.
 LONG = [
     ("", "{", 250_000, "0px 0px 0px"),
@@ -228,7 +228,7 @@ CASCADE = (
     "<div><p id='q' style='top: 20px; top: 21px; font-size: 10px'/><p class='d&#9;c'/></div>"
 )
 NODES = "var q = document.getElementById('q'), d = q.parentNode, c = q.nextSibling, b = d.parentNode;\n"
-# What is read of them, and what is read behind a write.
+# What is read of them, and what is read after a write.
 READS = [
     ("b.normalStyle.left", "1px"),
     ("d.normalStyle.left", "1px"),

@@ -88,7 +88,7 @@ class Row:
     def kept(self, name):
         """Returns the kept bytes that a field tells, or None where it is empty.
 
-        They are written as in descriptions of streams, and `..` behind them fills the area up.
+        They are written as in descriptions of streams, and `..` after them fills the area up.
         """
         words = make_stream.TOKEN.findall(self.text(name).decode("ascii"))
         if not words:
@@ -194,7 +194,7 @@ def parts_of(reference):
 
 
 def escaped(escape):
-    """The byte that stands behind a backslash."""
+    """The byte that stands after a backslash."""
     if len(escape) == 3:
         return bytes.fromhex(escape[1:])
     if escape not in ESCAPES:
@@ -210,7 +210,7 @@ class Table:
         self.row = None  # the last run that was begun
         self.scopes = [{}]  # the fields of the table, of the group, and of the row
         self.group = None
-        self.is_bare = False  # whether a row was begun, and no comment came behind it
+        self.is_bare = False  # whether a row was begun, and no comment came after it
         self.value = None  # the lines of the field that was begun last
 
     def read(self, number, line):

@@ -6,7 +6,7 @@ the shuffled blocks of shuffled_blocks.py, and the rows of carousel_rows.py, lin
 document_rows.py, style_rows.py, node_rows.py and gen_rows.py. First it makes the streams of all rows. Then it runs
 the program for each row, in a folder of its own and for at most 60 seconds, and compares standard
 output, standard error, status and what is kept with what the row wants. It prints a line for each
-table, with what differs behind it, and a sum.
+table, with what differs after it, and a sum.
 Status: 0 where all rows passed, 1 where one failed, 2 where nothing could be run.
 """
 

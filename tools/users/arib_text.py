@@ -1,6 +1,6 @@
 """Texts of pages as characters in cells: EUC-JP with the additional kanji and symbols of ARIB STD-B24 (volume 1, part 2), by their Unicode forms.
 
-A character of two bytes fills a cell as wide as it is high. Katakana behind 8E and characters of one byte are half as wide. A character without a Unicode form
+A character of two bytes fills a cell as wide as it is high. Katakana after 8E and characters of one byte are half as wide. A character without a Unicode form
 is the geta mark, which stands for a missing type in print.
 """
 

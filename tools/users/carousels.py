@@ -7,7 +7,7 @@ How a carousel with compressed modules is replaced:
 - A DII announces each module that was unpacked with its size then, without its CompressionType, under a transactionId of its own; all
   else in it stays. Whether a module will come whole isn't known yet when its DII is written: so until then null packets keep the place, which are
   written over. Each of them says where the one before is, so that no list of them is kept.
-- The blocks of a module that is unpacked stand at the place of the packet with which it was whole, one behind the other, and again each time
+- The blocks of a module that is unpacked stand at the place of the packet with which it was whole, one after the other, and again each time
   that all of its blocks came again. Those that came are left out.
 - A module that stays compressed keeps its entry and its blocks: those that were held when it was given up stand at that place.
 """
@@ -165,7 +165,7 @@ class ListedComponent:
 
 
 class Output:
-    """A file of packets that are written one behind the other, and some of them once more."""
+    """A file of packets that are written one after the other, and some of them once more."""
 
     def __init__(self, file):
         self.file = file

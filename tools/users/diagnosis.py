@@ -44,9 +44,11 @@ UNKNOWN = "of a kind that isn't known here"
 CONVERTED = ("a Matroska or WebM file", "an MPEG program stream", "an MP4 or QuickTime file", "an AVI or WAVE file")
 OUTPUT_LINE = re.compile(
     rb"(module|skip|gone) [0-9a-f]{2} [0-9a-f]{4}\b.*|(load|launch) /.*|refuse /.*|badscript /.*|stop [A-Z]\w+ \w+|lost \w+|sound [0-9]+|kept nvram:.*|"
-    rb"show [0-9]+|(box|text|picture|focus)( [0-9-]+){4}.*|end [0-9]+"
+    rb"show [0-9]+|(box|text|picture|focus)( [0-9-]+){4}.*|row( [0-9-]+){2} .*|end [0-9]+"
 )
-RECORD_LINE = re.compile(rb"[ \t]*(#.*|all|show|packets[ \t]+[0-9]+|(key|release|tick|random)[ \t]+[0-9]+)?[ \t]*\r?")
+RECORD_LINE = re.compile(
+    rb"[ \t]*(#.*|all|show|(packets|key|release|tick|random)[ \t]+[0-9]+|rows[ \t]+[0-9]+[ \t]+(left|center|right)|date[ \t]+[0-9]+[ \t]+[0-9]+)?[ \t]*\r?"
+)
 
 
 class Finding(NamedTuple):
@@ -126,6 +128,19 @@ def fault_of_output(path):
     at, line = next((at, line) for at, line in enumerate(whole_lines(data), 1) if not OUTPUT_LINE.fullmatch(line))
     where = f", whose line {at} is {shown(line)}" if kind == "a text" else ""
     return f"it is no output of a run, but {kind}{where}{order.get(kind, '')}"
+
+
+def fault_of_record(path):
+    """Returns why a file isn't a record, or None where it may be, perhaps with a bad line: its first line is one of a record, or half of them are."""
+    data = beginning(path)
+    lines = whole_lines(data)
+    fitting = [bool(RECORD_LINE.fullmatch(line)) for line in lines]
+    kind = kind_of(data) if not data or refusal_of_stream(path) else "a transport stream"
+    if kind in ("empty", "a record of bml_replay") or kind == "a text" and (fitting[:1] == [True] or 2 * sum(fitting) >= len(lines)):
+        return None
+    order = {"a transport stream": "the stream", "what a run of bml_replay printed": "the lines"}
+    where = f", whose line 1 is {shown(lines[0])}" if kind == "a text" and lines else ""
+    return f"it is no record, but {kind}{where}" + (f": name the record in place of {order[kind]}" if kind in order else "")
 
 
 def shown(line):

@@ -7,7 +7,8 @@ reads the lines of OUTPUT and writes FOLDER/show-1.svg, show-2.svg and so on. Bo
 size. With the stream of the run, and its service or PID if it was named, the page's own colour table and its pictures are drawn (shown_pages.py), and its plane has the
 size that it asks for. Without it colours are the receivers' common fixed ones, and pictures a frame with their type and name, as those are that
 can't be shown. A colour that is in no table is a grey with its number beside it. What is clear shows the checkered ground behind the display.
-Texts are EUC-JP, one behind the other in their box, cut at its edges and not broken into rows.
+Texts are EUC-JP, one after the other in their box, cut at its edges and not broken into rows. Where OUTPUT has rows of a text (the item `rows` of the
+record), these are drawn, each at its place, without the space that the record asked for between two characters.
 
 A drawing is a help for the eye. What was shown is what the lines say; a drawing is neither proved nor a receiver's.
 """
@@ -16,7 +17,7 @@ import argparse
 import sys
 from pathlib import Path
 
-from diagnosis import fault_of_output
+from diagnosis import fault_of_output, refusal_of_stream
 from drawings import BadOutput, display_lists, drawing, shapes_of
 from shown_pages import Follower, Recording, add_service
 
@@ -39,9 +40,10 @@ def main(words):
     add_service(parser)
     asked = parser.parse_args(words)
     try:
-        if fault := fault_of_output(asked.output):
-            print(f"draw_display.py: {asked.output}: {fault}", file=sys.stderr)
-            return 1
+        for path, fault_of in ((asked.output, fault_of_output), (asked.stream, refusal_of_stream)):
+            if path is not None and (fault := fault_of(path)):
+                print(f"draw_display.py: {path}: {fault}", file=sys.stderr)
+                return 1
         recording = Recording(asked.stream, asked.service, asked.data_pid).read() if asked.stream else None
         drawn, faults = drawings(Path(asked.output).read_bytes().split(b"\n"), recording)
         folder = Path(asked.folder)

@@ -125,9 +125,15 @@ def runs_of(cells):
         yield begin, run
 
 
-def row_shapes(cells, right, down, size, paint):
-    """Returns the shapes of a row: each wide character at its own place, and those of half the width in as much as they have together."""
+def row_shapes(cells, right, down, size, paint, space=0):
+    """Returns the shapes of a row: each wide character at its own place, and those of half the width in as much as they have together. With space
+    between them each character has its own place."""
     shapes = []
+    if space and len(cells) > 1:
+        for cell in cells:
+            shapes += row_shapes([cell], right, down, size, paint)
+            right += (1 + cell.is_wide) * size / 2 + space
+        return shapes
     for begin, run in runs_of(cells):
         left, text = right + begin * size / 2, "".join(cell.text for cell in run)
         if run[0].is_wide:
@@ -160,11 +166,29 @@ class Pen:
             if paint and size > 0:
                 drawn += row_shapes(cells, self.right, self.down + size - size // 8, size, paint)
             self.right += sum(1 + cell.is_wide for cell in cells) * size / 2
-        if not drawn:
-            return []
-        # a box without a size cuts nothing: its text is still to be seen
-        frame = f'width="{width if width > 0 else self.look.width}" height="{height if height > 0 else self.look.height}"'
-        return [f'<svg x="{x}" y="{y}" {frame}>', *drawn, "</svg>", *self.look.noted(x, y, number)]
+        return framed((x, y, width, height), drawn, number, self.look)
+
+
+def framed(box, drawn, number, look):
+    """Returns the shapes of a text in the colour of that number, cut at the edges of its box."""
+    if not drawn:
+        return []
+    x, y, width, height = box
+    # a box without a size cuts nothing: its text is still to be seen
+    frame = f'width="{width if width > 0 else look.width}" height="{height if height > 0 else look.height}"'
+    return [f'<svg x="{x}" y="{y}" {frame}>', *drawn, "</svg>", *look.noted(x, y, number)]
+
+
+def text_by_rows(fields, rows, look, space):
+    """Returns the shapes of a text whose rows are told, with the fields of each of them: it stands where its line says."""
+    x, y, width, height, number, size = numbers(fields, 6)
+    drawn, paint = [], look.paint("fill", number)
+    for row in rows:
+        left, top = numbers(row, 2)
+        if paint and size > 0:
+            cells = cells_of(unescaped(b" ".join(row[2:])))
+            drawn += row_shapes(cells, left - x, top - y + size - size // 8, size, paint, space)
+    return framed((x, y, width, height), drawn, number, look)
 
 
 def picture(fields, look):
@@ -187,7 +211,7 @@ def focus(fields, _look):
 
 
 KINDS = {b"box": box, b"picture": picture, b"focus": focus}
-WORDS = {*KINDS, b"text"}
+WORDS = {*KINDS, b"text", b"row"}
 
 
 def display_lists(lines):
@@ -205,12 +229,28 @@ def display_lists(lines):
     return found
 
 
-def shapes_of(lines, look):
-    """The shapes that the lines of a display list are drawn by."""
-    shapes, pen = [], Pen(look)
+def by_text(lines):
+    """Returns the lines of a display list, each as its word and its fields, with the fields of the rows behind it; only a text has any."""
+    found = []
     for line in lines:
         word, *fields = line.split(b" ")
-        if word == b"text":
+        if word != b"row":
+            found.append((word, fields, []))
+        elif found and found[-1][0] == b"text":
+            found[-1][2].append(fields)
+        else:
+            raise BadOutput("with a line that no run prints")
+    return found
+
+
+def shapes_of(lines, look, space=0):
+    """The shapes that the lines of a display list are drawn by. Where a text has rows they are drawn, with so many pixels between two characters: the
+    lines don't tell how many."""
+    shapes, pen = [], Pen(look)
+    for word, fields, rows in by_text(lines):
+        if rows:
+            shapes += text_by_rows(fields, rows, look, space)
+        elif word == b"text":
             shapes += pen.texts(fields)
         else:
             pen = Pen(look)

@@ -12,7 +12,7 @@ A module that zlib compressed is unpacked. One that has other bytes than before 
 lists them in the order in which they were whole: component, module, version, type, bytes, names, and the packet with which it was whole,
 counted from 1. It shows texts, and pictures in their own colours, or in the receivers' common fixed ones where they have none. A line `module cc mmmm vv size PLACE` is printed for each.
 
-What names a part comes from a broadcast: see `safe_name` for what becomes of it. A name that a browser would run has `.txt` behind it. At most
+What names a part comes from a broadcast: see `safe_name` for what becomes of it. A name that a browser would run has `.txt` after it. At most
 4 GB, 100,000 files and 200,000 modules are written, and the page has at most 5,000 rows. Status: 0 where it was done, 1 where IN has no packets or no module
 comes, or a file can't be read or written, 2 where the command line is none of the above. This tool is tested, and not proved.
 """
@@ -288,7 +288,7 @@ def page_parts(folder, source, told):
         yield row_html(folder.place, order, row, pictures)
     yield "</table>"
     if folder.left:
-        yield f'<p class="fault">{folder.left:,} modules that came behind the first {MOST_MODULES:,} aren\'t written.</p>'
+        yield f'<p class="fault">{folder.left:,} modules that came after the first {MOST_MODULES:,} aren\'t written.</p>'
     if len(folder.rows) > MOST_ROWS:
         yield f"<p>{len(folder.rows) - MOST_ROWS:,} more aren't on this page; their files are in the folder.</p>"
     if folder.skips:

@@ -15,7 +15,7 @@ def chunk(name, body):
 
 
 def png_of(rows, depth=8, kind=3, more=b"", interlace=0, mark=b"\x89PNG\r\n\x1a\n"):
-    """Returns a PNG whose rows are bytes, with chunks in front of its data."""
+    """Returns a PNG whose rows are bytes, with chunks before its data."""
     head = struct.pack(">IIBBBBB", len(rows[0]) * 8 // depth // SAMPLES[kind], len(rows), depth, kind, 0, 0, interlace)
     data = zlib.compress(b"".join(b"\0" + row for row in rows))
     return mark + chunk(b"IHDR", head) + more + chunk(b"IDAT", data) + chunk(b"IEND", b"")
@@ -33,7 +33,7 @@ def jpeg_of(width, height):
 
 
 def mng_of(png, more=b""):
-    """Returns an MNG of a picture, with chunks in front of it."""
+    """Returns an MNG of a picture, with chunks before it."""
     return b"\x8aMNG\r\n\x1a\n" + chunk(b"MHDR", bytes(28)) + more + png[8:] + chunk(b"MEND", b"")
 
 
@@ -51,7 +51,7 @@ def entity_of(parts):
 
 
 def stream_of(versions, with_tables=False):
-    """Returns a stream of versions of module 0000 of component 40, one behind the other: each has a Type or, with None, is an entity."""
+    """Returns a stream of versions of module 0000 of component 40, one after the other: each has a Type or, with None, is an entity."""
     sections = []
     if with_tables:
         sections += [(0, pat_section([(SERVICE, PMT_PID)])), (PMT_PID, pmt_section(SERVICE, [ElementaryStream(0x0D, PID, 0x40)]))]

@@ -288,7 +288,7 @@ class Sender:
                 self.between(pid)
 
     def one(self, pid, counter, starts_unit, payload):
-        """Returns a packet, where a payload that leaves room has an adaptation field in front of it now and then."""
+        """Returns a packet, where a payload that leaves room has an adaptation field before it now and then."""
         room = PAYLOAD_SIZE - len(payload)
         if room < 2 or self.dice.random() < 0.5:
             return packet(pid, counter, starts_unit, payload)
@@ -351,13 +351,13 @@ def packets_of_plan(plan, plain):
                 flush()
             waiting.setdefault(pid, []).extend(sections)
     flush()
-    # (behind the last packet there may be noise, so that it isn't taken for one)
+    # (after the last packet there may be noise, so that it isn't taken for one)
     sender.packets.append(packet(OTHER_PID, sender.counter(OTHER_PID), False, b"noise"))
     return sender.packets
 
 
 def flipped(section, dice):
-    """Returns a section with a bit flipped behind its header."""
+    """Returns a section with a bit flipped after its header."""
     at = dice.randrange(8, len(section))
     return section[:at] + bytes([section[at] ^ 1 << dice.randrange(8)]) + section[at + 1 :]
 

@@ -30,7 +30,7 @@ from transport import (
 )
 
 TOKEN = re.compile(r'"[^"]*"(?:\*[0-9]+)?|#.*|[^\s"#]+')
-# What stands in front of a packet and behind it, by the size of both with it.
+# What stands before a packet and after it, by the size of both with it.
 ROUND_PACKETS = {188: (0, 0), 192: (4, 0), 204: (0, 16)}
 BYTES = re.compile(r'(?:"([ -~]*)"|([0-9A-Fa-f]{2}))(?:\*([0-9]+))?')
 
@@ -50,7 +50,7 @@ def number(text, bits):
 
 
 def bytes_of(words):
-    """Reads bytes: each word is two hexadecimal digits or a text in quotes, with *N behind it where it stands N times."""
+    """Reads bytes: each word is two hexadecimal digits or a text in quotes, with *N after it where it stands N times."""
     data = b""
     for word in words:
         found = BYTES.fullmatch(word)
@@ -144,7 +144,7 @@ class Stream:
             raise Fault(str(fault)) from None
 
     def size(self, text):
-        """A size: a number, or that of a file behind an @."""
+        """A size: a number, or that of a file after an @."""
         return len(self.file(text[1:])) if text.startswith("@") else number(text, 32)
 
     def module(self, text, infos):

@@ -44,7 +44,7 @@ def attributes_of(data):
 
 
 def passed(document, at):
-    """Returns the place behind a mark `<..` that begins no element, and the text that it is, where it is CDATA."""
+    """Returns the place after a mark `<..` that begins no element, and the text that it is, where it is CDATA."""
     for begin, end in ((b"<!--", b"-->"), (b"<?", b"?>"), (b"<![CDATA[", b"]]>")):
         if document.startswith(begin, at):
             close = document.find(end, at + len(begin))
@@ -109,7 +109,7 @@ def rules_of(sheet):
 
 
 def behind_at_rule(sheet, at):
-    """Returns the place behind a rule that begins with `@`."""
+    """Returns the place after a rule that begins with `@`."""
     depth = 0
     for found in BRACES.finditer(sheet, at):
         depth += {"{": 1, "}": -1, ";": 0}[found[0]]

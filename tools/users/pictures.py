@@ -65,7 +65,7 @@ def jpeg(data):
 
 
 def chunks_of(data):
-    """Yields the chunks of a PNG or MNG behind its first 8 bytes, each with its name and its bytes."""
+    """Yields the chunks of a PNG or MNG after its first 8 bytes, each with its name and its bytes."""
     at = 8
     while at + 12 <= len(data):
         length, name = struct.unpack_from(">I4s", data, at)

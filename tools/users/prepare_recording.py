@@ -4,7 +4,7 @@
     tools/users/prepare_recording.py list IN [--service N]
     tools/users/prepare_recording.py unpack IN OUT [--data-only [--service N | --data-pid N]]
 
-IN is a transport stream in packets of 188 bytes, alone, with 4 bytes in front of each (192, as in .m2ts) or with 16 behind it (204, with
+IN is a transport stream in packets of 188 bytes, alone, with 4 bytes before each (192, as in .m2ts) or with 16 after it (204, with
 parity). `list` prints its services, their components of data, and all modules of their carousels, and then what a replay of the first service or of
 service N needs: tools/users/diagnosis.py. `unpack` writes it in packets of
 188 bytes, in which the modules that zlib compressed are unpacked; all else stays as it came. A module that can't be unpacked stays as it is

@@ -2,7 +2,7 @@
 the tables name.
 
 docs/FORMATS.md has the rules. They are those of bml_replay, so that what is read here is what it reads, but for two points: packets may
-have 4 bytes in front of them or 16 behind them, and all services are followed at once.
+have 4 bytes before them or 16 after them, and all services are followed at once.
 """
 
 import re
@@ -15,8 +15,8 @@ from transport import DATA_STREAM, PACKET_SIZE, is_intact, payload_of, read_cloc
 
 PIECE = 1 << 20  # bytes that are read at a time
 SYNC = b"\x47"
-SIZES = (188, 192, 204)  # alone, with 4 bytes in front, with 16 behind
-# So many packets one behind the other settle their size; in a shorter file fewer have to do.
+SIZES = (188, 192, 204)  # alone, with 4 bytes in front, with 16 after
+# So many packets one after the other settle their size; in a shorter file fewer have to do.
 ENOUGH_PACKETS = 5
 PAT_PID = 0
 
@@ -354,6 +354,6 @@ class Reception:
         self.wanted = {*self.tables, *self.components}
 
     def end(self):
-        """Ends all components, behind the last packet."""
+        """Ends all components, after the last packet."""
         for component in self.components.values():
             component.end()

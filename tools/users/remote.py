@@ -39,9 +39,9 @@ from http.server import BaseHTTPRequestHandler, ThreadingHTTPServer
 from pathlib import Path
 from typing import NamedTuple
 
-from diagnosis import diagnose, explained, refusal_of_stream
+from diagnosis import diagnose, explained, fault_of_record, refusal_of_stream
 from drawings import FONT_SCRIPT, NO_FONT, BadOutput, DisplayList, Look, display_lists, drawing, shapes_of
-from report import KEYS, items_of, kind_of, page, plain_text, policy, report_of_lines
+from report import KEYS, items_of, kind_of, page, plain_text, policy, report_of_lines, space_of
 from shown_pages import Follower, Recording, add_service, number
 
 TOOLS = Path(__file__).resolve().parent
@@ -93,12 +93,13 @@ class Printed(NamedTuple):
 
 
 class Shown(NamedTuple):
-    """What the page shows of a replay: all of its lines, where those begin that no replay of a shorter record printed, its display list, and the
-    packets that it took."""
+    """What the page shows of a replay: all of its lines, where those begin that no replay of a shorter record printed, its display list, how many pixels
+    are between two characters in the rows of that, and the packets that it took."""
 
     lines: list[bytes]
     first: int
     listed: DisplayList
+    space: int
     packets: int | None
 
 
@@ -273,7 +274,7 @@ class Session:
             packets, body = int(ended[1]) if ended else None, lines[:-1] if ended else lines
             listed = [it for it in display_lists(body) if it.place >= before.count][-1]
             shapes_of(listed.lines, Look())
-            self.shown, self.drawn = Shown(lines, before.count, listed, packets), None
+            self.shown, self.drawn = Shown(lines, before.count, listed, space_of(items_of(self.text())[-2]), packets), None
             self.printed.append(Printed(len(body), digest_of(body), packets))
             if digest_of(body[: before.count]) != before.digest:
                 self.fault = "The lines of the presses before aren't what they were: has the stream or the program changed?"
@@ -296,7 +297,7 @@ class Session:
         if self.drawn is None or self.drawn_with is not recording:
             follower = Follower(self.shown.lines, recording)
             look = follower.look_at(self.shown.listed.place)
-            drawn = drawing(self.shown.listed.clock, shapes_of(self.shown.listed.lines, look), look)
+            drawn = drawing(self.shown.listed.clock, shapes_of(self.shown.listed.lines, look, self.shown.space), look)
             self.drawn, self.drawn_with = Drawn(drawn, follower.fault or look.fault), recording
         return self.drawn
 
@@ -419,7 +420,7 @@ class Handler(BaseHTTPRequestHandler):
         self.wfile.write(data)
 
     def name(self):
-        """Returns what the address asks for behind the word, where this is the session's and the host is this one."""
+        """Returns what the address asks for after the word, where this is the session's and the host is this one."""
         port = self.server.server_address[1]
         if self.headers.get_all("Host") not in ([f"127.0.0.1:{port}"], [f"localhost:{port}"]):
             raise Refused(403, "another host is meant")
@@ -530,10 +531,10 @@ def main(words):
     options = [("--service", asked.service), ("--data-pid", asked.data_pid)]
     command = [program, "replay", *(word for name, value in options if value is not None for word in (name, str(value)))]
     try:
-        refusal = refusal_of_stream(asked.stream)
-        if refusal:
-            print(f"remote.py: {asked.stream}: {refusal}", file=sys.stderr)
-            return 1
+        for path, fault_of in ((asked.stream, refusal_of_stream), (asked.record, fault_of_record)):
+            if path is not None and (fault := fault_of(path)):
+                print(f"remote.py: {path}: {fault}", file=sys.stderr)
+                return 1
         record = Path(asked.record).read_bytes() if asked.record else FIRST_RECORD
         recording = Recording(os.path.abspath(asked.stream), asked.service, asked.data_pid)
         server = Server(Session([*command, os.path.abspath(asked.stream)], record, recording), asked.port)

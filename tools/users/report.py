@@ -14,7 +14,7 @@ service or PID that the run was given is given here too.
 
 Everything in OUTPUT may come from a broadcast, and is escaped. The script of the report is the same in all of them, and its policy
 (Content-Security-Policy) lets a browser run that script alone. What is drawn stops at 10 MB, and tables at 1,000 rows.
-Status: 0 where it was written, 1 where a file can't be read or written, 2 where the command line is none of the above.
+Status: 0 where it was written, 1 where a file can't be read or written, or isn't what it is named as, 2 where the command line is none of the above.
 """
 
 import argparse
@@ -29,7 +29,7 @@ from html import escape
 from pathlib import Path
 from typing import NamedTuple
 
-from diagnosis import diagnose, fault_of_output
+from diagnosis import diagnose, fault_of_output, fault_of_record, refusal_of_stream
 from drawings import FONT_SCRIPT, NO_FONT, BadOutput, DisplayList, data_address, display_lists, drawing, numbers, rectangle, shapes_of
 from pictures import BadPicture
 from shown_pages import Follower, Recording, add_service
@@ -45,7 +45,7 @@ WARNINGS = {
     b"skip": "a module was skipped",
 }
 # The kinds of lines, as the filter offers them.
-KINDS = ["module", "gone", "skip", "load", "refuse", "badscript", "stop", "lost", "launch", "sound", "kept", "show", "box", "text", "picture", "focus", "end"]
+KINDS = ["module", "gone", "skip", "load", "refuse", "badscript", "stop", "lost", "launch", "sound", "kept", "show", "box", "text", "row", "picture", "focus", "end"]
 KEYS = {1: "up", 2: "down", 3: "left", 4: "right", 18: "enter", 19: "back", 20: "data", 21: "blue", 22: "red", 23: "green", 24: "yellow"}
 KEYS |= {5 + digit: str(digit) for digit in range(10)}
 
@@ -88,8 +88,8 @@ SCRIPT += FONT_SCRIPT
 
 
 class Part(NamedTuple):
-    """The lines of a run up to a display list and with it, or behind the last one: where they begin, the clocks of the display list before and
-    of this one, the lines in front of it, and what is shown. The last part shows nothing."""
+    """The lines of a run up to a display list and with it, or after the last one: where they begin, the clocks of the display list before and
+    of this one, the lines before it, and what is shown. The last part shows nothing."""
 
     first: int
     before: int
@@ -185,7 +185,7 @@ def part_places(parts, count):
 
 
 def items_of(record):
-    """Returns the items of a record, in lists that each end with an item `show`, but for the last one."""
+    """Returns the items of a record, in lists that each end with an item `show` or `rows`, but for the last one."""
     items = [[]]
     for line in record.decode("ascii", errors="backslashreplace").split("\n"):
         fields = line.rstrip("\r").split()
@@ -194,9 +194,15 @@ def items_of(record):
         is_key = fields[0] in ("key", "release") and len(fields) == 2 and re.fullmatch("[0-9]{1,10}", fields[1])
         name = KEYS.get(int(fields[1])) if is_key else None
         items[-1].append(" ".join(fields) + (f" ({name})" if name else ""))
-        if fields == ["show"]:
+        if fields == ["show"] or (fields[0] == "rows" and len(fields) == 3):
             items.append([])
     return items
+
+
+def space_of(items):
+    """Returns how many pixels are between two characters of a row in the display list that these items end with."""
+    asked = re.fullmatch("rows ([0-9]{1,10}) [a-z]+", items[-1]) if items else None
+    return int(asked[1]) if asked else 0
 
 
 def taken_by(items, count):
@@ -324,15 +330,15 @@ def line_html(place, line, mark="", moment=""):
 
 
 def outlines(lines, colour):
-    """Returns dashed outlines of the places that lines of a display list name."""
-    places = dict.fromkeys(tuple(numbers(line.split(b" ")[1:], 4)) for line in lines)
+    """Returns dashed outlines of the places that lines of a display list name; a row has none."""
+    places = dict.fromkeys(tuple(numbers(line.split(b" ")[1:], 4)) for line in lines if kind_of(line) != "row")
     words = f'fill="none" stroke="{colour}" stroke-width="3" stroke-dasharray="9 6"'
     return [rectangle(x - 4, y - 4, width + 8, height + 8, words) for x, y, width, height in places]
 
 
-def display_html(shown, before, room, look):
+def display_html(shown, before, room, look, space):
     """Returns a display list with its drawing, where there is room for it, and what differs from the one before; and the room that was taken, which is all of
-    it where the drawing found none."""
+    it where the drawing found none. In rows so many pixels are between two characters."""
     new = list((Counter(shown.lines) - Counter(before)).elements())
     was = list((Counter(before) - Counter(shown.lines)).elements())
     told, marks = "nothing was shown before", []
@@ -344,7 +350,7 @@ def display_html(shown, before, room, look):
     if not is_new:
         told = "the same as the one before" if before else "nothing is shown"
     elif room > 0:
-        picture = drawing(shown.clock, shapes_of(shown.lines, look) + marks, look)
+        picture = drawing(shown.clock, shapes_of(shown.lines, look, space) + marks, look)
     taken = len(picture)
     if is_new and not 0 < taken <= room:
         told, picture, taken = told + "; not drawn here, since this report is large", "", max(room, 0)
@@ -361,12 +367,13 @@ def display_html(shown, before, room, look):
 def part_html(report, number, before, room, look, moments):
     """Returns a part with its lines and its display list, and the room that its drawing took."""
     part = report.parts[number - 1]
-    shown = "behind the last display list" if number > 1 else "without a display list"
+    shown = "after the last display list" if number > 1 else "without a display list"
     shown = f"up to the display list at {part.clock} ms" if part.shown else shown
     written = [f'<section id="P{number}"><h3>Part {number}: {shown}</h3>']
-    if number <= len(report.items) and report.items[number - 1]:
-        items = escape("; ".join(report.items[number - 1]))
-        written.append(f"<p><small>The record: {items}. Packets: {packets_told(*report.spans[number - 1])}.</small></p>")
+    items = report.items[number - 1] if number <= len(report.items) else []
+    if items:
+        told = escape("; ".join(items))
+        written.append(f"<p><small>The record: {told}. Packets: {packets_told(*report.spans[number - 1])}.</small></p>")
     told = []
     for place, line in enumerate(part.lines, part.first):
         told.append(line_html(place, line, "", moment_told(report, *moments[place]) if place in moments else ""))
@@ -374,7 +381,7 @@ def part_html(report, number, before, room, look, moments):
     drawn = 0
     if part.shown:
         written.append(line_html(part.shown.place, report.lines[part.shown.place]) + "</div>")
-        listed, drawn = display_html(part.shown, before, room, look)
+        listed, drawn = display_html(part.shown, before, room, look, space_of(items))
         written += listed
     else:
         written.append("</div>")
@@ -460,9 +467,10 @@ def main(words):
     parser.add_argument("--record")
     asked = parser.parse_args(words)
     try:
-        if fault := fault_of_output(asked.output):
-            print(f"report.py: {asked.output}: {fault}", file=sys.stderr)
-            return 1
+        for path, fault_of in ((asked.output, fault_of_output), (asked.stream, refusal_of_stream), (asked.record, fault_of_record)):
+            if path is not None and (fault := fault_of(path)):
+                print(f"report.py: {path}: {fault}", file=sys.stderr)
+                return 1
         report = report_of(asked.output, asked.stream, asked.record, asked.service, asked.data_pid)
         made = Path(asked.folder) / "report.html"
         text = page(report)

@@ -32,6 +32,7 @@ from test_extract import BML, JPEG, carousel, entity, part
 from transport import DATA_STREAM, ElementaryStream, Module
 
 PROGRAM = None  # with which recordings are replayed
+NO_STREAM = ("an empty file", "no transport stream", "arguments in another order")
 ROOT = Path(__file__).resolve().parents[2]
 PAGE = b"<bml><body><p>sea</p></body></bml>"
 START = (0, part(b"startup.bml", PAGE), None)
@@ -220,8 +221,54 @@ class Outputs(InFolder):
         self.assertGreater(count, 20)
 
 
+    def test_what_is_no_record_is_told(self):
+        rows = [
+            (JPEG, "it is no record, but a JPEG picture"),
+            (b"".join(GOOD), "but a transport stream: name the record in place of the stream"),
+            (b"module 40 0000 01 5\nend 4\n", "but what a run of bml_replay printed: name the record in place of the lines"),
+            (b"a letter\nto you\n", 'but a text, whose line 1 is "a letter"'),
+        ]
+        for data, wanted in rows:
+            self.write(data)
+            self.assertIn(wanted, diagnosis.fault_of_record(self.source))
+        # (an empty one asks for nothing, and one with a bad line is to be reported as any other)
+        for data in (b"", b"# nothing yet\n", b"all\nshow\nhalt\n", b"halt\nall\nshow\n"):
+            self.write(data)
+            self.assertIsNone(diagnosis.fault_of_record(self.source), data)
+        for path in (ROOT / "examples").glob("*/record.txt"):
+            self.assertIsNone(diagnosis.fault_of_record(path), path)
+
+
 class Tools(InFolder):
-    """That the report and the remote control tell what is found."""
+    """That the report, the remote control and other tools tell what is found."""
+
+    def test_a_run_without_proof_refuses_a_record_in_place_of_the_stream(self):
+        record = self.folder / "record.txt"
+        record.write_bytes(b"all\nshow\n")
+        self.write(b"".join(GOOD))
+        ran = subprocess.run([ROOT / "tools/users/try.sh", record, self.source], capture_output=True, check=False, timeout=60)
+        self.assertEqual((ran.returncode, ran.stdout), (1, b""))
+        self.assertIn(b"name the stream first", ran.stderr)
+
+    def test_what_is_named_in_place_of_another_is_refused(self):
+        lines, record = self.folder / "lines.txt", self.folder / "record.txt"
+        lines.write_bytes(b"show 0\nend 1\n")
+        record.write_bytes(b"all\nshow\n")
+        self.write(b"".join(GOOD))
+        # (the program is one that never runs)
+        rows = [
+            (report, [lines, self.folder / "made", "--stream", record], f"{record}: It is a record of bml_replay"),
+            (report, [lines, self.folder / "made", "--stream", lines], f"{lines}: It is what a run of bml_replay printed"),
+            (report, [lines, self.folder / "made", "--record", self.source], f"{self.source}: it is no record, but a transport stream"),
+            (report, [lines, self.folder / "made", "--record", lines], f"{lines}: it is no record, but what a run"),
+            (draw_display, [lines, self.folder / "made", "--stream", record], f"{record}: It is a record of bml_replay"),
+            (remote, [record, "--program", sys.executable, "--record", self.source], f"{record}: It is a record of bml_replay"),
+            (remote, [self.source, "--program", sys.executable, "--record", lines], f"{lines}: it is no record, but what a run"),
+        ]
+        for tool, words, wanted in rows:
+            status, printed, told = run(tool, *words)
+            self.assertEqual((status, printed, (self.folder / "made").exists()), (1, "", False), words)
+            self.assertIn(wanted, told)
 
     def test_a_report_refuses_what_no_run_printed(self):
         for data, wanted in ((JPEG, "no output of a run, but a JPEG picture"), (b"".join(GOOD), "but a transport stream: name the lines first")):
@@ -236,6 +283,10 @@ class Tools(InFolder):
         for row, data, words, wanted in FOUND:
             self.write(data)
             status, _, told = run(report, self.folder / "lines.txt", self.folder / "made", "--stream", self.source, *words)
+            if row in NO_STREAM:
+                self.assertEqual(status, 1, row)
+                self.assertIn(wanted, told)
+                continue
             self.assertEqual((status, told), (0, ""), row)
             text = html.unescape((self.folder / "made" / "report.html").read_text(encoding="utf-8"))
             self.assertIn(wanted, text.split("<h2>Warnings</h2>")[1].split("<h2>Modules</h2>")[0])

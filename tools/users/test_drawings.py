@@ -28,7 +28,7 @@ import page_styles
 import pictures
 import report
 from colours import BadColours
-from drawings import Look, display_lists, drawing, shapes_of
+from drawings import BadOutput, Look, display_lists, drawing, shapes_of
 from generated_pages import CLOCK_END, CLOCK_PID, PID, chunk, clock_packet, clut_of, entity_of, jpeg_of, mng_of, png_of, stream_of
 from pictures import BadPicture
 from shown_pages import Clock, Follower, Path as Place, Recording, resolved
@@ -221,6 +221,28 @@ class Texts(unittest.TestCase):
         found = [[it.get("x"), it.get("y"), it.get("textLength"), it.text] for it in root.iter(f"{SVG}text")]
         wide = [["24 48", "21", None, "\u3042\u3044"], ["72", "21", None, "\U0001f14a"]]
         self.assertEqual(found, [["0", "21", "24", "a "], *wide, ["96", "21", "12", "c"], ["108", "18", None, "\u3046"], ["0", "38", "10", "d"]])
+
+    def test_rows_stand_where_their_lines_say(self):
+        rows = [b"row 9 6 a\xa4\xa2", b"row 5 26 ", b"row -3 46 b%25"]
+        lines = [b"text 5 6 400 90 7 20 a\xa4\xa2%0Ab%25", *rows, b"text 5 6 400 90 7 24 c"]
+        root = ElementTree.fromstring(drawing(0, shapes_of(lines, Look()), Look()))
+        found = [[it.get("x"), it.get("y"), it.get("textLength"), it.text] for it in root.iter(f"{SVG}text")]
+        wanted = [["4", "18", "10", "a"], ["14", "18", None, "\u3042"], ["-8", "58", "20", "b%"]]
+        # (a text without rows is drawn as if there were none)
+        self.assertEqual(found, [*wanted, ["0", "21", "12", "c"]])
+        frames = [[it.get(name) for name in ("x", "y", "width", "height")] for it in root.iter(f"{SVG}svg")][1:]
+        self.assertEqual(frames, [["5", "6", "400", "90"]] * 2)
+
+    def test_space_in_rows_gives_each_character_its_place(self):
+        lines = [b"text 0 0 400 90 7 20 ab\xa4\xa2c", b"row 0 0 ab\xa4\xa2", b"row 0 20 c"]
+        root = ElementTree.fromstring(drawing(0, shapes_of(lines, Look(), 3), Look()))
+        found = [[it.get("x"), it.get("textLength"), it.text] for it in root.iter(f"{SVG}text")]
+        self.assertEqual(found, [["0", "10", "a"], ["13", "10", "b"], ["26", None, "\u3042"], ["0", "10", "c"]])
+
+    def test_a_row_of_no_text_is_told(self):
+        for lines in ([b"row 0 0 a"], [b"box 0 0 1 1 1 1 1", b"row 0 0 a"], [b"text 0 0 1 1 1 1 a", b"row 0 x a"], [b"text 0 0 1 1 1 1 a", b"row 0"]):
+            with self.assertRaises(BadOutput):
+                shapes_of(lines, Look())
 
     def test_long_texts_and_sizes_of_nothing(self):
         lines = [b"text 0 0 9 9 7 24 " + b"\xa4\xa2a" * 10_000, b"text 0 0 9 9 7 0 x", b"text 0 0 9 9 7 -5 x", b"text 0 0 -9 -9 7 32767 x"]

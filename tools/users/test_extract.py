@@ -312,7 +312,7 @@ class Files(InFolder):
         self.assertIn("7 more aren't on this page", self.page)
         with mock.patch.object(extract, "MOST_MODULES", 6):
             self.assertEqual(len(self.written(sections)), 6)
-        self.assertIn("4 modules that came behind the first 6 aren't written", self.page)
+        self.assertIn("4 modules that came after the first 6 aren't written", self.page)
         with mock.patch.object(extract, "MOST_BYTES", 25):
             self.assertEqual(len(self.written(sections)), 2)
         self.assertIn("not written, since this folder is full", self.page)

@@ -87,8 +87,9 @@ class InFolder(unittest.TestCase):
         texts = [it.encode() for it in HOSTILE]
         lines = [line for it in texts for line in (b"text 0 0 10 10 7 24 " + it, b"picture 0 0 9 9 " + it.replace(b" ", b"%20") + b" x")]
         lines = [b"show 0", *lines, *(word + it for word in (b"stop ", b"load ", b"refuse /40/0000/", b"") for it in texts), b"module 40 <b> <i> 5"]
-        record = self.write("<script><b>.txt", b"\n".join(b"key " + it for it in texts))
-        return self.report(lines, "--record", record, "--stream", record, name="<img src=x onerror=1>")
+        record = self.write("<script><b>.txt", b"\n".join([b"all", *(b"key " + it for it in texts)]))
+        stream = self.write("<script><b>.ts", stream_of([(b"text/X-arib-bml", b"<bml></bml>")]))
+        return self.report(lines, "--record", record, "--stream", stream, name="<img src=x onerror=1>")
 
 
 class Drawing(InFolder):
@@ -120,6 +121,20 @@ class Drawing(InFolder):
 
 
 class Reports(InFolder):
+    def test_rows_are_drawn_with_the_space_of_the_record(self):
+        record = self.write("record.txt", b"all\nrows 7 left\ntick 1\nshow\nrows 0 right\n")
+        self.assertEqual(report.items_of(b"all\nrows 7 left\nshow\nrows 1"), [["all", "rows 7 left"], ["show"], ["rows 1"]])
+        self.assertEqual([report.space_of(it) for it in (["all", "rows 7 left"], ["rows 7 left", "show"], [])], [7, 0, 0])
+        text, rows = b"text 0 0 90 90 7 20 ab", [b"row 0 0 a", b"row 0 20 b"]
+        lines = [b"show 0", text, b"row 0 0 ab", b"show 1", text, b"show 1", text, *rows]
+        html = self.report(lines, "--record", record)
+        self.assertIn('<p id="L3" class="row new">row 0 0 ab</p>', html)
+        self.assertIn("<option>row</option>", html)
+        drawn = re.findall("<title>show [0-9]+</title>.*?</svg>\n*</svg>", html, re.DOTALL)
+        self.assertEqual(['x="17"' in it for it in drawn], [True, False, False])
+        # (a row that is new or gone has no outline of its own)
+        self.assertEqual([it.count('stroke-dasharray="9 6"') for it in drawn], [0, 0, 0])
+
     def test_parts_end_with_their_display_lists(self):
         lines = [b"load /40/0000", b"show 5", b"box 0 0 1 1 1 1 1", b"show 9", b"lost keydown", b"end 1"]
         parts = report.parts_of(lines)
@@ -208,11 +223,12 @@ class Reports(InFolder):
 
     def test_a_record_names_the_items_of_each_part(self):
         record = self.write("record.txt", b"# how\n\nall\r\nshow\nkey 2\n key\t18\nrelease 14 \ntick 5\nshow\nkey <b>\nshow x\n")
-        html = self.report([b"show 0", b"show 5", b"end 1"], "--record", record, "--stream", record)
+        stream = self.write("in.ts", stream_of([(b"text/X-arib-bml", b"<bml></bml>")]))
+        html = self.report([b"show 0", b"show 5", b"end 1"], "--record", record, "--stream", stream)
         items = [("all; show", "1 to 1"), ("key 2 (down); key 18 (enter); release 14 (9); tick 5; show", "none"), ("key &lt;b&gt;; show x", "none")]
         for texts, packets in items:
             self.assertIn(f"The record: {texts}. Packets: {packets}.</small>", html)
-        self.assertIn(f"The stream record.txt has {os.path.getsize(record)} bytes.", html)
+        self.assertIn(f"The stream in.ts has {os.path.getsize(stream)} bytes.", html)
         self.assertNotIn("it is another one", html)
         self.assertIn("The record asks for 2 display lists: it is another one", self.report([b"show 0"], "--record", record))
 
@@ -235,6 +251,14 @@ class Reports(InFolder):
         self.assertEqual(html.count("2,000 more aren't in this table"), 2)
         self.assertIn("not drawn here, since this report is large", html)
         self.assertEqual(html.count('<p id="L'), len(lines))
+
+    def test_the_report_in_docs_is_that_of_its_example(self):
+        words = [f"examples/weather/{it}" for it in ("stdout", "record.txt", "stream.ts")]
+        output, record, stream = (str(EXAMPLES.parent / it) for it in words)
+        self.assertEqual(self.run_tool(report, output, self.folder, "--record", record, "--stream", stream), (0, ""))
+        made = Path(f"{self.folder}/report.html").read_text(encoding="utf-8")
+        again = f"make it anew: tools/users/report.py {words[0]} docs/report --record {words[1]} --stream {words[2]}"
+        self.assertEqual((EXAMPLES.parent / "docs/report/report.html").read_text(encoding="utf-8"), made, again)
 
     def test_files_that_cannot_be_used_are_told(self):
         output = self.write("stdout", b"end 1\n")

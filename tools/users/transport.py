@@ -71,7 +71,7 @@ class Ddb(NamedTuple):
     version: int
     number: int
     block: bytes
-    reserved: bytes = bytes(2)  # the reserved bytes of the message header and behind the version
+    reserved: bytes = bytes(2)  # the reserved bytes of the message header and after the version
 
 
 class EventMessage(NamedTuple):
@@ -207,7 +207,7 @@ def packet(pid, counter, starts_unit, payload):
 
 
 def stuffed_packet(pid, counter, starts_unit, payload):
-    """Returns a packet whose payload ends it, behind an adaptation field that fills what is left."""
+    """Returns a packet whose payload ends it, after an adaptation field that fills what is left."""
     room = PAYLOAD_SIZE - len(payload)
     if room == 0:
         return packet(pid, counter, starts_unit, payload)
@@ -219,7 +219,7 @@ def stuffed_packet(pid, counter, starts_unit, payload):
 def section_packets(pid, counters, section_bytes):
     """Returns the packets of a section that begins in a packet of its own, with pointer field 0 and these counters.
 
-    More packets than the section takes end with one byte of it each, behind stuffing.
+    More packets than the section takes end with one byte of it each, after stuffing.
     """
     left, count = b"\x00" + section_bytes, len(counters)
     if not packets_taken(section_bytes) <= count <= len(left):
@@ -337,7 +337,7 @@ def read_message(kind, section_bytes):
 
 
 def read_modules(rest, at):
-    """Returns the modules whose number stands there in a DII, and the place behind them."""
+    """Returns the modules whose number stands there in a DII, and the place after them."""
     (count,) = struct.unpack_from(">H", rest, at)
     modules, at = [], at + 2
     for _ in range(count):

@@ -17,6 +17,11 @@ shift 2
 for file in "$stream" "$record"; do
   [ -f "$file" ] || { echo "try.sh: there is no file $file" >&2; exit 3; }
 done
+# (each packet begins with the byte of G, and no line of a record does)
+if [ "$(head -c 1 -- "$record" | tr -d '\0')" = G ] && [ "$(head -c 1 -- "$stream" | tr -d '\0')" != G ]; then
+  echo "try.sh: $record begins as a stream does, and $stream doesn't: name the stream first" >&2
+  exit 1
+fi
 stream=$(realpath -- "$stream")
 record=$(realpath -- "$record")
 command -v rt >/dev/null || { echo "try.sh: rt, the command of the Rattle toolchain, is not on the PATH" >&2; exit 2; }

@@ -1,7 +1,7 @@
-//! Tests of `persistent_arrays`: bytes and values that were worked out by hand, which no clause says, and each public
-//! call with memory to spare. It has no code of its own.
+//! Tests of `persistent_arrays` and `binary_table`: bytes and values that were worked out by hand, which no clause says,
+//! and each public call with memory to spare. It has no code of its own.
 //!
-//! They stand here since a crate with tests is proved twice, and the library is proved once.
+//! They stand here since a crate with tests is proved twice, and a library is proved once.
 #![tactic(auto)]
 
 #[cfg(test)]
@@ -10,5 +10,7 @@ mod names;
 mod packing;
 #[cfg(test)]
 mod reading;
+#[cfg(test)]
+mod tables;
 #[cfg(test)]
 mod written;

@@ -2,7 +2,7 @@
 
 use crate::written::{structure, told, words};
 use bml_bytes::AreaBytes;
-use persistent_arrays::{pack, unpack};
+use persistent_arrays::{FieldKind, bit_at, pack, unpack, value_at};
 use std::alloc::Global;
 use std::process::Abort;
 
@@ -52,4 +52,16 @@ fn what_passes_the_end(rt: HostRuntime) {
     assert!(rt; reads(&rt, alloc, b"S:1V", b"\x3F", Some(&expected)));
     assert!(rt; reads(&rt, alloc, b"S:1V", b"\x40", None));
     assert!(rt; reads(&rt, alloc, b"S:64B,B:1b", b"a", None));
+}
+
+#[test]
+fn fields_alone(rt: HostRuntime) {
+    let alloc = rt.alloc();
+    let signed = FieldKind::Signed(2);
+    let found = value_at(alloc, signed, b"\xFF\xFE\x07").expect(&rt, "memory");
+    let field = found.expect(&rt, "a value");
+    assert!(rt; told(&rt, alloc, &[field]).as_slice() == b"-2,".as_slice());
+    let cut = value_at(alloc, FieldKind::Varying, b"\x02a").expect(&rt, "memory");
+    assert!(rt; cut.is_none());
+    assert!(rt; bit_at(0x40, 1) == Some(true) && bit_at(0x40, 8).is_none());
 }

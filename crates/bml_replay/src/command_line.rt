@@ -25,7 +25,8 @@ bml_replay gen SEED COUNT
     --data-pid N  receives the data carousel on that PID, 16 to 8190, without any table
     STREAM        the recorded stream
     RECORD        what the receiver is to do, an item on each line: all, packets N (take them), key C, release C,
-                  tick M (milliseconds), random W, show
+                  tick M (milliseconds), random W, date D S (a day and its second), show,
+                  rows S A (with the rows of texts)
     SEED, COUNT   what a stream is generated from, 0 to 4294967295, and how many modules it has beside its page, 1 to 100
 
 replay prints a line for each module that comes, goes or is skipped, for each document that is loaded, refused or launched,

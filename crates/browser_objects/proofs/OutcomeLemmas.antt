@@ -4,6 +4,9 @@ use Rattle.std.specs.Prelude.{◌||◌, is_some}
 use Rattle.std.specs.List.{list_any}
 use Rattle.std.specs.Option.{option_map_or}
 use Rattle.multipart_entities.specs.declared.paths.Path.{Path}
+use Rattle.date_objects.specs.Dates.{date_object}
+use Rattle.es_date.specs.declared.moments.Moment.{Moment}
+use Rattle.es_values.specs.declared.numbers.Num.TheVariants.{Whole}
 use Rattle.es_values.specs.declared.hosts.HostAnswer.TheVariants.{Value as Answered}
 use Rattle.es_values.specs.declared.values.Value.{Value}
 use Rattle.es_values.specs.declared.values.Value.TheVariants as values
@@ -24,8 +27,9 @@ use Rattle.browser_objects.specs.declared.calls.BrowserCall.{BrowserCall}
 use Rattle.browser_objects.specs.declared.calls.BrowserCall.TheVariants as the
 use Rattle.browser_objects.specs.declared.effects.Effect.TheVariants.{Sound, Launch, Lock, Unlock}
 use Rattle.browser_objects.specs.ArrayCalls.{value_of_field, values_of_array, with_array_of}
+use Rattle.browser_objects.specs.Dates.{later_moment, present_moment, units_since}
 use Rattle.browser_objects.specs.Functions.{named_function}
-use Rattle.browser_objects.specs.Calls.{BrowserParts, CallResult, CallOutcome, argument, give_array, write_bytes, call_named, call_of, outcome_of_call, clear_timer, end_timer, count_argument, draw_up_to, gives, hands_on, interval_of, number, over, packed_values, path_argument, play_sound, draw_random, gives_nan, set_interval, sound_of, text_argument, begin_timer, whole_argument, with_interval, with_named, with_path}
+use Rattle.browser_objects.specs.Calls.{date_argument, give_date, sub_date, unit_argument, BrowserParts, CallResult, CallOutcome, argument, give_array, write_bytes, call_named, call_of, outcome_of_call, clear_timer, end_timer, count_argument, draw_up_to, gives, hands_on, interval_of, number, over, packed_values, path_argument, play_sound, draw_random, gives_nan, set_interval, sound_of, text_argument, begin_timer, whole_argument, with_interval, with_named, with_path}
 
 -- ---- calls whose value is neither an object nor a function
 
@@ -58,10 +62,15 @@ written slot (Some bytes) s = refl
 
 -- ---- what a call gives and leaves
 
+-- no object is new, or an array of fields' values is, or a Date
+abbrev pub IsMore : List ObjectState → List ObjectState → Type 0
+IsMore heap new = (new ≡ heap) ⊎ ((values : List Field) × (new ≡ with_array_of heap values))
+    ⊎ ((moment : Moment) × (new ≡ heap ++ date_object (Some moment) ∷ []))
+
 -- a value is one of a host, and what objects there are behind the call
 record IsGiven (heap : List ObjectState) (outcome : CallOutcome) : Type 0 where
   answer : IsAnswer outcome.heap (Answered outcome.called.value)
-  objects : (outcome.heap ≡ heap) ⊎ ((values : List Field) × (outcome.heap ≡ with_array_of heap values))
+  objects : IsMore heap outcome.heap
 
 plain-answer : (heap : List ObjectState) (value : Value) → is_plain value ≡ true → IsAnswer heap (Answered value)
 plain-answer heap values.Undefined e = (refl, tt)
@@ -87,7 +96,16 @@ one-more heap object = let l = length-append heap (object ∷ []) in omega arith
 
 read : (found : Option (List Field)) (heap : List ObjectState) (s : BrowserParts) → IsGiven heap (give_array found heap s)
 read None heap s = plain heap (gives values.Null s) refl
-read (Some found) heap s = record { answer = (refl, one-more heap (array_of (map value_of_field found))); objects = inr (found, refl) }
+read (Some found) heap s = record { answer = (refl, one-more heap (array_of (map value_of_field found))); objects = inr (inl (found, refl)) }
+
+dated : (moment : Option Moment) (heap : List ObjectState) (s : BrowserParts) → IsGiven heap (give_date moment heap s)
+dated None heap s = plain heap (gives_nan s) refl
+dated (Some moment) heap s = record { answer = (refl, one-more heap (date_object (Some moment))); objects = inr (inr (moment, refl)) }
+
+present : (now : ℕ) (date : Option (ℤ × ℕ × ℕ)) (heap : List ObjectState) (s : BrowserParts)
+    → IsGiven heap (option_map_or (λ date. give_date (present_moment now date) heap s) date (over heap (gives values.Null s)))
+present now None heap s = plain heap (gives values.Null s) refl
+present now (Some date) heap s = dated (present_moment now date) heap s
 
 table : (call : BrowserCall) (base : Path) (now : ℕ) (arguments : List Value) (heap : List ObjectState) (s : BrowserParts)
     → IsGiven heap (outcome_of_call call base now arguments heap s)
@@ -124,6 +142,14 @@ table the.PlayRomSound base now arguments heap s =
     plain heap (play_sound arguments heap s)
     (mapped (λ sound. record { value = number 1; effect = Sound sound; state = s })
     (sound_of (text_argument heap arguments 0)) (gives_nan s) (λ sound. refl) refl)
+table the.CurrentDate base now arguments heap s = present now s.date heap s
+table the.AddDate base now arguments heap s =
+    dated (later_moment (date_argument heap arguments 0) (whole_argument heap arguments 1) (unit_argument heap arguments 2)) heap s
+table the.SubDate base now arguments heap s =
+    plain heap (sub_date arguments heap s)
+    (mapped (λ units. gives (values.Number (Whole units)) s)
+    (units_since (date_argument heap arguments 0) (date_argument heap arguments 1) (unit_argument heap arguments 2)) (gives_nan s)
+    (λ units. refl) refl)
 
 given : (name : List ℕ) (base : Path) (now : ℕ) (arguments : List Value) (heap : List ObjectState) (s : BrowserParts)
     → IsGiven heap (call_of name base now arguments heap s)
@@ -138,7 +164,7 @@ pub always-answer : (name : List ℕ) (base : Path) (now : ℕ) (arguments : Lis
 always-answer name base now arguments heap s = (given name base now arguments heap s).answer
 
 pub new-objects : (name : List ℕ) (base : Path) (now : ℕ) (arguments : List Value) (heap : List ObjectState) (s : BrowserParts)
-    → ((call_of name base now arguments heap s).heap ≡ heap) ⊎ ((values : List Field) × ((call_of name base now arguments heap s).heap ≡ with_array_of heap values))
+    → IsMore heap (call_of name base now arguments heap s).heap
 new-objects name base now arguments heap s = (given name base now arguments heap s).objects
 
 -- ---- functions
@@ -170,16 +196,30 @@ kept made heap arguments found = record {
       (no-function number found) (made heap number (map value_of_field found) h);
 }
 
+-- what `law_of_new_dates` says of Dates that are made
+abbrev MadeDates : Type 0
+MadeDates = (heap : List ObjectState) (moment : Option Moment) (number : ℕ) → holds_function number (heap ++ date_object moment ∷ []) ≡ true
+    → holds_function number heap ≡ true
+
+kept-date : MadeDates → (heap : List ObjectState) (arguments : List Value) (moment : Option Moment)
+    → KeepsHeap heap arguments (heap ++ date_object moment ∷ [])
+kept-date made heap arguments moment = record {
+  objects = (let more = one-more heap (date_object moment) in omega arith);
+  functions = λ number h.
+      at-least (holds_function number heap) (list_any (is_function number) arguments) (made heap moment number h);
+}
+
 same : (heap : List ObjectState) (arguments : List Value) → KeepsHeap heap arguments heap
 same heap arguments = record {
   objects = omega arith;
   functions = λ number h. at-least (holds_function number heap) (list_any (is_function number) arguments) h;
 }
 
-pub always-kept : MadeArrays → (name : List ℕ) (base : Path) (now : ℕ) (arguments : List Value) (heap : List ObjectState) (s : BrowserParts)
+pub always-kept : MadeArrays → MadeDates → (name : List ℕ) (base : Path) (now : ℕ) (arguments : List Value) (heap : List ObjectState) (s : BrowserParts)
     → KeepsHeap heap arguments (call_of name base now arguments heap s).heap
-always-kept made name base now arguments heap s = by (call_of name base now arguments heap s).heap (new-objects name base now arguments heap s)
+always-kept made dates name base now arguments heap s = by (call_of name base now arguments heap s).heap (new-objects name base now arguments heap s)
   where
-    by : (new : List ObjectState) → (new ≡ heap) ⊎ ((values : List Field) × (new ≡ with_array_of heap values)) → KeepsHeap heap arguments new
+    by : (new : List ObjectState) → IsMore heap new → KeepsHeap heap arguments new
     by new (inl e) = subst (KeepsHeap heap arguments) (sym e) (same heap arguments)
-    by new (inr array) = subst (KeepsHeap heap arguments) (sym array.1) (kept made heap arguments array.0)
+    by new (inr (inl array)) = subst (KeepsHeap heap arguments) (sym array.1) (kept made heap arguments array.0)
+    by new (inr (inr date)) = subst (KeepsHeap heap arguments) (sym date.1) (kept-date dates heap arguments (Some date.0))

@@ -1,12 +1,16 @@
 -- What scripts call on the browser object (after ARIB STD-B24 volume 2, in this project's own
 -- profile): for each call its value, what the page has to do beside, and what becomes of timers,
 -- random words, the persistent area and the objects of scripts.
-use Rattle.std.specs.Prelude.{◌≡◌, ℕ, ◌+◌, ◌%◌, nat_le, ◌&&◌, if◌then◌else◌, pos, negsuc, ℤ, List, [], ◌∷◌, find, length, take, drop, Option, Some, None, unwrap_or, is_some, codes, option_and_then, slice_get}
+use Rattle.std.specs.Prelude.{◌≡◌, ℕ, ◌+◌, ◌%◌, nat_le, ◌&&◌, if◌then◌else◌, pos, negsuc, ℤ, List, [], ◌∷◌, ◌++◌, find, length, take, drop, Option, Some, None, unwrap_or, is_some, codes, option_and_then, slice_get}
 use Rattle.std.specs.Option.{option_map_or}
 use Rattle.bml_bytes.specs.Numerals.{decimal_field}
 use Rattle.bml_bytes.specs.Words.{is_same}
 use Rattle.multipart_entities.specs.declared.paths.Path.{Path}
 use Rattle.multipart_entities.specs.Paths.{path_of_text}
+use Rattle.date_objects.specs.Dates.{date_object, moment_of}
+use Rattle.es_date.specs.declared.moments.Moment.{Moment}
+use Rattle.es_date.specs.declared.units.DateUnit.{DateUnit}
+use Rattle.es_date.specs.Moments.{unit_of}
 use Rattle.es_values.specs.declared.numbers.Num.{Num}
 use Rattle.es_values.specs.declared.numbers.Num.TheVariants.{NotANumber, Whole}
 use Rattle.es_values.specs.declared.values.Value.{Value}
@@ -26,6 +30,7 @@ use Rattle.browser_objects.specs.declared.calls.BrowserCall.TheVariants as the
 use Rattle.browser_objects.specs.declared.effects.Effect.{Effect}
 use Rattle.browser_objects.specs.declared.effects.Effect.TheVariants.{Nothing, Kept, Sound, Launch, Lock, Unlock}
 use Rattle.browser_objects.specs.ArrayCalls.{fields_of, values_of_array, with_array_of}
+use Rattle.browser_objects.specs.Dates.{later_moment, present_moment, units_since}
 use Rattle.browser_objects.specs.Functions.{named_function}
 
 -- what calls act on
@@ -37,6 +42,8 @@ pub record BrowserParts : Type 0 where
   pub timers : TimersState
   -- the random words that are left
   pub random : List ℕ
+  -- the day and the second that the record told last, and the clock then
+  pub date : Option (ℤ × ℕ × ℕ)
 
 -- what a call gives, what the page has to do, and what it leaves
 pub record CallResult : Type 0 where
@@ -68,12 +75,15 @@ name_of_call the.Random = codes "random"
 name_of_call the.ReadPersistentArray = codes "readPersistentArray"
 name_of_call the.WritePersistentArray = codes "writePersistentArray"
 name_of_call the.PlayRomSound = codes "playRomSound"
+name_of_call the.CurrentDate = codes "currentDate"
+name_of_call the.AddDate = codes "addDate"
+name_of_call the.SubDate = codes "subDate"
 
 abbrev pub all_calls : List BrowserCall
 all_calls =
     the.SetInterval ∷ the.ClearTimer ∷ the.LaunchDocument ∷ the.LockModuleOnMemory
     ∷ the.UnlockModuleOnMemory ∷ the.ReadPersistentArray ∷ the.WritePersistentArray ∷ the.Random
-    ∷ the.PlayRomSound ∷ []
+    ∷ the.PlayRomSound ∷ the.CurrentDate ∷ the.AddDate ∷ the.SubDate ∷ []
 
 abbrev pub call_named : List ℕ → Option BrowserCall
 call_named name = find (λ call. is_same name (name_of_call call)) all_calls
@@ -262,6 +272,39 @@ write_array arguments heap s =
     with_names (λ slot kinds. over heap (write_bytes slot
     (packed_values heap kinds (values_of_array heap (argument arguments 2))) s)) arguments heap s
 
+-- ---- dates
+
+-- the moment of the argument at a place, where it is a good Date
+abbrev pub date_argument : List ObjectState → List Value → ℕ → Option Moment
+date_argument heap arguments place = moment_of heap (argument arguments place)
+
+-- the unit that it names
+abbrev pub unit_argument : List ObjectState → List Value → ℕ → Option DateUnit
+unit_argument heap arguments place = option_and_then unit_of (whole_argument heap arguments place)
+
+-- a new Date of a moment
+abbrev pub give_date : Option Moment → List ObjectState → BrowserParts → CallOutcome
+give_date None heap s = over heap (gives_nan s)
+give_date (Some moment) heap s =
+    record { called = gives (Object (length heap)) s; heap = heap ++ date_object (Some moment) ∷ [] }
+
+-- Null where the record told no date yet
+abbrev pub current_date : ℕ → List ObjectState → BrowserParts → CallOutcome
+current_date now heap s =
+    option_map_or (λ date. give_date (present_moment now date) heap s) s.date
+    (over heap (gives Null s))
+
+abbrev pub add_date : List Value → List ObjectState → BrowserParts → CallOutcome
+add_date arguments heap s =
+    give_date (later_moment (date_argument heap arguments 0) (whole_argument heap arguments 1)
+    (unit_argument heap arguments 2)) heap s
+
+abbrev pub sub_date : List Value → List ObjectState → BrowserParts → CallResult
+sub_date arguments heap s =
+    option_map_or (λ units. gives (Number (Whole units)) s)
+    (units_since (date_argument heap arguments 0) (date_argument heap arguments 1)
+    (unit_argument heap arguments 2)) (gives_nan s)
+
 -- ---- the table
 
 abbrev pub outcome_of_call : BrowserCall → Path → ℕ → List Value → List ObjectState → BrowserParts
@@ -279,6 +322,9 @@ outcome_of_call the.ReadPersistentArray base now arguments heap s = read_array a
 outcome_of_call the.WritePersistentArray base now arguments heap s = write_array arguments heap s
 outcome_of_call the.Random base now arguments heap s = over heap (draw_random arguments heap s)
 outcome_of_call the.PlayRomSound base now arguments heap s = over heap (play_sound arguments heap s)
+outcome_of_call the.CurrentDate base now arguments heap s = current_date now heap s
+outcome_of_call the.AddDate base now arguments heap s = add_date arguments heap s
+outcome_of_call the.SubDate base now arguments heap s = over heap (sub_date arguments heap s)
 
 -- the call of this name, which has to be one of these
 abbrev pub call_of : List ℕ → Path → ℕ → List Value → List ObjectState → BrowserParts

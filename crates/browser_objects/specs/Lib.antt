@@ -2,3 +2,4 @@ pub mod Registers
 pub mod Functions
 pub mod ArrayCalls
 pub mod Calls
+pub mod Dates

@@ -5,6 +5,7 @@ ghost use Rattle.es_values.specs.Heaps.{IsLive};
 ghost use Rattle.browser_objects.specs.Calls.{Answers, all_calls, call_named, call_of, outcome_of_call, name_of_call};
 
 use crate::array_calls::{read_persistent_array, write_persistent_array};
+use crate::date_calls::{add_date, current_date, sub_date};
 use crate::effects::{Effect, refusal};
 use crate::page_calls::{launch_document, lock_module, unlock_module};
 use crate::random_calls::random;
@@ -28,11 +29,14 @@ pub enum BrowserCall {
     WritePersistentArray,
     Random,
     PlayRomSound,
+    CurrentDate,
+    AddDate,
+    SubDate,
 }
 
 impl BrowserCall {
     /// All of them.
-    pub fn all() -> [BrowserCall; 9]
+    pub fn all() -> [BrowserCall; 12]
         ensures { result ≡ all_calls }
     {
         [
@@ -45,6 +49,9 @@ impl BrowserCall {
             BrowserCall::WritePersistentArray,
             BrowserCall::Random,
             BrowserCall::PlayRomSound,
+            BrowserCall::CurrentDate,
+            BrowserCall::AddDate,
+            BrowserCall::SubDate,
         ]
     }
 
@@ -62,6 +69,9 @@ impl BrowserCall {
             BrowserCall::WritePersistentArray => "writePersistentArray",
             BrowserCall::Random => "random",
             BrowserCall::PlayRomSound => "playRomSound",
+            BrowserCall::CurrentDate => "currentDate",
+            BrowserCall::AddDate => "addDate",
+            BrowserCall::SubDate => "subDate",
         }
     }
 
@@ -129,5 +139,8 @@ fn called(
         BrowserCall::WritePersistentArray => write_persistent_array(alloc, state, args, &*heap),
         BrowserCall::Random => random(state, args, &*heap),
         BrowserCall::PlayRomSound => play_sound(args, &*heap),
+        BrowserCall::CurrentDate => current_date(state, now, heap),
+        BrowserCall::AddDate => add_date(args, heap),
+        BrowserCall::SubDate => sub_date(args, &*heap),
     }
 }

@@ -1,8 +1,10 @@
 //! What the definitions of this crate say together. Each function is a law: its contract is what it is
 //! for, and it does nothing when it runs.
 
-ghost use Rattle.std.specs.Prelude.{◌≡◌, ◌<◌, ◌↔◌, ◌⊎◌, ℕ, List, Some};
+ghost use Rattle.std.specs.Prelude.{◌≡◌, ◌<◌, ◌↔◌, ◌⊎◌, ℕ, List, [], ◌∷◌, ◌++◌, Some};
 ghost use Rattle.bml_bytes.specs.Numerals.{decimal_digits};
+ghost use Rattle.date_objects.specs.Dates.{date_object};
+ghost use Rattle.es_date.specs.declared.moments.Moment.{Moment};
 ghost use Rattle.es_values.specs.declared.hosts.HostAnswer.TheVariants.{Value as Answer};
 ghost use Rattle.es_values.specs.declared.values.Value.{Value};
 ghost use Rattle.es_values.specs.Hosts.{IsAnswer, KeepsHeap};
@@ -15,6 +17,7 @@ ghost use Rattle.browser_objects.specs.Functions.{Calls, named_function};
 ghost use Rattle.browser_objects.specs.Registers.{register_of};
 
 use bml_bytes::law_of_same_texts;
+use date_objects::law_of_new_dates;
 use es_values::{law_of_array_functions, law_of_indices};
 
 /// A text names a function exactly where it is of one of the three forms: the name, a call of it
@@ -45,14 +48,17 @@ pub fn law_of_call_outcomes()
         → KeepsHeap heap arguments (call_of name base now arguments heap s).heap }
 {
     law_of_array_functions();
+    law_of_new_dates();
 }
 
-/// A call makes one object at most: a new array of truths, numbers and texts, which stands behind
-/// all others. All objects that there were stay as they are.
+/// A call makes one object at most: a new array of truths, numbers and texts, or a Date, which stands
+/// after all others. All objects that there were stay as they are.
 pub fn law_of_new_objects()
     ensures { (name : List ℕ) (base : Path) (now : ℕ) (arguments : List Value)
         (heap : List ObjectState) (s : BrowserParts)
         → ((call_of name base now arguments heap s).heap ≡ heap)
         ⊎ ((values : List Field)
-        × ((call_of name base now arguments heap s).heap ≡ with_array_of heap values)) }
+        × ((call_of name base now arguments heap s).heap ≡ with_array_of heap values))
+        ⊎ ((moment : Moment) × ((call_of name base now arguments heap s).heap
+        ≡ heap ++ date_object (Some moment) ∷ [])) }
 {}

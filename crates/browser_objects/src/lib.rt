@@ -6,13 +6,15 @@
 //! [`call_browser`] does just that. An [`Effect`] is handed to the page, which alone knows
 //! documents, modules and sounds. `specs/Registers.antt` has the texts of Ureg and Greg, and
 //! `specs/Functions.antt` how a text names the function of a timer. `specs/ArrayCalls.antt` says
-//! how values of scripts become those of persistent arrays, and back.
+//! how values of scripts become those of persistent arrays, and back, and `specs/Dates.antt` how
+//! dates are reckoned with.
 #![tactic(auto)]
 
 mod arguments;
 mod array_calls;
 mod array_fields;
 mod calls;
+mod date_calls;
 mod effects;
 mod functions;
 mod laws;

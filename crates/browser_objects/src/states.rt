@@ -1,6 +1,6 @@
 //! What calls act on.
 
-ghost use Rattle.std.specs.Prelude.{◌≡◌, [], IfOk};
+ghost use Rattle.std.specs.Prelude.{◌≡◌, [], None, IfOk};
 ghost use Rattle.event_queue.specs.Timers.{no_timers};
 ghost use Rattle.browser_objects.specs.Registers.{empty_registers as spec_empty_registers};
 
@@ -12,7 +12,8 @@ use std::collections::VecDeque;
 use std::marker::Model;
 
 /// What the calls of the browser object act on: the registers Ureg and Greg, 64 texts each, the
-/// persistent area, the timers, and the random words that are left.
+/// persistent area, the timers, the random words that are left, and the date that the record told last:
+/// a day, counted from 1970-01-01, a second of it, and the clock then.
 #[derive(Drop)]
 pub struct BrowserState {
     pub ureg: Vec<Text>,
@@ -20,6 +21,7 @@ pub struct BrowserState {
     pub area: AreaBytes,
     pub timers: Timers,
     pub random: VecDeque<u32>,
+    pub date: Option<(i32, u32, u64)>,
 }
 
 impl Model for BrowserState {
@@ -33,18 +35,20 @@ impl Model for BrowserState {
       area = state.area;
       timers = state.timers;
       random = state.random.items;
+      date = state.date;
     } };
 }
 
 impl BrowserState {
     /// The state of a receiver with this persistent area: registers are empty, and there is neither a
-    /// timer nor a random word.
+    /// timer nor a random word nor a date.
     pub fn new(alloc: Global, area: AreaBytes) -> Result<BrowserState, NoMemory>
         ensures ureg { IfOk result (λ state. state.ureg ≡ spec_empty_registers) }
         ensures greg { IfOk result (λ state. state.greg ≡ spec_empty_registers) }
         ensures area { IfOk result (λ state. state.area ≡ area) }
         ensures timers { IfOk result (λ state. state.timers ≡ no_timers) }
         ensures random { IfOk result (λ state. state.random ≡ []) }
+        ensures date { IfOk result (λ state. state.date ≡ None) }
     {
         let ureg = empty_registers(alloc)?;
         let greg = empty_registers(alloc)?;
@@ -54,6 +58,7 @@ impl BrowserState {
             area,
             timers: Timers::new(),
             random: VecDeque::new(alloc),
+            date: None,
         })
     }
 }

@@ -1,7 +1,7 @@
 -- What handlers and default actions act on, and what they do to it: posts, moves of the focus, timers, and the
 -- rows of what scripts read and write, and of what they call of the document (after the events, the navigation,
 -- the DOM interfaces and the browser object of BML, ARIB STD-B24 volume 2, in this project's own profile).
-use Rattle.std.specs.Prelude.{ℕ, zero, suc, nat_lt, ◌==◌, ◌&&◌, pos, Bool, true, false, if◌then◌else◌, List, [], ◌∷◌, ◌++◌, fold, length, slice_get, Option, Some, None, codes, is_some}
+use Rattle.std.specs.Prelude.{ℕ, zero, suc, nat_lt, ◌==◌, ◌&&◌, ℤ, pos, Bool, true, false, if◌then◌else◌, List, [], ◌∷◌, ◌++◌, fold, length, slice_get, Option, Some, None, codes, is_some}
 use Rattle.std.specs.Option.{option_map_or}
 use Rattle.bml_bytes.specs.Words.{is_same}
 use Rattle.dom_tree.specs.Items.{tag_of}
@@ -45,7 +45,7 @@ use Rattle.dom_tree.specs.declared.node_ids.NodeId.{NodeId}
 use Rattle.document_stages.specs.EventLines.{launch_line, lost_line}
 
 -- What belongs to the receiver, before anything came, with this persistent area: empty registers, and neither timers nor
--- random words.
+-- random words nor a date.
 abbrev pub first_browser : List ℕ → BrowserParts
 first_browser area =
     record {
@@ -54,6 +54,7 @@ first_browser area =
       area = area;
       timers = no_timers;
       random = [];
+      date = None;
     }
 
 abbrev pub with_timers : TimersState → BrowserParts → BrowserParts
@@ -62,6 +63,10 @@ with_timers timers browser = record browser { timers = timers }
 -- one random word more
 abbrev pub with_word : ℕ → BrowserParts → BrowserParts
 with_word word browser = record browser { random = browser.random ++ word ∷ [] }
+
+-- it is this second of this day, as the clock stands
+abbrev pub with_date : ℤ → ℕ → ℕ → BrowserParts → BrowserParts
+with_date day second clock browser = record browser { date = Some (day, second, clock) }
 
 -- what handlers and default actions act on
 pub record Acting : Type 0 where
@@ -73,7 +78,7 @@ pub record Acting : Type 0 where
   pub items : ItemsState
   -- the events that wait for their dispatch, the one that waits longest in front
   pub queue : List Event
-  -- the registers, the persistent area and the random words, which belong to the receiver; and the timers
+  -- the registers, the persistent area, the random words and the date, which belong to the receiver; and the timers
   pub browser : BrowserParts
   -- the time in milliseconds
   pub now : ℕ

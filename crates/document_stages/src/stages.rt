@@ -507,6 +507,7 @@ fn placeholder(alloc: Global) -> BrowserState {
         area: AreaBytes::zeros(),
         timers: Timers::new(),
         random: VecDeque::new(alloc),
+        date: None,
     }
 }
 

@@ -82,8 +82,8 @@ fn rows_among_other_lines(rt: HostRuntime) {
     // numbers below 0, bytes with spaces and escapes, half of an odd rest; and lines without a text
     let lines: &[u8] =
         b"show 0\nbox 0 0 9 0 8 0 7\ntext -5 -30 37 0 7 24 a %25\npicture 0 0 9 9 - text\n";
-    let rows: &[u8] =
-        b"show 0\nbox 0 0 9 0 8 0 7\ntext -5 -30 37 0 7 24 a %25\nrow -5 -30 a %25\npicture 0 0 9 9 - text\n";
+    let rows: &[u8] = b"show 0\nbox 0 0 9 0 8 0 7\ntext -5 -30 37 0 7 24 a %25\nrow -5 -30 a %25\n\
+        picture 0 0 9 9 - text\n";
     assert!(rt; come_to(&rt, alloc, lines, 0, Align::Center, rows));
     let rows: &[u8] = b"text -5 -30 25 0 7 24 a\nrow 1 -30 a\n";
     assert!(rt;

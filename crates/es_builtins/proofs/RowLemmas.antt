@@ -1,12 +1,15 @@
 -- What rows keep, kind by kind of value that is called.
-use Rattle.std.proofs.Common.{◌≡◌, ℕ, ◌<◌, Bool, true, false, List, [], ◌∷◌, ◌++◌, length, map, refl, sym, ap, ◌∙◌, arith, length-append, ◌⊎◌, inl, inr}
-use Rattle.std.specs.Prelude.{All, Option, Some, None, option_map, slice_get, ◌||◌, ◌==◌, if◌then◌else◌}
+use Rattle.std.proofs.Common.{◌≡◌, ℕ, ◌<◌, Bool, true, false, List, [], ◌∷◌, ◌++◌, length, map, refl, sym, ◌∙◌, arith, length-append, inl, inr}
+use Rattle.std.specs.Prelude.{All, Option, Some, None, option_and_then, option_map, slice_get, ◌||◌, ◌==◌, if◌then◌else◌}
 use Rattle.std.specs.Option.{option_map_or}
 use Rattle.std.specs.List.{list_any}
 use Rattle.std.proofs.Math.ListN.{length-set}
 use Rattle.std.proofs.lemmas.Bool.{or_cases, or_left, or_parts, or_right}
 use Rattle.std.proofs.lemmas.List.Elements.{All-cons, All-nil}
 use Rattle.std.proofs.lemmas.List.Folds.{list_any_none}
+use Rattle.date_objects.specs.Dates.{date_object, is_date, moment_in}
+use Rattle.es_date.specs.declared.moments.Moment.{Moment}
+use Rattle.es_date.specs.Moments.{moment_of_fields}
 use Rattle.es_values.specs.declared.numbers.Num.{Num}
 use Rattle.es_values.specs.declared.values.Value.{Value}
 use Rattle.es_values.specs.declared.values.Value.TheVariants.{Undefined, Null, Bool as Boolean, Number, Str, Object, Function, Host}
@@ -20,12 +23,13 @@ use Rattle.es_builtins.specs.declared.functions.BuiltIn.TheVariants as function
 use Rattle.es_builtins.specs.declared.methods.Method.{Method}
 use Rattle.es_builtins.specs.declared.methods.Method.TheVariants as the
 use Rattle.es_builtins.specs.Arrays.{array_of_arguments, sorted, sorted_object}
+use Rattle.es_builtins.specs.Dates.{date_fields, part_given}
 use Rattle.es_builtins.specs.Functions.{call_row, codes_row, construction_row, function_of, function_row, new_row, row_or_none}
 use Rattle.es_builtins.specs.Keeping.{GivesKept, RowKeeps}
 use Rattle.es_builtins.specs.Methods.{array_row, base_row, digits_row, function_method_row, method_of, method_row, object_row, plain_row, sort_row, text_row}
 use Rattle.es_builtins.specs.Rows.{Row}
 use Rattle.es_builtins.specs.Texts.{split}
-use Rattle.es_builtins.specs.Rows.Row.{NoRow}
+use Rattle.es_builtins.specs.Rows.Row.{NoRow, Gives}
 use Rattle.es_builtins.proofs.SortLemmas.{sorted-all}
 
 -- What is known of a heap after each change: that it is sound, and which functions it holds
@@ -42,6 +46,8 @@ pub record HeapLaws : Type 0 where
   pub set_functions : (heap : List ObjectState) (object number : ℕ) (values : List Value) → holds_function number (with_object heap object (with_first_elements (object_at heap object) values)) ≡ true → (holds_function number heap || list_any (is_function number) values) ≡ true
   pub turned : (heap : List ObjectState) (object : ℕ) → IsSound heap → IsSound (with_object heap object (turned_object (object_at heap object)))
   pub turned_functions : (heap : List ObjectState) (object number : ℕ) → holds_function number (with_object heap object (turned_object (object_at heap object))) ≡ true → holds_function number heap ≡ true
+  pub date : (heap : List ObjectState) (moment : Option Moment) → IsSound heap → IsSound (heap ++ date_object moment ∷ [])
+  pub date_functions : (heap : List ObjectState) (moment : Option Moment) (number : ℕ) → holds_function number (heap ++ date_object moment ∷ []) ≡ true → holds_function number heap ≡ true
 
 otherwise : (a b : Bool) → (a ≡ false → b ≡ false) → b ≡ true → a ≡ true
 otherwise true b f h = refl
@@ -139,6 +145,9 @@ module _ (laws : HeapLaws) (heap : List ObjectState) (sound : IsSound heap) wher
   call-kept arguments live function.Boolean = kept-truth arguments _
   call-kept arguments live function.IsNan = kept-truth arguments _
   call-kept arguments live function.ParseInt = kept-number arguments _
+  call-kept arguments live function.Date =
+      let moment = option_and_then moment_of_fields (date_fields heap arguments) in
+      kept-added arguments (date_object moment) (laws.date heap moment sound) (no-functions arguments (heap ++ date_object moment ∷ []) (laws.date_functions heap moment))
 
   new-kept : (arguments : List Value) → All (IsLive heap) arguments → (f : BuiltIn) → RowKeeps heap arguments (new_row heap arguments f)
   new-kept arguments live function.IsNan = tt
@@ -215,6 +224,11 @@ module _ (laws : HeapLaws) (heap : List ObjectState) (sound : IsSound heap) wher
   array-kept number count arguments within method = plain-kept (Object number) arguments within method
 
   object-kept : (number : ℕ) (arguments : List Value) → number < length heap → (method : Method) → RowKeeps heap (Object number ∷ arguments) (object_row heap number (object_at heap number) arguments method)
+  object-kept number arguments within (the.Get part) = by (is_date (object_at heap number))
+    where
+      by : (t : Bool) → RowKeeps heap (Object number ∷ arguments) (if t then Gives 0 (Number (part_given part (moment_in (object_at heap number)))) heap else NoRow)
+      by true = kept-number (Object number ∷ arguments) _
+      by false = tt
   object-kept number arguments within method = by (object_at heap number).array_length
     where
       by : (size : Option ℕ) → RowKeeps heap (Object number ∷ arguments) (option_map_or (λ count. array_row heap number (object_at heap number) count arguments method) size (plain_row heap (Object number) method))

@@ -1,9 +1,11 @@
--- The built-in functions by their rows (ECMA-262 second edition, 15.1 to 15.7; their numbers and what
+-- The built-in functions by their rows (ECMA-262 second edition, 15.1 to 15.9; their numbers and what
 -- they are charged are this project's own).
-use Rattle.std.specs.Prelude.{ℕ, ◌+◌, ◌==◌, Bool, false, if◌then◌else◌, pos, List, [], ◌∷◌, ◌++◌, find, length, map, Option, Some, None, codes}
+use Rattle.std.specs.Prelude.{ℕ, ◌+◌, ◌==◌, false, if◌then◌else◌, pos, List, [], ◌∷◌, ◌++◌, find, length, map, take, Option, Some, None, option_and_then, codes}
 use Rattle.std.specs.List.{sum_by}
 use Rattle.std.specs.Option.{option_map_or}
 use Rattle.bml_bytes.specs.Words.{is_same}
+use Rattle.date_objects.specs.Dates.{date_object}
+use Rattle.es_date.specs.Moments.{moment_of_fields}
 use Rattle.es_values.specs.declared.numbers.Num.TheVariants.{NotANumber, Whole}
 use Rattle.es_values.specs.declared.values.HostRef.TheVariants.{Document, Browser}
 use Rattle.es_values.specs.declared.values.Value.{Value}
@@ -17,6 +19,7 @@ use Rattle.es_values.specs.Values.{truth_of}
 use Rattle.es_builtins.specs.declared.functions.BuiltIn.{BuiltIn}
 use Rattle.es_builtins.specs.declared.functions.BuiltIn.TheVariants as the
 use Rattle.es_builtins.specs.Arrays.{array_of_arguments}
+use Rattle.es_builtins.specs.Dates.{date_fields}
 use Rattle.es_builtins.specs.Numerals.{Radix, code_of_number, parsed, radix_of_number}
 use Rattle.es_builtins.specs.Numerals.Radix.{Told}
 use Rattle.es_builtins.specs.Rows.{Row, argument, argument_charge, number_argument, text_argument}
@@ -32,6 +35,7 @@ function_number the.Number = 3
 function_number the.Boolean = 4
 function_number the.IsNan = 5
 function_number the.ParseInt = 6
+function_number the.Date = 7
 
 abbrev pub function_name : BuiltIn → List ℕ
 function_name the.Object = codes "Object"
@@ -41,10 +45,12 @@ function_name the.Number = codes "Number"
 function_name the.Boolean = codes "Boolean"
 function_name the.IsNan = codes "isNaN"
 function_name the.ParseInt = codes "parseInt"
+function_name the.Date = codes "Date"
 
 abbrev pub all_functions : List BuiltIn
 all_functions =
-    the.Object ∷ the.Array ∷ the.String ∷ the.Number ∷ the.Boolean ∷ the.IsNan ∷ the.ParseInt ∷ []
+    the.Object ∷ the.Array ∷ the.String ∷ the.Number ∷ the.Boolean ∷ the.IsNan ∷ the.ParseInt
+    ∷ the.Date ∷ []
 
 -- the function of a number, where there is one
 abbrev pub function_of : ℕ → Option BuiltIn
@@ -94,6 +100,12 @@ number_row heap [] = Gives 0 (Number (Whole (pos 0))) heap
 number_row heap (value ∷ more) =
     Gives (conversion_charge heap value) (Number (number_of heap value)) heap
 
+-- Date: the Date of the moment that the arguments tell, of which six count
+abbrev pub date_row : List ObjectState → List Value → Row
+date_row heap arguments =
+    gives_object heap (sum_by (conversion_charge heap) (take 6 arguments))
+    (date_object (option_and_then moment_of_fields (date_fields heap arguments)))
+
 -- the base of parseInt
 abbrev pub radix_argument : List ObjectState → List Value → Radix
 radix_argument heap (text ∷ (radix ∷ more)) = radix_of_number (number_of heap radix)
@@ -112,6 +124,7 @@ call_row heap arguments the.IsNan =
 call_row heap arguments the.ParseInt =
     Gives (argument_charge heap arguments 0 + argument_charge heap arguments 1)
     (Number (parsed (text_argument heap arguments 0) (radix_argument heap arguments))) heap
+call_row heap arguments the.Date = date_row heap arguments
 
 -- a `new`: the same, and two of them make no object
 abbrev pub new_row : List ObjectState → List Value → BuiltIn → Row

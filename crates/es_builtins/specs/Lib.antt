@@ -2,6 +2,7 @@ pub mod Rows
 pub mod Numerals
 pub mod Texts
 pub mod Arrays
+pub mod Dates
 pub mod Functions
 pub mod Methods
 pub mod Keeping

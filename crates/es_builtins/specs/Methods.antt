@@ -1,7 +1,7 @@
--- The built-in methods by their rows: those of texts, numbers, arrays and the function String, and the
--- two of nearly every value (ECMA-262 second edition, 15.2 to 15.7; what they are charged is this
--- project's own).
-use Rattle.std.specs.Prelude.{ℕ, ◌+◌, ◌*◌, ◌==◌, max, if◌then◌else◌, List, [], ◌∷◌, find, length, map, Option, Some, None, option_map, codes, slice_get}
+-- The built-in methods by their rows: those of texts, numbers, arrays, Dates and the function String,
+-- and the two of nearly every value (ECMA-262 second edition, 15.2 to 15.9; what they are charged is
+-- this project's own).
+use Rattle.std.specs.Prelude.{ℕ, ◌+◌, ◌*◌, ◌==◌, max, if◌then◌else◌, List, [], ◌∷◌, find, length, map, Option, option_map, codes, slice_get}
 use Rattle.std.specs.List.{sum_by}
 use Rattle.std.specs.Option.{option_map_or}
 use Rattle.es_values.specs.declared.numbers.Num.{Num}
@@ -13,10 +13,14 @@ use Rattle.es_values.specs.Conversions.{join_of, number_of, text_of}
 use Rattle.es_values.specs.Heaps.{object_at, with_object}
 use Rattle.es_values.specs.Objects.{ObjectState}
 use Rattle.es_builtins.specs.declared.functions.BuiltIn.TheVariants as built
+use Rattle.date_objects.specs.Dates.{is_date, moment_in}
+use Rattle.es_builtins.specs.declared.methods.DatePart.{DatePart}
+use Rattle.es_builtins.specs.declared.methods.DatePart.TheVariants as parts
 use Rattle.es_builtins.specs.declared.methods.Method.{Method}
 use Rattle.es_builtins.specs.declared.methods.Method.TheVariants as the
 use Rattle.bml_bytes.specs.Words.{is_same}
 use Rattle.es_builtins.specs.Arrays.{sorted_object}
+use Rattle.es_builtins.specs.Dates.{part_given, part_name}
 use Rattle.es_builtins.specs.Functions.{codes_row, function_number, gives_object}
 use Rattle.es_builtins.specs.Numerals.{base_or_ten, number_text_in}
 use Rattle.es_builtins.specs.Rows.{Row, argument_charge, number_argument, text_argument}
@@ -38,11 +42,14 @@ method_name the.Reverse = codes "reverse"
 method_name the.Sort = codes "sort"
 method_name the.ToText = codes "toString"
 method_name the.ValueOf = codes "valueOf"
+method_name (the.Get part) = part_name part
 
 abbrev pub all_methods : List Method
 all_methods =
     the.CharAt ∷ the.CharCodeAt ∷ the.IndexOf ∷ the.LastIndexOf ∷ the.Substring ∷ the.Split
-    ∷ the.FromCharCode ∷ the.Join ∷ the.Reverse ∷ the.Sort ∷ the.ToText ∷ the.ValueOf ∷ []
+    ∷ the.FromCharCode ∷ the.Join ∷ the.Reverse ∷ the.Sort ∷ the.ToText ∷ the.ValueOf
+    ∷ the.Get parts.FullYear ∷ the.Get parts.Month ∷ the.Get parts.Date ∷ the.Get parts.Day
+    ∷ the.Get parts.Hours ∷ the.Get parts.Minutes ∷ the.Get parts.Seconds ∷ []
 
 -- the method of a name, where there is one
 abbrev pub method_of : List ℕ → Option Method
@@ -144,8 +151,16 @@ array_row heap number object count arguments the.Sort =
     sort_row heap number object count arguments
 array_row heap number object count arguments method = plain_row heap (Object number) method
 
--- an object that is no array has no others than the two
+-- ---- objects
+
+-- a part of a Date, which any object with both properties is, also an array
+abbrev pub part_row : List ObjectState → ObjectState → DatePart → Row
+part_row heap object part =
+    if is_date object then Gives 0 (Number (part_given part (moment_in object))) heap else NoRow
+
+-- an object that is no array has no others than these and the two
 abbrev pub object_row : List ObjectState → ℕ → ObjectState → List Value → Method → Row
+object_row heap number object arguments (the.Get part) = part_row heap object part
 object_row heap number object arguments method =
     option_map_or (λ count. array_row heap number object count arguments method)
     object.array_length (plain_row heap (Object number) method)

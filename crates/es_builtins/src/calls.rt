@@ -7,6 +7,7 @@ ghost use Rattle.es_builtins.specs.Methods.{method_row};
 ghost use Rattle.es_builtins.specs.Rows.{Answers};
 
 use crate::built::Built;
+use crate::dates::date_row;
 use crate::function_rows::{
     array_row, boolean_row, is_nan_row, number_row, object_row, parse_int_row, string_row,
 };
@@ -59,6 +60,7 @@ fn call(
         BuiltIn::Boolean => Ok(boolean_row(args)),
         BuiltIn::IsNan => is_nan_row(heap, args, budget),
         BuiltIn::ParseInt => parse_int_row(heap, args, budget),
+        BuiltIn::Date => date_row(heap, args, budget),
     }
 }
 

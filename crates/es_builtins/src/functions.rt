@@ -16,11 +16,12 @@ pub enum BuiltIn {
     Boolean,
     IsNan,
     ParseInt,
+    Date,
 }
 
 impl BuiltIn {
     /// All of them.
-    fn all() -> [BuiltIn; 7]
+    fn all() -> [BuiltIn; 8]
         ensures { result ≡ all_functions }
     {
         [
@@ -31,10 +32,11 @@ impl BuiltIn {
             BuiltIn::Boolean,
             BuiltIn::IsNan,
             BuiltIn::ParseInt,
+            BuiltIn::Date,
         ]
     }
 
-    /// The function of a number, where there is one: 0 to 6.
+    /// The function of a number, where there is one: 0 to 7.
     pub fn of_number(number: u64) -> Option<BuiltIn>
         ensures { result ≡ function_of number }
     {
@@ -66,6 +68,7 @@ impl BuiltIn {
             BuiltIn::Boolean => 4,
             BuiltIn::IsNan => 5,
             BuiltIn::ParseInt => 6,
+            BuiltIn::Date => 7,
         }
     }
 
@@ -81,11 +84,12 @@ impl BuiltIn {
             BuiltIn::Boolean => "Boolean",
             BuiltIn::IsNan => "isNaN",
             BuiltIn::ParseInt => "parseInt",
+            BuiltIn::Date => "Date",
         }
     }
 }
 
-/// What a built-in name means: one of the seven functions, `NaN`, `document` or `browser`; None of
+/// What a built-in name means: one of the eight functions, `NaN`, `document` or `browser`; None of
 /// every other name. This takes no memory.
 pub fn value_named(name: &Text) -> Option<Value>
     ensures { result ≡ spec_value_named name.now }

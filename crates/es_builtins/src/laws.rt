@@ -21,6 +21,7 @@ ghost use Rattle.es_builtins.specs.Sorting.{sort_key};
 ghost use Rattle.es_builtins.specs.Splitting.{joined_by};
 ghost use Rattle.es_builtins.specs.Texts.{split, stands_at};
 
+use date_objects::law_of_new_dates;
 use es_values::{
     law_of_array_functions, law_of_arrays, law_of_elements, law_of_functions, law_of_live_values,
 };
@@ -43,6 +44,7 @@ pub fn law_of_rows()
     law_of_functions();
     law_of_arrays();
     law_of_array_functions();
+    law_of_new_dates();
 }
 
 /// What `sort` leaves are the same elements. They ascend by the codes of their texts, with

@@ -13,6 +13,7 @@ mod arguments;
 mod arrays;
 mod built;
 mod calls;
+mod dates;
 mod function_rows;
 mod functions;
 mod laws;

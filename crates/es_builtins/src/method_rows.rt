@@ -1,5 +1,5 @@
 //! Calls of methods by the kind of value that they are called of.
-//! (ECMA-262 second edition, 15.2 to 15.7, in this profile.)
+//! (ECMA-262 second edition, 15.2 to 15.9, in this profile.)
 
 ghost use Rattle.std.specs.Prelude.{◌≡◌, ◌<◌, ◌≤◌, length, All, IfOk};
 ghost use Rattle.es_values.specs.Heaps.{IsLive, object_at};
@@ -10,6 +10,7 @@ ghost use Rattle.es_builtins.specs.Rows.{Answers};
 use crate::arguments::given_number;
 use crate::arrays::{join, reverse, sort};
 use crate::built::Built;
+use crate::dates::part_row;
 use crate::function_rows::codes_row;
 use crate::functions::BuiltIn;
 use crate::methods::Method;
@@ -134,7 +135,7 @@ pub fn text_method(
     }
 }
 
-/// The methods of objects, of which arrays have three more than others.
+/// The methods of objects: those of Dates, and three more of arrays.
 pub fn object_method(
     heap: &mut Heap,
     object: u64,
@@ -151,6 +152,9 @@ pub fn object_method(
     ensures grows { length heap.old ≤ length heap.new }
     ensures spends { budget.new.left ≤ budget.old.left }
 {
+    if let Method::Get(part) = method {
+        return part_row(&*heap, object, part);
+    }
     let Some(count) = heap.array_length(object) else {
         return plain_method(heap, &Value::Object(object), method, budget);
     };

@@ -1,10 +1,10 @@
 -- Moments as seconds from the beginning of 1970-01-01 on.
-use Rattle.std.proofs.Common.{◌≡◌, Bool, true, false, refl, arith, ℤ, pos, neg_ℤ, ◌≤ℤ◌, ◌+ℤ◌, ◌*ℤ◌, Some, None, unsigned_abs, ◌^◌, to_z, of_z, w32, w64, FitsSigned}
+use Rattle.std.proofs.Common.{◌≡◌, ◌<◌, Bool, true, false, refl, arith, ℤ, pos, neg_ℤ, ◌≤ℤ◌, ◌+ℤ◌, ◌*ℤ◌, Some, None, unsigned_abs, ◌^◌, to_z, of_z, w32, w64, FitsSigned}
 use Rattle.std.specs.Prelude.{int_le, int_div, Result, Ok, Err, OkIff, if◌then◌else◌}
 use Rattle.std.specs.Result.{result_ok}
 use Rattle.std.specs.Int.{int_div_euclid, int_rem_euclid}
 use Rattle.std.proofs.lemmas.Bool.{and_parts}
-use Rattle.jiff_core.proofs.SignedLemmas.{signed_arith, signed_casts}
+use Rattle.jiff_core.proofs.SignedLemmas.{int_rem_euclid-parts, signed_arith, signed_casts}
 use Rattle.es_date.specs.DayNumbers.{IsYear}
 use Rattle.es_date.specs.declared.units.DateUnit.{DateUnit}
 use Rattle.es_date.specs.declared.units.DateUnit.TheVariants.{Second, Minute, Hour, Day, Week}
@@ -37,6 +37,11 @@ moment_at-some seconds e = rw e refl
 pub moment_at-none : (seconds : ℤ) → is_day_number (int_div_euclid seconds (pos day_length)) ≡ false → moment_at seconds ≡ None
 unfolding moment_at
 moment_at-none seconds e = rw e refl
+
+pub second_of_day : (seconds : ℤ) → unsigned_abs (int_rem_euclid seconds (pos day_length)) < day_length
+second_of_day seconds =
+    let r = int_rem_euclid-parts seconds 86400 (omega arith) in
+    omega (arith, signed_arith, r)
 
 -- what is far from the ends of 64 bits is kept by them
 pub small64 : (z : ℤ) → neg_ℤ (pos (2 ^ 62)) ≤ℤ z → z ≤ℤ pos (2 ^ 62) → to_z w64 (of_z w64 z) ≡ z

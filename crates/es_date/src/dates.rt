@@ -1,6 +1,6 @@
 //! Dates by their day numbers, day numbers of days of a month, and days of the week.
 
-ghost use Rattle.std.specs.Prelude.{◌≡◌, ◌↔◌, pos, ◌+ℤ◌, unsigned_abs, IsSome, IfSome};
+ghost use Rattle.std.specs.Prelude.{◌≡◌, ◌<◌, ◌↔◌, pos, ◌+ℤ◌, unsigned_abs, IsSome, IfSome};
 ghost use Rattle.std.specs.Int.{IsInRange};
 ghost use Rattle.jiff.specs.Words.{IsEpochDay};
 ghost use Rattle.es_date.specs.DayNumbers.{IsYear, IsDayNumber, day_number, first_of_month, weekday_of};
@@ -65,7 +65,8 @@ pub fn day_of(year: i32, month: u32, day: i64) -> Option<i32>
 /// The day of the week of a day number, from Sunday, which is 0, to Saturday, which is 6; also of days before 1970-01-01,
 /// which was a Thursday.
 pub fn weekday(day: i32) -> u32
-    ensures { result ≡ weekday_of day }
+    ensures weekday { result ≡ weekday_of day }
+    ensures range { result < 7 }
 {
     (i64::from(day) + 4).rem_euclid(7) as u32
 }

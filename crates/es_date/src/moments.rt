@@ -1,11 +1,12 @@
 //! Moments: seconds of days.
 
-ghost use Rattle.std.specs.Prelude.{◌≡◌, ◌≤ℤ◌, ◌^◌, suc, neg_ℤ, pos, ◌+ℤ◌, ◌-ℤ◌, ◌*ℤ◌, unsigned_abs};
+ghost use Rattle.std.specs.Prelude.{◌≡◌, ◌≤ℤ◌, ◌^◌, suc, neg_ℤ, pos, ◌+ℤ◌, ◌-ℤ◌, ◌*ℤ◌, unsigned_abs, option_map, IfSome};
 ghost use Rattle.std.specs.Int.{IsInRange, int_div_euclid, int_rem_euclid};
 ghost use Rattle.jiff.specs.Words.{IsEpochDay};
-ghost use Rattle.es_date.specs.Moments.{hour_of, is_day_number, is_year as spec_is_year, minute_of, moment_after, moment_at, moment_later, moment_of as spec_moment_of, moment_of_fields, second_in_minute, seconds_of, units_between};
+ghost use Rattle.es_date.specs.Dates.{date_with};
+ghost use Rattle.es_date.specs.Moments.{IsMoment, fields_of, hour_of, is_day_number, is_year as spec_is_year, minute_of, moment_after, moment_at, moment_later, moment_of as spec_moment_of, moment_of_fields, second_in_minute, seconds_of, units_between};
 
-use crate::dates::{FIRST_DAY, LAST_DAY, first_day};
+use crate::dates::{FIRST_DAY, LAST_DAY, civil_of, first_day};
 use crate::units::DateUnit;
 
 /// A second of a day: the day's number, counted from 1970-01-01, and the second, counted from 0. What the calls of
@@ -32,7 +33,8 @@ impl Moment {
     /// The moment of a day and a second, and None exactly where the day isn't of 1900 to 2399 (-25,567 to 157,053), or
     /// the second isn't 0 to 86,399.
     pub fn of(day: i32, second: i32) -> Option<Moment>
-        ensures { result ≡ spec_moment_of day second }
+        ensures moment { result ≡ spec_moment_of day second }
+        ensures range { IfSome result IsMoment }
     {
         if is_day(i64::from(day)) && second >= 0 && second < 86_400 {
             Some(Moment {
@@ -48,7 +50,8 @@ impl Moment {
     /// 1900 to 2399 then; days, hours, minutes and seconds are added to the first of the month. None exactly where the
     /// year isn't, or the day that this comes to isn't of these years.
     pub fn of_fields(fields: DateFields) -> Option<Moment>
-        ensures { result ≡ moment_of_fields fields }
+        ensures moment { result ≡ moment_of_fields fields }
+        ensures range { IfSome result IsMoment }
     {
         let year = year_of_month(fields.year, fields.month);
         if !is_year(year) {
@@ -62,7 +65,8 @@ impl Moment {
     /// The moment so many units later, or earlier where they are negative; None exactly where its day isn't of 1900 to
     /// 2399.
     pub fn later(self, count: i32, unit: DateUnit) -> Option<Moment>
-        ensures { result ≡ moment_later self count unit }
+        ensures moment { result ≡ moment_later self count unit }
+        ensures range { IfSome result IsMoment }
     {
         Moment::at(self.seconds() + i64::from(count) * unit.seconds())
     }
@@ -70,7 +74,8 @@ impl Moment {
     /// The moment after so many milliseconds, of which only whole seconds count; None exactly where its day isn't of
     /// 1900 to 2399.
     pub fn after(self, milliseconds: u64) -> Option<Moment>
-        ensures { result ≡ moment_after self milliseconds }
+        ensures moment { result ≡ moment_after self milliseconds }
+        ensures range { IfSome result IsMoment }
     {
         Moment::at(self.seconds() + (milliseconds / 1000) as i64)
     }
@@ -82,6 +87,21 @@ impl Moment {
     {
         let units = (self.seconds() - earlier.seconds()) / unit.seconds();
         i32::try_from(units).ok()
+    }
+
+    /// The fields of its date and of its second; None exactly where its day isn't of 1900 to 2399.
+    pub fn fields(self) -> Option<DateFields>
+        ensures { result ≡ option_map (λ date. fields_of date self.second) (date_with self.day) }
+    {
+        let date = civil_of(self.day)?;
+        Some(DateFields {
+            year: date.year,
+            month: date.month as i32 - 1,
+            day: date.day as i32,
+            hour: self.hour() as i32,
+            minute: self.minute() as i32,
+            second: self.second_in_minute() as i32,
+        })
     }
 
     /// Its hour.
@@ -116,7 +136,8 @@ impl Moment {
 
     // The moment so many seconds after the beginning of 1970-01-01.
     fn at(seconds: i64) -> Option<Moment>
-        ensures { result ≡ moment_at seconds }
+        ensures moment { result ≡ moment_at seconds }
+        ensures range { IfSome result IsMoment }
     {
         let day = seconds.div_euclid(86_400);
         let second = seconds.rem_euclid(86_400);

@@ -13,10 +13,10 @@ use Rattle.es_values.specs.declared.numbers.Num.TheVariants.{NotANumber, Whole}
 use Rattle.es_values.specs.declared.values.Value.{Value}
 use Rattle.es_values.specs.Values.{is_function}
 use Rattle.es_values.specs.Objects.{ObjectState}
-use Rattle.es_values.specs.Heaps.{IsLive, IsSound, holds_function, index_of, is_element_from, new_object, object_at, with_length, with_object, with_property}
+use Rattle.es_values.specs.Heaps.{IsLive, IsSound, holds_function, index_of, is_element_from, new_object, object_at, object_of, with_length, with_object, with_property}
 use Rattle.es_values.specs.Arrays.{array_of, element_at, elements_below, elements_of, named, new_element, new_elements, turned, turned_object, turned_properties, with_elements, with_first_elements}
 use Rattle.es_values.proofs.LawLemmas.{function_in, held-at, or-cases, or-left, or-nothing, or-right, set-holds}
-use Rattle.es_values.proofs.SoundLemmas.{inserted, live-at, live-with_length, sound-add, sound-set}
+use Rattle.es_values.proofs.SoundLemmas.{inserted, live-at, live-with_length, sound-add, sound-object, sound-set}
 
 -- Lists
 
@@ -212,6 +212,11 @@ sound-first heap object vs h all = sound-set heap object (with_first_elements (o
 
 pub sound-turned : (heap : List ObjectState) (object : ℕ) → IsSound heap → IsSound (with_object heap object (turned_object (object_at heap object)))
 sound-turned heap object h = sound-set heap object (turned_object (object_at heap object)) h (reversed-holds (IsLive heap) (object_at heap object) (live-at heap object h))
+
+pub sound-pushed_object : (heap inside next : List ObjectState) (o : ObjectState) (ps : List (List ℕ × Value)) → IsSound inside → inside ≡ heap → o ≡ object_of ps → next ≡ inside ++ o ∷ [] → All (λ p. IsLive heap p.1) ps → IsSound next
+sound-pushed_object heap inside next o ps h e made step all =
+    subst IsSound (sym (step ∙ (ap (λ (x : ObjectState). inside ++ x ∷ []) made ∙ ap (λ (l : List ObjectState). l ++ object_of ps ∷ []) e)))
+    (sound-object heap ps (subst IsSound e h) all)
 
 pub sound-pushed : (heap inside next : List ObjectState) (o : ObjectState) (vs : List Value) → IsSound inside → inside ≡ heap → o ≡ array_of vs → next ≡ inside ++ o ∷ [] → All (IsLive heap) vs → IsSound next
 sound-pushed heap inside next o vs h e made step all =

@@ -13,7 +13,7 @@ use Rattle.es_values.specs.declared.values.Value.{Value}
 use Rattle.es_values.specs.declared.values.Value.TheVariants.{Undefined, Null, Bool as Boolean, Number, Str, Object, Function, Host}
 use Rattle.es_values.specs.Values.{IsLiveAmong}
 use Rattle.es_values.specs.Objects.{ObjectState}
-use Rattle.es_values.specs.Heaps.{AreLiveAmong, IsSound, is_element_from, is_array_length, new_object, object_at, value_in, value_of, with_length, with_object, with_property, without_property}
+use Rattle.es_values.specs.Heaps.{AreLiveAmong, IsSound, is_element_from, is_array_length, new_object, object_at, object_of, value_in, value_of, with_length, with_object, with_properties, with_property, without_property}
 use Rattle.std.specs.Prelude.{pos, negsuc}
 
 pub live-weaker : (m n : ℕ) (v : Value) → m ≤ n → IsLiveAmong m v → IsLiveAmong n v
@@ -62,6 +62,24 @@ removed n (e ∷ es) name h =
 
 pub live-with_property : (n : ℕ) (o : ObjectState) (name : List ℕ) (v : Value) → AreLiveAmong n o → IsLiveAmong n v → AreLiveAmong n (with_property o name v)
 live-with_property n o name v h l = inserted (IsLiveAmong n) o.properties name v h l
+
+pub live-with_properties : (n : ℕ) (o : ObjectState) (ps : List (List ℕ × Value)) → AreLiveAmong n o → All (λ p. IsLiveAmong n p.1) ps → AreLiveAmong n (with_properties o ps)
+live-with_properties n o [] h all = h
+live-with_properties n o (p ∷ ps) h all =
+    live-with_properties n (with_property o p.0 p.1) ps
+    (live-with_property n o p.0 p.1 h (All-head (λ p. IsLiveAmong n p.1) p ps all))
+    (All-tail (λ p. IsLiveAmong n p.1) p ps all)
+
+pub sound-object : (heap : List ObjectState) (ps : List (List ℕ × Value)) → IsSound heap → All (λ p. IsLiveAmong (length heap) p.1) ps → IsSound (heap ++ object_of ps ∷ [])
+sound-object heap ps h all =
+    sound-add heap (object_of ps) h
+    (live-with_properties (length heap) (new_object false) ps
+    (All-nil (λ p. IsLiveAmong (length heap) p.1)) all)
+
+-- one more property
+pub properties-put : (o : ObjectState) (ps : List (List ℕ × Value)) (p : List ℕ × Value) → with_properties o (ps ++ p ∷ []) ≡ with_property (with_properties o ps) p.0 p.1
+properties-put o [] p = refl
+properties-put o (q ∷ ps) p = properties-put (with_property o q.0 q.1) ps p
 
 pub live-with_length : (n : ℕ) (o : ObjectState) (number : Num) → AreLiveAmong n o → AreLiveAmong n (with_length o number)
 live-with_length n o NotANumber h = h

@@ -1,7 +1,7 @@
 -- Objects and the heap that holds them (ECMA-262 second edition, 8.6 and 15.4: objects without prototypes
 -- and attributes, whose properties stand in order of insertion). An object's number is its place in the
 -- heap, from 0, which is this project's own, as is the greatest index.
-use Rattle.std.specs.Prelude.{ℕ, ◌+◌, ◌≤◌, nat_le, nat_lt, max, Bool, false, not, ◌&&◌, if◌then◌else◌, pos, negsuc, List, [], length, map, filter, count_by, Option, Some, None, slice_get, slice_set, is_some, unwrap_or, All, codes}
+use Rattle.std.specs.Prelude.{ℕ, ◌+◌, ◌≤◌, nat_le, nat_lt, max, Bool, false, not, ◌&&◌, if◌then◌else◌, pos, negsuc, List, [], ◌∷◌, length, map, filter, count_by, Option, Some, None, slice_get, slice_set, is_some, unwrap_or, All, codes}
 use Rattle.std.specs.List.{list_any}
 use Rattle.std.specs.Option.{ForSome, option_map_or}
 use Rattle.std.specs.Map.{lookup, remove_entry}
@@ -74,6 +74,16 @@ with_property object name value =
       array_length = option_map_or (λ old. Some (max old (length_for name))) object.array_length None;
       properties = with_value object.properties name value;
     }
+
+-- the object with these properties beside its own, one after the other
+abbrev pub with_properties : ObjectState → List (List ℕ × Value) → ObjectState
+with_properties object [] = object
+with_properties object (property ∷ properties) =
+    with_properties (with_property object property.0 property.1) properties
+
+-- a new object that is no array, with these properties
+abbrev pub object_of : List (List ℕ × Value) → ObjectState
+object_of properties = with_properties (new_object false) properties
 
 -- the array with this length: what isn't a length changes nothing, and a shorter one removes the elements
 -- past it

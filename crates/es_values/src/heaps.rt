@@ -2,7 +2,7 @@
 
 ghost use Rattle.std.specs.Prelude.{◌≡◌, ◌<◌, ◌≤◌, ◌++◌, ◌∷◌, [], is_some, length, All, IfOk, OnOk, OnErr};
 ghost use Rattle.es_values.specs.Arrays.{array_of, elements_of, turned_object, with_first_elements};
-ghost use Rattle.es_values.specs.Heaps.{IsLive, IsSound, has_property, is_array_length, names_of, new_object, object_at, value_of, with_length, with_object, with_property, without_property};
+ghost use Rattle.es_values.specs.Heaps.{IsLive, IsSound, has_property, is_array_length, names_of, new_object, object_at, object_of, value_of, with_length, with_object, with_property, without_property};
 ghost use Rattle.es_values.specs.Operators.{with_put};
 
 use crate::numbers::Num;
@@ -82,6 +82,20 @@ impl Heap {
         let object = self.len();
         let array = Object::of_elements(self.allocator(), elements)?;
         self.objects.push(array)?;
+        Ok(object)
+    }
+
+    /// Adds an object that is no array, with these properties in this order, and gives its number.
+    /// Of two with one name the last counts.
+    pub fn add_object(&mut self, properties: Vec<(Text, Value)>) -> Result<u64, NoMemory>
+        requires { All (λ property. IsLive self.old property.1) properties.items }
+        ensures added { OnOk result (self.new ≡ self.old ++ object_of properties.items ∷ []) }
+        ensures number { IfOk result (λ object. object ≡ length self.old) }
+        ensures err { OnErr result (self.new ≡ self.old) }
+    {
+        let object = self.len();
+        let added = Object::of_properties(self.allocator(), properties)?;
+        self.objects.push(added)?;
         Ok(object)
     }
 

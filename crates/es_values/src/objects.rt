@@ -5,7 +5,7 @@ ghost use Rattle.std.specs.Option.{ForSome, option_map_or};
 ghost use Rattle.es_values.specs.declared.numbers.Num.TheVariants.{Whole};
 ghost use Rattle.es_values.specs.Arrays.{array_of, elements_of, turned_object, with_elements, with_first_elements};
 ghost use Rattle.es_values.specs.Objects.{IsWithinLength};
-ghost use Rattle.es_values.specs.Heaps.{cut_count as spec_cut_count, has_property, is_array_length, names_of, new_object, value_of, with_length, with_property, without_property};
+ghost use Rattle.es_values.specs.Heaps.{cut_count as spec_cut_count, has_property, is_array_length, names_of, new_object, object_of, value_of, with_length, with_property, without_property};
 ghost use Rattle.es_values.specs.Capped.{capped, saturated};
 ghost use Rattle.es_values.specs.Charges.{join_charge};
 ghost use Rattle.es_values.specs.Conversions.{join_of, object_text};
@@ -61,6 +61,17 @@ impl Object {
         let mut array = Object::new(alloc, true);
         array.put_elements(elements)?;
         Ok(array)
+    }
+
+    // An object that is no array, with these properties.
+    pub fn of_properties(alloc: Global, properties: Vec<(Text, Value)>) -> Result<Object, NoMemory>
+        ensures { IfOk result (λ object. object ≡ object_of properties.items) }
+    {
+        let mut object = Object::new(alloc, false);
+        for (name, value) in properties {
+            object.put(name, value)?;
+        }
+        Ok(object)
     }
 
     pub fn array_length(&self) -> Option<u32>

@@ -32,8 +32,8 @@ pub fn area_of(byte: u8) -> AreaBytes {
     }
 }
 
-/// A journal over a disk of these bytes, of which one call fails, or none where its number is 0, and each call past so many. The
-/// older keeper keeps nothing.
+/// A journal over a disk of these bytes, of which one call fails, or none where its number is 0,
+/// and each call past so many. The older keeper keeps nothing.
 pub fn journal_over(
     alloc: Global,
     bytes: Vec<u8>,

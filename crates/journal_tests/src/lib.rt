@@ -1,5 +1,5 @@
-//! Tests of `nv_journal`: what a new journal loads after a stop at any call on the disk, which byte lists a disk in
-//! memory leaves, and what an older keeper keeps. It has no code of its own.
+//! Tests of `nv_journal`: what a new journal loads after a stop at any call on the disk, which byte
+//! lists a disk in memory leaves, and what an older keeper keeps. It has no code of its own.
 //!
 //! They stand here since a crate with tests is proved twice, and the library is proved once.
 #![tactic(auto)]

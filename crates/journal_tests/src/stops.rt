@@ -72,7 +72,8 @@ fn refused(
     Ok(None)
 }
 
-// One store, each call in turn failing alone, and failing with all after it. The last number is of no call.
+// One store, each call in turn failing alone, and failing with all after it. The last number is of
+// no call.
 #[test]
 fn one_store(rt: HostRuntime) -> Result<(), Fail> {
     for failing in 1..=ONE_STORE + 1 {
@@ -118,7 +119,8 @@ fn refused_third(alloc: Global, bytes: &[u8]) -> Result<Option<Loaded>, NoMemory
     Ok(None)
 }
 
-// A third store over each image that differs from the one before it, of two stores of which a call failed.
+// A third store over each image that differs from the one before it, of two stores of which a call
+// failed.
 #[test]
 fn a_third_store(rt: HostRuntime) -> Result<(), Fail> {
     let alloc = rt.alloc();

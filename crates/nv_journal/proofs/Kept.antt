@@ -1,14 +1,14 @@
 -- A journal's calls on its disk, and what it keeps.
 use Rattle.std.proofs.Common.{◌≡◌, ℕ, ◌⊎◌, List, Option, None, Some, Result, Ok, Err, refl, sym, ◌∙◌, ap, inl, inr, subst}
 use Rattle.std.specs.Io.KnownBytes.{Keeps}
-use Rattle.bml_ports.specs.Keepers.{Replaces, Stores}
+use Rattle.bml_ports.specs.Keepers.{KeeperState, Replaces, Stores}
 use Rattle.bml_ports.specs.declared.outside.Failed.{Failed}
 use Rattle.nv_journal.specs.declared.stores.Found.{Found}
 use Rattle.nv_journal.specs.Disks.{Images, IsImage, DiskContent, Told, WhereTold}
 use Rattle.nv_journal.specs.Histories.{Throughout}
 use Rattle.nv_journal.specs.Slots.{stands}
 use Rattle.nv_journal.specs.devices.Stores.{IsDue, Finds, StoresArea}
-use Rattle.nv_journal.specs.Journals.{StandsAsSome, or_older, kept_of, StoresNewest}
+use Rattle.nv_journal.specs.Journals.{StandsAsSome, or_older, kept_of, LoadsNewest, StoresNewest, OnlyLoads}
 use Rattle.nv_journal.proofs.Torn.{only-is}
 use Rattle.nv_journal.proofs.Moments.{started, weaker, joined}
 
@@ -23,7 +23,7 @@ known found (Some old) due =
       done = due;
     }
 
-pub put-find_failed : (area : List ℕ) (e f : Failed) (o p : Option DiskContent) → Told (Finds (Err e)) o p → Told (StoresNewest area (Err f)) o p
+pub put-find_failed : (area : List ℕ) (e f : Failed) (o p : Option DiskContent) → Told (Finds (Err e)) o p → Told (StoresArea area (Err f)) o p
 put-find_failed area e f None None finds = tt
 put-find_failed area e f None (Some p) finds = absurd finds
 put-find_failed area e f (Some old) None finds = absurd finds
@@ -45,29 +45,30 @@ through area found result old p q finds stores =
 read-again : (area : List ℕ) (found : Found) (result : Result Found Failed) (old p q : DiskContent) → Finds (Ok found) old p → StoresArea area result p q → (stands q.reads ≡ stands old.reads) ⊎ (stands q.reads ≡ Some area)
 read-again area found result old p q finds stores = elim stores.read [ inl same ↦ inl (same ∙ ap stands finds.reads) | inr is ↦ inr is ]
 
-pub put-store_failed : (area : List ℕ) (found : Found) (e f : Failed) (o p q : Option DiskContent) → Told (Finds (Ok found)) o p → Told (StoresArea area (Err e)) p q → Told (StoresNewest area (Err f)) o q
-put-store_failed area found e f None None None finds stores = tt
-put-store_failed area found e f None None (Some q) finds stores = absurd stores
-put-store_failed area found e f None (Some p) q finds stores = absurd finds
-put-store_failed area found e f (Some old) None q finds stores = absurd finds
-put-store_failed area found e f (Some old) (Some p) None finds stores = absurd stores
-put-store_failed area found e f (Some old) (Some p) (Some q) finds stores = record {
-  each = through area found (Err e) old p q finds stores;
-  read = read-again area found (Err e) old p q finds stores;
-  done = tt;
+-- a store behind what was found, or known
+pub put-through : (area : List ℕ) (found : Found) (result : Result Found Failed) (o p q : Option DiskContent) → Told (Finds (Ok found)) o p → Told (StoresArea area result) p q → Told (StoresArea area result) o q
+put-through area found result None None None finds stores = tt
+put-through area found result None None (Some q) finds stores = absurd stores
+put-through area found result None (Some p) q finds stores = absurd finds
+put-through area found result (Some old) None q finds stores = absurd finds
+put-through area found result (Some old) (Some p) None finds stores = absurd stores
+put-through area found result (Some old) (Some p) (Some q) finds stores = record {
+  each = through area found result old p q finds stores;
+  read = read-again area found result old p q finds stores;
+  done = stores.done;
 }
 
-pub put-done : (area : List ℕ) (found next : Found) (o p q : Option DiskContent) → Told (Finds (Ok found)) o p → Told (StoresArea area (Ok next)) p q → Told (StoresNewest area (Ok tt)) o q
-put-done area found next None None None finds stores = tt
-put-done area found next None None (Some q) finds stores = absurd stores
-put-done area found next None (Some p) q finds stores = absurd finds
-put-done area found next (Some old) None q finds stores = absurd finds
-put-done area found next (Some old) (Some p) None finds stores = absurd stores
-put-done area found next (Some old) (Some p) (Some q) finds stores = record {
-  each = through area found (Ok next) old p q finds stores;
-  read = read-again area found (Ok next) old p q finds stores;
-  done = (stores.done.0.settled, stores.done.1);
-}
+pub put-failed : (area : List ℕ) (e f : Failed) (o q : Option DiskContent) → Told (StoresArea area (Err e)) o q → Told (StoresNewest area (Err f)) o q
+put-failed area e f None None stores = tt
+put-failed area e f None (Some q) stores = absurd stores
+put-failed area e f (Some old) None stores = absurd stores
+put-failed area e f (Some old) (Some q) stores = record { each = stores.each; read = stores.read; done = tt }
+
+pub put-done : (area : List ℕ) (next : Found) (o q : Option DiskContent) → Told (StoresArea area (Ok next)) o q → Told (StoresNewest area (Ok tt)) o q
+put-done area next None None stores = tt
+put-done area next None (Some q) stores = absurd stores
+put-done area next (Some old) None stores = absurd stores
+put-done area next (Some old) (Some q) stores = record { each = stores.each; read = stores.read; done = (stores.done.0.settled, stores.done.1) }
 
 pub found-due : (found : Found) (o p : Option DiskContent) → Told (Finds (Ok found)) o p → WhereTold (IsDue found) p
 found-due found None None finds = tt
@@ -102,3 +103,16 @@ stores-kept area (Err e) (Some old) (Some p) before puts = elim puts.read [
   | inl same ↦ inl (stayed (or_older (stands old.reads) before) (or_older (stands p.reads) before) (ap (λ (s : Option (List ℕ)). or_older s before) same))
   | inr is ↦ inr (replaced (or_older (stands old.reads) before) (or_older (stands p.reads) before) area (ap (λ (s : Option (List ℕ)). or_older s before) is))
 ]
+
+keeps-or : (area older newer : Option (List ℕ)) → Keeps older newer → Keeps (or_older area older) (or_older area newer)
+keeps-or None older newer keeps = keeps
+keeps-or (Some area) older newer keeps = stayed (Some area) (Some area) refl
+
+only-keeps : (a b : KeeperState) → OnlyLoads a b → Keeps a.kept b.kept
+only-keeps a b only = elim only [ inl same ↦ stayed a.kept b.kept (ap (λ (k : KeeperState). k.kept) same) | inr loads ↦ loads.1 ]
+
+pub loads-kept : (result : Result ℕ Failed) (o p : Option DiskContent) (a b : KeeperState) → Told (LoadsNewest result) o p → OnlyLoads a b → Keeps (kept_of o a.kept) (kept_of p b.kept)
+loads-kept result None p a b loads only = tt
+loads-kept result (Some old) None a b loads only = absurd loads
+loads-kept result (Some old) (Some p) a b loads only =
+    subst (λ (s : Option (List ℕ)). Keeps (or_older (stands old.reads) a.kept) (or_older s b.kept)) (sym (ap stands loads.reads)) (keeps-or (stands old.reads) a.kept b.kept (only-keeps a b only))

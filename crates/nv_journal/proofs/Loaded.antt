@@ -1,5 +1,5 @@
 -- What a load of a journal gives.
-use Rattle.std.proofs.Common.{◌≡◌, ℕ, ◌+◌, ◌-◌, List, [], ◌++◌, length, take, drop, replicate, Option, None, Some, IsSome, MatchOption, Result, Ok, Err, refl, sym, ◌∙◌, ap, inl, inr, subst, arith}
+use Rattle.std.proofs.Common.{◌≡◌, ℕ, ◌+◌, ◌-◌, List, [], ◌++◌, length, take, drop, replicate, Option, None, Some, IsSome, MatchOption, Result, Ok, Err, IfOk, OnOk, refl, sym, ◌∙◌, ap, inl, inr, subst, arith}
 use Rattle.std.specs.Option.{option_map}
 use Rattle.std.proofs.lemmas.List.{take_all, append-nil}
 use Rattle.std.proofs.lemmas.Bool.{cases_lt, cases_eq}
@@ -8,14 +8,15 @@ use Rattle.bml_ports.specs.declared.outside.Failed.{Failed}
 use Rattle.nv_journal.specs.declared.slots.Slot.{Slot}
 use Rattle.nv_journal.specs.declared.slots.Slot.TheVariants.{First, Second}
 use Rattle.nv_journal.specs.declared.stores.Found.{Found}
-use Rattle.nv_journal.specs.Disks.{Images, IsImage, only, DiskContent, Reads, Told}
+use Rattle.nv_journal.specs.Disks.{Images, IsImage, only, DiskContent, Reads, Told, WhereTold, IsSettled}
 use Rattle.nv_journal.specs.Histories.{Throughout}
 use Rattle.bml_bytes.specs.Areas.{area_length}
 use Rattle.nv_journal.specs.Slots.{Open, place_of, slot_length, gate_at, after_gate, IsWhole, slot_at, newer, stands}
-use Rattle.nv_journal.specs.devices.Stores.{pick, Finds, GivesArea}
+use Rattle.nv_journal.specs.devices.Stores.{pick, IsNewestOf, IsDue, Finds, GivesArea}
 use Rattle.nv_journal.specs.Journals.{StandsAsSome, or_older, kept_of, LoadsNewest}
 use Rattle.nv_journal.proofs.Parts.{slot-short, slot-shut, slot-open}
-use Rattle.nv_journal.proofs.Moments.{goes_on}
+use Rattle.nv_journal.proofs.Torn.{only-is}
+use Rattle.nv_journal.proofs.Moments.{started, goes_on, weaker, joined}
 
 some-behind : (slot : Slot) (x : List ℕ) → IsSome (slot_at slot x) → IsWhole slot x × (slot_at slot x ≡ Some (after_gate slot x))
 some-behind slot x some = elim (cases_lt (length x) (place_of slot + slot_length)) [
@@ -40,28 +41,42 @@ gives slot size count length_read into None (Some new) full fits r = absurd r
 gives slot size count length_read into (Some old) None full fits r = absurd r
 gives slot size count length_read into (Some old) (Some new) full fits r = record { step = r.step; reads = r.reads; images = r.images; given = gives-area slot size count into old new full fits r }
 
-load-through : (found : Found) (slot : Slot) (area : List ℕ) (result : Result ℕ Failed) (old p q : DiskContent) → Finds (Ok found) old p → GivesArea slot area result p q → Throughout (StandsAsSome old.images) old q
-load-through found slot area result old p q finds g = goes_on (StandsAsSome old.images) old p q finds.each g.step (λ image is. finds.each.now image (subst (λ (i : Images). IsImage i image) g.images is))
+-- ---- a load where the slots are known
 
-pub load-failed : (found : Found) (slot : Slot) (area : List ℕ) (e f : Failed) (o p q : Option DiskContent) → Told (Finds (Ok found)) o p → Told (GivesArea slot area (Err e)) p q → Told (LoadsNewest (Err f)) o q
-load-failed found slot area e f None None None finds g = tt
-load-failed found slot area e f None None (Some q) finds g = absurd g
-load-failed found slot area e f None (Some p) q finds g = absurd finds
-load-failed found slot area e f (Some old) None q finds g = absurd finds
-load-failed found slot area e f (Some old) (Some p) None finds g = absurd g
-load-failed found slot area e f (Some old) (Some p) (Some q) finds g = record { each = load-through found slot area (Err e) old p q finds g; reads = g.reads ∙ finds.reads; done = tt }
+where-ok : (X : Type 0) (result : Result ℕ Failed) → X → OnOk result X
+where-ok X (Ok size) here = here
+where-ok X (Err e) here = tt
 
-pub load-done : (found : Found) (slot : Slot) (area : List ℕ) (size : ℕ) (o p q : Option DiskContent) → Told (Finds (Ok found)) o p → Told (GivesArea slot area (Ok size)) p q → Told (LoadsNewest (Ok size)) o q
-load-done found slot area size None None None finds g = tt
-load-done found slot area size None None (Some q) finds g = absurd g
-load-done found slot area size None (Some p) q finds g = absurd finds
-load-done found slot area size (Some old) None q finds g = absurd finds
-load-done found slot area size (Some old) (Some p) None finds g = absurd g
-load-done found slot area size (Some old) (Some p) (Some q) finds g = record {
-  each = load-through found slot area (Ok size) old p q finds g;
-  reads = g.reads ∙ finds.reads;
-  done = g.images ∙ finds.done.settled ∙ ap only (sym g.reads);
+pub area-loads : (found : Found) (slot : Slot) (area : List ℕ) (result : Result ℕ Failed) (o p : Option DiskContent) → WhereTold (IsDue found) o → Told (GivesArea slot area result) o p → Told (LoadsNewest result) o p
+area-loads found slot area result None None due g = tt
+area-loads found slot area result None (Some p) due g = absurd g
+area-loads found slot area result (Some old) None due g = absurd g
+area-loads found slot area result (Some old) (Some p) due g =
+    let P : List ℕ → Type 0 = StandsAsSome old.images in
+    record {
+      each = goes_on P old old p (started P old (λ image is. (image, is, refl)) (old.reads, g.step.before, refl)) g.step (λ image is. (image, subst (λ (i : Images). IsImage i image) g.images is, refl));
+      reads = g.reads;
+      done = where-ok (IsSettled p) result (g.images ∙ due.settled ∙ ap only (sym g.reads));
+    }
+
+pub area-due : (found : Found) (slot : Slot) (area : List ℕ) (result : Result ℕ Failed) (o p : Option DiskContent) → WhereTold (IsDue found) o → Told (GivesArea slot area result) o p → WhereTold (IsDue found) p
+area-due found slot area result None None due g = tt
+area-due found slot area result None (Some p) due g = absurd g
+area-due found slot area result (Some old) None due g = absurd g
+area-due found slot area result (Some old) (Some p) due g = record {
+  settled = g.images ∙ due.settled ∙ ap only (sym g.reads);
+  newest = subst (λ (x : List ℕ). IsNewestOf found (slot_at First x) (slot_at Second x)) (sym g.reads) due.newest;
 }
+
+pub none-loads : (found : Found) (result : Result ℕ Failed) (o : Option DiskContent) → WhereTold (IsDue found) o → Told (LoadsNewest result) o o
+none-loads found result None due = tt
+none-loads found result (Some old) due =
+    let here : IsImage old.images old.reads = subst (λ (i : Images). IsImage i old.reads) (sym due.settled) (only-is old.reads) in
+    record {
+      each = started (StandsAsSome old.images) old (λ image is. (image, is, refl)) (old.reads, here, refl);
+      reads = refl;
+      done = where-ok (IsSettled old) result due.settled;
+    }
 
 picked : (slot : Slot) (x : List ℕ) → pick slot (slot_at First x) (slot_at Second x) ≡ slot_at slot x
 picked First x = refl
@@ -73,33 +88,49 @@ whole-area area fits =
     let rest : replicate (area_length - length area) 0 ≡ [] = ap (λ (n : ℕ). replicate n 0) none in
     (sym fits, sym (ap (λ (l : List ℕ). take area_length area ++ l) rest ∙ append-nil (take area_length area) ∙ take_all area_length area (omega (arith, fits))))
 
-pub load-loads : (found : Found) (slot : Slot) (area : List ℕ) (size : ℕ) (before : Option (List ℕ)) (o p q : Option DiskContent) → found.newest ≡ Some slot → length area ≡ area_length → Told (Finds (Ok found)) o p → Told (GivesArea slot area (Ok size)) p q → Loads (kept_of o before) area_length area
-load-loads found slot area size before None p q is fits finds g = tt
-load-loads found slot area size before (Some old) None q is fits finds g = absurd finds
-load-loads found slot area size before (Some old) (Some p) None is fits finds g = absurd g
-load-loads found slot area size before (Some old) (Some p) (Some q) is fits finds g =
-    let f = slot_at First p.reads in
-    let s = slot_at Second p.reads in
-    let here = subst (λ (n : Option Slot). MatchOption n (newer f s ≡ None) (λ (k : Slot). (newer f s ≡ pick k f s) × IsSome (pick k f s))) is finds.done.newest.slot in
-    let some : IsSome (slot_at slot p.reads) = subst (λ (o : Option Open). IsSome o) (picked slot p.reads) here.1 in
-    let stands_is : stands old.reads ≡ Some area =
-    ap stands (sym finds.reads) ∙ ap (λ (o : Option Open). option_map (λ (k : Open). k.area) o) (here.0 ∙ picked slot p.reads) ∙ g.given some in
-    subst (λ (k : Option (List ℕ)). Loads (or_older k before) area_length area) (sym stands_is) (whole-area area fits)
+pub area-given : (found : Found) (slot : Slot) (area : List ℕ) (size : ℕ) (older : Option (List ℕ)) (o p : Option DiskContent) → found.newest ≡ Some slot → length area ≡ area_length → WhereTold (IsDue found) o → Told (GivesArea slot area (Ok size)) o p → Loads (kept_of o older) area_length area
+area-given found slot area size older None p is fits due g = tt
+area-given found slot area size older (Some old) None is fits due g = absurd g
+area-given found slot area size older (Some old) (Some p) is fits due g =
+    let f = slot_at First old.reads in
+    let s = slot_at Second old.reads in
+    let here = subst (λ (n : Option Slot). MatchOption n (newer f s ≡ None) (λ (k : Slot). (newer f s ≡ pick k f s) × IsSome (pick k f s))) is due.newest.slot in
+    let some : IsSome (slot_at slot old.reads) = subst (λ (o : Option Open). IsSome o) (picked slot old.reads) here.1 in
+    let stands_is : stands old.reads ≡ Some area = ap (λ (o : Option Open). option_map (λ (k : Open). k.area) o) (here.0 ∙ picked slot old.reads) ∙ g.given some in
+    subst (λ (k : Option (List ℕ)). Loads (or_older k older) area_length area) (sym stands_is) (whole-area area fits)
 
--- ---- where no slot is open
+pub area-loaded : (found : Found) (slot : Slot) (area : List ℕ) (result : Result ℕ Failed) (older : Option (List ℕ)) (o p : Option DiskContent) → found.newest ≡ Some slot → length area ≡ area_length → WhereTold (IsDue found) o → Told (GivesArea slot area result) o p → IfOk result (λ (size : ℕ). size ≡ area_length) → IfOk result (λ (size : ℕ). Loads (kept_of o older) size area)
+area-loaded found slot area (Ok size) older o p is fits due g all = subst (λ (n : ℕ). Loads (kept_of o older) n area) (sym all) (area-given found slot area size older o p is fits due g)
+area-loaded found slot area (Err e) older o p is fits due g all = tt
 
-pub found-loads : (found : Found) (size : ℕ) (o p : Option DiskContent) → Told (Finds (Ok found)) o p → Told (LoadsNewest (Ok size)) o p
-found-loads found size None None finds = tt
-found-loads found size None (Some p) finds = absurd finds
-found-loads found size (Some old) None finds = absurd finds
-found-loads found size (Some old) (Some p) finds = record { each = finds.each; reads = finds.reads; done = finds.done.settled }
+pub older-given : (found : Found) (area : List ℕ) (size : ℕ) (older : Option (List ℕ)) (o : Option DiskContent) → found.newest ≡ None → WhereTold (IsDue found) o → Loads older size area → Loads (kept_of o older) size area
+older-given found area size older None is due loads = tt
+older-given found area size older (Some old) is due loads =
+    let f = slot_at First old.reads in
+    let s = slot_at Second old.reads in
+    let none : newer f s ≡ None = subst (λ (n : Option Slot). MatchOption n (newer f s ≡ None) (λ (k : Slot). (newer f s ≡ pick k f s) × IsSome (pick k f s))) is due.newest.slot in
+    subst (λ (k : Option (List ℕ)). Loads (or_older k older) size area) (sym (ap (λ (o : Option Open). option_map (λ (k : Open). k.area) o) none)) loads
 
-pub older-loads : (found : Found) (area : List ℕ) (size : ℕ) (older : Option (List ℕ)) (o p : Option DiskContent) → found.newest ≡ None → Told (Finds (Ok found)) o p → Loads older size area → Loads (kept_of o older) size area
-older-loads found area size older None p is finds loads = tt
-older-loads found area size older (Some old) None is finds loads = absurd finds
-older-loads found area size older (Some old) (Some p) is finds loads =
-    let f = slot_at First p.reads in
-    let s = slot_at Second p.reads in
-    let none : newer f s ≡ None = subst (λ (n : Option Slot). MatchOption n (newer f s ≡ None) (λ (k : Slot). (newer f s ≡ pick k f s) × IsSome (pick k f s))) is finds.done.newest.slot in
-    let stands_is : stands old.reads ≡ None = ap stands (sym finds.reads) ∙ ap (λ (o : Option Open). option_map (λ (k : Open). k.area) o) none in
-    subst (λ (k : Option (List ℕ)). Loads (or_older k older) size area) (sym stands_is) loads
+-- ---- a whole load: what is found, and then a load
+
+loads-through : (found : Found) (result : Result ℕ Failed) (old p q : DiskContent) → Finds (Ok found) old p → LoadsNewest result p q → Throughout (StandsAsSome old.images) old q
+loads-through found result old p q finds loads =
+    joined (StandsAsSome old.images) old p q finds.each (weaker (StandsAsSome p.images) (StandsAsSome old.images) p q leads loads.each)
+  where
+    leads : (image : List ℕ) → StandsAsSome p.images image → StandsAsSome old.images image
+    leads image some = let first = finds.each.now some.0 some.1 in (first.0, first.1, some.2 ∙ first.2)
+
+pub load-through : (found : Found) (result : Result ℕ Failed) (o p q : Option DiskContent) → Told (Finds (Ok found)) o p → Told (LoadsNewest result) p q → Told (LoadsNewest result) o q
+load-through found result None None None finds loads = tt
+load-through found result None None (Some q) finds loads = absurd loads
+load-through found result None (Some p) q finds loads = absurd finds
+load-through found result (Some old) None q finds loads = absurd finds
+load-through found result (Some old) (Some p) None finds loads = absurd loads
+load-through found result (Some old) (Some p) (Some q) finds loads = record { each = loads-through found result old p q finds loads; reads = loads.reads ∙ finds.reads; done = loads.done }
+
+-- what is kept is what was kept before the slots were found
+pub found-kept : (found : Found) (older : Option (List ℕ)) (o p : Option DiskContent) → Told (Finds (Ok found)) o p → kept_of p older ≡ kept_of o older
+found-kept found older None None finds = refl
+found-kept found older None (Some p) finds = absurd finds
+found-kept found older (Some old) None finds = absurd finds
+found-kept found older (Some old) (Some p) finds = ap (λ (x : List ℕ). or_older (stands x) older) finds.reads

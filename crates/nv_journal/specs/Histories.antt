@@ -11,7 +11,8 @@ abbrev pub EachLeaves : (List ℕ → Type 0) → List Images → Type 0
 EachLeaves P [] = Unit {0}
 EachLeaves P (images ∷ rest) = Leaves P images × EachLeaves P rest
 
--- from old to new, both included: at each moment each image has P, and in the end what reads give has it too
+-- from old to new, both included: at each moment each image has P, and in the end what reads give
+-- has it too
 pub record Throughout (P : List ℕ → Type 0) (old new : DiskContent) : Type 0 where
   pub moments : List Images
   pub since : new.past ≡ old.past ++ moments

@@ -40,17 +40,20 @@ told_by_journal journal = record {
 abbrev pub StandsAsSome : Images → List ℕ → Type 0
 StandsAsSome images image = (start : List ℕ) × IsImage images start × (stands image ≡ stands start)
 
--- A load: at each moment each image stands for what some image at the start stood for. What reads give stays, and after Ok
--- it is the only image.
+-- A load: at each moment each image stands for what some image at the start stood for. What reads
+-- give stays, and after Ok it is the only image.
 pub record LoadsNewest (result : Result ℕ Failed) (old new : DiskContent) : Type 0 where
   pub each : Throughout (StandsAsSome old.images) old new
   pub reads : new.reads ≡ old.reads
   pub done : OnOk result (IsSettled new)
 
--- A store: at each moment each image stands for what some image at the start stood for, or for the area. What reads give
--- stands for the area or for what it stood for. After Ok it is the only image, and stands for the area.
-pub record StoresNewest (area : List ℕ) (result : Result (Unit {0}) Failed) (old new : DiskContent) : Type 0 where
-  pub each : Throughout (λ image. StandsAsSome old.images image ⊎ (stands image ≡ Some area)) old new
+-- A store: at each moment each image stands for what some image at the start stood for, or for the
+-- area. What reads give stands for the area or for what it stood for. After Ok it is the only
+-- image, and stands for the area.
+pub record StoresNewest (area : List ℕ) (result : Result (Unit {0}) Failed) (old new : DiskContent)
+    : Type 0 where
+  pub each : Throughout (λ image. StandsAsSome old.images image ⊎ (stands image ≡ Some area))
+      old new
   pub read : (stands new.reads ≡ stands old.reads) ⊎ (stands new.reads ≡ Some area)
   pub done : OnOk result (IsSettled new × (stands new.reads ≡ Some area))
 

@@ -4,7 +4,8 @@ use Rattle.bml_ports.specs.declared.memory_calls.Calls.{Calls}
 use Rattle.nv_journal.specs.Disks.{Images, DiskContent, DiskState, only}
 use Rattle.bml_ports.specs.MemoryCalls.{counter_of, FailsNext}
 
--- its content, the numbers of the calls that are to fail, the calls so far, and how many it has memory for
+-- its content, the numbers of the calls that are to fail, the calls so far, and how many it has
+-- memory for
 pub record MemoryDiskState : Type 0 where
   pub content : DiskContent
   pub failing : List ℕ
@@ -20,7 +21,11 @@ new_content bytes = record { reads = bytes; images = only bytes; past = [] }
 
 -- other images, with those before in the past
 abbrev pub moved : DiskContent → Images → DiskContent
-moved disk images = record { reads = disk.reads; images = images; past = disk.past ++ disk.images ∷ [] }
+moved disk images = record {
+  reads = disk.reads;
+  images = images;
+  past = disk.past ++ disk.images ∷ [];
+}
 
 abbrev pub with_reads : DiskContent → List ℕ → DiskContent
 with_reads disk bytes = record { reads = bytes; images = disk.images; past = disk.past }

@@ -5,7 +5,8 @@ use Rattle.bml_bytes.specs.Areas.{area_length}
 use Rattle.nv_journal.specs.declared.slots.Slot.{Slot}
 use Rattle.nv_journal.specs.declared.slots.Slot.TheVariants.{First, Second}
 
--- a slot is a gate, a number and an area: the gate is its first byte, and these are the places of the others in it
+-- a slot is a gate, a number and an area: the gate is its first byte, and these are the places of
+-- the others in it
 abbrev pub number_offset : ℕ
 number_offset = 1
 
@@ -48,7 +49,10 @@ gate_at slot image = get_or image (place_of slot) 0
 
 -- what stands after the gate of a slot
 abbrev pub after_gate : Slot → List ℕ → Open
-after_gate slot image = record { number = get_or image (place_of slot + number_offset) 0; area = take area_length (drop (place_of slot + area_offset) image) }
+after_gate slot image = record {
+  number = get_or image (place_of slot + number_offset) 0;
+  area = take area_length (drop (place_of slot + area_offset) image);
+}
 
 -- all bytes of a slot are there
 abbrev pub IsWhole : Slot → List ℕ → Type 0
@@ -56,17 +60,22 @@ IsWhole slot image = place_of slot + slot_length ≤ length image
 
 -- a slot is open where all its bytes are there and its gate is 1
 unfoldable pub slot_at : Slot → List ℕ → Option Open
-slot_at slot image = if nat_le (place_of slot + slot_length) (length image) then (if gate_at slot image == open_gate then Some (after_gate slot image) else None) else None
+slot_at slot image =
+    if nat_le (place_of slot + slot_length) (length image)
+    then (if gate_at slot image == open_gate then Some (after_gate slot image) else None)
+    else None
 
 -- the number that follows; a number on a disk may be any byte
 abbrev pub next_number : ℕ → ℕ
 next_number number = (number + 1) % number_count
 
--- of two slots the newest: the only open one, or with both open the second where its number follows the first's, else the first
+-- of two slots the newest: the only open one, or with both open the second where its number follows
+-- the first's, else the first
 unfoldable pub newer : Option Open → Option Open → Option Open
 newer None second = second
 newer (Some first) None = Some first
-newer (Some first) (Some second) = if second.number == next_number first.number then Some second else Some first
+newer (Some first) (Some second) =
+    if second.number == next_number first.number then Some second else Some first
 
 abbrev pub newest : List ℕ → Option Open
 newest image = newer (slot_at First image) (slot_at Second image)

@@ -14,7 +14,8 @@ StandsAs bytes image = stands image ≡ stands bytes
 abbrev pub StandsAsOrFor : List ℕ → List ℕ → List ℕ → Type 0
 StandsAsOrFor bytes area image = StandsAs bytes image ⊎ (stands image ≡ Some area)
 
--- before the first step: one image is left, the slot isn't the newest, and its gate is within the disk or at its end
+-- before the first step: one image is left, the slot isn't the newest, and its gate is within the
+-- disk or at its end
 pub record IsReady (slot : Slot) (disk : DiskContent) : Type 0 where
   pub settled : IsSettled disk
   pub spare : IsSpare slot disk.reads
@@ -30,19 +31,28 @@ pub record IsFilled (slot : Slot) (area : List ℕ) (disk : DiskContent) : Type 
   pub settled : IsSettled disk
   pub shut : IsShut slot disk.reads
   pub whole : IsWhole slot disk.reads
-  pub behind : after_gate slot disk.reads ≡ record { number = number_after (newest disk.reads); area = area }
+  pub behind : after_gate slot disk.reads
+      ≡ record { number = number_after (newest disk.reads); area = area }
 
--- The first step. At each moment each image stands for what the bytes stood for, and after Ok the gate isn't open.
-pub record Closes (slot : Slot) (result : Result (Unit {0}) Failed) (old new : DiskContent) : Type 0 where
+-- The first step. At each moment each image stands for what the bytes stood for, and after Ok the
+-- gate isn't open.
+pub record Closes (slot : Slot) (result : Result (Unit {0}) Failed) (old new : DiskContent)
+    : Type 0 where
   pub each : Throughout (StandsAs old.reads) old new
   pub done : OnOk result (IsClosed slot new × (newest new.reads ≡ newest old.reads))
 
--- The second step. At each moment each image stands for what the bytes stood for, and after Ok the number and the area stand there.
-pub record Fills (slot : Slot) (area : List ℕ) (result : Result (Unit {0}) Failed) (old new : DiskContent) : Type 0 where
+-- The second step. At each moment each image stands for what the bytes stood for, and after Ok the
+-- number and the area stand there.
+pub record Fills (slot : Slot) (area : List ℕ) (result : Result (Unit {0}) Failed)
+    (old new : DiskContent) : Type 0 where
   pub each : Throughout (StandsAs old.reads) old new
   pub done : OnOk result (IsFilled slot area new × (newest new.reads ≡ newest old.reads))
 
--- The third step. At each moment each image stands for what the bytes stood for or for the area, and after Ok for the area.
-pub record Opens (slot : Slot) (area : List ℕ) (result : Result (Unit {0}) Failed) (old new : DiskContent) : Type 0 where
+-- The third step. At each moment each image stands for what the bytes stood for or for the area,
+-- and after Ok for the area.
+pub record Opens (slot : Slot) (area : List ℕ) (result : Result (Unit {0}) Failed)
+    (old new : DiskContent) : Type 0 where
   pub each : Throughout (StandsAsOrFor old.reads area) old new
-  pub done : OnOk result (IsSettled new × (newest new.reads ≡ Some (after_gate slot old.reads)) × (slot_at slot new.reads ≡ Some (after_gate slot old.reads)) × (stands new.reads ≡ Some area))
+  pub done : OnOk result (IsSettled new × (newest new.reads ≡ Some (after_gate slot old.reads))
+      × (slot_at slot new.reads ≡ Some (after_gate slot old.reads))
+      × (stands new.reads ≡ Some area))

@@ -59,8 +59,8 @@ impl Model for MemoryDisk {
 }
 
 impl MemoryDisk {
-    /// A disk of these bytes, whose calls of the given numbers fail, and each call past so many. It takes
-    /// the memory for all of them at once.
+    /// A disk of these bytes, whose calls of the given numbers fail, and each call past so many. It
+    /// takes the memory for all of them at once.
     pub fn new(
         alloc: Global,
         bytes: Vec<u8>,
@@ -77,11 +77,34 @@ impl MemoryDisk {
     {
         let kept = with_room(alloc, &bytes)?;
         let settled = with_room(alloc, &bytes)?;
+        MemoryDisk::of_copies(alloc, bytes, kept, settled, failing, calls)
+    }
+
+    // The same, with two copies of the bytes that have room for as many as a disk has.
+    fn of_copies(
+        alloc: Global,
+        first: Vec<u8>,
+        bytes: Vec<u8>,
+        settled: Vec<u8>,
+        failing: Vec<u64>,
+        calls: usize,
+    ) -> Result<MemoryDisk, NoMemory>
+        requires fits { length first.items ≤ journal_length }
+        requires bytes { (bytes.items ≡ first.items) × (journal_length ≤ vec_capacity bytes) }
+        requires settled { (settled.items ≡ first.items)
+            × (journal_length ≤ vec_capacity settled) }
+        ensures { IfOk result (λ disk. disk ≡ record {
+          content = new_content first.items;
+          failing = failing.items;
+          calls = no_calls;
+          most = calls;
+        }) }
+    {
         let written = Vec::with_capacity(alloc, calls)?;
         let marks = Vec::with_capacity(alloc, calls)?;
         Ok(MemoryDisk {
-            first: bytes,
-            bytes: kept,
+            first,
+            bytes,
             settled,
             written,
             marks,
@@ -100,10 +123,11 @@ impl MemoryDisk {
 
     /// One of the byte lists that a stop may leave now.
     ///
-    /// An even pick gives the greatest length as far as 6,148, less `pick / 16`, and an odd one the least. What a
-    /// byte is that was written since the last sync, or stands past the end that it left, the number
-    /// `pick / 2 % 8` says: 0 the one that is read, 1 the one before, 2 to 4 the numbers 0, 1 and 2, 5 the
-    /// last 8 bits of its place, 6 and 7 in turn the one that is read and the one before.
+    /// An even pick gives the greatest length as far as 6,148, less `pick / 16`, and an odd one the
+    /// least. What a byte is that was written since the last sync, or stands past the end that it
+    /// left, the number `pick / 2 % 8` says: 0 the one that is read, 1 the one before, 2 to 4 the
+    /// numbers 0, 1 and 2, 5 the last 8 bits of its place, 6 and 7 in turn the one that is read and
+    /// the one before.
     pub fn crashed(&self, alloc: Global, pick: u64) -> Result<Vec<u8>, NoMemory>
         ensures image { IfOk result (λ image. IsImage self.now.content.images image.items) }
         ensures fits { IfOk result (λ image. length image.items ≤ journal_length) }
@@ -225,8 +249,8 @@ impl Disk for MemoryDisk {
         Ok(read_from(self.bytes.as_slice(), place, into))
     }
 
-    /// Fails exactly where the number of the call is listed or past those that there is memory for, or
-    /// where the write ends past byte 6,148.
+    /// Fails exactly where the number of the call is listed or past those that there is memory for,
+    /// or where the write ends past byte 6,148.
     fn write_at(&mut self, place: u64, bytes: &[u8]) -> Result<(), Failed>
         requires place { WhereTold (λ disk. place ≤ length disk.reads)
             (told_by_disk self.old).content }

@@ -26,8 +26,8 @@ fn has_shut_gate<D: Disk>(disk: &mut D, place: u64) -> Result<bool, Failed>
     Ok(count == gate.len() && gate[0] != OPEN)
 }
 
-/// The first step: the gate is closed. One that isn't open already is left as it is, since any byte may stand
-/// there while it is written. The slot isn't the newest.
+/// The first step: the gate is closed. One that isn't open already is left as it is, since any byte
+/// may stand there while it is written. The slot isn't the newest.
 pub fn close_gate<D: Disk>(disk: &mut D, slot: Slot) -> Result<(), Failed>
     requires ready { WhereTold (IsReady slot) (D.told disk.old).content }
     ensures content { Told (Closes slot result)

@@ -21,7 +21,8 @@ pub struct Found {
 
 ghost use Rattle.nv_journal.specs.devices.Stores.{IsNewestOf, IsDue, next_slot, LooksAt, Finds, StoresArea};
 
-// The slot that the next store takes: the one that isn't the newest, or the first where there is none.
+// The slot that the next store takes: the one that isn't the newest, or the first where there is
+// none.
 fn next_slot(newest: Option<Slot>) -> Slot
     ensures { result ≡ next_slot newest }
 {
@@ -56,7 +57,8 @@ fn look_at<D: Disk>(disk: &mut D, slot: Slot, into: &mut [u8]) -> Result<Option<
     Ok(Some(into[NUMBER_OFFSET]))
 }
 
-// Which of two slots is the newest, by the numbers of those that are open, and the number that is due.
+// Which of two slots is the newest, by the numbers of those that are open, and the number that is
+// due.
 fn newest_of(first: Option<u8>, second: Option<u8>) -> Found
     ensures { (f s : Option Open) → first ≡ option_map (λ (o : Open). o.number) f
         → second ≡ option_map (λ (o : Open). o.number) s → IsNewestOf result f s }

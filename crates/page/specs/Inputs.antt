@@ -1,13 +1,13 @@
--- What comes to a page beside its turns: changes of modules, messages, keys, moments and random words; and what it
+-- What comes to a page beside its turns: changes of modules, messages, keys, moments, random words and dates; and what it
 -- shows. (This project's own, after ARIB STD-B24, volume 2.)
-use Rattle.std.specs.Prelude.{ℕ, Bool, List, [], ◌∷◌, ◌++◌, Option}
+use Rattle.std.specs.Prelude.{ℕ, ℤ, Bool, List, [], ◌∷◌, ◌++◌, Option}
 use Rattle.std.specs.Option.{option_map_or}
 use Rattle.carousel_blocks.specs.declared.changes.Change.{Change}
 use Rattle.display_list.specs.Show.{clock_line}
 use Rattle.event_messages.specs.declared.messages.Message.{Message}
 use Rattle.acting_documents.specs.Documents.{document_lines}
 use Rattle.event_queue.specs.Timers.{least_moment}
-use Rattle.document_stages.specs.Acting.{with_word}
+use Rattle.document_stages.specs.Acting.{with_date as dated, with_word}
 use Rattle.acting_documents.specs.Handling.{change_effect, due_effect, key_effect, message_effect}
 use Rattle.acting_documents.specs.Runs.{Effect, Scene}
 use Rattle.module_store.specs.Lines.{line_of_change}
@@ -61,6 +61,10 @@ due_step moment s =
 -- one random word more
 abbrev pub with_random : ℕ → State → State
 with_random word s = record s { browser = with_word word s.browser }
+
+-- it is this second of this day now
+abbrev pub with_date : ℤ → ℕ → State → State
+with_date day second s = record s { browser = dated day second s.clock s.browser }
 
 -- the display list of the document as it is now, behind the line of the clock; without a document it is that
 -- line alone

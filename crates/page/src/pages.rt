@@ -1,7 +1,7 @@
 //! The page: what becomes of the documents that come, and of keys and the clock.
 
 ghost use Rattle.std.specs.Io.{StartsWith};
-ghost use Rattle.std.specs.Prelude.{◌≡◌, ◌+◌, ◌<◌, ◌≤◌, ◌^◌, ◌∷◌, ◌++◌, ℕ, List, [], false, true, None, IfOk, IsErr, OnErr, OnOk, is_err};
+ghost use Rattle.std.specs.Prelude.{◌≡◌, ◌+◌, ◌<◌, ◌≤◌, ◌≤ℤ◌, ◌^◌, ◌∷◌, ◌++◌, ℕ, pos, List, [], false, true, None, IfOk, IsErr, OnErr, OnOk, is_err};
 ghost use Rattle.acting_documents.specs.Notices.{IsInTime, notice_effect};
 ghost use Rattle.es_reader.specs.Readers.{Reader, IsReader};
 ghost use Rattle.event_queue.specs.Timers.{least_moment};
@@ -9,7 +9,7 @@ ghost use Rattle.module_locks.specs.Locks.{at_start};
 ghost use Rattle.module_locks.specs.Standing.{ModulesState};
 ghost use Rattle.module_locks.specs.Standing as of_modules;
 ghost use Rattle.page.specs.Dispatches.{dispatch as spec_dispatch, next_event, next_load, turn as spec_turn};
-ghost use Rattle.page.specs.Inputs.{change_step, display_of, document_step, due_step, key_step, message_step, with_random};
+ghost use Rattle.page.specs.Inputs.{change_step, display_of, document_step, due_step, key_step, message_step, with_date, with_random};
 ghost use Rattle.page.specs.devices.Pendings.{loading_behind};
 ghost use Rattle.page.specs.Standing.{Begins, IsSpent, KeepsBeside, Makes, MakesAmid, MakesWith, MayMake, Posts, StandsFor, TakesLoad, behind_launch, page_area, page_owed, Remembers, RemembersLoads, RemembersStill, memory_of, next_loads};
 ghost use Rattle.page.specs.Remembering.{loads_of_turn};
@@ -35,7 +35,7 @@ use std::mem;
 const MOST_DISPATCHES: u32 = 256;
 
 /// A page of the data broadcast: the document that is there or wanted, the time, and what belongs
-/// to the receiver: the registers, the persistent area and the random words, with the timers.
+/// to the receiver: the registers, the persistent area, the random words and the date, with the timers.
 ///
 /// What came to it before a turn is handled in it, by [`turn`](Page::turn). Once a call has
 /// answered
@@ -255,6 +255,24 @@ impl Page {
             Err(_) => Err(NoMemory),
         };
         self.spent_by(added)
+    }
+
+    /// It is now this second (0 to 86,399) of this day (0 to 157,053, counted from 1970-01-01). Nothing
+    /// is printed and no event is posted. Scripts that ask later are told how far the clock has gone
+    /// from there. This takes no memory.
+    pub fn set_date(&mut self, day: i32, second: u32)
+        requires first { pos 0 ≤ℤ day }
+        requires last { day ≤ℤ pos 157053 }
+        requires second { second < 86400 }
+        ensures dated { (modules : ModulesState) (s : State) → StandsFor self.old modules s
+            → StandsFor self.new modules (with_date day second s) }
+        ensures loading { self.new.loading ≡ self.old.loading }
+        ensures clock { self.new.clock ≡ self.old.clock }
+        ensures area { page_area self.new ≡ page_area self.old }
+        ensures spent { self.new.spent ≡ self.old.spent }
+        ensures remembers { RemembersStill self.old self.new }
+    {
+        self.browser.date = Some((day, second, self.clock));
     }
 
     /// Makes a turn: at most 256 dispatches, each of which loads the wanted document, where it can

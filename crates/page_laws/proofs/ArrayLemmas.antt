@@ -1,12 +1,14 @@
 -- What calls of the browser object leave of the objects of scripts: an array that is new names what is there.
 use Rattle.std.proofs.Common.{◌≡◌, ◌⊎◌, inl, inr, ℕ, ◌+◌, Bool, true, false, List, [], ◌∷◌, ◌++◌, refl, sym, subst}
-use Rattle.std.specs.Prelude.{All, if◌then◌else◌, map}
+use Rattle.std.specs.Prelude.{All, Option, Some, if◌then◌else◌, map}
 use Rattle.std.proofs.lemmas.List.Elements.{All-cons, All-head, All-map, All-nil, All-push, All-tail}
 use Rattle.indexmap.specs.IndexMap.{insert_entry}
 use Rattle.bml_bytes.specs.Numerals.{decimal_digits}
 use Rattle.bml_bytes.specs.Words.{is_same}
 use Rattle.dom_tree.specs.Items.{Item}
 use Rattle.multipart_entities.specs.declared.paths.Path.{Path}
+use Rattle.date_objects.specs.Dates.{date_object, day_name, day_value, second_name, second_value}
+use Rattle.es_date.specs.declared.moments.Moment.{Moment}
 use Rattle.es_values.specs.declared.hosts.HostAnswer.TheVariants.{Value as Answer}
 use Rattle.es_values.specs.declared.values.Value.{Value}
 use Rattle.es_values.specs.Arrays.{array_of, with_elements}
@@ -35,8 +37,12 @@ pub record CallLaws : Type 0 where
       → ((call_of name base now arguments heap s).heap ≡ heap)
       ⊎ ((values : List Field)
       × ((call_of name base now arguments heap s).heap ≡ with_array_of heap values))
+      ⊎ ((moment : Moment) × ((call_of name base now arguments heap s).heap
+      ≡ heap ++ date_object (Some moment) ∷ []))
   pub arrays : (heap : List ObjectState) (values : List Value) → IsSound heap
       → All (IsLive heap) values → IsSound (heap ++ array_of values ∷ [])
+  pub dates : (heap : List ObjectState) (moment : Option Moment) → IsSound heap
+      → IsSound (heap ++ date_object moment ∷ [])
 
 -- ---- an array of values that pass
 
@@ -106,6 +112,17 @@ module _ (laws : CallLaws) (items : List Item) (limit : ℕ) where
             (All-map (IsLive heap) value_of_field fields (λ k d within. field-live heap _));
       }
 
+  dated-fit : (heap : List ObjectState) (moment : Moment) → IsFit (is_good items limit) heap
+      → IsFit (is_good items limit) (heap ++ date_object (Some moment) ∷ [])
+  dated-fit heap moment fit = record {
+    passes = All-push (ObjectPasses (is_good items limit)) heap (date_object (Some moment)) fit.passes
+        (All-cons (PropertyPasses (is_good items limit)) (day_name, day_value (Some moment))
+        ((second_name, second_value (Some moment)) ∷ []) refl
+        (All-cons (PropertyPasses (is_good items limit)) (second_name, second_value (Some moment))
+        [] refl (All-nil (PropertyPasses (is_good items limit)))));
+    sound = laws.dates heap (Some moment) fit.sound;
+  }
+
   -- what a call leaves
   pub call-fit : (name : List ℕ) (base : Path) (now : ℕ) (arguments : List Value)
       (heap : List ObjectState) (s : BrowserParts) → IsFit (is_good items limit) heap
@@ -115,7 +132,10 @@ module _ (laws : CallLaws) (items : List Item) (limit : ℕ) where
     where
       by : (after : List ObjectState)
           → (after ≡ heap) ⊎ ((fields : List Field) × (after ≡ with_array_of heap fields))
+          ⊎ ((moment : Moment) × (after ≡ heap ++ date_object (Some moment) ∷ []))
           → IsFit (is_good items limit) after
       by after (inl same) = subst (IsFit (is_good items limit)) (sym same) fit
-      by after (inr added) =
+      by after (inr (inl added)) =
           subst (IsFit (is_good items limit)) (sym added.1) (added-fit heap added.0 fit)
+      by after (inr (inr dated)) =
+          subst (IsFit (is_good items limit)) (sym dated.1) (dated-fit heap dated.0 fit)

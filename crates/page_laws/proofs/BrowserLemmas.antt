@@ -6,9 +6,10 @@ use Rattle.std.specs.Option.{option_map_or}
 use Rattle.std.proofs.lemmas.Bool.{leb-true}
 use Rattle.dom_tree.specs.Items.{Item}
 use Rattle.multipart_entities.specs.declared.paths.Path.{Path}
+use Rattle.es_date.specs.declared.moments.Moment.{Moment}
 use Rattle.es_values.specs.Objects.{ObjectState}
 use Rattle.es_values.specs.declared.values.Value.{Value}
-use Rattle.es_values.specs.declared.values.Value.TheVariants.{Function, Host}
+use Rattle.es_values.specs.declared.values.Value.TheVariants.{Function, Host, Null}
 use Rattle.persistent_arrays.specs.Arrays.{array_in}
 use Rattle.persistent_arrays.specs.Names.{array_named}
 use Rattle.persistent_arrays.specs.Reading.{unpacked}
@@ -17,7 +18,8 @@ use Rattle.persistent_arrays.specs.declared.fields.Field.{Field}
 use Rattle.persistent_arrays.specs.declared.kinds.FieldKind.{FieldKind}
 use Rattle.event_queue.specs.Timers.{TimersState, has_place, timer_of, timer_set, with_timer, without_timer}
 use Rattle.browser_objects.specs.ArrayCalls.{values_of_array}
-use Rattle.browser_objects.specs.Calls.{BrowserParts, CallOutcome, CallResult, argument, give_array, write_bytes, call_named, call_of, outcome_of_call, end_timer, count_argument, draw_up_to, first_word, gives, interval_of, least_interval, number, other_words, over, packed_values, path_argument, play_sound, gives_nan, sound_of, text_argument, begin_timer, whole_argument, with_interval, with_named, with_path}
+use Rattle.browser_objects.specs.Calls.{BrowserParts, date_argument, give_date, unit_argument, CallOutcome, CallResult, argument, give_array, write_bytes, call_named, call_of, outcome_of_call, end_timer, count_argument, draw_up_to, first_word, gives, interval_of, least_interval, number, other_words, over, packed_values, path_argument, play_sound, gives_nan, sound_of, text_argument, begin_timer, whole_argument, with_interval, with_named, with_path}
+use Rattle.browser_objects.specs.Dates.{later_moment, present_moment, units_since}
 use Rattle.browser_objects.specs.Functions.{named_function}
 use Rattle.browser_objects.specs.declared.calls.BrowserCall.{BrowserCall}
 use Rattle.browser_objects.specs.declared.calls.BrowserCall.TheVariants as the
@@ -134,6 +136,18 @@ module _ (Good : TimersState → Type 0) (now : ℕ) (s : BrowserParts)
   written-good slot None = refused-good
   written-good slot (Some bytes) = record { value = refl; timers = holds.stays }
 
+  -- ---- dates
+
+  dated-good : (moment : Option Moment) (heap : List ObjectState)
+      → Holds (give_date moment heap s).called
+  dated-good None heap = refused-good
+  dated-good (Some moment) heap = record { value = refl; timers = holds.stays }
+
+  present-good : (heap : List ObjectState) (date : Option (ℤ × ℕ × ℕ)) → Holds (option_map_or
+      (λ date. give_date (present_moment now date) heap s) date (over heap (gives Null s))).called
+  present-good heap None = record { value = refl; timers = holds.stays }
+  present-good heap (Some date) = dated-good (present_moment now date) heap
+
   -- ---- the table
 
   one-good : (call : BrowserCall) (base : Path) (arguments : List Value)
@@ -163,6 +177,13 @@ module _ (Good : TimersState → Type 0) (now : ℕ) (s : BrowserParts)
   one-good the.Random base arguments heap =
       may-good _ (count_argument heap arguments 0) drawn-good
   one-good the.PlayRomSound base arguments heap = sound-good arguments heap
+  one-good the.CurrentDate base arguments heap = present-good heap s.date
+  one-good the.AddDate base arguments heap =
+      dated-good (later_moment (date_argument heap arguments 0) (whole_argument heap arguments 1)
+      (unit_argument heap arguments 2)) heap
+  one-good the.SubDate base arguments heap =
+      may-good _ (units_since (date_argument heap arguments 0) (date_argument heap arguments 1)
+      (unit_argument heap arguments 2)) (λ units. record { value = refl; timers = holds.stays })
 
   pub call-good : (name : List ℕ) (base : Path) (arguments : List Value)
       (heap : List ObjectState) → Holds (call_of name base now arguments heap s).called

@@ -219,6 +219,7 @@ counted-steps = record {
       (message-counted component message) p h;
   keys = λ key down p h. document_step-counted (key_effect key down) (key-counted key down) p h;
   random = λ word p h. like-counted p _ refl refl refl h;
+  dates = λ day second p h. like-counted p _ refl refl refl h;
   due = λ p h. due_step-counted (p.clock + 1) p h;
   clock = λ p h none. like-counted p (with_clock (p.clock + 1) p) refl refl refl h;
 }

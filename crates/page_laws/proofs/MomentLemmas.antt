@@ -13,7 +13,7 @@ use Rattle.page.specs.Inputs.{document_step, with_clock}
 use Rattle.page.specs.Loading.{wanted_path}
 use Rattle.page.specs.State.{State, Step, Wanted, scene_in, stays_or_goes, step_behind, step_of, still}
 use Rattle.page.specs.State.Wanted.{NoDocument}
-use Rattle.page_laws.specs.Moments.{Moment, Dispatches, HasChange, HasMessage, HasKey, IsDue, HasClock, HasRandom, HasModules, Lasts, after, after_all, writes_in, writes_since, writes_by_first}
+use Rattle.page_laws.specs.Moments.{Moment, Dispatches, HasChange, HasMessage, HasKey, IsDue, HasClock, HasRandom, HasDate, HasModules, Lasts, after, after_all, writes_in, writes_since, writes_by_first}
 use Rattle.page_laws.specs.Nodes.{Nodes, event_writes, nodes_of, with_writes}
 use Rattle.page_laws.specs.Soundness.{IsSound}
 use Rattle.page_laws.proofs.NodeRunLemmas.{change-nodes, due-nodes, event-writes, key-nodes, message-nodes, nodes_in, writes-then}
@@ -95,6 +95,7 @@ module _ (s : State) (d : Document) (is : s.document ≡ Some d) (wanted : s.wan
       due-is = ap (λ (o : Option Document). option_map_or (λ d. step_of (with_clock moment s) (due_effect moment (scene_in s d))) o (still (with_clock moment s))) is
   one-moment (HasClock moment) there = record { document = d; is = is; wanted = wanted; nodes_are = refl }
   one-moment (HasRandom word) there = record { document = d; is = is; wanted = wanted; nodes_are = refl }
+  one-moment (HasDate day second) there = record { document = d; is = is; wanted = wanted; nodes_are = refl }
   one-moment (HasModules modules) there = record { document = d; is = is; wanted = wanted; nodes_are = refl }
 
 -- ---- all of them

@@ -9,7 +9,7 @@ use Rattle.page.specs.Inputs.{change_step}
 use Rattle.page.specs.State.{State, Step}
 use Rattle.receiver_core.specs.Outputs.{Input, state_behind}
 use Rattle.receiver_core.specs.State as receiver
-use Rattle.page_laws.specs.Moments.{Moment, Dispatches, HasChange, HasMessage, HasKey, IsDue, HasClock, HasRandom, HasModules, after, after_all}
+use Rattle.page_laws.specs.Moments.{Moment, Dispatches, HasChange, HasMessage, HasKey, IsDue, HasClock, HasRandom, HasDate, HasModules, after, after_all}
 use Rattle.page_laws.proofs.ReceiverLemmas.{PageLaws, behind-kept}
 use Rattle.page_laws.proofs.StepLemmas.{each_step-kept}
 
@@ -67,6 +67,7 @@ module _ (start : State) where
     messages = λ component message s came. then-one (HasMessage component message) s came;
     keys = λ key down s came. then-one (HasKey key down) s came;
     random = λ word s came. then-one (HasRandom word) s came;
+    dates = λ day second s came. then-one (HasDate day second) s came;
     due = λ s came. then-one (IsDue (s.clock + 1)) s came;
     clock = λ s came quiet. then-one (HasClock (s.clock + 1)) s came;
   }

@@ -1,6 +1,6 @@
 -- Pages stay sound: loads, dispatches and turns, and what comes beside them.
 use Rattle.std.proofs.Common.{◌≡◌, ◌↔◌, ℕ, zero, suc, Bool, true, false, List, [], ◌∷◌, Option, Some, None, refl, sym, ◌∙◌, ap, arith, length-drop}
-use Rattle.std.specs.Prelude.{All, IfSome, Result, Ok, Err, if◌then◌else◌, option_and_then, option_map}
+use Rattle.std.specs.Prelude.{ℤ, All, IfSome, Result, Ok, Err, if◌then◌else◌, option_and_then, option_map}
 use Rattle.std.specs.Option.{option_map_or, option_or}
 use Rattle.std.proofs.lemmas.List.Elements.{All-drop, All-head}
 use Rattle.dom_tree.specs.Items.{Item}
@@ -24,7 +24,7 @@ use Rattle.acting_documents.specs.Beginnings.{load_effect}
 use Rattle.acting_documents.specs.Documents.{Document}
 use Rattle.acting_documents.specs.Handling.{change_effect, due_effect, event_effect, key_effect, message_effect, without_first}
 use Rattle.acting_documents.specs.Runs.{Effect, Scene}
-use Rattle.page.specs.Inputs.{change_step, changes_step, document_step, due_step, key_step, message_step, with_clock, with_random}
+use Rattle.page.specs.Inputs.{change_step, changes_step, document_step, due_step, key_step, message_step, with_clock, with_date, with_random}
 use Rattle.page.specs.Loading.{are_settled, given_draft, load, loadable_reading, reading_if_settled, document_of_draft, reading_in, wanted_path}
 use Rattle.page.specs.State.{State, Step, opening, scene_in, stays_or_goes, step_of, still, with_modules}
 use Rattle.page.specs.State.Wanted.{NoDocument}
@@ -86,6 +86,16 @@ with_modules-sound modules s h few = record {
   none_without = h.none_without;
   wanted = h.wanted;
   locks = few;
+}
+
+pub with_date-sound : (day : ℤ) (second : ℕ) (s : State) → IsSound s
+    → IsSound (with_date day second s)
+with_date-sound day second s h = record {
+  document = h.document;
+  timers = h.timers;
+  none_without = h.none_without;
+  wanted = h.wanted;
+  locks = h.locks;
 }
 
 pub with_random-sound : (word : ℕ) (s : State) → IsSound s → IsSound (with_random word s)

@@ -1,6 +1,6 @@
 -- Whatever comes to a receiver, its page stays as its own steps leave it.
 use Rattle.std.proofs.Common.{◌≡◌, ℕ, zero, suc, ◌+◌, ◌<◌, Bool, true, false, List, [], ◌∷◌, Option, Some, None, refl}
-use Rattle.std.specs.Prelude.{IfSome, if◌then◌else◌, map, nat_le}
+use Rattle.std.specs.Prelude.{ℤ, IfSome, if◌then◌else◌, map, nat_le}
 use Rattle.std.specs.Option.{option_map_or}
 use Rattle.std.proofs.lemmas.Bool.{leb-false}
 use Rattle.ts_packets.specs.Packet.{pid_of}
@@ -12,11 +12,11 @@ use Rattle.carousel_blocks.specs.declared.changes.Change.{Change}
 use Rattle.module_locks.specs.Locks.{changes_by, with_map, with_section}
 use Rattle.module_store.specs.Store.{gone_by}
 use Rattle.page.specs.Dispatches as dispatches
-use Rattle.page.specs.Inputs.{changes_step, due_next, due_step, key_step, message_step, messages_step, with_clock, with_random}
+use Rattle.page.specs.Inputs.{changes_step, due_next, due_step, key_step, message_step, messages_step, with_clock, with_date, with_random}
 use Rattle.page.specs.State as page
 use Rattle.receiver_core.specs.Outputs.{Input, at_moment, intact_sections, is_due_by, reaches, state_after, state_behind, state_behind_turns, time_passes}
 use Rattle.receiver_core.specs.Outputs.{with_packet, with_piece, without_piece}
-use Rattle.receiver_core.specs.Outputs.Input.{Packet, Key, Random, Release, Show, Tick}
+use Rattle.receiver_core.specs.Outputs.Input.{Date, Packet, Key, Random, Release, Rows, Show, Tick}
 use Rattle.receiver_core.specs.State.{State, services, wants}
 use Rattle.receiver_core.specs.Turns.{due_turn, key_turn, section_messages, step_of_modules, step_of_section, step_of_table, step_of_tag, turn, with_handled}
 use Rattle.page_laws.proofs.StepLemmas.{each_step-kept}
@@ -34,6 +34,7 @@ pub record PageLaws (Good : page.State → Type 0) : Type 0 where
       → Good (message_step component message s).state
   pub keys : (key : ℕ) (down : Bool) (s : page.State) → Good s → Good (key_step key down s).state
   pub random : (word : ℕ) (s : page.State) → Good s → Good (with_random word s)
+  pub dates : (day : ℤ) (second : ℕ) (s : page.State) → Good s → Good (with_date day second s)
   -- a millisecond passes: timers are due at its end, or none is
   pub due : (s : page.State) → Good s → Good (due_step (s.clock + 1) s).state
   pub clock : (s : page.State) → Good s → IfSome (due_next s) (λ due. s.clock + 1 < due)
@@ -140,7 +141,9 @@ module _ (Good : page.State → Type 0) (laws : PageLaws Good) where
   after-kept (Release key) s h = key-kept key false s h
   after-kept (Tick count) s h = time-kept count s h
   after-kept (Random word) s h = laws.random word s.page h
+  after-kept (Date day second) s h = laws.dates day second s.page h
   after-kept Show s h = h
+  after-kept (Rows spacing align) s h = h
 
   pub behind-kept : (inputs : List Input) (s : State) → Good s.page
       → Good (state_behind s inputs).page

@@ -73,6 +73,7 @@ good-steps sound = record {
       (sound.messages component message p h.0, message_step-later component message p h.1);
   keys = λ key down p h. (sound.keys key down p h.0, key_step-later key down p h.1);
   random = λ word p h. (sound.random word p h.0, h.1);
+  dates = λ day second p h. (sound.dates day second p h.0, h.1);
   due = λ p h. (
     sound.due p h.0,
     due_step-later (p.clock + 1) p h.0 h.1 (one-on p.clock (due_next p) (next-later p h.1)),

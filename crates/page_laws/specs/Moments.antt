@@ -1,5 +1,5 @@
 -- What comes to a page, moment by moment, as long as one document is there. (This project's own.)
-use Rattle.std.specs.Prelude.{◌≡◌, ℕ, Bool, true, List, [], ◌∷◌, ◌++◌, is_some, Some, unwrap_or}
+use Rattle.std.specs.Prelude.{◌≡◌, ℕ, ℤ, Bool, true, List, [], ◌∷◌, ◌++◌, is_some, Some, unwrap_or}
 use Rattle.std.specs.Option.{option_map_or}
 use Rattle.carousel_blocks.specs.declared.changes.Change.{Change}
 use Rattle.event_messages.specs.declared.messages.Message.{Message}
@@ -11,12 +11,12 @@ use Rattle.document_stages.specs.Acting.{Acting, member_value}
 use Rattle.acting_documents.specs.Documents.{Document}
 use Rattle.acting_documents.specs.Handling.{without_first}
 use Rattle.page.specs.Dispatches.{dispatch}
-use Rattle.page.specs.Inputs.{change_step, due_step, key_step, message_step, with_clock, with_random}
+use Rattle.page.specs.Inputs.{change_step, due_step, key_step, message_step, with_clock, with_date, with_random}
 use Rattle.page.specs.State.{State, scene_in, with_modules}
 use Rattle.page_laws.specs.Nodes.{Nodes, Write, event_writes, last_to, nodes_of, with_writes}
 
 -- A dispatch is made; a change in a module, an event message or a key comes; timers are due; the clock goes to a moment; a
--- random word comes; or the modules of the service are others.
+-- random word or a date comes; or the modules of the service are others.
 pub data Moment : Type 0 where
   Dispatches : Moment
   HasChange : ℕ → Change → Moment
@@ -25,6 +25,7 @@ pub data Moment : Type 0 where
   IsDue : ℕ → Moment
   HasClock : ℕ → Moment
   HasRandom : ℕ → Moment
+  HasDate : ℤ → ℕ → Moment
   HasModules : Modules → Moment
 
 -- what it leaves
@@ -36,6 +37,7 @@ after (HasKey key down) s = (key_step key down s).state
 after (IsDue moment) s = (due_step moment s).state
 after (HasClock moment) s = with_clock moment s
 after (HasRandom word) s = with_random word s
+after (HasDate day second) s = with_date day second s
 after (HasModules modules) s = with_modules modules s
 
 -- The writes that scripts make in it: only dispatches run scripts.

@@ -1,7 +1,7 @@
 //! What holds of pages. Each function is a law: its contract is what it is for, and it does nothing
 //! when it runs.
 
-ghost use Rattle.std.specs.Prelude.{◌≡◌, ℕ, ◌+◌, ◌<◌, ◌≤◌, [], Bool, List, IfSome, length};
+ghost use Rattle.std.specs.Prelude.{◌≡◌, ℕ, ℤ, ◌+◌, ◌<◌, ◌≤◌, [], Bool, List, IfSome, length};
 ghost use Rattle.carousel_blocks.specs.declared.changes.Change.{Change};
 ghost use Rattle.event_messages.specs.declared.messages.Message.{Message};
 ghost use Rattle.module_locks.specs.Locks.{Modules, most_locks};
@@ -14,6 +14,7 @@ ghost use Rattle.page.specs.Inputs.{
   key_step,
   message_step,
   with_clock,
+  with_date,
   with_random,
 };
 ghost use Rattle.page.specs.State.{State, opening, still, with_modules};
@@ -27,6 +28,7 @@ ghost use Rattle.page_laws.specs.Turns.{Turned};
 
 use bml_reader::law_of_readings;
 use browser_objects::{law_of_call_outcomes, law_of_new_objects};
+use date_objects::law_of_new_dates;
 use dom_tree::{
     law_of_attribute_changes, law_of_nested_nodes, law_of_parents, law_of_text_changes,
 };
@@ -38,7 +40,7 @@ use script_laws::law_of_passing_values;
 
 /// A page is sound before anything came. Behind each turn, with other modules that have few locks,
 /// behind each change in modules, each event message, each key, each moment when timers are due,
-/// each move of the clock and each random word it is sound where it was so before.
+/// each move of the clock, each random word and each date it is sound where it was so before.
 pub fn law_of_soundness()
     ensures opening { (read : Reader) (area : List ℕ) → IsSound (opening read area) }
     ensures turn { (s : State) → IsSound s → IsSound (turn s).state }
@@ -53,6 +55,8 @@ pub fn law_of_soundness()
     ensures due { (moment : ℕ) (s : State) → IsSound s → IsSound (due_step moment s).state }
     ensures clock { (moment : ℕ) (s : State) → IsSound s → IsSound (with_clock moment s) }
     ensures random { (word : ℕ) (s : State) → IsSound s → IsSound (with_random word s) }
+    ensures dates { (day : ℤ) (second : ℕ) (s : State) → IsSound s
+        → IsSound (with_date day second s) }
 {
     law_of_text_changes();
     law_of_attribute_changes();
@@ -63,6 +67,7 @@ pub fn law_of_soundness()
     law_of_passing_values();
     law_of_few_locks();
     law_of_call_outcomes();
+    law_of_new_dates();
     law_of_new_objects();
     law_of_arrays();
 }
@@ -90,7 +95,7 @@ pub fn law_of_clocks()
 {}
 
 /// No timer of a page is overdue: each is due later than the clock. It is so before anything came.
-/// Behind each turn, each change in modules, each event message, each key and each random word it is
+/// Behind each turn, each change in modules, each event message, each key, each random word and each date it is
 /// so where it was so before. A moment before which nothing was due may come too: what is due then
 /// fires, and comes later. A tick moves the clock of a receiver on by as much as it says, and behind
 /// it no timer is overdue. So no timer is overdue, whatever came to a receiver.
@@ -107,6 +112,8 @@ pub fn law_of_time()
     ensures keys { (key : ℕ) (down : Bool) (s : State) → AreLater s
         → AreLater (key_step key down s).state }
     ensures random { (word : ℕ) (s : State) → AreLater s → AreLater (with_random word s) }
+    ensures dates { (day : ℤ) (second : ℕ) (s : State) → AreLater s
+        → AreLater (with_date day second s) }
     ensures due { (moment : ℕ) (s : State) → IsSound s → AreLater s
         → IfSome (due_next s) (λ due. moment ≤ due) → AreLater (due_step moment s).state }
     ensures ticks { (count : ℕ) (s : receiver.State) → IsSound s.page → AreLater s.page

@@ -25,19 +25,19 @@ use Rattle.persistent_arrays.proofs.LayoutLemmas.{packed-is}
 use Rattle.persistent_arrays.proofs.RunLemmas.{unpacked-is}
 use Rattle.persistent_arrays.proofs.PackingLemmas.{bit-parts, other-behind, other-count}
 
-option_map-some : {A B : Type 0} (f : A → B) (found : Option A) (b : B) → option_map f found ≡ Some b → (a : A) × (found ≡ Some a) × (f a ≡ b)
+pub option_map-some : {A B : Type 0} (f : A → B) (found : Option A) (b : B) → option_map f found ≡ Some b → (a : A) × (found ≡ Some a) × (f a ≡ b)
 option_map-some f None b e = absurd cc
 option_map-some f (Some a) b e = (a, refl, same_Some (f a) b e)
 
-bind_some : {A B : Type 0} (read : Option A) (go : A → Option B) (b : B) → (read >>= go) ≡ Some b → (a : A) × (read ≡ Some a) × (go a ≡ Some b)
+pub bind_some : {A B : Type 0} (read : Option A) (go : A → Option B) (b : B) → (read >>= go) ≡ Some b → (a : A) × (read ≡ Some a) × (go a ≡ Some b)
 bind_some None go b e = absurd cc
 bind_some (Some a) go b e = (a, refl, e)
 
 -- the bytes of a field are read from what begins with them, and have the kept value
-record IsReadBack (kind : FieldKind) (value : Field) (bytes : List ℕ) : Type 0 where
-  inside : List ℕ
-  read : (more : List ℕ) → field_at kind (bytes ++ more) ≡ Some (inside, more)
-  kept : field_value kind inside ≡ kept_value kind value
+pub record IsReadBack (kind : FieldKind) (value : Field) (bytes : List ℕ) : Type 0 where
+  pub inside : List ℕ
+  pub read : (more : List ℕ) → field_at kind (bytes ++ more) ≡ Some (inside, more)
+  pub kept : field_value kind inside ≡ kept_value kind value
 
 module _ (laws : FieldLaws) (back : (count number : ℕ) → number < 256 ^ count → big_number (big_bytes count number) ≡ number) where
   read-front : (size : ℕ) (bytes more : List ℕ) → length bytes ≡ size → bytes_at size (bytes ++ more) ≡ Some (bytes, more)
@@ -52,7 +52,7 @@ module _ (laws : FieldLaws) (back : (count number : ℕ) → number < 256 ^ coun
   of_number : (size : ℕ) (number : ℤ) (bytes : List ℕ) → big_bytes size (low_number size number) ≡ bytes → length bytes ≡ size
   of_number size number bytes e = sym (ap length e) ∙ laws.number_bytes size (low_number size number)
 
-  field-back : (kind : FieldKind) (value : Field) (bytes : List ℕ) → field_bytes kind value ≡ Some bytes → IsReadBack kind value bytes
+  pub field-back : (kind : FieldKind) (value : Field) (bytes : List ℕ) → field_bytes kind value ≡ Some bytes → IsReadBack kind value bytes
   field-back Bit (fields.Bit bit) bytes e = absurd cc
   field-back Bit (fields.Whole number) bytes e = absurd cc
   field-back Bit (fields.Words text) bytes e = absurd cc

@@ -76,7 +76,7 @@ full bits bit (Bits more ∷ all) h = full-from bits (bit ∷ more) all h
 full bits bit (Bytes bytes ∷ all) h = full-from bits (bit ∷ []) (Bytes bytes ∷ all) h
 
 -- one more field in front
-pieces-other : (kind : FieldKind) (value : Field) (kinds : List FieldKind) (values : List Field) → bit_in kind value ≡ None
+pub pieces-other : (kind : FieldKind) (value : Field) (kinds : List FieldKind) (values : List Field) → bit_in kind value ≡ None
     → pieces (kind ∷ kinds) (value ∷ values) ≡ (field_bytes kind value >>= λ bytes. option_map (λ rest. Bytes bytes ∷ rest) (pieces kinds values))
 pieces-other Bit (fields.Bit bit) kinds values e = absurd cc
 pieces-other Bit (fields.Whole number) kinds values e = refl

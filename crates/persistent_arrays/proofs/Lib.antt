@@ -11,3 +11,5 @@ pub mod LayoutLemmas
 pub mod RunLemmas
 pub mod ArrayLemmas
 pub mod ValueLemmas
+pub mod PieceLemmas
+pub mod OwnLemmas

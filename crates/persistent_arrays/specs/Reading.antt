@@ -1,6 +1,6 @@
 -- Which values the bytes of a persistent array have (this project's own, after ARIB STD-B24, volume 2). What is read are
 -- whole runs of neighbouring bits, each from the top bit of a byte on, and other fields, each from a byte on.
-use Rattle.std.specs.Prelude.{◌/◌, ◌%◌, ◌==◌, ℕ, suc, Bool, List, [], ◌∷◌, ◌++◌, map, take, Option, Some, None, option_map}
+use Rattle.std.specs.Prelude.{◌≡◌, ◌/◌, ◌%◌, ◌==◌, ℕ, suc, Bool, List, [], ◌∷◌, ◌++◌, map, take, Option, Some, None, option_map}
 use Rattle.std.specs.List.{flat_map}
 use Rattle.std.specs.Int.{div_ceil}
 use Rattle.bml_bytes.specs.Fields.{◌>>=◌, byte_at, bytes_at}
@@ -59,3 +59,21 @@ values_of (run ∷ runs) bytes =
 -- the values of fields in the bytes of an array; none where a field passes the bytes' end
 abbrev pub unpacked : List FieldKind → List ℕ → Option (List Field)
 unpacked kinds bytes = values_of (runs kinds) bytes
+
+-- Bytes that spell the values of runs are those of each run, one run after another, with nothing left over. What a run of
+-- bits doesn't use of its last byte may be any.
+abbrev pub AreSpelled : List Run → List ℕ → List Field → Type 0
+AreSpelled [] bytes values = (bytes ≡ []) × (values ≡ [])
+AreSpelled (run ∷ runs) bytes values =
+    (front rest : List ℕ) × (first more : List Field) × (bytes ≡ front ++ rest)
+    × (values ≡ first ++ more) × (run_at run front ≡ Some (first, [])) × AreSpelled runs rest more
+
+-- these bytes spell these values of fields
+abbrev pub Spelled : List FieldKind → List ℕ → List Field → Type 0
+Spelled kinds = AreSpelled (runs kinds)
+
+-- a run with these values is read of bytes of its own, in front of the rest, whatever stands behind them
+pub record HasOwnBytes (run : Run) (bytes : List ℕ) (values : List Field) (rest : List ℕ) : Type 0 where
+  pub own : List ℕ
+  pub whole : bytes ≡ own ++ rest
+  pub read : (behind : List ℕ) → run_at run (own ++ behind) ≡ Some (values, behind)

@@ -2,3 +2,4 @@
 pub mod Spelling
 pub mod Packers
 pub mod Unpackers
+pub mod Structures

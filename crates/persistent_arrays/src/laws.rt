@@ -13,7 +13,7 @@ ghost use Rattle.persistent_arrays.specs.Arrays.{array_count, array_in, array_si
 ghost use Rattle.persistent_arrays.specs.Kept.{kept_value, kept_values};
 ghost use Rattle.persistent_arrays.specs.Names.{Names, array_named};
 ghost use Rattle.persistent_arrays.specs.Packing.{packed, packed_in_array, weighed};
-ghost use Rattle.persistent_arrays.specs.Reading.{bits_of, unpacked};
+ghost use Rattle.persistent_arrays.specs.Reading.{HasOwnBytes, Run, Spelled, bits_of, run_at, unpacked};
 ghost use Rattle.persistent_arrays.specs.Structures.{IsKind, Spells, structure_spelled};
 
 use bml_bytes::{law_of_big_numbers, law_of_fields};
@@ -33,9 +33,31 @@ pub fn law_of_array_names()
     ensures named { (name : List ℕ) (slot : ℕ) → (array_named name ≡ Some slot) ↔ Names name slot }
 {}
 
-/// What was packed is read again as it is kept: from the bytes, whatever stands behind them, and so from the array
-/// of an area that they were written to.
+/// A run is read of bytes of its own, whatever stands behind them.
+pub fn law_of_runs()
+    ensures { (run : Run) (bytes rest : List ℕ) (values : List Field) →
+        run_at run bytes ≡ Some (values, rest) → HasOwnBytes run bytes values rest }
+{
+    law_of_fields();
+}
+
+/// Bytes that spell values are read as these, whatever stands behind them; and what is read of bytes is spelled at their
+/// front.
+pub fn law_of_spelled_fields()
+    ensures read { (kinds : List FieldKind) (values : List Field) (bytes behind : List ℕ) →
+        Spelled kinds bytes values → unpacked kinds (bytes ++ behind) ≡ Some values }
+    ensures spelled { (kinds : List FieldKind) (values : List Field) (bytes : List ℕ) →
+        unpacked kinds bytes ≡ Some values →
+        (front behind : List ℕ) × (bytes ≡ front ++ behind) × Spelled kinds front values }
+{
+    law_of_runs();
+}
+
+/// What was packed is spelled by its bytes with nothing left over, and is read again as it is kept: from the bytes,
+/// whatever stands behind them, and so from the array of an area that they were written to.
 pub fn law_of_kept_fields()
+    ensures spelled { (kinds : List FieldKind) (values : List Field) (bytes : List ℕ) →
+        packed kinds values ≡ Some bytes → Spelled kinds bytes (kept_values kinds values) }
     ensures bytes { (kinds : List FieldKind) (values : List Field) (bytes behind : List ℕ) →
         packed kinds values ≡ Some bytes →
         unpacked kinds (bytes ++ behind) ≡ Some (kept_values kinds values) }

@@ -1,6 +1,6 @@
 //! Reading values from an array.
 
-ghost use Rattle.std.specs.Prelude.{◌≡◌, ◌↔◌, ◌<◌, ◌≤◌, ◌^◌, All, IsTrue, length, option_map, IfOk};
+ghost use Rattle.std.specs.Prelude.{◌≡◌, ◌↔◌, ◌<◌, ◌≤◌, ◌^◌, All, IsTrue, length, option_map, slice_get, IfOk};
 ghost use Rattle.bml_bytes.specs.Fields.{with_left};
 ghost use Rattle.bml_bytes.specs.Numbers.{big_number};
 ghost use Rattle.persistent_arrays.specs.Arrays.{array_count, array_in};
@@ -36,6 +36,29 @@ pub fn unpack(
         bytes: Cursor::new(array_of(area, slot)),
     };
     unpacker.fields(alloc, structure.kinds())
+}
+
+/// The value of the field at the front of bytes, and None exactly where the field, with the length that it tells, passes
+/// their end. A bit has no bytes of its own, so there is none.
+pub fn value_at(alloc: Global, kind: FieldKind, bytes: &[u8]) -> Result<Option<Field>, NoMemory>
+    requires { IsKind kind }
+    ensures { IfOk result (λ found. found
+        ≡ option_map (λ read. value_of_field kind read.0) (field_in kind bytes.now)) }
+{
+    let mut left = Cursor::new(bytes);
+    let Some(part) = field_at(kind, &mut left) else {
+        return Ok(None);
+    };
+    let value = field_value(alloc, kind, part)?;
+    Ok(Some(value))
+}
+
+/// A bit of a byte, counted from the top, and None past its eight bits. This takes no memory.
+pub fn bit_at(byte: u8, place: usize) -> Option<bool>
+    ensures { result ≡ slice_get (bits_of_byte byte) place }
+{
+    let bits = bits_of(byte);
+    bits.as_slice().get(place).copied()
 }
 
 // What is left of the bytes, and of the bits of an open byte.

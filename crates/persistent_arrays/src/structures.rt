@@ -1,8 +1,8 @@
 //! Which fields a persistent array has.
 
-ghost use Rattle.std.specs.Prelude.{◌≡◌, List, All, slice_get, IfOk, MatchOption};
+ghost use Rattle.std.specs.Prelude.{◌≡◌, ◌<◌, ◌^◌, ◌++◌, ◌∷◌, [], List, All, length, slice_get, IfOk, MatchOption};
 ghost use Rattle.persistent_arrays.specs.declared.kinds.FieldKind.{FieldKind};
-ghost use Rattle.persistent_arrays.specs.Structures.{IsKind, Spells, structure_spelled};
+ghost use Rattle.persistent_arrays.specs.Structures.{IsKind, IsStructure, Spells, structure_spelled};
 
 use crate::kinds::{FieldKind, read_kind};
 use crate::spelling::next_code;
@@ -10,7 +10,10 @@ use bml_bytes::{NoMemory, Text};
 use std::alloc::Global;
 use std::marker::Model;
 
-/// The fields of a persistent array, one at least. Contracts see the list of their kinds.
+// How many fields a structure may have. A text that spells more is longer than any that memory has room for.
+const MOST_FIELDS: usize = 0xFFFF_FFFF;
+
+/// The fields of a persistent array, one at least and fewer than 2^32. Contracts see the list of their kinds.
 #[derive(Debug, Drop)]
 pub struct Structure {
     kinds: Vec<FieldKind>,
@@ -19,17 +22,18 @@ pub struct Structure {
 impl Model for Structure {
     ghost use Rattle.std.specs.Prelude.{List};
     ghost use Rattle.persistent_arrays.specs.declared.kinds.FieldKind.{FieldKind};
-    ghost use Rattle.persistent_arrays.specs.Structures.{IsStructure};
+    ghost use Rattle.persistent_arrays.specs.devices.Structures.{IsCounted};
 
     ghost Value = { List FieldKind };
 
     ghost view = { λ structure. structure.kinds.items };
 
-    ghost invariant = { λ structure. IsStructure structure.kinds.items };
+    ghost invariant = { λ structure. IsCounted structure.kinds.items };
 }
 
 impl Structure {
-    /// The structure that a text spells, and None exactly where it spells none.
+    /// The structure that a text spells, and None exactly where it spells none. For one of 2^32 fields or more there is
+    /// no memory.
     pub fn read(alloc: Global, text: &Text) -> Result<Option<Structure>, NoMemory>
         ensures spells { IfOk result (λ found. MatchOption found
             ((kinds : List FieldKind) → ¬ Spells text.now kinds)
@@ -39,7 +43,7 @@ impl Structure {
         let mut kinds = Vec::new(alloc);
         let mut left = text.codes();
         'kinds: while let Some((kind, behind)) = read_kind(left) {
-            kinds.push(kind)?;
+            push_kind(kind, &mut kinds)?;
             let Some((comma, next)) = next_code(behind) else {
                 return Ok(Some(Structure { kinds }));
             };
@@ -62,7 +66,21 @@ impl Structure {
     pub fn kinds(&self) -> &[FieldKind]
         ensures kinds { result.now ≡ self.now }
         ensures sizes { All IsKind result.now }
+        ensures structure { IsStructure result.now }
+        ensures few { length result.now < 2 ^ 32 }
     {
         self.kinds.as_slice()
     }
+}
+
+// Adds a kind to those of a structure.
+fn push_kind(kind: FieldKind, kinds: &mut Vec<FieldKind>) -> Result<(), NoMemory>
+    ensures items { IfOk result (λ _. kinds.new.items ≡ kinds.old.items ++ kind ∷ []) }
+    ensures few { IfOk result (λ _. length kinds.new.items < 2 ^ 32) }
+{
+    if kinds.len() >= MOST_FIELDS {
+        return Err(NoMemory);
+    }
+    kinds.push(kind)?;
+    Ok(())
 }

@@ -1,5 +1,5 @@
 -- What is kept of a broadcast, behind one step more.
-use Rattle.std.proofs.Common.{◌≡◌, ℕ, Bool, true, false, cond, List, [], ◌∷◌, ◌++◌, refl, sym, ap, ap₂, ◌∙◌, subst, append-nil, append_assoc}
+use Rattle.std.proofs.Common.{◌≡◌, ℕ, ℤ, Bool, true, false, cond, List, [], ◌∷◌, ◌++◌, refl, sym, ap, ap₂, ◌∙◌, subst, append-nil, append_assoc}
 use Rattle.std.specs.Prelude.{◌↔◌, AllPairs, OnOk, Option, Some, None, Result, Ok, Err}
 use Rattle.std.specs.List.{flat_map, range_with_len}
 use Rattle.bml_bytes.specs.declared.refusals.TableFault.{TableFault}
@@ -20,7 +20,7 @@ use Rattle.module_locks.specs.Locks.{Modules, at_start, changes_by, with_map, wi
 use Rattle.module_locks.specs.Standing.{ForModules, ModulesState}
 use Rattle.module_locks.specs.Standing as of_modules
 use Rattle.page.specs.Dispatches as dispatches
-use Rattle.page.specs.Inputs.{display_of, messages_step, with_random}
+use Rattle.page.specs.Inputs.{messages_step, with_date, with_random}
 use Rattle.page.specs.Standing.{PageState, page_area}
 use Rattle.page.specs.Standing as pages
 use Rattle.page.specs.State as paging
@@ -29,9 +29,11 @@ use Rattle.receiver_core.specs.BroadcastCalls.{MakesInput}
 use Rattle.receiver_core.specs.Broadcasts.{BroadcastState, HasMade, HasOutcome, Makes, StandsFor}
 use Rattle.receiver_core.specs.Outputs.{Piece, with_piece}
 use Rattle.receiver_core.specs.State.{State, opening, services, wants}
-use Rattle.receiver_core.specs.Turns.{Step, due_turn, key_turn, messages_of_reading, of_page, page_turn, section_messages, step_of_component, step_of_modules, step_of_section, step_of_table, step_of_tag, turn}
+use Rattle.receiver_core.specs.Turns.{Step, display_step, due_turn, key_turn, messages_of_reading, of_page, page_turn, rows_step, section_messages, step_of_component, step_of_modules, step_of_section, step_of_table, step_of_tag, turn}
 use Rattle.receiver_core.specs.Turns.{with_changes, with_handled, with_messages, with_modules, with_turn}
 use Rattle.receiver_core.specs.declared.broadcast.Input.TheVariants as handed
+use Rattle.text_lines.specs.RowLines.{with_rows}
+use Rattle.text_lines.specs.declared.row_lines.Align.{Align}
 use Rattle.receiver_core.proofs.PostingLaws.{in_component}
 
 same_services : (a b : ServicesState) → a.selection ≡ b.selection → a.service ≡ b.service → a.map ≡ b.map → a ≡ b
@@ -163,14 +165,41 @@ release_made key old new before after made = record {
 }
 
 pub shown : (old new : BroadcastState) (before after : List ℕ)
-    → Makes (λ s. record { state = s; text = display_of s.page }) old new before after
-    → MakesInput handed.Show old new before after
+    → Makes display_step old new before after → MakesInput handed.Show old new before after
 shown old new before after made = record {
   text = made.text;
   printed = made.printed;
   area = λ silent. absurd silent;
   gives = λ s stands.
-      has_piece new made.text (record { state = s; text = display_of s.page }) (made.makes s stands);
+      has_piece new made.text (display_step s) (made.makes s stands);
+}
+
+-- the lines of a display list, which come alone, and those with their rows
+pub rows_made : (spacing : ℕ) (align : Align) (old new : BroadcastState)
+    (first lines read before after : List ℕ)
+    → first ≡ [] → Makes display_step old new first lines
+    → read ≡ lines → after ≡ before ++ with_rows spacing align read
+    → Makes (rows_step spacing align) old new before after
+rows_made spacing align old new first lines read before after none made same added = record {
+  text = with_rows spacing align made.text;
+  printed =
+      added
+      ∙ ap (λ (l : List ℕ). before ++ with_rows spacing align l)
+      (same ∙ made.printed ∙ ap (λ (l : List ℕ). l ++ made.text) none);
+  makes = λ s stands.
+      let its = made.makes s stands in
+      record { stands = its.stands; text_is = ap (with_rows spacing align) its.text_is };
+}
+
+pub rows_shown : (spacing : ℕ) (align : Align) (old new : BroadcastState) (before after : List ℕ)
+    → Makes (rows_step spacing align) old new before after
+    → MakesInput (handed.Rows spacing align) old new before after
+rows_shown spacing align old new before after made = record {
+  text = made.text;
+  printed = made.printed;
+  area = λ silent. absurd silent;
+  gives = λ s stands.
+      has_piece new made.text (rows_step spacing align s) (made.makes s stands);
 }
 
 pub random_added : (word : ℕ) (old : BroadcastState) (page : PageState) (before : List ℕ)
@@ -186,6 +215,29 @@ random_added word old page before added same = record {
     pieces_are = refl;
   };
 }
+
+-- (the day was handed on as a number of 32 bits)
+pub dated : (day told : ℤ) → told ≡ day → (second : ℕ) (old : BroadcastState) (page : PageState) (before : List ℕ)
+    → ((modules : ModulesState) (s : paging.State) → pages.StandsFor old.page modules s → pages.StandsFor page modules (with_date told second s))
+    → page_area page ≡ page_area old.page
+    → MakesInput (handed.Date day second) old (with_page old page) before before
+dated day told is second old page before sets same = record {
+  text = [];
+  printed = sym (append-nil before);
+  area = λ silent. same;
+  gives = λ s stands. record {
+    stands = stands_with old page s (with_date day second s.page) stands
+        (subst (λ (z : ℤ). pages.StandsFor page old.modules (with_date z second s.page)) is (sets old.modules s.page stands.page));
+    pieces_are = refl;
+  };
+}
+
+-- a date that was handed on so
+pub date_made : {day told : ℤ} → told ≡ day → (second : ℕ) (old new : BroadcastState) (text : List ℕ)
+    → MakesInput (handed.Date told second) old new text text
+    → MakesInput (handed.Date day second) old new text text
+date_made is second old new text made =
+    subst (λ (z : ℤ). MakesInput (handed.Date z second) old new text text) is made
 
 -- ---- changes that are posted
 

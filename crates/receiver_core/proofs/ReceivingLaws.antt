@@ -1,5 +1,5 @@
 -- What a receiver stands for, behind one input or one section more.
-use Rattle.std.proofs.Common.{◌≡◌, ◌≢◌, ◌≤◌, ◌<◌, ◌-◌, ◌⊎◌, ℕ, suc, Bool, true, false, cond, eqb, List, [], ◌∷◌, ◌++◌, refl, sym, ap, ap₂, ◌∙◌, subst, append_assoc, append-nil, arith, length, filter, ⊎_elim, inl, inr, true≢false}
+use Rattle.std.proofs.Common.{◌≡◌, ◌≢◌, ◌≤◌, ◌<◌, ◌-◌, ◌⊎◌, ℕ, ℤ, suc, Bool, true, false, cond, eqb, List, [], ◌∷◌, ◌++◌, refl, sym, ap, ap₂, ◌∙◌, subst, append_assoc, append-nil, arith, length, filter, ⊎_elim, inl, inr, true≢false}
 use Rattle.std.specs.Prelude.{◌&&◌, if◌then◌else◌}
 use Rattle.std.proofs.lemmas.Bool.{eqb-true, ne_eqb, eq-eqb, cases_eq}
 use Rattle.ts_packets.specs.Packet.{pid_of}
@@ -23,7 +23,7 @@ use Rattle.receiver_core.specs.Outputs.{Input, Piece, input_of, outcome_of, outp
 use Rattle.receiver_core.specs.Outputs.{state_after, state_behind, state_behind_turns, with_packet}
 use Rattle.receiver_core.specs.Receiving.{Answers, Gives, IsIdle, IsOver, MakesDueTurn, MakesTurn, PassesDamaged, PassesTime, ReceiverState, StandsFor, Stays, Takes, piece_for}
 use Rattle.receiver_core.specs.State.{State, opening, services}
-use Rattle.receiver_core.specs.Outputs.Input.{Packet, Random, Tick}
+use Rattle.receiver_core.specs.Outputs.Input.{Date, Packet, Random, Tick}
 use Rattle.receiver_core.specs.Turns.{turn}
 use Rattle.receiver_core.specs.State as state_of
 use Rattle.receiver_core.proofs.OutputLaws.{behind_one_more, no_outputs, outputs_one_more}
@@ -125,7 +125,9 @@ keeps_packets : (input : HandedIn) (s : State) → (state_after (input_of input)
 keeps_packets (handed.Key key) s = key_packets key true s
 keeps_packets (handed.Release key) s = key_packets key false s
 keeps_packets (handed.Random word) s = refl
+keeps_packets (handed.Date day second) s = refl
 keeps_packets handed.Show s = refl
+keeps_packets (handed.Rows spacing align) s = refl
 
 -- what the broadcast makes of it is the receiver's answer
 pub answers : (input : HandedIn) (d : DemultiplexerState) (b c : BroadcastState) (spent still : Bool)
@@ -166,6 +168,14 @@ pub takes_random : (word : ℕ) (old new : ReceiverState) (before after : List �
 takes_random word old new before after idle made read selection area inputs given s =
     subst (λ (l : List Piece). StandsFor read selection area new (inputs ++ Random word ∷ []) l) (append-nil given)
     (made.taken idle read selection area inputs given s)
+
+-- nor does a date
+pub takes_date : (day : ℤ) (second : ℕ) (d : DemultiplexerState) (b c : BroadcastState) (spent : Bool) → IsIdle (seen d b spent)
+    → MakesInput (handed.Date day second) b c [] [] → Takes (Date day second) (seen d b spent) (seen d c spent)
+takes_date day second d b c spent idle made read selection area inputs given s =
+    subst (λ (l : List Piece). StandsFor read selection area (seen d c spent) (inputs ++ Date day second ∷ []) l) (append-nil given)
+    (took (Date day second) [] d b c spent spent read selection area inputs given s s.unspent (idle s.unspent) (made.gives s.now s.kept.broadcast)
+    (keeps_packets (handed.Date day second) s.now))
 
 -- ---- time
 

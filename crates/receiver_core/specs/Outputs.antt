@@ -1,16 +1,17 @@
 -- What comes to a receiver, and what it prints for that: a list of pieces, one for each turn and one
 -- for each display list that is asked for. (This project's own.)
-use Rattle.std.specs.Prelude.{ℕ, zero, suc, ◌+◌, ◌==◌, nat_le, Bool, true, false, ◌&&◌, if◌then◌else◌, List, [], ◌∷◌, ◌++◌, filter, map}
+use Rattle.std.specs.Prelude.{ℕ, ℤ, zero, suc, ◌+◌, ◌==◌, nat_le, Bool, true, false, ◌&&◌, if◌then◌else◌, List, [], ◌∷◌, ◌++◌, filter, map}
 use Rattle.std.specs.Option.{option_map_or}
 use Rattle.ts_packets.specs.Packet.{pid_of}
 use Rattle.ts_sections.specs.Sections.{completed_by}
 use Rattle.ts_sections.specs.Intact.{is_intact}
 use Rattle.psi_tables.specs.declared.services.Selection.{Selection}
 use Rattle.es_reader.specs.Readers.{Reader}
-use Rattle.page.specs.Inputs.{display_of, due_next, with_clock, with_random}
+use Rattle.page.specs.Inputs.{due_next, with_clock, with_date, with_random}
 use Rattle.page.specs.State.{area_of}
+use Rattle.text_lines.specs.declared.row_lines.Align.{Align}
 use Rattle.receiver_core.specs.State.{State, opening, wants}
-use Rattle.receiver_core.specs.Turns.{Step, due_turn, key_turn, turn}
+use Rattle.receiver_core.specs.Turns.{Step, display_step, due_turn, key_turn, rows_step, turn}
 use Rattle.receiver_core.specs.declared.broadcast.Input.{Input as HandedIn}
 use Rattle.receiver_core.specs.declared.broadcast.Input.TheVariants as handed
 
@@ -24,15 +25,21 @@ pub data Input : Type 0 where
   Tick : ℕ → Input
   -- a random word
   Random : ℕ → Input
+  -- it is now this second of this day, which is counted from 1970-01-01
+  Date : ℤ → ℕ → Input
   -- the wish to see what is displayed
   Show : Input
+  -- the same with the rows of its texts: so much space between two codes, and where rows stand
+  Rows : ℕ → Align → Input
 
 -- the input that a call hands in whole; packets and time are handed in by themselves
 abbrev pub input_of : HandedIn → Input
 input_of (handed.Key key) = Key key
 input_of (handed.Release key) = Release key
 input_of (handed.Random word) = Random word
+input_of (handed.Date day second) = Date day second
 input_of handed.Show = Show
+input_of (handed.Rows spacing align) = Rows spacing align
 
 -- a text, and the persistent area behind it
 pub record Piece : Type 0 where
@@ -121,7 +128,7 @@ time_passes (suc more) s = followed_by (reaches (s.page.clock + 1) s) (time_pass
 -- ---- all of them
 
 -- A packet makes the turns of the intact sections that it completes, and a key makes one turn. So does each moment when
--- timers are due. Nothing is printed for a random word.
+-- timers are due. Nothing is printed for a random word, nor for a date.
 abbrev pub outcome_of : Input → State → Outcome
 outcome_of (Packet packet) s = record {
   state = state_behind_turns (pid_of packet) (intact_sections packet s) (with_packet packet s);
@@ -131,7 +138,9 @@ outcome_of (Key key) s = with_piece (key_turn key true s)
 outcome_of (Release key) s = with_piece (key_turn key false s)
 outcome_of (Tick count) s = time_passes count s
 outcome_of (Random word) s = without_piece (record s { page = with_random word s.page })
-outcome_of Show s = with_piece (record { state = s; text = display_of s.page })
+outcome_of (Date day second) s = without_piece (record s { page = with_date day second s.page })
+outcome_of Show s = with_piece (display_step s)
+outcome_of (Rows spacing align) s = with_piece (rows_step spacing align s)
 
 -- what one input prints, and what it leaves
 abbrev pub pieces_of : Input → State → List Piece

@@ -1,6 +1,6 @@
 -- What a receiver stands for: what came to it so far, and the pieces that it gave for that. (This
 -- project's own.)
-use Rattle.std.specs.Prelude.{◌≡◌, ℕ, ◌+◌, max, min, Bool, true, false, if◌then◌else◌, List, []}
+use Rattle.std.specs.Prelude.{◌≡◌, ◌<◌, ℕ, ◌+◌, ℤ, pos, ◌≤ℤ◌, max, min, Bool, true, false, if◌then◌else◌, List, []}
 use Rattle.std.specs.Prelude.{◌∷◌, ◌++◌, filter, length}
 use Rattle.std.specs.Option.{option_map_or}
 use Rattle.ts_sections.specs.Intact.{is_intact}
@@ -127,19 +127,45 @@ pub record MakesTurn (old new : ReceiverState) (before after : List ℕ) : Type 
   pub printed : after ≡ before ++ text
   pub gives : Gives text old new
 
--- nothing is printed for it: for a random word
+-- the last day that may be told: 2399-12-31, counted from 1970-01-01
+abbrev pub last_day : ℕ
+last_day = 157053
+
+-- the seconds of a day
+abbrev pub day_length : ℕ
+day_length = 86400
+
+-- a day of the years 1970 to 2399, and a second of it
+abbrev pub IsDate : ℤ → ℕ → Type 0
+IsDate day second = (pos 0 ≤ℤ day) × (day ≤ℤ pos last_day) × (second < day_length)
+
+-- it may be handed in: a date is such a day and second
+abbrev pub MayCome : HandedIn → Type 0
+MayCome (handed.Key key) = Unit {0}
+MayCome (handed.Release key) = Unit {0}
+MayCome (handed.Random word) = Unit {0}
+MayCome (handed.Date day second) = IsDate day second
+MayCome handed.Show = Unit {0}
+MayCome (handed.Rows spacing align) = Unit {0}
+
+-- nothing is printed for it: for a random word, and for a date
 abbrev pub IsSilent : HandedIn → Type 0
 IsSilent (handed.Key key) = ⊥
 IsSilent (handed.Release key) = ⊥
 IsSilent (handed.Random word) = Unit {0}
+IsSilent (handed.Date day second) = Unit {0}
 IsSilent handed.Show = ⊥
+IsSilent (handed.Rows spacing align) = ⊥
 
--- the piece that an input gave: this text, with the area behind it. A random word gives none.
+-- the piece that an input gave: this text, with the area behind it. A random word and a date give
+-- none.
 abbrev pub piece_for : HandedIn → List ℕ → List ℕ → List Piece
 piece_for (handed.Key key) text area = record { text = text; area = area } ∷ []
 piece_for (handed.Release key) text area = record { text = text; area = area } ∷ []
 piece_for (handed.Random word) text area = []
+piece_for (handed.Date day second) text area = []
 piece_for handed.Show text area = record { text = text; area = area } ∷ []
+piece_for (handed.Rows spacing align) text area = record { text = text; area = area } ∷ []
 
 -- An input gave its piece, whose text is printed: that of the state that the turns so far left.
 -- Where no turn was still to come, the receiver took the input, and gave this piece for it. An

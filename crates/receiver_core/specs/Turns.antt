@@ -1,4 +1,4 @@
--- What intact sections, keys and moments change, with the turns that follow. (This project's own.)
+-- What intact sections, keys and moments change, with the turns that follow; and what is displayed. (This project's own.)
 use Rattle.std.specs.Prelude.{ℕ, Bool, if◌then◌else◌, List, [], ◌∷◌, ◌++◌, map, Option, Some, None, Result, Ok, Err}
 use Rattle.bml_bytes.specs.declared.refusals.TableFault.{TableFault}
 use Rattle.psi_tables.specs.Components.{tag_in}
@@ -9,8 +9,10 @@ use Rattle.event_messages.specs.declared.messages.Message.{Message}
 use Rattle.module_locks.specs.Locks.{Modules, changes_by, with_map, with_section}
 use Rattle.module_store.specs.Store.{gone_by}
 use Rattle.page.specs.Dispatches as dispatches
-use Rattle.page.specs.Inputs.{changes_step, due_step, key_step, messages_step}
+use Rattle.page.specs.Inputs.{changes_step, display_of, due_step, key_step, messages_step}
 use Rattle.page.specs.State as page
+use Rattle.text_lines.specs.RowLines.{with_rows}
+use Rattle.text_lines.specs.declared.row_lines.Align.{Align}
 use Rattle.receiver_core.specs.State.{State, services, wants}
 
 -- a step: the state that it leaves, and what it prints
@@ -106,3 +108,14 @@ key_turn key down s = with_turn (of_page s (key_step key down s.page))
 -- that of a moment, which the clock reaches, and when timers are due
 unfoldable pub due_turn : ℕ → State → Step
 due_turn moment s = with_turn (of_page s (due_step moment s.page))
+
+-- ---- the display
+
+-- the display list, which changes nothing
+abbrev pub display_step : State → Step
+display_step s = record { state = s; text = display_of s.page }
+
+-- the display list with the rows of its texts, so much space between two codes
+abbrev pub rows_step : ℕ → Align → State → Step
+rows_step spacing align s =
+    record { state = s; text = with_rows spacing align (display_step s).text }

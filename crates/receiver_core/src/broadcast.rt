@@ -1,7 +1,8 @@
 //! The broadcast that is received, with its tables, its modules and its page; and what comes to it
 //! beside sections.
 
-ghost use Rattle.std.specs.Prelude.{◌≡◌, ◌≤◌, ◌<◌, ◌+◌, ◌^◌, false, length, map, IfOk, OnOk};
+ghost use Rattle.std.specs.Prelude.{◌≡◌, ◌≤◌, ◌<◌, ◌+◌, ◌^◌, ℕ, List, false, length, map};
+ghost use Rattle.std.specs.Prelude.{IfOk, OnOk};
 ghost use Rattle.std.specs.Io.{StartsWith};
 ghost use Rattle.psi_tables.specs.Service.{reads_table};
 ghost use Rattle.es_reader.specs.Readers.{Reader, IsReader};
@@ -9,11 +10,11 @@ ghost use Rattle.page.specs.Inputs.{messages_step};
 ghost use Rattle.page.specs.Standing.{Makes as page_makes, Posts, page_area};
 ghost use Rattle.receiver_core.specs.BroadcastCalls.{MakesInput, PassesTime, Stops};
 ghost use Rattle.receiver_core.specs.Broadcasts.{Makes, StandsFor};
-ghost use Rattle.receiver_core.specs.Receiving.{IsSilent};
+ghost use Rattle.receiver_core.specs.Receiving.{IsDate, IsSilent, MayCome};
 ghost use Rattle.receiver_core.specs.State.{opening};
-ghost use Rattle.receiver_core.specs.Turns.{due_turn, key_turn, of_page, page_turn, section_messages};
-ghost use Rattle.receiver_core.specs.Turns.{step_of_component, step_of_modules, step_of_section, step_of_table};
-ghost use Rattle.receiver_core.specs.Turns.{turn, with_handled};
+ghost use Rattle.receiver_core.specs.Turns.{due_turn, key_turn, of_page, page_turn, rows_step};
+ghost use Rattle.receiver_core.specs.Turns.{section_messages, step_of_component, step_of_modules};
+ghost use Rattle.receiver_core.specs.Turns.{step_of_section, step_of_table, turn, with_handled};
 
 use bml_bytes::{AreaBytes, NoMemory, TableRefusal, law_of_fronts};
 use event_messages::{Message, law_of_messages, read_messages};
@@ -22,6 +23,7 @@ use page::{Page, law_of_posted_changes};
 use psi_tables::{Selection, Services, law_of_component_map, law_of_unread_sections};
 use std::alloc::Global;
 use std::marker::Model;
+use text_lines::{Align, add_rows};
 
 /// An input that is handed in whole: each but packets, whose sections have their turns one by one,
 /// and time, which stops at each turn.
@@ -33,8 +35,12 @@ pub enum Input {
     Release(u8),
     /// A random word, which waits behind those that are left.
     Random(u32),
+    /// It is now this second, 0 to 86,399, of this day, 0 to 157,053, which is counted from 1970-01-01.
+    Date(i32, u32),
     /// The wish to see what is displayed.
     Show,
+    /// The wish to see it with the rows of its texts, each with so many pixels between two codes.
+    Rows(u32, Align),
 }
 
 /// Makes the turns of intact sections, and takes the other inputs.
@@ -108,6 +114,7 @@ impl Broadcast {
     /// Takes an input that is handed in whole, and appends what it prints. After `NoMemory` nothing
     /// is said of it, and what was appended stops anywhere.
     pub fn input(&mut self, input: Input, out: &mut Vec<u8>) -> Result<(), NoMemory>
+        requires { MayCome input }
         ensures makes { OnOk result (MakesInput input
             self.old self.new out.old.items out.new.items) }
         ensures services { self.new.services ≡ self.old.services }
@@ -119,8 +126,25 @@ impl Broadcast {
             Input::Key(code) => self.key_turn(code, true, out),
             Input::Release(code) => self.key_turn(code, false, out),
             Input::Random(word) => self.page.add_random(word),
+            Input::Date(day, second) => {
+                self.set_date(day, second);
+                Ok(())
+            }
             Input::Show => self.page.show(out),
+            Input::Rows(spacing, align) => self.show_rows(spacing, align, out),
         }
+    }
+
+    /// It is now this second of this day, for scripts that ask. Prints nothing and makes no turn.
+    pub fn set_date(&mut self, day: i32, second: u32)
+        requires { IsDate day second }
+        ensures makes { (text : List ℕ)
+            → MakesInput (Input.Date day second) self.old self.new text text }
+        ensures services { self.new.services ≡ self.old.services }
+        ensures area { page_area self.new.page ≡ page_area self.old.page }
+        ensures clock { self.new.page.clock ≡ self.old.page.clock }
+    {
+        self.page.set_date(day, second);
     }
 
     // Makes the turn of a key that is pressed (`down`) or released.
@@ -134,6 +158,19 @@ impl Broadcast {
     {
         self.page.post_key(code, down, out)?;
         self.page_turn(out)
+    }
+
+    // Appends the display list with the rows of its texts.
+    fn show_rows(&mut self, spacing: u32, align: Align, out: &mut Vec<u8>) -> Result<(), NoMemory>
+        ensures makes { OnOk result (Makes (rows_step spacing align)
+            self.old self.new out.old.items out.new.items) }
+        ensures services { self.new.services ≡ self.old.services }
+        ensures clock { self.new.page.clock ≡ self.old.page.clock }
+        ensures grows { StartsWith out.new.items out.old.items }
+    {
+        let mut lines = Vec::new(self.alloc);
+        self.page.show(&mut lines)?;
+        add_rows(&lines, spacing, align, out)
     }
 
     /// Lets time pass, to the first moment when timers are due, whose turn it makes, or else to the

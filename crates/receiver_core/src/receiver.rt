@@ -55,11 +55,11 @@ impl Model for Receiver {
 }
 
 impl Receiver {
-    ghost use Rattle.receiver_core.specs.Receiving.{Answers, ForState, IsIdle, IsOver, IsSilent};
-    ghost use Rattle.receiver_core.specs.Receiving.{MakesDueTurn, MakesTurn, PassesDamaged};
-    ghost use Rattle.receiver_core.specs.Receiving.{PassesTime, Spends, StandsFor, Stays, Takes};
-    ghost use Rattle.receiver_core.specs.Receiving.{next_stop, sections_left};
-    ghost use Rattle.receiver_core.specs.Outputs.Input.{Random as ARandom};
+    ghost use Rattle.receiver_core.specs.Receiving.{Answers, ForState, IsDate, IsIdle, IsOver};
+    ghost use Rattle.receiver_core.specs.Receiving.{IsSilent, MakesDueTurn, MakesTurn, MayCome};
+    ghost use Rattle.receiver_core.specs.Receiving.{PassesDamaged, PassesTime, Spends, StandsFor};
+    ghost use Rattle.receiver_core.specs.Receiving.{Stays, Takes, next_stop, sections_left};
+    ghost use Rattle.receiver_core.specs.Outputs.Input.{Date as ADate, Random as ARandom};
     ghost use Rattle.receiver_core.specs.declared.broadcast.Input.TheVariants.{Key, Release, Show};
 
     /// A receiver of the service or the data that is asked for, with this persistent area, to which
@@ -165,6 +165,7 @@ impl Receiver {
     /// most. All but the wish to see the display ask that no turn is still to come.
     pub fn input(&mut self, input: Input, out: &mut Vec<u8>) -> Result<(), NoMemory>
         requires idle { input ≢ Show → IsIdle self.old }
+        requires may_come { MayCome input }
         ensures answers { OnOk result
             (Answers input self.old self.new out.old.items out.new.items) }
         ensures stays { OnOk result (input ≡ Show → Stays self.old self.new) }
@@ -255,6 +256,20 @@ impl Receiver {
     {
         let mut silence = Vec::new(self.alloc);
         self.input(Input::Random(word), &mut silence)
+    }
+
+    /// It is now this second, 0 to 86,399, of this day, 0 to 157,053, which is counted from 1970-01-01.
+    /// This prints nothing, makes no turn and takes no memory.
+    pub fn date(&mut self, day: i32, second: u32)
+        requires idle { IsIdle self.old }
+        requires date { IsDate day second }
+        ensures taken { Takes (ADate day second) self.old self.new }
+        ensures idle { IsIdle self.new }
+        ensures spent { self.new.spent ≡ self.old.spent }
+        ensures clock { self.new.clock ≡ self.old.clock }
+        ensures area { self.new.area ≡ self.old.area }
+    {
+        self.broadcast.set_date(day, second);
     }
 
     /// Appends the display list: `show` with the time, and the boxes, texts and pictures of the

@@ -1,21 +1,30 @@
 -- What line is an item, and what line asks for nothing.
 use Rattle.std.proofs.Common.{◌≡◌, ◌≢◌, ℕ, ◌≤◌, inl, inr, ◌⊎◌, Bool, true, false, cond, ◌&&◌}
 use Rattle.std.proofs.Common.{nat_le, List, [], ◌∷◌, codes, length, Option, Some, None}
-use Rattle.std.proofs.Common.{option_and_then, refl, sym, ap, subst, ◌∙◌, arith, eqb-true}
+use Rattle.std.proofs.Common.{option_and_then, refl, sym, ap, ap₂, subst, ◌∙◌, arith, eqb-true}
 use Rattle.std.proofs.Common.{leb-true, le-leb}
+use Rattle.std.proofs.lemmas.Bool.{lt-ltb, ltb-true}
+use Rattle.std.proofs.lemmas.Int.{ints}
 use Rattle.std.proofs.lemmas.Bool.{and_from, and_parts}
+use Rattle.std.specs.Prelude.{ℤ, pos, ◌≤ℤ◌, nat_lt, option_map}
 use Rattle.std.proofs.lemmas.Option.{cond_some, none-some, same_Some, option_and_then_some}
 use Rattle.std.specs.Cmp.Lexicographic.{bytes_decides}
 use Rattle.bml_bytes.specs.Numerals.{decimal_field}
 use Rattle.bml_bytes.specs.Words.{is_same}
-use Rattle.receiver_core.specs.declared.broadcast.Input.TheVariants.{Key, Release, Random, Show}
+use Rattle.receiver_core.specs.declared.broadcast.Input.TheVariants.{Date, Key, Release, Random}
+use Rattle.receiver_core.specs.declared.broadcast.Input.TheVariants.{Rows, Show}
+use Rattle.receiver_core.specs.Receiving.{IsDate, day_length, last_day}
+use Rattle.text_lines.specs.declared.row_lines.Align.{Align}
+use Rattle.text_lines.specs.declared.row_lines.Align.TheVariants.{Left, Center, Right}
 use Rattle.replay_run.specs.declared.record.RecordItem.{RecordItem}
 use Rattle.replay_run.specs.declared.record.RecordItem.TheVariants.{All, Packets, Tick, Input}
 use Rattle.replay_run.specs.declared.record.Line.{Line}
 use Rattle.replay_run.specs.declared.record.Line.TheVariants.{Item as Read, Nothing, Bad}
 use Rattle.replay_run.specs.Record.{fields, is_key, tick_limit, item_where, numbered_item}
 use Rattle.replay_run.specs.Record.{plain_item, item_of, item_line, is_comment, line_with, line_of}
-use Rattle.replay_run.specs.Record.{HasNumber, IsWritten, AsksNothing}
+use Rattle.replay_run.specs.Record.{align_of, align_word, date_item, longer_item, rows_item}
+use Rattle.replay_run.specs.Record.{spacing_limit, worded_item}
+use Rattle.replay_run.specs.Record.{AskForRows, HasNumber, IsWritten, AsksNothing, TellDate}
 
 -- ---- from how it is written
 
@@ -32,6 +41,49 @@ number_written name count item words w plain e =
 
 item_at : (test : Bool) (item : RecordItem) → test ≡ true → item_where test item ≡ Some item
 item_at test item e = ap (λ b. item_where b item) e
+
+align_read : (align : Align) → align_of (align_word align) ≡ Some align
+align_read Left = refl
+align_read Center = refl
+align_read Right = refl
+
+-- a line that asks for rows
+rows_written : (spacing : ℕ) (align : Align) (words : List (List ℕ))
+    → AskForRows spacing align words → spacing ≤ spacing_limit
+    → line_with words ≡ Read (Input (Rows spacing align))
+rows_written spacing align words w within =
+    ap line_with w.1
+    ∙ ap (λ o. item_line
+    (option_and_then (λ n. longer_item (codes "rows") n (align_word align)) o)) w.2
+    ∙ ap (λ o. item_line (option_and_then (rows_item spacing) o)) (align_read align)
+    ∙ ap item_line (item_at (nat_le spacing spacing_limit) (Input (Rows spacing align))
+    (le-leb spacing spacing_limit within))
+
+-- the number of a day
+day_number : (field : Option ℕ) (day : ℤ) → option_map pos field ≡ Some day
+    → (number : ℕ) × (field ≡ Some number) × (pos number ≡ day)
+day_number None day e = absurd (none-some day e)
+day_number (Some number) day e = (number, refl, same_Some (pos number) day e)
+
+small_day : (number : ℕ) (day : ℤ) → pos number ≡ day → day ≤ℤ pos last_day → number ≤ last_day
+small_day number day same within =
+    let bound : pos number ≤ℤ pos last_day = subst (λ z. z ≤ℤ pos last_day) (sym same) within in
+    omega (arith, ints, bound)
+
+-- a line that tells a date
+date_written : (day : ℤ) (second : ℕ) (words : List (List ℕ)) → TellDate day second words
+    → IsDate day second → line_with words ≡ Read (Input (Date day second))
+date_written day second words (first, last, written, is_day, is_second) within =
+    let number = day_number (decimal_field first) day is_day in
+    ap line_with written
+    ∙ ap (λ o. item_line (option_and_then (λ n. longer_item (codes "date") n last) o)) number.1
+    ∙ ap (λ o. item_line (option_and_then (date_item number.0) o)) is_second
+    ∙ ap item_line
+    (item_at (nat_le number.0 last_day && nat_lt second day_length)
+    (Input (Date (pos number.0) second))
+    (and_from _ _ (le-leb number.0 last_day (small_day number.0 day number.2 within.1))
+    (lt-ltb second day_length within.2)))
+    ∙ ap (λ z. Read (Input (Date z second))) number.2
 
 written : (item : RecordItem) (words : List (List ℕ)) → IsWritten item words → line_with words
     ≡ Read item
@@ -51,7 +103,9 @@ written (Tick count) words w =
     (and_from _ _ (le-leb 1 count (omega (arith, w.1))) (le-leb count tick_limit w.2)))
 written (Input (Random word)) words w =
     number_written (codes "random") word (Input (Random word)) words w refl refl
+written (Input (Date day second)) words w = date_written day second words w.0 w.1
 written (Input Show) words w = ap line_with w
+written (Input (Rows spacing align)) words w = rows_written spacing align words w.0 w.1
 
 comment_written : (name : List ℕ) (more : List (List ℕ)) → line_with ((35 ∷ name) ∷ more) ≡ Nothing
 comment_written name more = refl
@@ -76,7 +130,7 @@ nothing_read line short w = short_line line short ∙ nothing_written (fields li
 -- ---- and back
 
 -- a choice that is something
-choice : (test : Bool) (one other : Option RecordItem) (item : RecordItem)
+choice : {A : Type 0} (test : Bool) (one other : Option A) (item : A)
     → cond test one other ≡ Some item → ((test ≡ true) × (one ≡ Some item)) ⊎ (other ≡ Some item)
 choice true one other item e = inl (refl, e)
 choice false one other item e = inr e
@@ -159,6 +213,85 @@ number_words name number count item is_number e =
       ]
     ]
 
+-- where rows stand, word by word
+align_is : (word : List ℕ) (align : Align) → align_of word ≡ Some align → word ≡ align_word align
+align_is word align e =
+    elim (choice (is_same word (codes "left")) _ _ align e) [
+      | inl c ↦ (bytes_decides word (codes "left")).0 c.0
+          ∙ ap align_word (same_Some Left align c.1)
+      | inr e ↦ elim (choice (is_same word (codes "center")) _ _ align e) [
+        | inl c ↦ (bytes_decides word (codes "center")).0 c.0
+            ∙ ap align_word (same_Some Center align c.1)
+        | inr e ↦ elim (choice (is_same word (codes "right")) _ _ align e) [
+          | inl c ↦ (bytes_decides word (codes "right")).0 c.0
+              ∙ ap align_word (same_Some Right align c.1)
+          | inr none ↦ absurd (none-some align none)
+        ]
+      ]
+    ]
+
+rows_words : (name number word : List ℕ) (count : ℕ) (item : RecordItem)
+    → is_same name (codes "rows") ≡ true → decimal_field number ≡ Some count
+    → option_and_then (rows_item count) (align_of word) ≡ Some item
+    → IsWritten item (name ∷ number ∷ word ∷ [])
+rows_words name number word count item same is_number e =
+    option_and_then_some (rows_item count) (align_of word) item e (λ align is_align found.
+    let p = cond_some (nat_le count spacing_limit) (Input (Rows count align)) item found in
+    same_written _ (Input (Rows count align)) item p.1 (
+      (
+        number,
+        ap₂ (λ n w. n ∷ number ∷ w ∷ []) ((bytes_decides name (codes "rows")).0 same)
+            (align_is word align is_align),
+        is_number,
+      ),
+      leb-true count spacing_limit p.0,
+    ))
+
+date_words : (name number last : List ℕ) (day : ℕ) (item : RecordItem)
+    → is_same name (codes "date") ≡ true → decimal_field number ≡ Some day
+    → option_and_then (date_item day) (decimal_field last) ≡ Some item
+    → IsWritten item (name ∷ number ∷ last ∷ [])
+date_words name number last day item same is_number e =
+    option_and_then_some (date_item day) (decimal_field last) item e (λ second is_second found.
+    let p = cond_some (nat_le day last_day && nat_lt second day_length)
+    (Input (Date (pos day) second)) item found in
+    let bounds = and_parts (nat_le day last_day) (nat_lt second day_length) p.0 in
+    let most : day ≤ last_day = leb-true day last_day bounds.0 in
+    same_written _ (Input (Date (pos day) second)) item p.1 (
+      (
+        number,
+        last,
+        ap (λ n. n ∷ number ∷ last ∷ []) ((bytes_decides name (codes "date")).0 same),
+        ap (option_map pos) is_number,
+        is_second,
+      ),
+      (
+        omega (arith, ints),
+        omega (arith, ints, most),
+        ltb-true second day_length bounds.1,
+      ),
+    ))
+
+-- the item of a name, a number and a word
+word_words : (name number word : List ℕ) (count : ℕ) (item : RecordItem)
+    → decimal_field number ≡ Some count → worded_item name count word ≡ Some item
+    → IsWritten item (name ∷ number ∷ word ∷ [])
+word_words name number word count item is_number e =
+    elim (choice (is_same name (codes "rows")) _ _ item e) [
+      | inl c ↦ rows_words name number word count item c.0 is_number c.1
+      | inr none ↦ absurd (none-some item none)
+    ]
+
+-- the item of a name, a number and one field more
+longer_words : (name number last : List ℕ) (count : ℕ) (item : RecordItem)
+    → decimal_field number ≡ Some count → longer_item name count last ≡ Some item
+    → IsWritten item (name ∷ number ∷ last ∷ [])
+longer_words name number last count item is_number e =
+    elim (choice (is_same name (codes "date")) _ _ item e) [
+      | inl c ↦ date_words name number last count item c.0 is_number c.1
+      | inr e ↦ word_words name number last count item is_number e
+    ]
+
 item_words : (words : List (List ℕ)) (item : RecordItem) → item_of words ≡ Some item
     → IsWritten item words
 item_words [] item e = absurd (none-some item e)
@@ -166,7 +299,10 @@ item_words (name ∷ []) item e = plain_words name item e
 item_words (name ∷ number ∷ []) item e =
     option_and_then_some (numbered_item name) (decimal_field number) item e
     (λ count is_number found. number_words name number count item is_number found)
-item_words (name ∷ number ∷ other ∷ more) item e = absurd (none-some item e)
+item_words (name ∷ number ∷ word ∷ []) item e =
+    option_and_then_some (λ n. longer_item name n word) (decimal_field number) item e
+    (λ count is_number found. longer_words name number word count item is_number found)
+item_words (name ∷ number ∷ word ∷ other ∷ more) item e = absurd (none-some item e)
 
 read_case : (found : Option RecordItem) (item : RecordItem) → item_line found ≡ Read item → found
     ≡ Some item

@@ -13,7 +13,10 @@ use Rattle.replay_run.specs.declared.record.Line.{Line}
 use Rattle.replay_run.specs.declared.record.Line.TheVariants.{Item as Read, Nothing, Bad}
 use Rattle.replay_run.specs.RecordProgress.{RecordState, IsAt, IsAtItem, IsWhole, IsBadBehind}
 use Rattle.replay_run.specs.RecordProgress.{IsFresh, IsReadForLine, WasReadForLine}
-use Rattle.replay_run.specs.Play.{milliseconds_of}
+use Rattle.receiver_core.specs.Receiving.{MayCome}
+use Rattle.receiver_core.specs.declared.broadcast.Input.{Input as HandedIn}
+use Rattle.receiver_core.specs.declared.broadcast.Input.TheVariants as handed
+use Rattle.replay_run.specs.Play.{MayBeHandled, milliseconds_of}
 use Rattle.replay_run.specs.Record.{line_of, tick_limit, IsWritten}
 use Rattle.replay_run.specs.Record.{lines_of, item_in, items_until_bad, items_before_bad, first_bad}
 use Rattle.replay_run.specs.RecordReader.{ReaderState, Gives, BeginsBad, DropsFront, IsOver}
@@ -286,6 +289,33 @@ time_within old new item gives =
     let first = first_line (lines (old.held ++ [])) (Read item) (lines_of (new.held ++ []))
     (gives [] (λ e. refl)) in
     time_written item _ (read_item first.0 item first.1).1
+
+-- ---- what may be handled
+
+input_written : (input : HandedIn) (words : List (List ℕ)) → IsWritten (Input input) words
+    → MayCome input
+input_written (handed.Key key) words w = tt
+input_written (handed.Release key) words w = tt
+input_written (handed.Random word) words w = tt
+input_written (handed.Date day second) words w = w.1
+input_written handed.Show words w = tt
+input_written (handed.Rows spacing align) words w = tt
+
+item_written : (item : RecordItem) (words : List (List ℕ)) → IsWritten item words
+    → MayBeHandled item
+item_written Every words w = tt
+item_written (Packets count) words w = tt
+item_written (Tick count) words w = tt
+item_written (Input input) words w = input_written input words w
+
+-- an item that is read may be
+pub may_be_handled : (old new : ReaderState) (item : RecordItem) → Gives old (Read item) new
+    → MayBeHandled item
+unfolding lines_of
+may_be_handled old new item gives =
+    let first = first_line (lines (old.held ++ [])) (Read item) (lines_of (new.held ++ []))
+    (gives [] (λ e. refl)) in
+    item_written item _ (read_item first.0 item first.1).1
 
 -- ---- whether the record was read
 

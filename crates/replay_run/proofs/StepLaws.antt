@@ -120,6 +120,16 @@ input_step replay (handed.Random word) old new before after inputs area silent i
           (inputs ++ input_of (handed.Random word) ∷ []) l) (append-nil given)
           (answers.taken idle replay.read replay.selection replay.area inputs given s);
     })
+input_step replay (handed.Date day second) old new before after inputs area silent idle
+    none answers =
+    inl (record {
+      no_text = silent tt ∙ none;
+      area = area tt;
+      stands = λ given s. subst
+          (λ l. StandsFor replay.read replay.selection replay.area new
+          (inputs ++ input_of (handed.Date day second) ∷ []) l) (append-nil given)
+          (answers.taken idle replay.read replay.selection replay.area inputs given s);
+    })
 input_step replay (handed.Key key) old new before after inputs area silent idle none answers =
     inr (record {
       stands = λ given s. same_text replay new (inputs ++ input_of (handed.Key key) ∷ []) given
@@ -136,6 +146,14 @@ input_step replay handed.Show old new before after inputs area silent idle none 
     inr (record {
       stands = λ given s. same_text replay new (inputs ++ input_of handed.Show ∷ []) given
           answers.text after (alone before after answers.text none answers.printed)
+          (answers.taken idle replay.read replay.selection replay.area inputs given s);
+    })
+input_step replay (handed.Rows spacing align) old new before after inputs area silent idle
+    none answers =
+    inr (record {
+      stands = λ given s. same_text replay new
+          (inputs ++ input_of (handed.Rows spacing align) ∷ []) given answers.text after
+          (alone before after answers.text none answers.printed)
           (answers.taken idle replay.read replay.selection replay.area inputs given s);
     })
 
@@ -165,7 +183,9 @@ pub no_packet : (input : HandedIn) → is_packet (input_of input) ≡ false
 no_packet (handed.Key key) = refl
 no_packet (handed.Release key) = refl
 no_packet (handed.Random word) = refl
+no_packet (handed.Date day second) = refl
 no_packet handed.Show = refl
+no_packet (handed.Rows spacing align) = refl
 
 -- two facts of a call that succeeded
 pub on_ok_two : {P Q R : Type 0} (result : Result (Unit {0}) Status) → OnOk result P

@@ -232,8 +232,14 @@ no_packet_first (Other (handed.Release key) ∷ items) packet rest e =
     let clash : input_of (handed.Release key) ∷ inputs_of [] items ≡ Packet packet ∷ rest = e in cc
 no_packet_first (Other (handed.Random word) ∷ items) packet rest e =
     let clash : input_of (handed.Random word) ∷ inputs_of [] items ≡ Packet packet ∷ rest = e in cc
+no_packet_first (Other (handed.Date day second) ∷ items) packet rest e =
+    let clash : input_of (handed.Date day second) ∷ inputs_of [] items
+    ≡ Packet packet ∷ rest = e in cc
 no_packet_first (Other handed.Show ∷ items) packet rest e =
     let clash : input_of handed.Show ∷ inputs_of [] items ≡ Packet packet ∷ rest = e in cc
+no_packet_first (Other (handed.Rows spacing align) ∷ items) packet rest e =
+    let clash : input_of (handed.Rows spacing align) ∷ inputs_of [] items
+    ≡ Packet packet ∷ rest = e in cc
 
 -- what stands in front of two that go on differently stands in front of what they have in common
 front_of_both : (some common one other : List Input) (packet : List ℕ) → NoPacketFirst one

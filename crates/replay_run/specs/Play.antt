@@ -2,6 +2,7 @@
 use Rattle.std.specs.Prelude.{ℕ, Bool, true, false, List, [], ◌∷◌, ◌++◌, map, take, drop, count_by}
 use Rattle.receiver_core.specs.Outputs.{Input, input_of}
 use Rattle.receiver_core.specs.Outputs.Input.{Packet, Tick as Passing}
+use Rattle.receiver_core.specs.Receiving.{MayCome}
 use Rattle.replay_run.specs.declared.record.RecordItem.{RecordItem}
 use Rattle.replay_run.specs.declared.record.RecordItem.TheVariants.{All, Packets, Tick, Input as Other}
 
@@ -26,6 +27,13 @@ milliseconds_of All = 0
 milliseconds_of (Packets count) = 0
 milliseconds_of (Tick count) = count
 milliseconds_of (Other input) = 0
+
+-- an item may be handled: a date that it hands over is one
+abbrev pub MayBeHandled : RecordItem → Type 0
+MayBeHandled All = Unit {0}
+MayBeHandled (Packets count) = Unit {0}
+MayBeHandled (Tick count) = Unit {0}
+MayBeHandled (Other input) = MayCome input
 
 -- what items hand over, one after the other
 unfoldable pub inputs_of : List (List ℕ) → List RecordItem → List Input

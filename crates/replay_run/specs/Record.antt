@@ -1,14 +1,18 @@
 -- The record: a file that says line by line what is done with the stream. Its form is this
 -- project's own.
 use Rattle.std.specs.Prelude.{◌≡◌, ℕ, ◌+◌, ◌<◌, ◌≤◌, Bool, true, false, ◌||◌, ◌&&◌, ◌==◌, ◌⊎◌}
-use Rattle.std.specs.Prelude.{nat_le, if◌then◌else◌, List, [], ◌∷◌, map, length, filter}
+use Rattle.std.specs.Prelude.{ℤ, pos, nat_le, nat_lt, if◌then◌else◌, List, [], ◌∷◌, map, length, filter}
 use Rattle.std.specs.Prelude.{position, codes, IsTrue}
 use Rattle.std.specs.Prelude.{Option, Some, None, option_map, option_and_then}
 use Rattle.std.specs.List.{slice_split}
 use Rattle.std.specs.Str.Lines.{lines}
 use Rattle.bml_bytes.specs.Numerals.{decimal_field}
 use Rattle.bml_bytes.specs.Words.{is_same}
-use Rattle.receiver_core.specs.declared.broadcast.Input.TheVariants.{Key, Release, Random, Show}
+use Rattle.text_lines.specs.declared.row_lines.Align.{Align}
+use Rattle.text_lines.specs.declared.row_lines.Align.TheVariants.{Left, Center, Right}
+use Rattle.receiver_core.specs.declared.broadcast.Input.TheVariants.{Date, Key, Release, Random}
+use Rattle.receiver_core.specs.declared.broadcast.Input.TheVariants.{Rows, Show}
+use Rattle.receiver_core.specs.Receiving.{IsDate, day_length, last_day}
 use Rattle.replay_run.specs.declared.record.RecordItem.{RecordItem}
 use Rattle.replay_run.specs.declared.record.RecordItem.TheVariants.{All, Packets, Tick, Input}
 use Rattle.replay_run.specs.declared.record.Line.{Line}
@@ -87,11 +91,46 @@ numbered_item name number =
     if is_same name (codes "packets") then item_where (nat_le 1 number) (Packets number)
     else numbered_input name number
 
--- the item that the fields are: `all` or `show`, or `packets`, `key`, `release`, `tick` or `random`
--- and a number
+-- the most space between two codes of a row, in pixels
+abbrev pub spacing_limit : ℕ
+spacing_limit = 64
+
+-- where rows stand, by a word
+abbrev pub align_of : List ℕ → Option Align
+align_of word =
+    if is_same word (codes "left") then Some Left
+    else if is_same word (codes "center") then Some Center
+    else if is_same word (codes "right") then Some Right
+    else None
+
+-- the display list with its rows
+abbrev pub rows_item : ℕ → Align → Option RecordItem
+rows_item spacing align = item_where (nat_le spacing spacing_limit) (Input (Rows spacing align))
+
+-- `rows`, the space between two codes, and where rows stand
+abbrev pub worded_item : List ℕ → ℕ → List ℕ → Option RecordItem
+worded_item name number word =
+    if is_same name (codes "rows") then option_and_then (rows_item number) (align_of word)
+    else None
+
+-- a second of a day
+abbrev pub date_item : ℕ → ℕ → Option RecordItem
+date_item day second =
+    item_where (nat_le day last_day && nat_lt second day_length) (Input (Date (pos day) second))
+
+-- `date`, a day and a second, or a name with a number and a word
+abbrev pub longer_item : List ℕ → ℕ → List ℕ → Option RecordItem
+longer_item name number last =
+    if is_same name (codes "date") then option_and_then (date_item number) (decimal_field last)
+    else worded_item name number last
+
+-- the item that the fields are: `all` or `show`; `packets`, `key`, `release`, `tick` or `random`
+-- and a number; `rows`, a number and a word; or `date` and two numbers
 abbrev pub item_of : List (List ℕ) → Option RecordItem
 item_of (name ∷ []) = plain_item name
 item_of (name ∷ number ∷ []) = option_and_then (numbered_item name) (decimal_field number)
+item_of (name ∷ number ∷ last ∷ []) =
+    option_and_then (λ number. longer_item name number last) (decimal_field number)
 item_of _ = None
 
 -- a line with the item that its fields are, and a bad one where they are none
@@ -148,6 +187,24 @@ abbrev pub HasNumber : List ℕ → ℕ → List (List ℕ) → Type 0
 HasNumber name count words =
     (number : List ℕ) × (words ≡ name ∷ number ∷ []) × (decimal_field number ≡ Some count)
 
+-- the word for where rows stand
+abbrev pub align_word : Align → List ℕ
+align_word Left = codes "left"
+align_word Center = codes "center"
+align_word Right = codes "right"
+
+-- the fields are `rows`, this space and the word for where rows stand
+abbrev pub AskForRows : ℕ → Align → List (List ℕ) → Type 0
+AskForRows spacing align words =
+    (number : List ℕ) × (words ≡ codes "rows" ∷ number ∷ align_word align ∷ [])
+    × (decimal_field number ≡ Some spacing)
+
+-- the fields are `date`, the number of this day and this second of it
+abbrev pub TellDate : ℤ → ℕ → List (List ℕ) → Type 0
+TellDate day second words =
+    (first : List ℕ) × (last : List ℕ) × (words ≡ codes "date" ∷ first ∷ last ∷ [])
+    × (option_map pos (decimal_field first) ≡ Some day) × (decimal_field last ≡ Some second)
+
 -- the fields of an item
 abbrev pub IsWritten : RecordItem → List (List ℕ) → Type 0
 IsWritten All words = words ≡ codes "all" ∷ []
@@ -157,7 +214,10 @@ IsWritten (Input (Release key)) words = HasNumber (codes "release") key words ×
 IsWritten (Tick count) words =
     HasNumber (codes "tick") count words × (0 < count) × (count ≤ tick_limit)
 IsWritten (Input (Random word)) words = HasNumber (codes "random") word words
+IsWritten (Input (Date day second)) words = TellDate day second words × IsDate day second
 IsWritten (Input Show) words = words ≡ codes "show" ∷ []
+IsWritten (Input (Rows spacing align)) words =
+    AskForRows spacing align words × (spacing ≤ spacing_limit)
 
 -- the fields of a line that asks for nothing: there are none, or the first begins with `#`
 abbrev pub AsksNothing : List (List ℕ) → Type 0

@@ -8,7 +8,7 @@ ghost use Rattle.bml_ports.specs.Sinks.{SinkState};
 ghost use Rattle.bml_ports.specs.Worlds.{WorldState};
 ghost use Rattle.ts_packets.specs.Cutter.{IsCertainAt};
 ghost use Rattle.replay_run.specs.Files.{packet_length, read_length, stream_limit};
-ghost use Rattle.replay_run.specs.Play.{milliseconds_of};
+ghost use Rattle.replay_run.specs.Play.{MayBeHandled, milliseconds_of};
 
 use crate::output::write_piece;
 use crate::record::RecordItem;
@@ -53,7 +53,7 @@ impl Player {
     ghost use Rattle.replay_run.specs.Midway.{WasReadForPacket, work_left};
     ghost use Rattle.replay_run.specs.Outside.{outside};
     ghost use Rattle.receiver_core.specs.Outputs.{Piece};
-    ghost use Rattle.receiver_core.specs.Receiving.{IsIdle};
+    ghost use Rattle.receiver_core.specs.Receiving.{IsIdle, MayCome};
     ghost use Rattle.replay_run.specs.Putting.{FailsToKeep, IsLater, KeepsOn, PutsPiece, change};
     ghost use Rattle.replay_run.specs.Putting.{StopsPiece, StopsTurns, outlets};
     ghost use Rattle.replay_run.specs.Stopping.{IsOneRead, OnlyReads, StopsPackets, StopsReading};
@@ -96,6 +96,7 @@ impl Player {
         requires readable { IsReadable self.old.cutter (W.told world.old) }
         requires told { end_told (W.told world.old).stream ≡ self.old.cutter.ended }
         requires clock { self.old.receiver.clock + milliseconds_of item < 2 ^ 62 }
+        requires may_be { MayBeHandled item }
 
         ensures within { OnOk result (self.new.bytes ≤ stream_limit) }
         ensures idle { OnOk result (IsIdle self.new.receiver) }
@@ -262,6 +263,7 @@ impl Player {
         keeper: &mut K,
         out: &mut S,
     ) -> Result<(), Status>
+        requires may_come { MayCome input }
         requires idle { IsIdle self.old.receiver }
         requires area { KeepsArea self.old }
         requires within { self.old.bytes ≤ stream_limit }

@@ -7,17 +7,21 @@ ghost use Rattle.std.specs.Str.Lines.{strip_carriage_return};
 ghost use Rattle.replay_run.specs.Reading.{IsFirstCut};
 ghost use Rattle.replay_run.specs.RecordReader.{capacity, longest_line, Gives, BeginsBad};
 ghost use Rattle.replay_run.specs.RecordReader.{IsUnfinished, IsOver, DropsFront};
-ghost use Rattle.replay_run.specs.Record.{line_feed, is_blank as is_blank_of, fields};
+ghost use Rattle.replay_run.specs.Record.{align_of as align_of_word, date_item as date_item_of};
+ghost use Rattle.replay_run.specs.Record.{fields, longer_item as longer_item_of};
+ghost use Rattle.replay_run.specs.Record.{line_feed, is_blank as is_blank_of};
 ghost use Rattle.replay_run.specs.Record.{is_comment as is_comment_of, is_key, item_of};
 ghost use Rattle.replay_run.specs.Record.{line_of as line_of_bytes, line_with};
 ghost use Rattle.replay_run.specs.Record.{numbered_input as numbered_input_of};
 ghost use Rattle.replay_run.specs.Record.{numbered_item as numbered_item_of, numbered_value};
-ghost use Rattle.replay_run.specs.Record.{plain_item as plain_item_of};
+ghost use Rattle.replay_run.specs.Record.{plain_item as plain_item_of, rows_item as rows_item_of};
+ghost use Rattle.replay_run.specs.Record.{worded_item as worded_item_of};
 
 use arrayvec::ArrayVec;
 use bml_bytes::read_decimal;
 use receiver_core::Input;
 use std::marker::Model;
+use text_lines::Align;
 
 /// The most bytes that a [`RecordReader`] holds.
 pub const CAPACITY: usize = 4096;
@@ -31,6 +35,14 @@ const LONGEST_LINE: usize = LINE_LIMIT + 2;
 // The most milliseconds that one item lets pass: an hour.
 const TICK_LIMIT: u32 = 3_600_000;
 
+// The most space between two codes of a row, in pixels.
+const SPACING_LIMIT: u32 = 64;
+
+// The last day that a record may tell, 2399-12-31, counted from 1970-01-01; and the seconds of a day.
+const LAST_DAY: u32 = 157_053;
+
+const DAY_LENGTH: u32 = 86_400;
+
 /// What a line of the record asks for.
 #[derive(Clone, Copy, Debug, PartialEq, Eq)]
 pub enum RecordItem {
@@ -40,7 +52,8 @@ pub enum RecordItem {
     Packets(u32),
     /// Let so many milliseconds pass, 1 to 3,600,000.
     Tick(u32),
-    /// Hand in another input: a key, a random word, or the wish to see the display list.
+    /// Hand in another input: a key, a random word, a date, or the wish to see the display list, as
+    /// it is or with its rows.
     Input(Input),
 }
 
@@ -283,8 +296,11 @@ fn read_item(name: &[u8], rest: &[u8]) -> Option<RecordItem>
     let Some((number, behind)) = next_field(rest) else {
         return plain_item(name);
     };
+    let Some((last, behind)) = next_field(behind) else {
+        return numbered_item(name, number);
+    };
     match next_field(behind) {
-        None => numbered_item(name, number),
+        None => longer_item(name, number, last),
         Some(_) => None,
     }
 }
@@ -349,6 +365,74 @@ fn value_by_number(name: &[u8], number: u32) -> Option<RecordItem>
         (1 <= number && number <= TICK_LIMIT).then_some(RecordItem::Tick(number))
     } else if name == random {
         Some(RecordItem::Input(Input::Random(number)))
+    } else {
+        None
+    }
+}
+
+// The item that is its name, a number and one field more.
+fn longer_item(name: &[u8], number: &[u8], last: &[u8]) -> Option<RecordItem>
+    ensures { result ≡ item_of (name.now ∷ number.now ∷ last.now ∷ []) }
+{
+    let number = read_decimal(number)?;
+    item_by_fields(name, number, last)
+}
+
+// The item of this name with a number and one field more.
+fn item_by_fields(name: &[u8], number: u32, last: &[u8]) -> Option<RecordItem>
+    ensures { result ≡ longer_item_of name.now number last.now }
+{
+    let date: &[u8] = b"date";
+    if name == date {
+        date_item(number, read_decimal(last)?)
+    } else {
+        item_by_word(name, number, last)
+    }
+}
+
+// A second of a day.
+fn date_item(day: u32, second: u32) -> Option<RecordItem>
+    ensures { result ≡ date_item_of day second }
+{
+    if day <= LAST_DAY && second < DAY_LENGTH {
+        Some(RecordItem::Input(Input::Date(day as i32, second)))
+    } else {
+        None
+    }
+}
+
+// The item of this name with a number and a word.
+fn item_by_word(name: &[u8], number: u32, word: &[u8]) -> Option<RecordItem>
+    ensures { result ≡ worded_item_of name.now number word.now }
+{
+    let rows: &[u8] = b"rows";
+    if name == rows {
+        rows_item(number, align_of(word)?)
+    } else {
+        None
+    }
+}
+
+// The display list with its rows.
+fn rows_item(spacing: u32, align: Align) -> Option<RecordItem>
+    ensures { result ≡ rows_item_of spacing align }
+{
+    (spacing <= SPACING_LIMIT).then_some(RecordItem::Input(Input::Rows(spacing, align)))
+}
+
+// Where rows stand, by its word.
+fn align_of(word: &[u8]) -> Option<Align>
+    ensures { result ≡ align_of_word word.now }
+{
+    let left: &[u8] = b"left";
+    let center: &[u8] = b"center";
+    let right: &[u8] = b"right";
+    if word == left {
+        Some(Align::Left)
+    } else if word == center {
+        Some(Align::Center)
+    } else if word == right {
+        Some(Align::Right)
     } else {
         None
     }

@@ -29,7 +29,7 @@ pub struct RecordItems {
 }
 
 impl RecordItems {
-    ghost use Rattle.replay_run.specs.Play.{milliseconds_of};
+    ghost use Rattle.replay_run.specs.Play.{MayBeHandled, milliseconds_of};
     ghost use Rattle.replay_run.specs.Record.{tick_limit};
     ghost use Rattle.replay_run.specs.RecordProgress.{record_state, IsAt, IsAtItem, IsReadable, IsWhole};
     ghost use Rattle.replay_run.specs.RecordProgress.{StartsItems, StopsItems, LeavesItems};
@@ -69,6 +69,7 @@ impl RecordItems {
             → self.old.lines < self.new.lines }
         ensures time { (item : RecordItem) → result ≡ Ok (Some item)
             → milliseconds_of item ≤ tick_limit }
+        ensures may_be { (item : RecordItem) → result ≡ Ok (Some item) → MayBeHandled item }
 
         ensures item { (item : RecordItem) → result ≡ Ok (Some item)
             → (notes : List ℕ) (items : List RecordItem)

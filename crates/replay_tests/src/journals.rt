@@ -11,7 +11,8 @@ use test_streams::{DOCUMENT, Entry, Sent, Stream};
 
 // A document that writes 5 and a text to the first array when it is loaded.
 const WRITER: &[u8] = b"<bml><head><script><![CDATA[var l = new Array(); l[0] = 5; l[1] = 'ab'; \
-    browser.writePersistentArray(\"nvram://~/0\", \"U:1B,S:1V\", l);]]></script></head><body/></bml>";
+    browser.writePersistentArray(\"nvram://~/0\", \"U:1B,S:1V\", l);]]></script></head>\
+    <body/></bml>";
 
 const ANNOUNCED: Sent = Sent::Indication(1, 400, &[Entry(0, 1, 164, DOCUMENT)]);
 
@@ -45,7 +46,8 @@ fn an_area_in_a_journal(rt: HostRuntime) -> Result<(), Fail> {
     Ok(())
 }
 
-// Whether the next run begins with nothing, or with the area that was stored, whatever a stop leaves.
+// Whether the next run begins with nothing, or with the area that was stored, whatever a stop
+// leaves.
 fn begins_well(alloc: Global, disk: &MemoryDisk) -> Result<bool, NoMemory> {
     for pick in 0..16 {
         let disk = MemoryDisk::new(alloc, disk.crashed(alloc, pick)?, Vec::new(alloc), 20)?;

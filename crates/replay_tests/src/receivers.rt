@@ -14,6 +14,7 @@ fn a_receiver_takes_each_input(rt: HostRuntime) {
     assert!(rt; receiver.key(1, &mut out).is_ok());
     assert!(rt; receiver.release(1, &mut out).is_ok());
     assert!(rt; receiver.random(7).is_ok());
+    receiver.date(11_016, 86_398);
     assert!(rt; receiver.show(&mut out).is_ok());
     assert!(rt; out.as_slice() == b"show 0\n".as_slice());
 }

@@ -47,13 +47,14 @@ deleted-sound heap object name sound =
 
 -- ---- names that are built in
 
-built_in-below : (function : BuiltIn) → function_number function < 7
+built_in-below : (function : BuiltIn) → function_number function < 8
 built_in-below built.Object = omega arith
 built_in-below built.Array = omega arith
 built_in-below built.String = omega arith
 built_in-below built.Number = omega arith
 built_in-below built.Boolean = omega arith
 built_in-below built.IsNan = omega arith
+built_in-below built.Date = omega arith
 built_in-below built.ParseInt = omega arith
 
 module _ (s : Setting) where
@@ -80,8 +81,8 @@ module _ (s : Setting) where
           (other_named name))
       go None = other-known count name
       go (Some function) =
-          let less : function_number function < 7 = built_in-below function in
-          let large : 7 ≤ s.limit = s.built_in in
+          let less : function_number function < 8 = built_in-below function in
+          let large : 8 ≤ s.limit = s.built_in in
           function-known s count (function_number function) (omega arith)
 
   first-known : (count : ℕ) (first other : Option Value) → IfKnown s count first

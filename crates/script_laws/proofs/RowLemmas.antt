@@ -1,25 +1,29 @@
 -- What rows give passes, kind by kind of value that is called.
 use Rattle.std.proofs.Common.{◌≡◌, ℕ, Bool, true, false, List, [], ◌∷◌, ◌++◌, length, map, refl}
-use Rattle.std.specs.Prelude.{Option, Some, None, option_map, slice_get, ◌==◌, if◌then◌else◌, pos}
+use Rattle.std.specs.Prelude.{Option, Some, None, option_and_then, option_map, slice_get, ◌==◌, if◌then◌else◌, pos}
 use Rattle.std.specs.Option.{option_map_or}
 use Rattle.std.proofs.lemmas.List.Elements.{All-cons, All-nil}
 use Rattle.es_values.specs.declared.numbers.Num.{Num}
-use Rattle.es_values.specs.declared.numbers.Num.TheVariants.{Whole}
+use Rattle.date_objects.specs.Dates.{date_object, day_name, is_date, moment_in, second_name}
+use Rattle.es_date.specs.declared.moments.Moment.{Moment}
+use Rattle.es_date.specs.Moments.{moment_of_fields}
+use Rattle.es_values.specs.declared.numbers.Num.TheVariants.{NotANumber, Whole}
 use Rattle.es_values.specs.declared.values.Value.{Value}
 use Rattle.es_values.specs.declared.values.Value.TheVariants.{Undefined, Null, Bool as Boolean, Number, Str, Object, Function, Host}
 use Rattle.es_values.specs.Arrays.{array_of, elements_of, turned_object}
 use Rattle.es_values.specs.Conversions.{text_of}
-use Rattle.es_values.specs.Heaps.{new_object, object_at}
+use Rattle.es_values.specs.Heaps.{new_object, object_at, object_of}
 use Rattle.es_values.specs.Objects.{ObjectState}
 use Rattle.es_builtins.specs.declared.functions.BuiltIn.{BuiltIn}
 use Rattle.es_builtins.specs.declared.functions.BuiltIn.TheVariants as function
 use Rattle.es_builtins.specs.declared.methods.Method.{Method}
 use Rattle.es_builtins.specs.declared.methods.Method.TheVariants as the
 use Rattle.es_builtins.specs.Arrays.{array_of_arguments, sorted, sorted_object}
+use Rattle.es_builtins.specs.Dates.{date_fields, part_given}
 use Rattle.es_builtins.specs.Functions.{call_row, codes_row, construction_row, function_of, function_row, new_row, row_or_none}
 use Rattle.es_builtins.specs.Methods.{array_row, base_row, digits_row, function_method_row, method_of, method_row, object_row, plain_row, sort_row, text_row}
 use Rattle.es_builtins.specs.Rows.{Row}
-use Rattle.es_builtins.specs.Rows.Row.{NoRow}
+use Rattle.es_builtins.specs.Rows.Row.{Gives, NoRow}
 use Rattle.es_builtins.specs.Texts.{split}
 use Rattle.script_laws.specs.Passing.{AllPass, HeapPasses, ObjectPasses, PassesOwn, RowPasses}
 use Rattle.script_laws.proofs.HeapLemmas.{added-holds, object-holds, set-holds, sorted-all}
@@ -49,6 +53,21 @@ module _ (good : Value → Bool) (limit : ℕ) (own : PassesOwn limit good)
       length-holds Passes (new_object true) size (empty-passes true)
   arguments-pass arguments all = array-passes arguments all
 
+  number-passes : (number : Num) → good (Number number) ≡ true
+  number-passes number = own (Number number) refl
+
+  pair-passes : (day second : Num)
+      → ObjectPasses good (object_of ((day_name, Number day) ∷ (second_name, Number second) ∷ []))
+  pair-passes day second =
+      All-cons (λ property. good property.1 ≡ true) (day_name, Number day)
+      ((second_name, Number second) ∷ []) (number-passes day)
+      (All-cons (λ property. good property.1 ≡ true) (second_name, Number second) []
+      (number-passes second) (All-nil (λ property. good property.1 ≡ true)))
+
+  date-passes : (moment : Option Moment) → ObjectPasses good (date_object moment)
+  date-passes None = pair-passes NotANumber NotANumber
+  date-passes (Some moment) = pair-passes (Whole moment.day) (Whole (pos moment.second))
+
   call-passes : (arguments : List Value) → AllPass good arguments → (f : BuiltIn)
       → RowPasses good (call_row heap arguments f)
   call-passes arguments all function.Object = added (new_object false) (empty-passes false)
@@ -61,6 +80,9 @@ module _ (good : Value → Bool) (limit : ℕ) (own : PassesOwn limit good)
   call-passes arguments all function.Boolean = (own (Boolean _) refl, passes)
   call-passes arguments all function.IsNan = (own (Boolean _) refl, passes)
   call-passes arguments all function.ParseInt = (own (Number _) refl, passes)
+  call-passes arguments all function.Date =
+      let moment = option_and_then moment_of_fields (date_fields heap arguments) in
+      added (date_object moment) (date-passes moment)
 
   new-passes : (arguments : List Value) → AllPass good arguments → (f : BuiltIn)
       → RowPasses good (new_row heap arguments f)
@@ -145,6 +167,12 @@ module _ (good : Value → Bool) (limit : ℕ) (own : PassesOwn limit good)
   object_row-passes : (number : ℕ) (arguments : List Value) → good (Object number) ≡ true
       → (method : Method)
       → RowPasses good (object_row heap number (object_at heap number) arguments method)
+  object_row-passes number arguments h (the.Get part) = by (is_date (object_at heap number))
+    where
+      by : (t : Bool) → RowPasses good (if t
+          then Gives 0 (Number (part_given part (moment_in (object_at heap number)))) heap else NoRow)
+      by true = (own (Number _) refl, passes)
+      by false = tt
   object_row-passes number arguments h method = by (object_at heap number).array_length
     where
       by : (size : Option ℕ) → RowPasses good

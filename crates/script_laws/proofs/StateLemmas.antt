@@ -52,7 +52,7 @@ pub record Setting : Type 0 where
   pub good : Value → Bool
   pub limit : ℕ
   pub least : ℕ
-  pub built_in : 7 ≤ limit
+  pub built_in : 8 ≤ limit
   pub own : PassesOwn limit good
   pub laws : LiveLaws
 

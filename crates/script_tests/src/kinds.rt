@@ -146,6 +146,11 @@ fn push_line_of_script(
 ) -> Result<(), NoMemory> {
     match (kind, fields) {
         (b"script", [script]) => told_scripts::push_told(alloc, script, out),
+        (b"date", [arguments]) => told_scripts::push_date(alloc, arguments, b"", out),
+        (b"date", [arguments, statements]) => {
+            told_scripts::push_date(alloc, arguments, statements, out)
+        }
+        (b"end", [script]) => told_scripts::push_end(alloc, script, out),
         (b"steps", [steps, script, shown]) => {
             told_runs::push_told(alloc, script, b"", b"0", number_of(steps), shown, out)
         }

@@ -164,6 +164,45 @@ fn push_run(alloc: Global, programs: &[Program], out: &mut Line) -> Result<(), N
     Ok(())
 }
 
+/// Appends how a script ends that has all steps, and the text of its global `s`.
+pub fn push_end(alloc: Global, script: &[u8], out: &mut Line) -> Result<(), NoMemory> {
+    match program_of(alloc, script)? {
+        Some(program) => {
+            let programs = vec![in alloc; program]?;
+            push_ended(alloc, &programs, ALL_STEPS, out)
+        }
+        None => {
+            out.word(b"no program");
+            Ok(())
+        }
+    }
+}
+
+const BEFORE_ARGUMENTS: &[u8] = b"var u, d = new Date(";
+
+const BEHIND_ARGUMENTS: &[u8] = b"); ";
+
+const BEHIND_STATEMENTS: &[u8] = b" var s = d.$day + \" \" + d.$second + \" \" + d.getFullYear() \
+    + \" \" + d.getMonth() + \" \" + d.getDate() + \" \" + d.getDay() + \" \" + d.getHours() \
+    + \" \" + d.getMinutes() + \" \" + d.getSeconds();";
+
+/// Appends how a script ends that makes a Date of these arguments and then has these statements, and
+/// what the Date has and gives behind them.
+pub fn push_date(
+    alloc: Global,
+    arguments: &[u8],
+    statements: &[u8],
+    out: &mut Line,
+) -> Result<(), NoMemory> {
+    let mut script = Vec::new(alloc);
+    script.extend_from_slice(BEFORE_ARGUMENTS)?;
+    script.extend_from_slice(arguments)?;
+    script.extend_from_slice(BEHIND_ARGUMENTS)?;
+    script.extend_from_slice(statements)?;
+    script.extend_from_slice(BEHIND_STATEMENTS)?;
+    push_end(alloc, &script, out)
+}
+
 /// Appends what a script comes to.
 pub fn push_told(alloc: Global, script: &[u8], out: &mut Line) -> Result<(), NoMemory> {
     match program_of(alloc, script)? {

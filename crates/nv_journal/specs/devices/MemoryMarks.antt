@@ -6,7 +6,8 @@ use Rattle.nv_journal.specs.declared.memory_disks.Mark.TheVariants.{Wrote, Synce
 use Rattle.nv_journal.specs.Slots.{journal_length}
 use Rattle.nv_journal.specs.Disks.{Images, IsImage, only, after_write}
 
--- the images behind a write, or behind a sync that succeeded with so many bytes at the front of an array
+-- the images behind a write, or behind a sync that succeeded with so many bytes at the front of an
+-- array
 abbrev pub after_mark : Images → Mark → Images
 after_mark images (Wrote extent) = after_write images extent.place extent.size
 after_mark images (Synced bytes size) = only (take size bytes)
@@ -22,7 +23,8 @@ images_before first [] = []
 images_before first (mark ∷ marks) = first ∷ images_before (after_mark first mark) marks
 
 -- the marks lead to the images now, what is read is one of them, and there is room
-pub record IsKept (first bytes settled : List ℕ) (written : List Extent) (marks : List Mark) (bytes_room settled_room written_room marks_room most made : ℕ) : Type 0 where
+pub record IsKept (first bytes settled : List ℕ) (written : List Extent) (marks : List Mark)
+    (bytes_room settled_room written_room marks_room most made : ℕ) : Type 0 where
   pub leads : images_behind (only first) marks ≡ record { settled = settled; written = written }
   pub read : IsImage (record { settled = settled; written = written }) bytes
   pub bytes_fit : length bytes ≤ journal_length

@@ -1,5 +1,5 @@
--- Devices of the code: what is known of the slots between two stores, and what the parts of a load and a store do (of
--- this project's own).
+-- Devices of the code: what is known of the slots between two stores, and what the parts of a load
+-- and a store do (of this project's own).
 use Rattle.std.specs.Prelude.{◌≡◌, ℕ, List, Bool, IsTrue, ◌↔◌, Option, None, Some, IsSome, Result, MatchOption, IfOk, ⊤, ◌⊎◌}
 use Rattle.std.specs.Option.{option_map}
 use Rattle.bml_ports.specs.declared.outside.Failed.{Failed}
@@ -17,7 +17,8 @@ pick Second first second = second
 
 -- which of two slots is the newest, and the number that is due
 pub record IsNewestOf (found : Found) (first second : Option Open) : Type 0 where
-  pub slot : MatchOption found.newest (newer first second ≡ None) (λ slot. (newer first second ≡ pick slot first second) × IsSome (pick slot first second))
+  pub slot : MatchOption found.newest (newer first second ≡ None)
+      (λ slot. (newer first second ≡ pick slot first second) × IsSome (pick slot first second))
   pub number : found.number ≡ number_after (newer first second)
 
 -- nothing but what reads give is left, and this is known of its slots
@@ -43,27 +44,34 @@ pub record Looks (place : ℕ) (result : Result Bool Failed) (old new : DiskCont
   pub found : IfOk result (λ shut. IsTrue shut ↔ IsShutAt place old.reads)
 
 -- a look at a slot: the number of an open one
-pub record LooksAt (slot : Slot) (result : Result (Option ℕ) Failed) (old new : DiskContent) : Type 0 where
+pub record LooksAt (slot : Slot) (result : Result (Option ℕ) Failed) (old new : DiskContent)
+    : Type 0 where
   pub step : OneCall old new
   pub reads : new.reads ≡ old.reads
   pub images : new.images ≡ old.images
-  pub found : IfOk result (λ number. number ≡ option_map (λ (o : Open). o.number) (slot_at slot old.reads))
+  pub found : IfOk result
+      (λ number. number ≡ option_map (λ (o : Open). o.number) (slot_at slot old.reads))
 
 -- the bytes of an open slot's area
-pub record GivesArea (slot : Slot) (area : List ℕ) (result : Result ℕ Failed) (old new : DiskContent) : Type 0 where
+pub record GivesArea (slot : Slot) (area : List ℕ) (result : Result ℕ Failed)
+    (old new : DiskContent) : Type 0 where
   pub step : OneCall old new
   pub reads : new.reads ≡ old.reads
   pub images : new.images ≡ old.images
-  pub given : IfOk result (λ length. IsSome (slot_at slot old.reads) → option_map (λ (o : Open). o.area) (slot_at slot old.reads) ≡ Some area)
+  pub given : IfOk result (λ length. IsSome (slot_at slot old.reads)
+      → option_map (λ (o : Open). o.area) (slot_at slot old.reads) ≡ Some area)
 
--- a sync and a look at both slots: what reads give stays, and at each moment each image stands for what some image stood for
+-- a sync and a look at both slots: what reads give stays, and at each moment each image stands for
+-- what some image stood for
 pub record Finds (result : Result Found Failed) (old new : DiskContent) : Type 0 where
   pub each : Throughout (StandsAsSome old.images) old new
   pub reads : new.reads ≡ old.reads
   pub done : IfOk result (λ found. IsDue found new)
 
--- the three steps of a store in the slot that is known to be spare
-pub record StoresArea (area : List ℕ) (result : Result Found Failed) (old new : DiskContent) : Type 0 where
-  pub each : Throughout (λ image. StandsAsSome old.images image ⊎ (stands image ≡ Some area)) old new
+-- a store, which tells what is known of the slots then
+pub record StoresArea (area : List ℕ) (result : Result Found Failed) (old new : DiskContent)
+    : Type 0 where
+  pub each : Throughout (λ image. StandsAsSome old.images image ⊎ (stands image ≡ Some area))
+      old new
   pub read : (stands new.reads ≡ stands old.reads) ⊎ (stands new.reads ≡ Some area)
   pub done : IfOk result (λ found. IsDue found new × (stands new.reads ≡ Some area))

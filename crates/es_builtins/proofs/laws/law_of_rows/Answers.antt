@@ -16,6 +16,8 @@ returns c =
       set_functions = c.law_of_array_functions.ensures.set;
       turned = c.law_of_arrays.ensures.turned;
       turned_functions = c.law_of_array_functions.ensures.turned;
+      date = c.law_of_new_dates.ensures.sound;
+      date_functions = c.law_of_new_dates.ensures.functions;
     } in
     record {
       functions = λ heap number arguments sound live. function-kept laws heap sound number arguments live;

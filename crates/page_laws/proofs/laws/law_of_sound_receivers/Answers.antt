@@ -23,6 +23,7 @@ returns c =
       messages = law.messages;
       keys = law.keys;
       random = law.random;
+      dates = law.dates;
       due = λ p h. law.due (p.clock + 1) p h;
       clock = λ p h none. law.clock (p.clock + 1) p h;
     } in

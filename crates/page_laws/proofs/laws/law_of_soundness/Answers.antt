@@ -1,4 +1,4 @@
-use Rattle.page_laws.proofs.PageLemmas.{Laws, changes-sound, due_step-sound, key_step-sound, message_step-sound, opening-sound, turn-sound, with_clock-sound, with_modules-sound, with_random-sound}
+use Rattle.page_laws.proofs.PageLemmas.{Laws, changes-sound, due_step-sound, key_step-sound, message_step-sound, opening-sound, turn-sound, with_clock-sound, with_modules-sound, with_date-sound, with_random-sound}
 use Rattle.page_laws.proofs.laws.law_of_soundness.Goals as goal
 
 pub returns : goal.returns
@@ -27,6 +27,7 @@ returns c =
           heaps = c.law_of_call_outcomes.ensures.heap;
           objects = c.law_of_new_objects.ensures;
           arrays = c.law_of_arrays.ensures.made;
+          dates = c.law_of_new_dates.ensures.sound;
         };
       };
     } in
@@ -40,4 +41,5 @@ returns c =
       due = due_step-sound laws;
       clock = with_clock-sound;
       random = with_random-sound;
+      dates = with_date-sound;
     }

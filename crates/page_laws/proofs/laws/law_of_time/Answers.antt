@@ -25,6 +25,7 @@ returns c =
       messages = law.messages;
       keys = law.keys;
       random = law.random;
+      dates = law.dates;
       due = λ p h. law.due (p.clock + 1) p h;
       clock = λ p h none. law.clock (p.clock + 1) p h;
     } in
@@ -41,6 +42,7 @@ returns c =
       messages = message_step-later;
       keys = key_step-later;
       random = λ word s later. later;
+      dates = λ day second s later. later;
       due = due_step-later;
       ticks = λ count s sound later.
           (time-kept IsGoodPage (good-steps steps) count s (sound, later)).1;

@@ -289,6 +289,10 @@ handle-requires-clause-clock g c =
     (few_lines _ _ _ c.items.items.numbered c.items.invariant.notes_within)
     (c.in_ok-item.ensures.time c.in-Some.item (ap Ok c.in-Some.is))
 
+pub handle-requires-clause-may_be : goal.handle-requires-clause-may_be
+handle-requires-clause-may_be g c =
+    c.in_ok-item.ensures.may_be c.in-Some.item (ap Ok c.in-Some.is)
+
 pub handle-requires-clause-told : goal.handle-requires-clause-told
 handle-requires-clause-told g c =
     ap end_told c.in_ok-item.ensures.reads.other ∙ c.items.invariant.stream_told

@@ -14,4 +14,7 @@ returns c =
     let product : to_z w64 (of_z w64 (c.args.count *ℤ unit_length c.args.unit)) ≡ c.args.count *ℤ unit_length c.args.unit = omega (arith, signed_casts, bounds) in
     let sum : to_z w64 (of_z w64 (seconds_of c.args.self +ℤ c.args.count *ℤ unit_length c.args.unit)) ≡ seconds_of c.args.self +ℤ c.args.count *ℤ unit_length c.args.unit =
     omega (arith, signed_casts, bounds, c.seconds.ensures) in
-    c.at.ensures ∙ ap moment_at (rw (count, unit, seconds, product) sum)
+    record {
+      moment = c.at.ensures.moment ∙ ap moment_at (rw (count, unit, seconds, product) sum);
+      range = c.at.ensures.range;
+    }

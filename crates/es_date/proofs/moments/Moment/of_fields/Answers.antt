@@ -8,7 +8,10 @@ use Rattle.es_date.proofs.moments.Moment.of_fields.Goals as goal
 pub returns-then-not-is_year : goal.returns-then-not-is_year
 returns-then-not-is_year c =
     let year = year_from c.args.fields.year c.args.fields.month c.year_of_month-year.result (search rules) (search rules) c.year_of_month-year.ensures in
-    sym (moment_of_fields-none c.args.fields (rw year at (sym c.is_year.ensures ∙ c.if-not-is_year.true)))
+    record {
+      moment = sym (moment_of_fields-none c.args.fields (rw year at (sym c.is_year.ensures ∙ c.if-not-is_year.true)));
+      range = tt;
+    }
 
 pub first_day-first-requires-clause-year : goal.first_day-first-requires-clause-year
 first_day-first-requires-clause-year c =
@@ -35,4 +38,7 @@ returns c =
     let time_same : to_z w64 (of_z w64 c.time_of-time.result) ≡ c.time_of-time.result = omega (arith, signed_casts, c.time_of-time.ensures.low, c.time_of-time.ensures.high) in
     let made = rw (first_same, time_same, day, first, time) at c.seconds_from.ensures in
     let wide : to_z w64 (of_z w64 c.seconds_from.result) ≡ c.seconds_from.result = search rules in
-    c.at.ensures ∙ ap moment_at (wide ∙ made) ∙ sym (moment_of_fields-some c.args.fields tested)
+    record {
+      moment = c.at.ensures.moment ∙ ap moment_at (wide ∙ made) ∙ sym (moment_of_fields-some c.args.fields tested);
+      range = c.at.ensures.range;
+    }

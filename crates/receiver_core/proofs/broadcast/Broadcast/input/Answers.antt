@@ -1,6 +1,9 @@
+use Rattle.std.proofs.Common.{FitsSigned, rules}
+use Rattle.std.specs.Int.{w32}
+use Rattle.std.proofs.lemmas.Int.{to_z-of_z}
 use Rattle.receiver_core.specs.Broadcasts.{BroadcastState}
 use Rattle.page.specs.Inputs.{display_of}
-use Rattle.receiver_core.proofs.BroadcastLaws.{key_made, on_ok, page_made, random_added, release_made, shown, with_page}
+use Rattle.receiver_core.proofs.BroadcastLaws.{date_made, key_made, on_ok, page_made, random_added, release_made, rows_shown, shown, with_page}
 use Rattle.receiver_core.proofs.broadcast.Broadcast.input.Goals as goal
 
 pub returns-in-Key-clause-makes : goal.returns-in-Key-clause-makes
@@ -41,3 +44,17 @@ returns-in-Show-clause-makes c =
     (λ drawn. shown old (with_page old page) before after
     (page_made (λ s. record { state = s; text = display_of s }) old page before after drawn))
     c.show.ensures.shown))
+
+pub returns-in-Rows-clause-makes : goal.returns-in-Rows-clause-makes
+returns-in-Rows-clause-makes c =
+    rw c.in-Rows.is
+    (on_ok c.show_rows.result
+    (rows_shown c.in-Rows.spacing c.in-Rows.align _ _ c.args.out.now.items c.show_rows.new.out.items)
+    c.show_rows.ensures.makes)
+
+pub returns-in-Date-clause-makes : goal.returns-in-Date-clause-makes
+returns-in-Date-clause-makes c =
+    let fits : FitsSigned w32 c.in-Date.day = search rules in
+    rw c.in-Date.is
+    (date_made (to_z-of_z w32 c.in-Date.day fits) c.in-Date.second _ _ c.args.out.now.items
+    (c.set_date.ensures.makes c.args.out.now.items))

@@ -1,10 +1,11 @@
 use Rattle.std.proofs.Common.{◌≡◌, ◌≤◌, ◌+◌, ◌∙◌, sym, refl, subst, arith, inl, inr}
 use Rattle.std.proofs.lemmas.Result.{err_from_is_err_and}
 use Rattle.replay_run.specs.declared.record.Line.TheVariants.{Item as Read, Nothing}
-use Rattle.replay_run.specs.Play.{milliseconds_of}
+use Rattle.replay_run.specs.Play.{MayBeHandled, milliseconds_of}
 use Rattle.replay_run.specs.Record.{tick_limit}
 use Rattle.replay_run.specs.RecordProgress.{IsAt, IsAtItem, record_state}
 use Rattle.replay_run.proofs.RecordProgressLaws.{at_item, at_nothing, at_bad, at_whole, time_within}
+use Rattle.replay_run.proofs.RecordProgressLaws.{may_be_handled}
 use Rattle.replay_run.proofs.RecordProgressLaws.{bad_came, end_came, line_came, reads_came}
 use Rattle.replay_run.proofs.RecordProgressLaws.{reads_further}
 use Rattle.replay_run.proofs.StoppingLaws.{only_reads_more, only_reads_none, record_stops}
@@ -40,6 +41,14 @@ returns-in-Line-Item-clause-time g c = λ item e.
     let same : c.in-Line-Item.item ≡ item = cc in
     subst (λ i. milliseconds_of i ≤ tick_limit) same
     (time_within c.lines.self.reader c.next.new.self c.in-Line-Item.item
+    (c.next.ensures.good (Read c.in-Line-Item.item) (λ clash. cc)
+    (rw c.in-Line-Item.field-0-is at c.in-Line-Item.is)))
+
+pub returns-in-Line-Item-clause-may_be : goal.returns-in-Line-Item-clause-may_be
+returns-in-Line-Item-clause-may_be g c = λ item e.
+    let same : c.in-Line-Item.item ≡ item = cc in
+    subst MayBeHandled same
+    (may_be_handled c.lines.self.reader c.next.new.self c.in-Line-Item.item
     (c.next.ensures.good (Read c.in-Line-Item.item) (λ clash. cc)
     (rw c.in-Line-Item.field-0-is at c.in-Line-Item.is)))
 

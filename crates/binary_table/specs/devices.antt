@@ -1,0 +1,4 @@
+-- Devices of the proofs.
+pub mod Layouts
+pub mod Places
+pub mod Shown
