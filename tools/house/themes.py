@@ -61,8 +61,8 @@ THEMES = [
     ),
     Theme(
         "What scripts see",
-        "Nodes, styles, the browser object and persistent arrays.",
-        "dom_objects browser_objects persistent_arrays",
+        "Nodes, styles, the browser object, persistent arrays and binary tables.",
+        "dom_objects browser_objects persistent_arrays binary_table",
     ),
     Theme("What scripts do", "How programs run, over any host.", "es_eval es_shapes"),
     Theme(

@@ -213,7 +213,10 @@ def runs_of(room, libraries):
     made = room.folder.parent / "made"
     told = {"LD_PRELOAD": refuse, "ALLOCATIONS_MADE": str(made)}
     room.run(environment={**told, "REFUSED_ALLOCATION": "0"})
-    for number in range(1, int(made.read_text()) + 1):
+    count = int(made.read_text())
+    if not count:
+        sys.exit("fail_each.py: no allocation is seen, so none can be refused: a program of checked_program.py takes its memory by calls of its own")
+    for number in range(1, count + 1):
         yield "allocation", f"allocation {number}", room.run(environment={**told, "REFUSED_ALLOCATION": str(number)})
 
 

@@ -16,7 +16,7 @@ import sys
 from collections.abc import Iterator, Sequence
 from typing import NamedTuple
 
-from measuring import MOST_NODES, replayed, with_script, words
+from measuring import MOST_BYTES, MOST_NODES, replayed, with_script, words
 
 from sent_modules import BML, OPTIONS, carousel_sections, sent
 
@@ -58,6 +58,18 @@ def launching(other: str, size: int) -> bytes:
     return front.replace(b"%", b"t" * (size - len(front)))
 
 
+def one_text(size: int) -> bytes:
+    """A document of that many bytes with one text, whose characters are as high as may be, in a box without a width."""
+    front, end = b'<bml><body><p style="font-size:32767px">', b"</p></body></bml>"
+    return front + b"t" * (size - len(front) - len(end)) + end
+
+
+def inputs(count: int) -> bytes:
+    """A document of that many nodes, each but two of which is an input with a text, in a box without a width."""
+    item = '<input value="%"/>'.replace("%", "t" * 46)
+    return f"<bml><body>{item * (count - 2)}</body></bml>".encode("ascii")
+
+
 def cases() -> Iterator[Case]:
     yield Case("show again, nothing changed", (changed(""),), "show\n", 20, 1, 0)
     yield Case(
@@ -68,6 +80,10 @@ def cases() -> Iterator[Case]:
     body = "document.getElementById('x').parentNode"
     turns = f"var b = {body}.normalStyle; var s = x.normalStyle; while (true) {{ b.colorIndex = 1; s.colorIndex; }}"
     yield Case("the body's colour written, one in it read, in turns", (changed(turns),), "key 19\n", 5, 0, 0)
+    for size in (MOST_BYTES // 2, MOST_BYTES):
+        yield Case(f"rows, one text, {size:,} bytes, no width", (one_text(size),), "rows 64 right\n", 2, 1, 0)
+    for count in (MOST_NODES // 2, MOST_NODES):
+        yield Case(f"rows, an input in {count:,} nodes but two", (inputs(count),), "rows 64 right\n", 2, 1, 0)
     two = (launching("0001", 1_000_000), launching("0000", 1_000_000))
     yield Case("two documents of 1 MB that launch each other", two, "key 19\n", 200, 0, 1)
     many = tuple(

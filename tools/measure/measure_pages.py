@@ -108,6 +108,13 @@ def pages() -> Iterator[Page]:
     yield Page("a key that posts 400 events", crowd, "key 1\n", 145, 0)
     busy = with_script("", '<p style="nav-index:0" onkeydown="while (true) ;">x</p>')
     yield Page("100 keys whose handlers take all their steps", busy, "key 1\n" * 100, 0, 100)
+    dates = with_script(
+        "function k() { while (true) { var d = new Date(2001, 1, 29, 25); d.getFullYear(); d.getMonth(); d.getDate();"
+        " d.getDay(); d.getHours(); d.getMinutes(); d.getSeconds();"
+        " browser.subDate(browser.addDate(browser.currentDate(), 1, 5), d, 4); } }",
+        '<p style="nav-index:0" onkeydown="k();">x</p>',
+    )
+    yield Page("100 keys whose handlers call all of Dates", dates, "date 11016 0\n" + "key 1\n" * 100, 0, 100)
     plain = with_script("var n = 0;", many_nodes(2))
     yield Page("100,000 keys over two elements", plain, "key 5\nkey 1\n" * 50_000, 0, 0)
     for count in (1_000, 4_000, 8_000):

@@ -228,6 +228,7 @@ done_for-stays (effects.Launch path) value h heap = launch-stays path h.acting h
 done_for-stays (effects.Lock path) value h heap = lock_answered-stays (lock_answer path.component path.«module» h.modules) path h.acting heap
 done_for-stays (effects.Unlock path) value h heap =
     chosen (is_some (lock_on h.modules.locks path.component path.«module»)) (gives (number 1) h.acting heap) (gives_nan h.acting heap) (stays_of h.acting) refl refl
+done_for-stays (effects.Table path kinds) value h heap = refl
 
 browser_done-stays : (outcome : CallOutcome) (h : HostParts) → stays_of (reply_of_outcome outcome h).hosted.acting ≡ stays_of h.acting
 browser_done-stays outcome h =

@@ -15,7 +15,8 @@ use persistent_arrays::law_of_runs;
 /// Bytes have at most one list of rows, which is the one that is worked out.
 pub fn law_of_tables()
     ensures one { (bytes : List ℕ) (kinds : List FieldKind) (rows others : List (List Field)) →
-        IsStructure kinds → Table bytes kinds rows → Table bytes kinds others → rows ≡ others }
+        IsStructure kinds → Table bytes kinds rows → Table bytes kinds others
+        → rows ≡ others }
     ensures worked_out { (bytes : List ℕ) (kinds : List FieldKind) (rows : List (List Field))
         (most : ℕ) → IsStructure kinds →
         (rows_in most (runs kinds) bytes ≡ Some rows)
@@ -27,9 +28,10 @@ pub fn law_of_tables()
 /// The rows that a search looks for are those at or after the first whose value in the column is the one that is wanted, in
 /// ascending order, each once.
 pub fn law_of_search()
-    ensures same { (value wanted : Field) → (is_value value wanted ≡ true) ↔ (value ≡ wanted) }
-    ensures members { (rows : List (List Field)) (from column : ℕ) (wanted : Field) (row : ℕ) →
-        Contains (rows_with rows from column wanted) row
+    ensures same { (value wanted : Field)
+        → (is_value value wanted ≡ true) ↔ (value ≡ wanted) }
+    ensures members { (rows : List (List Field)) (from column : ℕ) (wanted : Field) (row : ℕ)
+        → Contains (rows_with rows from column wanted) row
         ↔ ((from ≤ row) × (cell_of rows row column ≡ Some wanted)) }
     ensures ascending { (rows : List (List Field)) (from column : ℕ) (wanted : Field) →
         IsStrictlyIncreasing (rows_with rows from column wanted) }

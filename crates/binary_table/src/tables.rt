@@ -1,6 +1,6 @@
 //! Tables of rows of fields.
 
-ghost use Rattle.std.specs.Prelude.{◌≡◌, ◌<◌, ◌≤◌, List, length, IfOk, IfSome, MatchOption, option_map, slice_get};
+ghost use Rattle.std.specs.Prelude.{◌≡◌, ◌<◌, ◌≤◌, All, List, length, IfOk, IfSome, MatchOption, option_map, slice_get};
 ghost use Rattle.persistent_arrays.specs.declared.fields.Field.{Field};
 ghost use Rattle.binary_table.specs.Tables.{Search, Table, cell_of, has_value, is_value as is_value_of, most_rows, table_rows};
 
@@ -45,9 +45,10 @@ impl BinaryTable {
         structure: &Structure,
     ) -> Result<Option<BinaryTable>, NoMemory>
         ensures rows { IfOk result (λ found. MatchOption found
-            ((rows : List (List Field)) → Table bytes.now structure.now rows →
-            most_rows < length rows)
-            (λ table. Table bytes.now structure.now table.rows × (length table.rows ≤ most_rows))) }
+            ((rows : List (List Field)) → Table bytes.now structure.now rows
+            → most_rows < length rows)
+            (λ table. Table bytes.now structure.now table.rows
+            × (length table.rows ≤ most_rows))) }
         ensures worked_out { IfOk result (λ found.
             option_map (λ table. table.rows) found ≡ table_rows bytes.now structure.now) }
         ensures kinds { IfOk result (λ found. IfSome found
@@ -114,8 +115,9 @@ impl BinaryTable {
         wanted: &Field,
         limit: u32,
     ) -> Result<Vec<u32>, NoMemory>
-        ensures { IfOk result (λ found.
+        ensures found { IfOk result (λ found.
             found.items ≡ Search self.now.rows from column wanted.now limit) }
+        ensures within { IfOk result (λ found. All (λ row. row < most_rows) found.items) }
     {
         let mut found = Vec::new(*self.bytes.allocator());
         let most = limit as usize;

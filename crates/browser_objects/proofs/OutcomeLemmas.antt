@@ -1,6 +1,6 @@
 -- What calls give and leave is what hosts of scripts promise.
 use Rattle.std.proofs.Common.{◌≡◌, ℕ, ◌<◌, nat_le, Bool, true, false, cond, List, [], ◌∷◌, ◌++◌, length, map, Option, Some, None, ℤ, ◌⊎◌, inl, inr, refl, sym, subst, arith, length-append}
-use Rattle.std.specs.Prelude.{◌||◌, is_some}
+use Rattle.std.specs.Prelude.{◌||◌, is_some, option_and_then}
 use Rattle.std.specs.List.{list_any}
 use Rattle.std.specs.Option.{option_map_or}
 use Rattle.multipart_entities.specs.declared.paths.Path.{Path}
@@ -25,11 +25,57 @@ use Rattle.persistent_arrays.specs.Structures.{structure_spelled}
 use Rattle.event_queue.specs.Timers.{has_place, timer_of}
 use Rattle.browser_objects.specs.declared.calls.BrowserCall.{BrowserCall}
 use Rattle.browser_objects.specs.declared.calls.BrowserCall.TheVariants as the
-use Rattle.browser_objects.specs.declared.effects.Effect.TheVariants.{Sound, Launch, Lock, Unlock}
+use Rattle.browser_objects.specs.declared.effects.Effect.TheVariants.{Sound, Launch, Lock, Unlock, Table}
 use Rattle.browser_objects.specs.ArrayCalls.{value_of_field, values_of_array, with_array_of}
 use Rattle.browser_objects.specs.Dates.{later_moment, present_moment, units_since}
 use Rattle.browser_objects.specs.Functions.{named_function}
-use Rattle.browser_objects.specs.Calls.{date_argument, give_date, sub_date, unit_argument, BrowserParts, CallResult, CallOutcome, argument, give_array, write_bytes, call_named, call_of, outcome_of_call, clear_timer, end_timer, count_argument, draw_up_to, gives, hands_on, interval_of, number, over, packed_values, path_argument, play_sound, draw_random, gives_nan, set_interval, sound_of, text_argument, begin_timer, whole_argument, with_interval, with_named, with_path}
+use Rattle.browser_objects.specs.OpenTables.{cell_at, limit_of, row_numbers, rows_found}
+use Rattle.binary_table.specs.Tables.{TableState}
+use Rattle.browser_objects.specs.Calls.{
+  count_rows,
+  give_cell,
+  open_table,
+  opens,
+  read_cell,
+  search_rows,
+  table_argument,
+  table_cell,
+  date_argument,
+  give_date,
+  sub_date,
+  unit_argument,
+  BrowserParts,
+  CallResult,
+  CallOutcome,
+  argument,
+  give_array,
+  write_bytes,
+  call_named,
+  call_of,
+  outcome_of_call,
+  clear_timer,
+  end_timer,
+  count_argument,
+  draw_up_to,
+  gives,
+  hands_on,
+  interval_of,
+  number,
+  over,
+  packed_values,
+  path_argument,
+  play_sound,
+  draw_random,
+  gives_nan,
+  set_interval,
+  sound_of,
+  text_argument,
+  begin_timer,
+  whole_argument,
+  with_interval,
+  with_named,
+  with_path,
+}
 
 -- ---- calls whose value is neither an object nor a function
 
@@ -59,6 +105,23 @@ timer now (Some function) (Some interval) (Some turns) s = with-interval now fun
 written : (slot : ℕ) (bytes : Option (List ℕ)) (s : BrowserParts) → IsPlain (write_bytes slot bytes s)
 written slot None s = refl
 written slot (Some bytes) s = refl
+
+opening : (path : Option Path) (kinds : Option (List FieldKind)) (s : BrowserParts) → IsPlain (opens path kinds s)
+opening None kinds s = refl
+opening (Some path) None s = refl
+opening (Some path) (Some kinds) s = refl
+
+plain-field : (found : Option Field) (s : BrowserParts) → IsPlain (give_cell found s)
+plain-field None s = refl
+plain-field (Some (fields.Bit bit)) s = refl
+plain-field (Some (fields.Whole whole)) s = refl
+plain-field (Some (fields.Words text)) s = refl
+
+cell-read : (table : Option TableState) (row column : Option ℤ) (s : BrowserParts) → IsPlain (read_cell table row column s)
+cell-read None row column s = refl
+cell-read (Some table) None column s = refl
+cell-read (Some table) (Some row) None s = refl
+cell-read (Some table) (Some row) (Some column) s = plain-field (cell_at table row column) s
 
 -- ---- what a call gives and leaves
 
@@ -101,6 +164,15 @@ read (Some found) heap s = record { answer = (refl, one-more heap (array_of (map
 dated : (moment : Option Moment) (heap : List ObjectState) (s : BrowserParts) → IsGiven heap (give_date moment heap s)
 dated None heap s = plain heap (gives_nan s) refl
 dated (Some moment) heap s = record { answer = (refl, one-more heap (date_object (Some moment))); objects = inr (inr (moment, refl)) }
+
+found-rows : (table : Option TableState) (from column limit : Option ℕ) (value : Value) (heap : List ObjectState) (s : BrowserParts)
+    → IsGiven heap (search_rows table from column limit value heap s)
+found-rows None from column limit value heap s = plain heap (gives_nan s) refl
+found-rows (Some table) None column limit value heap s = plain heap (gives_nan s) refl
+found-rows (Some table) (Some from) None limit value heap s = plain heap (gives_nan s) refl
+found-rows (Some table) (Some from) (Some column) None value heap s = plain heap (gives_nan s) refl
+found-rows (Some table) (Some from) (Some column) (Some limit) value heap s =
+    read (Some (row_numbers (rows_found table from column limit heap value))) heap s
 
 present : (now : ℕ) (date : Option (ℤ × ℕ × ℕ)) (heap : List ObjectState) (s : BrowserParts)
     → IsGiven heap (option_map_or (λ date. give_date (present_moment now date) heap s) date (over heap (gives values.Null s)))
@@ -150,6 +222,18 @@ table the.SubDate base now arguments heap s =
     (mapped (λ units. gives (values.Number (Whole units)) s)
     (units_since (date_argument heap arguments 0) (date_argument heap arguments 1) (unit_argument heap arguments 2)) (gives_nan s)
     (λ units. refl) refl)
+table the.OpenTable base now arguments heap s =
+    plain heap (open_table base arguments heap s)
+    (opening (path_argument base arguments heap) (structure_spelled (text_argument heap arguments 1)) s)
+table the.TableRows base now arguments heap s =
+    plain heap (count_rows arguments heap s)
+    (mapped (λ table. gives (number (length table.rows)) s) (table_argument arguments heap s) (gives_nan s) (λ table. refl) refl)
+table the.TableCell base now arguments heap s =
+    plain heap (table_cell arguments heap s)
+    (cell-read (table_argument arguments heap s) (whole_argument heap arguments 1) (whole_argument heap arguments 2) s)
+table the.TableSearch base now arguments heap s =
+    found-rows (table_argument arguments heap s) (count_argument heap arguments 1) (count_argument heap arguments 2)
+    (option_and_then limit_of (count_argument heap arguments 4)) (argument arguments 3) heap s
 
 given : (name : List ℕ) (base : Path) (now : ℕ) (arguments : List Value) (heap : List ObjectState) (s : BrowserParts)
     → IsGiven heap (call_of name base now arguments heap s)

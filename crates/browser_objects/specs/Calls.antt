@@ -5,6 +5,7 @@ use Rattle.std.specs.Prelude.{◌≡◌, ℕ, ◌+◌, ◌%◌, nat_le, ◌&&◌
 use Rattle.std.specs.Option.{option_map_or}
 use Rattle.bml_bytes.specs.Numerals.{decimal_field}
 use Rattle.bml_bytes.specs.Words.{is_same}
+use Rattle.binary_table.specs.Tables.{TableState}
 use Rattle.multipart_entities.specs.declared.paths.Path.{Path}
 use Rattle.multipart_entities.specs.Paths.{path_of_text}
 use Rattle.date_objects.specs.Dates.{date_object, moment_of}
@@ -24,14 +25,15 @@ use Rattle.persistent_arrays.specs.Names.{array_named}
 use Rattle.persistent_arrays.specs.Packing.{packed_in_array}
 use Rattle.persistent_arrays.specs.Reading.{unpacked}
 use Rattle.persistent_arrays.specs.Structures.{structure_spelled}
-use Rattle.event_queue.specs.Timers.{TimersState, has_place, timer_of, timer_set, with_timer, without_timer}
+use Rattle.event_queue.specs.Timers.{TimersState, has_place, no_timers, timer_of, timer_set, with_timer, without_timer}
 use Rattle.browser_objects.specs.declared.calls.BrowserCall.{BrowserCall}
 use Rattle.browser_objects.specs.declared.calls.BrowserCall.TheVariants as the
 use Rattle.browser_objects.specs.declared.effects.Effect.{Effect}
-use Rattle.browser_objects.specs.declared.effects.Effect.TheVariants.{Nothing, Kept, Sound, Launch, Lock, Unlock}
-use Rattle.browser_objects.specs.ArrayCalls.{fields_of, values_of_array, with_array_of}
+use Rattle.browser_objects.specs.declared.effects.Effect.TheVariants.{Nothing, Kept, Sound, Launch, Lock, Unlock, Table}
+use Rattle.browser_objects.specs.ArrayCalls.{fields_of, value_of_field, values_of_array, with_array_of}
 use Rattle.browser_objects.specs.Dates.{later_moment, present_moment, units_since}
 use Rattle.browser_objects.specs.Functions.{named_function}
+use Rattle.browser_objects.specs.OpenTables.{TablesState, cell_at, limit_of, no_tables, opening, row_numbers, rows_found, table_numbered, table_of}
 
 -- what calls act on
 pub record BrowserParts : Type 0 where
@@ -44,6 +46,12 @@ pub record BrowserParts : Type 0 where
   pub random : List ℕ
   -- the day and the second that the record told last, and the clock then
   pub date : Option (ℤ × ℕ × ℕ)
+  -- the tables that the document has open
+  pub tables : TablesState
+
+-- what is left when a document ends: its timers and its tables end with it
+abbrev pub without_document : BrowserParts → BrowserParts
+without_document s = record s { timers = no_timers; tables = no_tables }
 
 -- what a call gives, what the page has to do, and what it leaves
 pub record CallResult : Type 0 where
@@ -78,12 +86,17 @@ name_of_call the.PlayRomSound = codes "playRomSound"
 name_of_call the.CurrentDate = codes "currentDate"
 name_of_call the.AddDate = codes "addDate"
 name_of_call the.SubDate = codes "subDate"
+name_of_call the.OpenTable = codes "openTable"
+name_of_call the.TableRows = codes "tableRows"
+name_of_call the.TableCell = codes "tableCell"
+name_of_call the.TableSearch = codes "tableSearch"
 
 abbrev pub all_calls : List BrowserCall
 all_calls =
     the.SetInterval ∷ the.ClearTimer ∷ the.LaunchDocument ∷ the.LockModuleOnMemory
     ∷ the.UnlockModuleOnMemory ∷ the.ReadPersistentArray ∷ the.WritePersistentArray ∷ the.Random
-    ∷ the.PlayRomSound ∷ the.CurrentDate ∷ the.AddDate ∷ the.SubDate ∷ []
+    ∷ the.PlayRomSound ∷ the.CurrentDate ∷ the.AddDate ∷ the.SubDate ∷ the.OpenTable ∷ the.TableRows
+    ∷ the.TableCell ∷ the.TableSearch ∷ []
 
 abbrev pub call_named : List ℕ → Option BrowserCall
 call_named name = find (λ call. is_same name (name_of_call call)) all_calls
@@ -305,7 +318,69 @@ sub_date arguments heap s =
     (units_since (date_argument heap arguments 0) (date_argument heap arguments 1)
     (unit_argument heap arguments 2)) (gives_nan s)
 
--- ---- the table
+-- ---- binary tables
+
+-- The page looks the resource of a path up, and tries to open it as a table of these fields. Where a text is no path or no
+-- structure, the form is wrong.
+abbrev pub opens : Option Path → Option (List FieldKind) → BrowserParts → CallResult
+opens (Some path) (Some kinds) s = hands_on (Table path kinds) s
+opens None kinds s = gives_nan s
+opens (Some path) None s = gives_nan s
+
+abbrev pub open_table : Path → List Value → List ObjectState → BrowserParts → CallResult
+open_table base arguments heap s =
+    opens (path_argument base arguments heap) (structure_spelled (text_argument heap arguments 1)) s
+
+-- what a call of `openTable` comes to where these bytes were found, or none
+abbrev pub table_opened : Option (List ℕ) → List FieldKind → BrowserParts → CallResult
+table_opened found kinds s =
+    let opened = opening (option_and_then (λ bytes. table_of bytes kinds) found) s.tables in
+    gives opened.0 (record s { tables = opened.1 })
+
+-- the open table that the first argument numbers
+abbrev pub table_argument : List Value → List ObjectState → BrowserParts → Option TableState
+table_argument arguments heap s =
+    option_and_then (table_numbered s.tables) (count_argument heap arguments 0)
+
+abbrev pub count_rows : List Value → List ObjectState → BrowserParts → CallResult
+count_rows arguments heap s =
+    option_map_or (λ table. gives (number (length table.rows)) s) (table_argument arguments heap s)
+    (gives_nan s)
+
+-- the value of a cell, and Null where there is no such cell
+abbrev pub give_cell : Option Field → BrowserParts → CallResult
+give_cell None s = gives Null s
+give_cell (Some field) s = gives (value_of_field field) s
+
+-- the cell of a table in a row and a column; NaN where one of the three is missing
+abbrev pub read_cell : Option TableState → Option ℤ → Option ℤ → BrowserParts → CallResult
+read_cell (Some table) (Some row) (Some column) s = give_cell (cell_at table row column) s
+read_cell None row column s = gives_nan s
+read_cell (Some table) None column s = gives_nan s
+read_cell (Some table) (Some row) None s = gives_nan s
+
+abbrev pub table_cell : List Value → List ObjectState → BrowserParts → CallResult
+table_cell arguments heap s =
+    read_cell (table_argument arguments heap s) (whole_argument heap arguments 1)
+    (whole_argument heap arguments 2) s
+
+-- a search of a table from a row on, in a column, for a value, up to a limit; NaN where one of the numbers is missing
+abbrev pub search_rows : Option TableState → Option ℕ → Option ℕ → Option ℕ → Value
+    → List ObjectState → BrowserParts → CallOutcome
+search_rows (Some table) (Some from) (Some column) (Some limit) value heap s =
+    give_array (Some (row_numbers (rows_found table from column limit heap value))) heap s
+search_rows None from column limit value heap s = over heap (gives_nan s)
+search_rows (Some table) None column limit value heap s = over heap (gives_nan s)
+search_rows (Some table) (Some from) None limit value heap s = over heap (gives_nan s)
+search_rows (Some table) (Some from) (Some column) None value heap s = over heap (gives_nan s)
+
+abbrev pub table_search : List Value → List ObjectState → BrowserParts → CallOutcome
+table_search arguments heap s =
+    search_rows (table_argument arguments heap s) (count_argument heap arguments 1)
+    (count_argument heap arguments 2)
+    (option_and_then limit_of (count_argument heap arguments 4)) (argument arguments 3) heap s
+
+-- ---- the table of all calls
 
 abbrev pub outcome_of_call : BrowserCall → Path → ℕ → List Value → List ObjectState → BrowserParts
     → CallOutcome
@@ -325,6 +400,11 @@ outcome_of_call the.PlayRomSound base now arguments heap s = over heap (play_sou
 outcome_of_call the.CurrentDate base now arguments heap s = current_date now heap s
 outcome_of_call the.AddDate base now arguments heap s = add_date arguments heap s
 outcome_of_call the.SubDate base now arguments heap s = over heap (sub_date arguments heap s)
+outcome_of_call the.OpenTable base now arguments heap s =
+    over heap (open_table base arguments heap s)
+outcome_of_call the.TableRows base now arguments heap s = over heap (count_rows arguments heap s)
+outcome_of_call the.TableCell base now arguments heap s = over heap (table_cell arguments heap s)
+outcome_of_call the.TableSearch base now arguments heap s = table_search arguments heap s
 
 -- the call of this name, which has to be one of these
 abbrev pub call_of : List ℕ → Path → ℕ → List Value → List ObjectState → BrowserParts

@@ -3,3 +3,4 @@ pub mod Functions
 pub mod ArrayCalls
 pub mod Calls
 pub mod Dates
+pub mod OpenTables

@@ -156,7 +156,7 @@ fn slot_argument(args: &[Value], heap: &Heap) -> Result<Option<u8>, NoMemory>
     Ok(slot_of(&name))
 }
 
-fn structure_argument(
+pub fn structure_argument(
     alloc: Global,
     args: &[Value],
     heap: &Heap,

@@ -36,7 +36,7 @@ pub fn values_of(alloc: Global, fields: Vec<Field>) -> Result<Vec<Value>, NoMemo
     Ok(values)
 }
 
-fn value_of(field: Field) -> Value
+pub fn value_of(field: Field) -> Value
     ensures { result ≡ value_of_field field }
 {
     match field {
@@ -136,7 +136,7 @@ fn element(alloc: Global, array: u64, place: u32, heap: &Heap) -> Result<Value, 
 }
 
 // A value as that of a field of this kind.
-fn field_of(kind: FieldKind, value: &Value, heap: &Heap) -> Result<Option<Field>, NoMemory>
+pub fn field_of(kind: FieldKind, value: &Value, heap: &Heap) -> Result<Option<Field>, NoMemory>
     requires { IsLive heap.now value.now }
     ensures { IfOk result (λ field. field ≡ spec_field_of heap.now kind value.now) }
 {

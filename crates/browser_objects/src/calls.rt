@@ -11,6 +11,7 @@ use crate::page_calls::{launch_document, lock_module, unlock_module};
 use crate::random_calls::random;
 use crate::sounds::play_sound;
 use crate::states::BrowserState;
+use crate::table_calls::{ask_for_table, count_rows, table_cell, table_search};
 use crate::timer_calls::{clear_timer, set_interval};
 use bml_bytes::{NoMemory, Text};
 use es_values::{Heap, Value};
@@ -32,11 +33,15 @@ pub enum BrowserCall {
     CurrentDate,
     AddDate,
     SubDate,
+    OpenTable,
+    TableRows,
+    TableCell,
+    TableSearch,
 }
 
 impl BrowserCall {
     /// All of them.
-    pub fn all() -> [BrowserCall; 12]
+    pub fn all() -> [BrowserCall; 16]
         ensures { result ≡ all_calls }
     {
         [
@@ -52,6 +57,10 @@ impl BrowserCall {
             BrowserCall::CurrentDate,
             BrowserCall::AddDate,
             BrowserCall::SubDate,
+            BrowserCall::OpenTable,
+            BrowserCall::TableRows,
+            BrowserCall::TableCell,
+            BrowserCall::TableSearch,
         ]
     }
 
@@ -72,6 +81,10 @@ impl BrowserCall {
             BrowserCall::CurrentDate => "currentDate",
             BrowserCall::AddDate => "addDate",
             BrowserCall::SubDate => "subDate",
+            BrowserCall::OpenTable => "openTable",
+            BrowserCall::TableRows => "tableRows",
+            BrowserCall::TableCell => "tableCell",
+            BrowserCall::TableSearch => "tableSearch",
         }
     }
 
@@ -142,5 +155,9 @@ fn called(
         BrowserCall::CurrentDate => current_date(state, now, heap),
         BrowserCall::AddDate => add_date(args, heap),
         BrowserCall::SubDate => sub_date(args, &*heap),
+        BrowserCall::OpenTable => ask_for_table(alloc, base, args, &*heap),
+        BrowserCall::TableRows => count_rows(state, args, &*heap),
+        BrowserCall::TableCell => table_cell(state, args, &*heap),
+        BrowserCall::TableSearch => table_search(alloc, state, args, heap),
     }
 }

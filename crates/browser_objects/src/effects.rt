@@ -8,10 +8,12 @@ ghost use Rattle.browser_objects.specs.Calls.{number as spec_number};
 
 use es_values::{Num, Value};
 use multipart_entities::Path;
+use persistent_arrays::Structure;
 
 /// What the page has to do for a call: nothing, the line of a sound, that of an array and how many of
-/// its bytes were kept, or the launch, lock or unlock of what a path names. Where it locks or unlocks,
-/// what the store answers is the value that the script gets.
+/// its bytes were kept, the launch, lock or unlock of what a path names, or to look up what a path
+/// names and try to open it as a table of these fields ([`open_table`](crate::open_table)). Where it
+/// locks, unlocks or opens, what this answers is the value that the script gets.
 #[derive(Drop)]
 pub enum Effect {
     Nothing,
@@ -20,6 +22,7 @@ pub enum Effect {
     Launch(Path),
     Lock(Path),
     Unlock(Path),
+    Table(Path, Structure),
 }
 
 // What a call of an unknown name, or with arguments of a wrong form, answers.

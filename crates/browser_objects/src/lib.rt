@@ -7,7 +7,8 @@
 //! documents, modules and sounds. `specs/Registers.antt` has the texts of Ureg and Greg, and
 //! `specs/Functions.antt` how a text names the function of a timer. `specs/ArrayCalls.antt` says
 //! how values of scripts become those of persistent arrays, and back, and `specs/Dates.antt` how
-//! dates are reckoned with.
+//! dates are reckoned with. `specs/OpenTables.antt` has the binary tables that a document opens: the
+//! page looks a resource up, and [`open_table`] opens what it found.
 #![tactic(auto)]
 
 mod arguments;
@@ -18,11 +19,13 @@ mod date_calls;
 mod effects;
 mod functions;
 mod laws;
+mod open_tables;
 mod page_calls;
 mod random_calls;
 mod registers;
 mod sounds;
 mod states;
+mod table_calls;
 mod timer_calls;
 
 pub use crate::calls::{BrowserCall, call_browser};
@@ -30,5 +33,6 @@ pub use crate::effects::Effect;
 pub use crate::laws::{
     law_of_call_outcomes, law_of_function_texts, law_of_new_objects, law_of_register_names,
 };
+pub use crate::open_tables::{OpenTables, open_table};
 pub use crate::registers::{register, set_register};
 pub use crate::states::BrowserState;

@@ -64,7 +64,7 @@ pub fn unlock_module(
 }
 
 // The path that the first argument names, seen from a base.
-fn path_argument(
+pub fn path_argument(
     alloc: Global,
     base: &Path,
     args: &[Value],

@@ -1,20 +1,24 @@
 -- What calls of nodes and launches come to, with the modules beside them.
-use Rattle.std.proofs.Common.{◌≡◌, ℕ, Bool, true, false, List, refl, sym, codes}
+use Rattle.std.proofs.Common.{◌≡◌, ℕ, Bool, true, false, List, Option, refl, subst, sym, codes}
 use Rattle.std.specs.Prelude.{if◌then◌else◌, is_some, IfOk, OnOk, Result, Ok, Err}
 use Rattle.bml_bytes.specs.Words.{is_same}
 use Rattle.dom_tree.specs.Items.{tag_of}
 use Rattle.es_values.specs.declared.hosts.HostAnswer.{HostAnswer}
+use Rattle.es_values.specs.declared.hosts.HostAnswer.TheVariants.{Value as Answer}
 use Rattle.es_values.specs.declared.values.HostRef.{HostRef}
 use Rattle.es_values.specs.declared.values.HostRef.TheVariants.{Node}
 use Rattle.es_values.specs.declared.values.Value.{Value}
 use Rattle.es_values.specs.Objects.{ObjectState}
 use Rattle.multipart_entities.specs.declared.paths.Path.{Path}
+use Rattle.persistent_arrays.specs.declared.kinds.FieldKind.{FieldKind}
+use Rattle.browser_objects.specs.Calls.{table_opened}
 use Rattle.browser_objects.specs.declared.effects.Effect.{Effect}
 use Rattle.browser_objects.specs.declared.effects.Effect.TheVariants as effects
+use Rattle.module_locks.specs.Locks.{look_up}
 use Rattle.module_locks.specs.Standing.{ForModules}
-use Rattle.document_stages.specs.Acting.{Acting, CallAnswer, is_unload, launch, node_call}
+use Rattle.document_stages.specs.Acting.{Acting, CallAnswer, is_unload, launch, node_call, with_browser}
 use Rattle.document_stages.specs.Calling.{HasCalled, Replies}
-use Rattle.document_stages.specs.Hosting.{reply_of_call, reply_of_effect, reply_with}
+use Rattle.document_stages.specs.Hosting.{answer_of_call, bytes_found, open_table, reply_of_call, reply_of_effect, reply_with}
 use Rattle.document_stages.specs.declared.script_hosts.ScriptHost.{ScriptHost}
 
 either-heap : (test : Bool) (x y : CallAnswer) (heap : List ObjectState) → x.heap ≡ heap → y.heap ≡ heap → (if test then x else y).heap ≡ heap
@@ -47,3 +51,9 @@ pub node-called : {E : Type 0} (r : Result HostAnswer E) (old new : ScriptHost) 
 unfolding reply_of_call
 node-called r old new base node name arguments heap is gave left same =
     rw is (left-modules r old new (node_call old.stage.acting node name heap) heap gave left same (node-heap old.stage.acting node name heap))
+
+-- what a look-up found is tried as a table
+pub table-done : {E : Type 0} (r : Result HostAnswer E) (old new : ScriptHost) (found : Option (List ℕ)) (path : Path) (kinds : List FieldKind) (heap : List ObjectState) → ForModules old.modules (λ modules. bytes_found (look_up modules path) ≡ found) → IfOk r (λ (answer : HostAnswer). answer ≡ Answer (table_opened found kinds old.stage.acting.browser).value) → OnOk r (new.stage.acting ≡ with_browser (table_opened found kinds old.stage.acting.browser).state old.stage.acting) → new.modules ≡ old.modules → IfOk r (λ (answer : HostAnswer). ForModules old.modules (λ modules. Replies new answer heap (open_table path kinds (record { acting = old.stage.acting; modules = modules }) heap)))
+table-done (Ok answer) old new found path kinds heap is gave left same =
+    λ modules stand. subst (λ (o : Option (List ℕ)). Replies new answer heap (reply_with modules (answer_of_call (table_opened o kinds old.stage.acting.browser) old.stage.acting heap))) (sym (is modules stand)) (record { answer_is = gave; acting_is = left; modules_stand = rw same stand; heap_is = refl })
+table-done (Err e) old new found path kinds heap is gave left same = gave

@@ -36,6 +36,7 @@ use Rattle.event_queue.specs.declared.events.Event.{Event}
 use Rattle.event_queue.specs.declared.events.Event.TheVariants as events
 use Rattle.event_queue.specs.declared.item_kinds.ItemKind.TheVariants as kinds
 use Rattle.browser_objects.specs.Calls.{BrowserParts}
+use Rattle.browser_objects.specs.OpenTables.{no_tables}
 use Rattle.browser_objects.specs.Registers.{empty_registers, register_text, with_register}
 use Rattle.dom_objects.specs.Parts.{Parts}
 use Rattle.dom_objects.specs.Reads.{node_value, read_value}
@@ -45,7 +46,7 @@ use Rattle.dom_tree.specs.declared.node_ids.NodeId.{NodeId}
 use Rattle.document_stages.specs.EventLines.{launch_line, lost_line}
 
 -- What belongs to the receiver, before anything came, with this persistent area: empty registers, and neither timers nor
--- random words nor a date.
+-- random words nor a date nor tables.
 abbrev pub first_browser : List ℕ → BrowserParts
 first_browser area =
     record {
@@ -55,6 +56,7 @@ first_browser area =
       timers = no_timers;
       random = [];
       date = None;
+      tables = no_tables;
     }
 
 abbrev pub with_timers : TimersState → BrowserParts → BrowserParts
@@ -78,7 +80,8 @@ pub record Acting : Type 0 where
   pub items : ItemsState
   -- the events that wait for their dispatch, the one that waits longest in front
   pub queue : List Event
-  -- the registers, the persistent area, the random words and the date, which belong to the receiver; and the timers
+  -- the registers, the persistent area, the random words and the date, which belong to the receiver; and the timers and
+  -- the tables, which end with the document
   pub browser : BrowserParts
   -- the time in milliseconds
   pub now : ℕ

@@ -1,17 +1,20 @@
--- What scripts call: the rows of the document and of the browser object, with the modules that calls lock and unlock
+-- What scripts call: the rows of the document and of the browser object, with the modules that calls lock, unlock and read
 -- (after the DOM interfaces and the browser object of BML, ARIB STD-B24 volume 2, in this project's own profile).
-use Rattle.std.specs.Prelude.{ℕ, Bool, if◌then◌else◌, List, is_some}
+use Rattle.std.specs.Prelude.{ℕ, Bool, if◌then◌else◌, List, Option, Some, None, is_some}
 use Rattle.multipart_entities.specs.declared.paths.Path.{Path}
-use Rattle.module_locks.specs.Locks.{Modules, lock_answer, lock_on, with_lock, without_lock}
+use Rattle.module_locks.specs.Locks.{Modules, lock_answer, lock_on, look_up, with_lock, without_lock}
 use Rattle.module_locks.specs.declared.answers.LockAnswer.{LockAnswer}
 use Rattle.module_locks.specs.declared.answers.LockAnswer.TheVariants as answers
+use Rattle.module_store.specs.Resources.{Resource}
+use Rattle.module_store.specs.Resources.Resource.{Found, Waiting, Missing}
+use Rattle.persistent_arrays.specs.declared.kinds.FieldKind.{FieldKind}
 use Rattle.es_values.specs.declared.hosts.HostAnswer.{HostAnswer}
 use Rattle.es_values.specs.declared.values.HostRef.{HostRef}
 use Rattle.es_values.specs.declared.values.HostRef.TheVariants.{Browser, Document, Node}
 use Rattle.es_values.specs.declared.values.Value.{Value}
 use Rattle.es_values.specs.Conversions.{text_of}
 use Rattle.es_values.specs.Objects.{ObjectState}
-use Rattle.browser_objects.specs.Calls.{CallOutcome, call_of, number}
+use Rattle.browser_objects.specs.Calls.{CallOutcome, CallResult, call_of, number, table_opened}
 use Rattle.browser_objects.specs.declared.effects.Effect.{Effect}
 use Rattle.browser_objects.specs.declared.effects.Effect.TheVariants as effects
 use Rattle.document_stages.specs.Acting.{Acting, CallAnswer, document_call, first_argument, gives, launch, lock_posts, node_call, not_callable, gives_nan, with_browser, with_line}
@@ -66,10 +69,30 @@ unlock path h heap =
     (answer_of_unlock (is_some (lock_on h.modules.locks path.component path.«module»)) h.acting
     heap)
 
+-- ---- tables
+
+-- the bytes that a look-up found
+abbrev pub bytes_found : Resource → Option (List ℕ)
+bytes_found (Found bytes) = Some bytes
+bytes_found Waiting = None
+bytes_found Missing = None
+
+-- what a call of the browser object gave, and left of what belongs to it
+abbrev pub answer_of_call : CallResult → Acting → List ObjectState → CallAnswer
+answer_of_call called a heap = gives called.value (with_browser called.state a) heap
+
+-- `openTable`, at a path: what a look-up finds there now is tried
+abbrev pub open_table : Path → List FieldKind → HostParts → List ObjectState → Reply
+open_table path kinds h heap =
+    reply_with h.modules
+    (answer_of_call (table_opened (bytes_found (look_up h.modules path)) kinds h.acting.browser)
+    h.acting heap)
+
 -- ---- calls of the browser object
 
--- What is done for a call: a line is printed, a document is launched, or a module is locked or unlocked. The value is the
--- answer of a call for which nothing is to be asked then; launches, locks and unlocks have answers of their own.
+-- What is done for a call: a line is printed, a document is launched, a module is locked or unlocked, or a table is opened.
+-- The value is the answer of a call for which nothing is to be asked then; launches, locks, unlocks and tables have answers
+-- of their own.
 abbrev pub reply_of_effect : Effect → Value → HostParts → List ObjectState → Reply
 reply_of_effect effects.Nothing value h heap = reply_with h.modules (gives value h.acting heap)
 reply_of_effect (effects.Sound sound) value h heap =
@@ -80,6 +103,7 @@ reply_of_effect (effects.Launch path) value h heap =
     reply_with h.modules (launch path h.acting heap)
 reply_of_effect (effects.Lock path) value h heap = lock path h heap
 reply_of_effect (effects.Unlock path) value h heap = unlock path h heap
+reply_of_effect (effects.Table path kinds) value h heap = open_table path kinds h heap
 
 abbrev pub reply_of_outcome : CallOutcome → HostParts → Reply
 reply_of_outcome outcome h =

@@ -7,15 +7,17 @@ ghost use Rattle.es_values.specs.declared.hosts.HostAnswer.TheVariants.{Value as
 ghost use Rattle.browser_objects.specs.Calls.{number};
 ghost use Rattle.module_locks.specs.Standing.{ForModules};
 ghost use Rattle.document_stages.specs.Calling.{HasCalled, HasRead, HasWritten, Replies};
-ghost use Rattle.document_stages.specs.Hosting.{browser_call, reply_of_effect, lock as spec_lock, unlock as spec_unlock};
+ghost use Rattle.document_stages.specs.Hosting.{browser_call, reply_of_effect, lock as spec_lock};
+ghost use Rattle.document_stages.specs.Hosting.{open_table as spec_open_table, unlock as spec_unlock};
 
 use crate::stages::{Stage, refusal};
 use bml_bytes::{NoMemory, Text};
 use browser_objects::{Effect, law_of_call_outcomes};
 use dom_tree::NodeId;
 use es_values::{Heap, Host, HostAnswer, HostRef, Num, Value};
-use module_locks::{LockAnswer, Modules};
+use module_locks::{LockAnswer, Look, Modules};
 use multipart_entities::Path;
+use persistent_arrays::Structure;
 
 /// What the scripts of a document act on: its stage, and the modules that it is lent.
 #[derive(Drop)]
@@ -86,7 +88,7 @@ impl ScriptHost {
     }
 
     // Does what is left to do for a call that would give this value: a line is printed, a document
-    // is launched, or a module is locked or unlocked.
+    // is launched, a module is locked or unlocked, or a table is opened.
     fn do_effect(
         &mut self,
         effect: Effect,
@@ -114,6 +116,10 @@ impl ScriptHost {
             Effect::Unlock(path) => {
                 drop(value);
                 Ok(self.unlock(&path, heap))
+            }
+            Effect::Table(path, structure) => {
+                drop(value);
+                self.open_table(&path, &structure, heap)
             }
         }
     }
@@ -148,6 +154,25 @@ impl ScriptHost {
         } else {
             refusal()
         }
+    }
+
+    // Looks up what is at a path now, and tries to open it as a table of these fields.
+    fn open_table(
+        &mut self,
+        path: &Path,
+        structure: &Structure,
+        heap: &Heap,
+    ) -> Result<HostAnswer, NoMemory>
+        ensures replies { IfOk result (λ answer. ForModules self.old.modules (λ modules.
+            Replies self.new answer heap.now (spec_open_table path.now structure.now
+            (record { acting = self.old.stage.acting; modules = modules }) heap.now))) }
+        ensures safe { IfOk result (λ answer. IsAnswer heap.now answer) }
+    {
+        let found = match self.modules.resource(path) {
+            Look::Found(bytes) => Some(bytes),
+            Look::Waiting | Look::Missing => None,
+        };
+        self.stage.open_table(found, structure)
     }
 }
 

@@ -25,7 +25,7 @@ mod item_events;
 use crate::event_lines::push_lost_line;
 pub(crate) use crate::stages::hosts::refusal;
 use bml_bytes::{AreaBytes, NoMemory, Text, law_of_fronts};
-use browser_objects::BrowserState;
+use browser_objects::{BrowserState, OpenTables};
 use display_list::Shower;
 use dom_objects::CurrentEvent;
 use dom_tree::{NodeId, Tree};
@@ -508,6 +508,7 @@ fn placeholder(alloc: Global) -> BrowserState {
         timers: Timers::new(),
         random: VecDeque::new(alloc),
         date: None,
+        tables: OpenTables::new(alloc),
     }
 }
 

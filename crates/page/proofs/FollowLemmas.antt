@@ -78,6 +78,7 @@ done-follows (effects.Kept slot size) value h heap = stays h.modules
 done-follows (effects.Launch path) value h heap = stays h.modules
 done-follows (effects.Lock path) value h heap = record { more = Locked path.component path.«module» ∷ []; reached = refl }
 done-follows (effects.Unlock path) value h heap = record { more = Unlocked path.component path.«module» ∷ []; reached = refl }
+done-follows (effects.Table path kinds) value h heap = stays h.modules
 
 called-follows : (h : HostParts) (base : HostRef) (name : List ℕ) (arguments : List Value)
     (heap : List ObjectState)

@@ -6,12 +6,10 @@ use Rattle.std.specs.Io.{StartsWith}
 use Rattle.std.proofs.lemmas.List.{take-append-drop}
 use Rattle.bml_reader.specs.declared.faults.DocFault.{DocFault}
 use Rattle.carousel_blocks.specs.declared.changes.Change.{Change}
-use Rattle.browser_objects.specs.Calls.{BrowserParts}
+use Rattle.browser_objects.specs.Calls.{BrowserParts, without_document}
 use Rattle.display_list.specs.Show.{clock_line}
 use Rattle.document_load.specs.Drafts.{DraftState}
-use Rattle.document_stages.specs.Acting.{with_timers}
 use Rattle.event_queue.specs.Queues.{first_of}
-use Rattle.event_queue.specs.Timers.{no_timers}
 use Rattle.event_queue.specs.declared.events.Event.{Event}
 use Rattle.module_locks.specs.Locks.{Modules, start_path}
 use Rattle.module_locks.specs.Standing.{ModulesState}
@@ -172,7 +170,7 @@ made_of (Some path) page lent given_back s k browser text e none follows stands 
         wanted = refl;
         current = tt;
         clock = stands.clock;
-        browser = ap (with_timers no_timers) acted.browser_is;
+        browser = ap without_document acted.browser_is;
         happened = stands.happened ++ gone.more;
         reached = reached_later s.modules (unload_effect e.scene).scene.modules stands.happened stands.reached gone;
         truly = truly_later stands.happened gone.more (memory_of page) stands.truly;

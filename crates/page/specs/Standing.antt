@@ -8,9 +8,7 @@ use Rattle.multipart_entities.specs.declared.paths.Path.{Path}
 use Rattle.module_locks.specs.Standing.{ModulesState}
 use Rattle.module_locks.specs.Standing as of_modules
 use Rattle.es_reader.specs.Readers.{IsReader}
-use Rattle.event_queue.specs.Timers.{no_timers}
-use Rattle.browser_objects.specs.Calls.{BrowserParts}
-use Rattle.document_stages.specs.Acting.{with_timers}
+use Rattle.browser_objects.specs.Calls.{BrowserParts, without_document}
 use Rattle.acting_documents.specs.Documents.{Document}
 use Rattle.acting_documents.specs.devices.Kept.{IsDocument, KeptDocument}
 use Rattle.acting_documents.specs.Beginnings.{load_effect}
@@ -186,14 +184,15 @@ abbrev pub IsAlone : Option KeptDocument → Loading → Type 0
 IsAlone None loading = Unit {0}
 IsAlone (Some document) loading = loading ≡ Nothing
 
--- Behind a document that launched the one at a path there is none, its timers are gone, and that one is wanted.
+-- Behind a document that launched the one at a path there is none, its timers and its tables are gone, and that one is
+-- wanted.
 abbrev pub behind_launch : Option Path → PageState → PageState
 behind_launch None page = page
 behind_launch (Some path) page =
     record page {
       document = None;
       worked = 0;
-      browser = with_timers no_timers page.browser;
+      browser = without_document page.browser;
       loading = At path;
     }
 

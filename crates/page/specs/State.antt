@@ -3,9 +3,8 @@ use Rattle.std.specs.Prelude.{ℕ, List, [], ◌++◌, Option, Some, None}
 use Rattle.module_locks.specs.Locks.{Modules, at_start}
 use Rattle.multipart_entities.specs.declared.paths.Path.{Path}
 use Rattle.es_reader.specs.Readers.{Reader}
-use Rattle.event_queue.specs.Timers.{no_timers}
-use Rattle.browser_objects.specs.Calls.{BrowserParts}
-use Rattle.document_stages.specs.Acting.{first_browser, with_timers}
+use Rattle.browser_objects.specs.Calls.{BrowserParts, without_document}
+use Rattle.document_stages.specs.Acting.{first_browser}
 use Rattle.acting_documents.specs.Beginnings.{unload_effect}
 use Rattle.acting_documents.specs.Documents.{Document}
 use Rattle.acting_documents.specs.Runs.{Effect, Scene}
@@ -78,13 +77,13 @@ goes_on s scene =
       modules = scene.modules;
     }
 
--- Behind a document that ended there is none: its timers end with it, and this one is wanted. The locks stay.
+-- Behind a document that ended there is none: its timers and its tables end with it, and this one is wanted. The locks stay.
 abbrev pub without_document_for : Path → State → Scene → State
 without_document_for path s scene =
     record s {
       document = None;
       wanted = DocumentAt path;
-      browser = with_timers no_timers scene.browser;
+      browser = without_document scene.browser;
       modules = scene.modules;
     }
 

@@ -24,7 +24,6 @@ use bml_bytes::{AreaBytes, NoMemory, law_of_fronts};
 use browser_objects::BrowserState;
 use display_list::push_clock_line;
 use event_messages::Message;
-use event_queue::Timers;
 use module_locks::{Change, Modules, push_change_line};
 use multipart_entities::Path;
 use std::alloc::Global;
@@ -518,7 +517,7 @@ impl Page {
     }
 
     // Goes on behind what the document did. Where it launched another one, it is gone with its
-    // timers, and the other one is wanted.
+    // timers and its tables, and the other one is wanted.
     fn go_on(&mut self, launched: Option<Path>)
         ensures { self.new ≡ behind_launch launched self.old }
     {
@@ -526,7 +525,7 @@ impl Page {
             return;
         };
         drop(mem::replace(&mut self.document, None));
-        self.browser.timers = Timers::new();
+        self.browser.end_document(self.alloc);
         drop(mem::replace(&mut self.loading, Loading::At(path)));
     }
 

@@ -1,7 +1,7 @@
 -- What scripts call on the browser object gives neither a function nor a reference, and leaves timers as they are, with
 -- one that is set, or without one.
 use Rattle.std.proofs.Common.{◌≡◌, ◌≤◌, ℕ, Bool, true, false, List, Option, Some, None, refl, arith}
-use Rattle.std.specs.Prelude.{if◌then◌else◌, ◌%◌, ◌+◌, is_some, nat_le, ℤ, pos, negsuc}
+use Rattle.std.specs.Prelude.{if◌then◌else◌, ◌%◌, ◌+◌, is_some, nat_le, option_and_then, ℤ, pos, negsuc}
 use Rattle.std.specs.Option.{option_map_or}
 use Rattle.std.proofs.lemmas.Bool.{leb-true}
 use Rattle.dom_tree.specs.Items.{Item}
@@ -15,12 +15,15 @@ use Rattle.persistent_arrays.specs.Names.{array_named}
 use Rattle.persistent_arrays.specs.Reading.{unpacked}
 use Rattle.persistent_arrays.specs.Structures.{structure_spelled}
 use Rattle.persistent_arrays.specs.declared.fields.Field.{Field}
+use Rattle.persistent_arrays.specs.declared.fields.Field.TheVariants as fields
 use Rattle.persistent_arrays.specs.declared.kinds.FieldKind.{FieldKind}
 use Rattle.event_queue.specs.Timers.{TimersState, has_place, timer_of, timer_set, with_timer, without_timer}
 use Rattle.browser_objects.specs.ArrayCalls.{values_of_array}
-use Rattle.browser_objects.specs.Calls.{BrowserParts, date_argument, give_date, unit_argument, CallOutcome, CallResult, argument, give_array, write_bytes, call_named, call_of, outcome_of_call, end_timer, count_argument, draw_up_to, first_word, gives, interval_of, least_interval, number, other_words, over, packed_values, path_argument, play_sound, gives_nan, sound_of, text_argument, begin_timer, whole_argument, with_interval, with_named, with_path}
+use Rattle.browser_objects.specs.Calls.{BrowserParts, date_argument, give_cell, give_date, opens, read_cell, search_rows, table_argument, unit_argument, CallOutcome, CallResult, argument, give_array, write_bytes, call_named, call_of, outcome_of_call, end_timer, count_argument, draw_up_to, first_word, gives, interval_of, least_interval, number, other_words, over, packed_values, path_argument, play_sound, gives_nan, sound_of, text_argument, begin_timer, whole_argument, with_interval, with_named, with_path}
 use Rattle.browser_objects.specs.Dates.{later_moment, present_moment, units_since}
 use Rattle.browser_objects.specs.Functions.{named_function}
+use Rattle.browser_objects.specs.OpenTables.{cell_at, limit_of, row_numbers, rows_found}
+use Rattle.binary_table.specs.Tables.{TableState}
 use Rattle.browser_objects.specs.declared.calls.BrowserCall.{BrowserCall}
 use Rattle.browser_objects.specs.declared.calls.BrowserCall.TheVariants as the
 use Rattle.browser_objects.specs.declared.effects.Effect.{Effect}
@@ -148,6 +151,35 @@ module _ (Good : TimersState → Type 0) (now : ℕ) (s : BrowserParts)
   present-good heap None = record { value = refl; timers = holds.stays }
   present-good heap (Some date) = dated-good (present_moment now date) heap
 
+  -- ---- binary tables
+
+  opens-good : (path : Option Path) (kinds : Option (List FieldKind)) → Holds (opens path kinds s)
+  opens-good None kinds = refused-good
+  opens-good (Some path) None = refused-good
+  opens-good (Some path) (Some kinds) = record { value = refl; timers = holds.stays }
+
+  cell-good : (found : Option Field) → Holds (give_cell found s)
+  cell-good None = record { value = refl; timers = holds.stays }
+  cell-good (Some (fields.Bit bit)) = record { value = refl; timers = holds.stays }
+  cell-good (Some (fields.Whole number)) = record { value = refl; timers = holds.stays }
+  cell-good (Some (fields.Words text)) = record { value = refl; timers = holds.stays }
+
+  read_cell-good : (table : Option TableState) (row column : Option ℤ)
+      → Holds (read_cell table row column s)
+  read_cell-good None row column = refused-good
+  read_cell-good (Some table) None column = refused-good
+  read_cell-good (Some table) (Some row) None = refused-good
+  read_cell-good (Some table) (Some row) (Some column) = cell-good (cell_at table row column)
+
+  found-good : (table : Option TableState) (from column limit : Option ℕ) (value : Value)
+      (heap : List ObjectState) → Holds (search_rows table from column limit value heap s).called
+  found-good None from column limit value heap = refused-good
+  found-good (Some table) None column limit value heap = refused-good
+  found-good (Some table) (Some from) None limit value heap = refused-good
+  found-good (Some table) (Some from) (Some column) None value heap = refused-good
+  found-good (Some table) (Some from) (Some column) (Some limit) value heap =
+      read-good (Some (row_numbers (rows_found table from column limit heap value))) heap
+
   -- ---- the table
 
   one-good : (call : BrowserCall) (base : Path) (arguments : List Value)
@@ -184,6 +216,19 @@ module _ (Good : TimersState → Type 0) (now : ℕ) (s : BrowserParts)
   one-good the.SubDate base arguments heap =
       may-good _ (units_since (date_argument heap arguments 0) (date_argument heap arguments 1)
       (unit_argument heap arguments 2)) (λ units. record { value = refl; timers = holds.stays })
+  one-good the.OpenTable base arguments heap =
+      opens-good (path_argument base arguments heap)
+      (structure_spelled (text_argument heap arguments 1))
+  one-good the.TableRows base arguments heap =
+      may-good _ (table_argument arguments heap s)
+      (λ table. record { value = refl; timers = holds.stays })
+  one-good the.TableCell base arguments heap =
+      read_cell-good (table_argument arguments heap s) (whole_argument heap arguments 1)
+      (whole_argument heap arguments 2)
+  one-good the.TableSearch base arguments heap =
+      found-good (table_argument arguments heap s) (count_argument heap arguments 1)
+      (count_argument heap arguments 2)
+      (option_and_then limit_of (count_argument heap arguments 4)) (argument arguments 3) heap
 
   pub call-good : (name : List ℕ) (base : Path) (arguments : List Value)
       (heap : List ObjectState) → Holds (call_of name base now arguments heap s).called

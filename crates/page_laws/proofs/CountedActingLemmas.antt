@@ -248,6 +248,7 @@ done-counted (effects.Lock path) value s heap h =
     lock-counted (lock_answer path.component path.«module» s.modules) path s.acting heap h
 done-counted (effects.Unlock path) value s heap h =
     either AnswersCounted (is_some (lock_on s.modules.locks path.component path.«module»)) _ _ h h
+done-counted (effects.Table path kinds) value s heap h = h
 
 browser-counted : (s : HostParts) (name : List ℕ) (arguments : List Value)
     (heap : List ObjectState) → ActsCounted s.acting

@@ -1,9 +1,9 @@
 -- What scripts act on stays sound, with the modules, whatever they call.
 use Rattle.std.proofs.Common.{ℕ, ◌≤◌, ◌≡◌, true, List, length, refl, sym, ap, subst, arith}
-use Rattle.std.specs.Prelude.{◌||◌, is_some}
+use Rattle.std.specs.Prelude.{◌||◌, Option, Some, None, Bool, false, if◌then◌else◌, is_some, nat_lt, option_and_then}
 use Rattle.std.specs.List.{list_any}
 use Rattle.dom_tree.specs.Items.{Item, tag_of}
-use Rattle.module_locks.specs.Locks.{Modules, lock_answer, lock_on, most_locks, with_lock, without_lock}
+use Rattle.module_locks.specs.Locks.{Modules, lock_answer, lock_on, look_up, most_locks, with_lock, without_lock}
 use Rattle.module_locks.specs.declared.answers.LockAnswer.{LockAnswer}
 use Rattle.module_locks.specs.declared.answers.LockAnswer.TheVariants as answers
 use Rattle.multipart_entities.specs.declared.paths.Path.{Path}
@@ -12,18 +12,22 @@ use Rattle.es_values.specs.declared.hosts.HostAnswer.TheVariants.{Value as Answe
 use Rattle.es_values.specs.declared.values.HostRef.{HostRef}
 use Rattle.es_values.specs.declared.values.HostRef.TheVariants as ref
 use Rattle.es_values.specs.declared.values.Value.{Value}
-use Rattle.es_values.specs.declared.values.Value.TheVariants.{Function, Object}
+use Rattle.es_values.specs.declared.numbers.Num.TheVariants.{NotANumber}
+use Rattle.es_values.specs.declared.values.Value.TheVariants.{Function, Number, Object}
+use Rattle.persistent_arrays.specs.declared.kinds.FieldKind.{FieldKind}
 use Rattle.es_values.specs.Conversions.{text_of}
 use Rattle.es_values.specs.Hosts.{IsAnswer, KeepsHeap}
 use Rattle.es_values.specs.Objects.{ObjectState}
 use Rattle.es_values.specs.Values.{is_function}
 use Rattle.script_laws.specs.Staying.{AnswerPasses, IsFit}
-use Rattle.browser_objects.specs.Calls.{CallOutcome, call_of, number}
+use Rattle.binary_table.specs.Tables.{TableState}
+use Rattle.browser_objects.specs.Calls.{CallOutcome, call_of, number, table_opened}
+use Rattle.browser_objects.specs.OpenTables.{TablesState, after_try, answer_of_try, most_tries, opening, table_of}
 use Rattle.browser_objects.specs.declared.effects.Effect.{Effect}
 use Rattle.browser_objects.specs.declared.effects.Effect.TheVariants as effects
 use Rattle.document_stages.specs.Acting.{Acting, CallAnswer, first_argument, gives, lock_posts, node_call, gives_nan, with_browser, with_line}
 use Rattle.document_stages.specs.EventLines.{kept_line, sound_line}
-use Rattle.document_stages.specs.Hosting.{HostParts, Reply, browser_call, reply_of_call, reply_of_effect, lock, answer_of_lock, reply_with, unlock}
+use Rattle.document_stages.specs.Hosting.{HostParts, Reply, browser_call, bytes_found, open_table, reply_of_call, reply_of_effect, lock, answer_of_lock, reply_with, unlock}
 use Rattle.page_laws.specs.Soundness.{AreTimers, is_good}
 use Rattle.page_laws.proofs.ActingLemmas.{IsGivenAnswer, IsSoundActing, IsSoundAnswer, TreeLaws, browser-sound, chosen-sound, document-sound, element-sound, gives-sound, launch-sound, line-sound, none-sound}
 use Rattle.page_laws.proofs.ArrayLemmas.{CallLaws, call-fit}
@@ -85,6 +89,18 @@ answer-passes : (items : List Item) (limit : ℕ) (answer : HostAnswer)
 answer-passes items limit (Answer value) h = given-good items limit value h
 answer-passes items limit Ended h = tt
 answer-passes items limit NotCallable h = tt
+
+-- what a try to open a table answers
+opened-given : (items : List Item) (table : Option TableState) (s : TablesState)
+    → IsGiven items (opening table s).0
+opened-given items table s = by (nat_lt s.tries most_tries) table
+  where
+    by : (left : Bool) (table : Option TableState) → IsGiven items
+        (if◌then◌else◌ {A = Value × TablesState} left (answer_of_try table s, after_try table s)
+        (Number NotANumber, s)).0
+    by false table = refl
+    by true None = refl
+    by true (Some table) = refl
 
 module _ (laws : TreeLaws) (hosts : HostLaws) (items : List Item) (limit : ℕ)
     (arguments : List Value) (heap : List ObjectState) where
@@ -151,6 +167,19 @@ module _ (laws : TreeLaws) (hosts : HostLaws) (items : List Item) (limit : ℕ)
         (is_some (lock_on h.modules.locks path.component path.«module»)) _ _
         (one-sound h.acting s.acting) (refused-sound h.acting s.acting))
 
+    -- ---- tables
+
+    table-sound : (path : Path) (kinds : List FieldKind) (h : HostParts) → IsSoundHosted items h
+        → RepliesSoundly (open_table path kinds h after)
+    table-sound path kinds h s =
+        let found = bytes_found (look_up h.modules path) in
+        let opened = table_opened found kinds h.acting.browser in
+        reply-sound h.modules _ s.locks
+        (gives-sound laws items after opened.value (with_browser opened.state h.acting)
+        (opened-given items (option_and_then (λ bytes. table_of bytes kinds) found)
+        h.acting.browser.tables)
+        (browser-sound laws items opened.state h.acting s.acting.timers s.acting))
+
     -- ---- what is done for a call of the browser object
 
     value-sound : (value : Value) (h : HostParts) → is_bare value ≡ true
@@ -184,6 +213,7 @@ module _ (laws : TreeLaws) (hosts : HostLaws) (items : List Item) (limit : ℕ)
         reply-sound h.modules _ s.locks (launch-sound laws items after path h.acting s.acting)
     done-sound (effects.Lock path) value h bare answer s = lock-sound path h s
     done-sound (effects.Unlock path) value h bare answer s = unlock-sound path h s
+    done-sound (effects.Table path kinds) value h bare answer s = table-sound path kinds h s
 
   -- ---- calls of the browser object
 

@@ -229,6 +229,7 @@ module _ (clock : ℕ) where
       lock-timely (lock_answer path.component path.«module» s.modules) path s.acting heap h
   done-timely (effects.Unlock path) value s heap h =
       either AnswersTimely (is_some (lock_on s.modules.locks path.component path.«module»)) _ _ h h
+  done-timely (effects.Table path kinds) value s heap h = record { is_now = h.is_now; timers = h.timers }
 
   browser-timely : (s : HostParts) (name : List ℕ) (arguments : List Value)
       (heap : List ObjectState) → ActsTimely clock s.acting

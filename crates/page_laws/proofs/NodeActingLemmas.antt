@@ -182,6 +182,7 @@ module _ (nodes : Nodes) where
       lock-stay (lock_answer path.component path.«module» s.modules) path s.acting heap h
   done-stay (effects.Unlock path) value s heap h =
       either AnswersWith (is_some (lock_on s.modules.locks path.component path.«module»)) _ _ h h
+  done-stay (effects.Table path kinds) value s heap h = h
 
   browser-stay : (s : HostParts) (name : List ℕ) (arguments : List Value)
       (heap : List ObjectState) → HasNodes nodes s.acting

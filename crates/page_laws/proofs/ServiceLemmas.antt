@@ -41,6 +41,7 @@ done-service (effects.Kept slot size) value h heap = refl
 done-service (effects.Launch path) value h heap = refl
 done-service (effects.Lock path) value h heap = refl
 done-service (effects.Unlock path) value h heap = refl
+done-service (effects.Table path kinds) value h heap = refl
 
 called-service : (h : HostParts) (base : HostRef) (name : List ℕ) (arguments : List Value)
     (heap : List ObjectState)

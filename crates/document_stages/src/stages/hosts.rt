@@ -1,6 +1,6 @@
 //! What scripts read, write and call of a document.
 
-ghost use Rattle.std.specs.Prelude.{◌≡◌, ◌↔◌, List, All, IfOk, IsTrue, OnErr, OnOk, true};
+ghost use Rattle.std.specs.Prelude.{◌≡◌, ◌↔◌, List, All, IfOk, IsTrue, OnErr, OnOk, option_copied, true};
 ghost use Rattle.dom_tree.specs.Items.{IsElement};
 ghost use Rattle.es_values.specs.Conversions.{text_of};
 ghost use Rattle.es_values.specs.Heaps.{IsLive};
@@ -10,7 +10,7 @@ ghost use Rattle.es_values.specs.Values.{is_plain};
 ghost use Rattle.es_values.specs.declared.hosts.HostAnswer.TheVariants.{Value as Answer};
 ghost use Rattle.es_values.specs.declared.numbers.Num.TheVariants.{NotANumber};
 ghost use Rattle.es_values.specs.declared.values.Value.TheVariants.{Number};
-ghost use Rattle.browser_objects.specs.Calls.{Answers, call_of};
+ghost use Rattle.browser_objects.specs.Calls.{Answers, call_of, table_opened};
 ghost use Rattle.dom_objects.specs.Reads.{read_value};
 ghost use Rattle.document_stages.specs.Acting.{browser_value as spec_browser_value, document_call, first_argument, is_subscription, is_unload, launch, node_call, parts_of, member_value, register_value as spec_register_value, with_text_written, with_browser, with_line, with_member_set};
 ghost use Rattle.document_stages.specs.EventLines.{kept_line, sound_line};
@@ -18,13 +18,14 @@ ghost use Rattle.document_stages.specs.EventLines.{kept_line, sound_line};
 use crate::event_lines::{push_kept_line, push_launch_line, push_sound_line};
 use crate::stages::Stage;
 use bml_bytes::{NoMemory, Text};
-use browser_objects::{Effect, call_browser, register, set_register};
+use browser_objects::{Effect, call_browser, open_table, register, set_register};
 use dom_objects::{get_node, set_node};
 use dom_tree::NodeId;
 use es_values::{Heap, HostAnswer, HostRef, Num, Value};
 use event_items::is_event_item;
 use event_queue::Event;
 use multipart_entities::Path;
+use persistent_arrays::Structure;
 
 impl Stage {
     /// What a name of a reference reads as.
@@ -173,6 +174,23 @@ impl Stage {
             args,
             heap,
         )
+    }
+
+    /// Tries to open what a look-up found as a table of these fields, and answers with its number.
+    pub(crate) fn open_table(
+        &mut self,
+        found: Option<&[u8]>,
+        structure: &Structure,
+    ) -> Result<HostAnswer, NoMemory>
+        ensures answer { IfOk result (λ answer. answer ≡ Answer (table_opened
+            (option_copied found.entry) structure.now self.old.acting.browser).value) }
+        ensures opened { OnOk result (self.new.acting ≡ with_browser (table_opened
+            (option_copied found.entry) structure.now self.old.acting.browser).state
+            self.old.acting) }
+        ensures safe { IfOk result (λ answer. (heap : List ObjectState) → IsAnswer heap answer) }
+    {
+        let value = open_table(self.alloc, &mut self.browser, found, structure)?;
+        Ok(HostAnswer::Value(value))
     }
 
     /// Tells a sound, and answers with the value of its call.

@@ -11,3 +11,6 @@ returns-in-UnlockModuleOnMemory-clause-answers c = rw c.in-UnlockModuleOnMemory.
 
 pub returns-in-PlayRomSound-clause-answers : goal.returns-in-PlayRomSound-clause-answers
 returns-in-PlayRomSound-clause-answers c = rw c.in-PlayRomSound.is (c.play_sound.ensures c.args.state.now)
+
+pub returns-in-OpenTable-clause-answers : goal.returns-in-OpenTable-clause-answers
+returns-in-OpenTable-clause-answers c = rw c.in-OpenTable.is (c.ask_for_table.ensures c.args.state.now)
