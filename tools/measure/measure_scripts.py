@@ -21,7 +21,7 @@ from pathlib import Path
 from measuring import least
 from places import ROOT
 
-BELOW = ["bml_bytes", "es_lexer", "es_expressions", "es_reader", "es_values", "es_builtins", "es_frames", "es_shapes", "es_eval"]
+BELOW = ["bml_bytes", "es_lexer", "es_expressions", "es_reader", "es_values", "es_date", "date_objects", "es_builtins", "es_frames", "es_shapes", "es_eval"]
 NAME = "script_timer"
 
 MAIN = """//! Runs the script on standard input as often as its word says, and tells how it ends, with how many steps.
